@@ -153,7 +153,7 @@ NOTATION: List[Tuple[str, str]] = [
 
 LIBRARY: Dict[str, str] = {
     "Vec": "Rust's vector; `.items` is its list",
-    "Global": "Rust's vector; `.items` is its list",
+    "Global": "the allocator; `String Global` is Rust's `String`",
     "codes": "the bytes of a text",
     "pos": "a whole number from 0 on",
     "negsuc": "`negsuc n` is -(n + 1)",
@@ -220,7 +220,7 @@ PLAIN = set(
     as_array as_number as_object as_str Bool bytes_eq concat Contains drop Err false filter fst
     int_le int_lt int_max int_min item length List map max member min nat_le nat_lt no_items
     no_members None not Ok Option option_map range_with_len replicate Result reverse snd Some
-    string_bytes string_len swap take true zero zip
+    String string_bytes string_len swap take true zero zip
     """.split()
 )
 

@@ -8,6 +8,3 @@ use Rattle.line_protocol.specs.declared.saying.Said.{Said}
 pub record Dialect : Type 1 where
   pub may_answer : List ℕ → Result Request RequestFault → Type 0
   pub text : Said → List ℕ
-
-abbrev pub dialect_of : (List ℕ → Result Request RequestFault → Type 0) → (Said → List ℕ) → Dialect
-dialect_of may_answer text = record { may_answer = may_answer; text = text }

@@ -4,7 +4,6 @@ use Rattle.tac_base.specs.declared.limits.TheConstants.{GOODS}
 use Rattle.game_text.specs.Games.{GameFile}
 use Rattle.auction_core.specs.ClosedGame.{all_goods}
 use Rattle.tac_io.specs.AnswersInTurn.{answers_left}
-use Rattle.tac_io.specs.HeldBytes.{Held}
 use Rattle.tac_io.specs.LinkCalls.{GaveBytes}
 use Rattle.tac_io.specs.States.{LinkState}
 use Rattle.tac_io.specs.declared.line_got.LineGot.{LineGot}
@@ -17,6 +16,8 @@ use Rattle.agent_gate.specs.Dialects.{Dialect}
 use Rattle.agent_gate.specs.Turns.{Turn, made_at, cash_made, boards_shown}
 use Rattle.agent_gate.specs.Welcome.{welcome_text}
 use Rattle.agent_gate.specs.Served.{IsServed}
+use Rattle.agent_gate.specs.Turning.{SessionState}
+use Rattle.agent_gate.specs.declared.session.SessionEnd.{SessionEnd}
 
 -- the desk's entries are those of the turns, and its boards are the ones that it had and those of the turns
 pub record AreMadeBy (turns : List Turn) (before after : Desk) : Type 0 where
@@ -30,15 +31,23 @@ abbrev pub lines_of : Cause → List Turn → ℕ
 lines_of WriteFault turns = length turns - 1
 lines_of cause turns = length turns
 
--- A session, from the lines' state: what they held, and how many bytes of their link were taken. `more` are the bytes that were taken
--- in the session.
-pub record IsSession (dialect : Dialect) (game : GameFile) (held : Held) (count : ℕ) (link link' : LinkState) (before after : Desk)
-    (lines : ℕ) (cause : Cause) : Type 0 where
+-- what a session left: the link, the desk, how many lines were answered so, and why it ended
+pub record EndedSession : Type 0 where
+  pub link : LinkState
+  pub desk : Desk
+  pub lines : ℕ
+  pub cause : Cause
+
+abbrev pub ended_session : {L : Type 0} → (L → LinkState) → SessionEnd L → EndedSession
+ended_session state end = record { link = state end.link; desk = end.desk; lines = end.lines; cause = end.cause }
+
+-- A session, from where it stood before it. `more` are the bytes that were taken in it.
+pub record IsSession (dialect : Dialect) (game : GameFile) (before : SessionState) (after : EndedSession) : Type 0 where
   pub more : List ℕ
-  pub gave : GaveBytes more link link'
+  pub gave : GaveBytes more before.place.link after.link
   pub turns : List Turn
   pub rest : List (LineGot × List ℕ)
-  pub served : IsServed dialect (answers_left held more count)
-      (record { welcome = welcome_text game (desk_caller before); turns = turns; rest = rest; before = link; after = link' }) cause
-  pub counted : lines ≡ lines_of cause turns
-  pub desk : AreMadeBy turns before after
+  pub served : IsServed dialect (answers_left before.place.held more before.place.count)
+      (record { welcome = welcome_text game (desk_caller before.desk); turns = turns; rest = rest; before = before.place.link; after = after.link }) after.cause
+  pub counted : after.lines ≡ lines_of after.cause turns
+  pub made : AreMadeBy turns before.desk after.desk

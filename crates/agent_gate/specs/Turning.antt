@@ -1,15 +1,15 @@
 -- One turn of a session: a line is read, answered, and its reply is sent.
-use Rattle.std.specs.Prelude.{◌≡◌, ◌≢◌, ℕ, ◌+◌, ◌≤◌, List, ◌∷◌, [], ◌++◌, Result, Ok, Err, Option, Some, None}
+use Rattle.std.specs.Prelude.{◌≡◌, ◌≢◌, ℕ, ◌+◌, ◌≤◌, ◌∷◌, [], ◌++◌, Result, Ok, Err, Option, Some, None}
 use Rattle.tac_base.specs.declared.limits.TheConstants.{LINK_BYTES}
-use Rattle.tac_io.specs.HeldBytes.{Held}
+use Rattle.tac_io.specs.HeldBytes.{LinkPlace}
 use Rattle.tac_io.specs.LineAnswers.{Answers}
 use Rattle.tac_io.specs.LinkCalls.{NoReadFails, NoWriteFails}
+use Rattle.tac_io.specs.Lines.{link_place}
 use Rattle.tac_io.specs.States.{LinkState}
 use Rattle.tac_io.specs.Known.{known_then, TakesSome}
 use Rattle.tac_io.specs.declared.line_got.LineGot.{LineGot}
 use Rattle.tac_io.specs.declared.line_got.LineGot.TheVariants as gots
-use Rattle.line_protocol.specs.declared.asking.Request.{Request}
-use Rattle.line_protocol.specs.declared.asking.RequestFault.{RequestFault}
+use Rattle.tac_io.specs.declared.lines.Lines.{Lines}
 use Rattle.line_protocol.specs.declared.saying.Said.{Said}
 use Rattle.line_protocol.specs.declared.saying.Said.TheVariants.{Bye}
 use Rattle.line_protocol.specs.declared.admission.Cause.{Cause}
@@ -28,39 +28,46 @@ cause_without_line gots.End = Some causes.End
 cause_without_line gots.Failed = Some causes.ReadFault
 cause_without_line gots.Budget = Some causes.Budget
 
+-- where a session stands: how far its link was read, and the agent's desk
+pub record SessionState : Type 0 where
+  pub place : LinkPlace
+  pub desk : Desk
+
+abbrev pub session_state : {L : Type 0} → (L → LinkState) → Lines L → Desk → SessionState
+session_state state lines desk = record { place = link_place state lines; desk = desk }
+
 -- the line that was read was answered so
-abbrev pub Says : (List ℕ → Result Request RequestFault → Type 0) → LineGot → List ℕ → Desk → Desk → Said → Type 0
-Says may_answer got line before after said = TakesTurn (IsItem may_answer (got, line)) before after said
+abbrev pub Says : Dialect → LineGot → SessionState → SessionState → Said → Type 0
+Says dialect got before after said = TakesTurn (IsItem dialect.may_answer (got, after.place.held.line)) before.desk after.desk said
 
 -- a line was read and answered so, or no line came
-abbrev pub IsNextAnswered : (List ℕ → Result Request RequestFault → Type 0) → LineGot → List ℕ → Desk → Desk → Result Said Cause → Type 0
-IsNextAnswered may_answer got line before after (Ok said) = Says may_answer got line before after said
-IsNextAnswered may_answer got line before after (Err cause) = (cause_without_line got ≡ Some cause) × (after ≡ before)
+abbrev pub IsNextAnswered : Dialect → LineGot → SessionState → SessionState → Result Said Cause → Type 0
+IsNextAnswered dialect got before after (Ok said) = Says dialect got before after said
+IsNextAnswered dialect got before after (Err cause) = (cause_without_line got ≡ Some cause) × (after.desk ≡ before.desk)
 
 -- The next answer was taken from those of the link's lines, and a line was answered.
-pub record TakesNext (may_answer : List ℕ → Result Request RequestFault → Type 0) (held held' : Held)
-    (link link' : LinkState) (count count' : ℕ) (before after : Desk) (result : Result Said Cause) : Type 0 where
+pub record TakesNext (dialect : Dialect) (before after : SessionState) (result : Result Said Cause) : Type 0 where
   pub got : LineGot
-  pub answer : Answers held held' link link' count count' got
-  pub within : count' ≤ LINK_BYTES
-  pub asked : IsNextAnswered may_answer got held'.line before after result
+  pub answer : Answers before.place after.place got
+  pub within : after.place.count ≤ LINK_BYTES
+  pub asked : IsNextAnswered dialect got before after result
 
 -- The result of a turn: its reply was sent whole, and it was `bye` if the agent left; or it was not sent whole; or no line came.
-abbrev pub IsTurned : {T : Type 0} → Dialect → LineGot → List ℕ → Desk → Desk → LinkState → LinkState → Result T Cause → Type 0
-IsTurned dialect got line before after link link' (Ok _) =
-    (said : Said) × Says dialect.may_answer got line before after said × (said ≢ Bye) × (link'.sent ≡ known_then link.sent (dialect.text said ++ 10 ∷ []))
-IsTurned dialect got line before after link link' (Err causes.Quit) =
-    Says dialect.may_answer got line before after Bye × (link'.sent ≡ known_then link.sent (dialect.text Bye ++ 10 ∷ []))
-IsTurned dialect got line before after link link' (Err causes.WriteFault) =
-    (said : Said) × Says dialect.may_answer got line before after said × TakesSome link.sent link'.sent (dialect.text said ++ 10 ∷ [])
-IsTurned dialect got line before after link link' (Err cause) = (cause_without_line got ≡ Some cause) × (after ≡ before) × (link'.sent ≡ link.sent)
+abbrev pub IsTurned : {T : Type 0} → Dialect → LineGot → SessionState → SessionState → Result T Cause → Type 0
+IsTurned dialect got before after (Ok _) =
+    (said : Said) × Says dialect got before after said × (said ≢ Bye) × (after.place.link.sent ≡ known_then before.place.link.sent (dialect.text said ++ 10 ∷ []))
+IsTurned dialect got before after (Err causes.Quit) =
+    Says dialect got before after Bye × (after.place.link.sent ≡ known_then before.place.link.sent (dialect.text Bye ++ 10 ∷ []))
+IsTurned dialect got before after (Err causes.WriteFault) =
+    (said : Said) × Says dialect got before after said × TakesSome before.place.link.sent after.place.link.sent (dialect.text said ++ 10 ∷ [])
+IsTurned dialect got before after (Err cause) = (cause_without_line got ≡ Some cause) × (after.desk ≡ before.desk) × (after.place.link.sent ≡ before.place.link.sent)
 
 -- A turn was taken, from the next answer of the link's lines to the sending of the reply.
-pub record HasTurn {T : Type 0} (dialect : Dialect) (held held' : Held) (link link' : LinkState) (count count' : ℕ) (before after : Desk) (result : Result T Cause) : Type 0 where
+pub record HasTurn {T : Type 0} (dialect : Dialect) (before after : SessionState) (result : Result T Cause) : Type 0 where
   pub got : LineGot
-  pub answer : Answers held held' link link' count count' got
-  pub within : count' ≤ LINK_BYTES
-  pub turned : IsTurned dialect got held'.line before after link link' result
+  pub answer : Answers before.place after.place got
+  pub within : after.place.count ≤ LINK_BYTES
+  pub turned : IsTurned dialect got before after result
 
 -- a read or a write fails in a turn only if the turn ends the session for that fault
 abbrev pub HasTurnCause : {T : Type 0} → LinkState → LinkState → Result T Cause → Type 0

@@ -60,7 +60,7 @@ pub(crate) fn answer_line<R: Wait + Clock, D: Dialect>(
 ) -> Said
     requires own { desk_ids desk.old ≡ floor_ids floor.now }
     requires agent { desk_caller desk.old < AGENTS }
-    ensures turn { TakesTurn (IsItem (D.may_answer dialect.now) (gots.Line, line.now)) desk.old desk.new result }
+    ensures turn { TakesTurn (IsItem (D.form dialect.now).may_answer (gots.Line, line.now)) desk.old desk.new result }
     ensures same { IsSameDesk desk.old desk.new }
 {
     match dialect.read(line) {

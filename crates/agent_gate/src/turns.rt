@@ -4,9 +4,9 @@ ghost use Rattle.floor.specs.Answers.{IsSameDesk};
 ghost use Rattle.floor.specs.Desks.{desk_ids, desk_caller};
 ghost use Rattle.floor.specs.Floors.{floor_ids};
 ghost use Rattle.tac_io.specs.LineAnswers.{goes_on};
-ghost use Rattle.tac_io.specs.Lines.{KeepsPlace, count_of, held_of, last_of, link_of};
+ghost use Rattle.tac_io.specs.Lines.{KeepsPlace, last_of, link_of};
 ghost use Rattle.tac_io.specs.LinkCalls.{OnlySends};
-ghost use Rattle.agent_gate.specs.{dialect_of, TakesNext, HasTurn, HasTurnCause};
+ghost use Rattle.agent_gate.specs.{TakesNext, HasTurn, HasTurnCause, session_state};
 
 use crate::answering::answer_line;
 use crate::dialect::Dialect;
@@ -29,8 +29,7 @@ fn answer_next<R: Wait + Clock, L: Link, D: Dialect>(
     requires own { desk_ids desk.old ≡ floor_ids floor.now }
     requires agent { desk_caller desk.old < AGENTS }
     requires goes_on { goes_on (last_of lines.old) ≡ true }
-    ensures next { TakesNext (D.may_answer dialect.now) (held_of lines.old) (held_of lines.new)
-        (L.state (link_of lines.old)) (L.state (link_of lines.new)) (count_of lines.old) (count_of lines.new) desk.old desk.new result }
+    ensures next { TakesNext (D.form dialect.now) (session_state L.state lines.old desk.old) (session_state L.state lines.new desk.new) result }
     ensures same { IsSameDesk desk.old desk.new }
     ensures goes_on { OnOk result (goes_on (last_of lines.new) ≡ true) }
     ensures sent { (L.state (link_of lines.new)).sent ≡ (L.state (link_of lines.old)).sent }
@@ -47,7 +46,7 @@ fn answer_next<R: Wait + Clock, L: Link, D: Dialect>(
 
 /// Sends the line of a reply, with its end, in one piece.
 fn tell<L: Link, D: Dialect>(dialect: &D, said: &Said, lines: &mut Lines<L>) -> Result<(), Failed>
-    ensures sends { OnlySends (L.state (link_of lines.old)) (L.state (link_of lines.new)) (D.text dialect.now said.now ++ 10 ∷ []) result }
+    ensures sends { OnlySends (L.state (link_of lines.old)) (L.state (link_of lines.new)) ((D.form dialect.now).text said.now ++ 10 ∷ []) result }
     ensures place { KeepsPlace lines.old lines.new }
 {
     let mut reply = Text::new();
@@ -67,8 +66,7 @@ pub(crate) fn turn<R: Wait + Clock, L: Link, D: Dialect>(
     requires own { desk_ids desk.old ≡ floor_ids floor.now }
     requires agent { desk_caller desk.old < AGENTS }
     requires goes_on { goes_on (last_of lines.old) ≡ true }
-    ensures turn { HasTurn (dialect_of (D.may_answer dialect.now) (D.text dialect.now)) (held_of lines.old) (held_of lines.new)
-        (L.state (link_of lines.old)) (L.state (link_of lines.new)) (count_of lines.old) (count_of lines.new) desk.old desk.new result }
+    ensures turn { HasTurn (D.form dialect.now) (session_state L.state lines.old desk.old) (session_state L.state lines.new desk.new) result }
     ensures same { IsSameDesk desk.old desk.new }
     ensures goes_on { OnOk result (goes_on (last_of lines.new) ≡ true) }
     ensures cause { HasTurnCause (L.state (link_of lines.old)) (L.state (link_of lines.new)) result }

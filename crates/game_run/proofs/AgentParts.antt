@@ -87,7 +87,7 @@ module _ {L : Type 0} (state : L → LinkState) (dialect : Dialect) (game : Game
   same_out before None after None out = (ap desk_ids out, ap desk_caller out)
   same_out before None after (Some end) out = absurd out
   same_out before (Some ls) after None out = absurd out
-  same_out before (Some ls) after (Some (link, cause)) out = out.session.desk.same
+  same_out before (Some ls) after (Some (link, cause)) out = out.session.made.same
 
   pub same_kind : (before : Desk) (lines : Option (Lines L)) (after : Desk) (end : Option (L × Cause)) → IsPlayedOut state dialect game before lines after end → is_some end ≡ is_some lines
   same_kind before None after None out = refl
@@ -105,7 +105,7 @@ module _ {L : Type 0} (state : L → LinkState) (dialect : Dialect) (game : Game
       rest = by.session.rest;
       served = subst (λ n. IsServed dialect (all_answers [] (2 ^ 26 - count_of lines + length (held_of lines).unread) ((held_of lines).unread ++ by.session.more))
           (record { welcome = welcome_text game n; turns = by.session.turns; rest = by.session.rest; before = state (link_of lines); after = state link }) cause) new.caller by.session.served;
-      transcript = transcript_of closed long ids agent before after new borne by.session.turns by.session.desk;
+      transcript = transcript_of closed long ids agent before after new borne by.session.turns by.session.made;
       faults = by.faults;
     }
 

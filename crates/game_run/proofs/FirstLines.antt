@@ -4,10 +4,10 @@ use Rattle.std.specs.Prelude.{position, if◌then◌else◌, slice_index_or}
 use Rattle.std.specs.declared.option.Option.{Option}
 use Rattle.std.specs.Str.{bytes_eq}
 use Rattle.tac_io.specs.AllAnswers.{all_answers, ended_line}
-use Rattle.tac_io.specs.HeldBytes.{Held}
+use Rattle.tac_io.specs.HeldBytes.{LinkPlace}
 use Rattle.tac_io.specs.LineAnswers.{Answers, HasLineCause, goes_on}
 use Rattle.tac_io.specs.LineText.{has_end, BeginsWithLine}
-use Rattle.tac_io.specs.Lines.{count_of, held_of, last_of, link_of}
+use Rattle.tac_io.specs.Lines.{count_of, held_of, last_of, link_of, link_place}
 use Rattle.tac_io.specs.LinkCalls.{GaveBytes, NoReadFails, ReadsNothing, SendsNothing}
 use Rattle.std.specs.Prelude.{◌⊎◌}
 use Rattle.tac_io.specs.Known.{known_then, then_known, IsAtEnd, TakesSome}
@@ -70,17 +70,17 @@ no_word_lost seats (Some word) e = no_seat_lost seats.taken (position (bytes_eq 
 
 -- ---- what was read
 
-module _ {L : Type 0} (state : L → LinkState) (seats : Seats) (before : LinkState) (lines : Lines L) (old : Held) (none : old.unread ≡ []) (count : ℕ) (zero_count : count ≡ 0)
-    (few : count_of lines ≤ 2 ^ 26) (quiet : SendsNothing before (state (link_of lines))) where
-  module _ (got : LineGot) (a : Answers old (held_of lines) before (state (link_of lines)) count (count_of lines) got) where
-    bytes_are : old.unread ++ a.more ≡ a.more
+module _ {L : Type 0} (state : L → LinkState) (seats : Seats) (before : LinkPlace) (lines : Lines L) (none : before.held.unread ≡ []) (zero_count : before.count ≡ 0)
+    (few : count_of lines ≤ 2 ^ 26) (quiet : SendsNothing before.link (state (link_of lines))) where
+  module _ (got : LineGot) (a : Answers before (link_place state lines) got) where
+    bytes_are : before.held.unread ++ a.more ≡ a.more
     bytes_are = ap (λ l. l ++ a.more) none
 
     counted : count_of lines ≡ length a.more
     counted = omega (arith, a.counted, zero_count)
 
-  pub line_read : (verdict : Verdict) → Answers old (held_of lines) before (state (link_of lines)) count (count_of lines) gots.Line
-      → NoReadFails before (state (link_of lines)) → goes_on (last_of lines) ≡ true → verdict ≡ verdict_of seats (held_of lines).line → IsFirstRead state seats verdict before lines
+  pub line_read : (verdict : Verdict) → Answers before (link_place state lines) gots.Line
+      → NoReadFails before.link (state (link_of lines)) → goes_on (last_of lines) ≡ true → verdict ≡ verdict_of seats (held_of lines).line → IsFirstRead state seats verdict before.link lines
   line_read verdict a reads more due = by verdict due
     where
       whole : BeginsWithLine a.more (held_of lines).line (held_of lines).unread
@@ -89,7 +89,7 @@ module _ {L : Type 0} (state : L → LinkState) (seats : Seats) (before : LinkSt
       within : length a.more ≤ 2 ^ 26
       within = omega (arith, counted gots.Line a, few)
 
-      unseated : (verdict : Verdict) → verdict ≡ verdict_of seats (held_of lines).line → IsUnseated seats verdict before (state (link_of lines))
+      unseated : (verdict : Verdict) → verdict ≡ verdict_of seats (held_of lines).line → IsUnseated seats verdict before.link (state (link_of lines))
       unseated verdict due = (
         record {
           bytes = a.more;
@@ -103,7 +103,7 @@ module _ {L : Type 0} (state : L → LinkState) (seats : Seats) (before : LinkSt
         quiet,
       )
 
-      by : (verdict : Verdict) → verdict ≡ verdict_of seats (held_of lines).line → IsFirstRead state seats verdict before lines
+      by : (verdict : Verdict) → verdict ≡ verdict_of seats (held_of lines).line → IsFirstRead state seats verdict before.link lines
       by (Seated agent) due = record {
         bytes = a.more;
         gave = a.gave;
@@ -122,8 +122,8 @@ module _ {L : Type 0} (state : L → LinkState) (seats : Seats) (before : LinkSt
       by Taken due = unseated Taken due
       by Lost due = absurd (no_word_lost seats (greeting_of (held_of lines).line) (sym due))
 
-  pub long_read : Answers old (held_of lines) before (state (link_of lines)) count (count_of lines) gots.TooLong
-      → NoReadFails before (state (link_of lines)) → IsUnseated seats Syntax before (state (link_of lines))
+  pub long_read : Answers before (link_place state lines) gots.TooLong
+      → NoReadFails before.link (state (link_of lines)) → IsUnseated seats Syntax before.link (state (link_of lines))
   long_read a reads =
       let whole : BeginsWithLine a.more a.next.0 (held_of lines).unread = subst (λ bytes. BeginsWithLine bytes a.next.0 (held_of lines).unread) (bytes_are gots.TooLong a) a.next.1 in (
         record {
@@ -138,8 +138,8 @@ module _ {L : Type 0} (state : L → LinkState) (seats : Seats) (before : LinkSt
         quiet,
       )
 
-  pub none_read : (got : LineGot) → Answers old (held_of lines) before (state (link_of lines)) count (count_of lines) got
-      → HasLineCause before (state (link_of lines)) got → got ≢ gots.Line → got ≢ gots.TooLong → IsLost before (state (link_of lines))
+  pub none_read : (got : LineGot) → Answers before (link_place state lines) got
+      → HasLineCause before.link (state (link_of lines)) got → got ≢ gots.Line → got ≢ gots.TooLong → IsLost before.link (state (link_of lines))
   none_read gots.Line a cause not_line not_long = absurd (not_line refl)
   none_read gots.TooLong a cause not_line not_long = absurd (not_long refl)
   none_read gots.End a cause not_line not_long = record {

@@ -8,7 +8,7 @@ use Rattle.turn_lock.specs.Passes.{LockId}
 use Rattle.auction_core.specs.Auctions.{AuctionHistory}
 use Rattle.game_text.specs.Games.{GameFile}
 use Rattle.tac_io.specs.LineAnswers.{goes_on}
-use Rattle.tac_io.specs.Lines.{count_of, held_of, last_of, link_of}
+use Rattle.tac_io.specs.Lines.{last_of, link_of}
 use Rattle.tac_io.specs.declared.lines.Lines.{Lines}
 use Rattle.line_protocol.specs.declared.admission.Cause.{Cause}
 use Rattle.floor.specs.declared.desk.Desk.{Desk}
@@ -17,6 +17,7 @@ use Rattle.game_text.specs.Schedule.{clock_calls, schedule}
 use Rattle.clock_events.specs.MadeCalls.{MakesCalls}
 use Rattle.agent_gate.specs.Served.{HasSessionCause}
 use Rattle.agent_gate.specs.Sessions.{IsSession}
+use Rattle.agent_gate.specs.Turning.{session_state}
 use Rattle.game_run.specs.declared.sessions.Two.{Two}
 use Rattle.game_run.specs.declared.sessions.AgentSeat.{AgentSeat}
 use Rattle.game_run.specs.declared.sessions.PlayedSeat.{PlayedSeat}
@@ -78,7 +79,7 @@ module _ {L : Type 0} (state : L → LinkState) (dialect : Dialect) (game : Game
   -- a session of these lines at this desk left the link and the desk, and ended so
   pub record IsServedBy (before : Desk) (lines : Lines L) (after : Desk) (link : L) (cause : Cause) : Type 0 where
     pub count : ℕ
-    pub session : IsSession dialect game (held_of lines) (count_of lines) (state (link_of lines)) (state link) before after count cause
+    pub session : IsSession dialect game (session_state state lines before) (record { link = state link; desk = after; lines = count; cause = cause })
     pub faults : HasSessionCause (state (link_of lines)) (state link) cause
 
   -- a seat without lines was left as it was; a seat with lines had its session

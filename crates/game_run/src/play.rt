@@ -5,7 +5,6 @@ ghost use Rattle.tac_io.specs.Lines.{last_of};
 ghost use Rattle.tac_io.specs.declared.lines.Lines.{Lines};
 ghost use Rattle.clock_events.specs.Clocking.{WaitsForAll};
 ghost use Rattle.game_run.specs.GameSessions.{IsReadyForEnds, IsOpenFloor, IsPlayedThrough};
-ghost use Rattle.agent_gate.specs.Dialects.{dialect_of};
 
 use crate::seating::agent_seats;
 use crate::session_ends::SessionEnds;
@@ -82,8 +81,7 @@ pub(crate) fn play_out<
     requires wide { vec_len lines ≡ AGENTS }
     requires readable { (agent : ℕ) (ls : Lines _) → slice_get lines.items agent ≡ Some (Some ls) → goes_on (last_of ls) ≡ true }
     requires ticks { IfSome (T.state ticker.old).waited (λ waits. waits ≡ []) }
-    ensures through { IsPlayedThrough L.state
-        (dialect_of (D.may_answer dialect.now) (D.text dialect.now)) game.now result.closed lines.items result.links.items result.ends.items }
+    ensures through { IsPlayedThrough L.state (D.form dialect.now) game.now result.closed lines.items result.links.items result.ends.items }
     ensures waits { WaitsForAll (T.state ticker.old) (T.state ticker.new) result.missed }
 {
     let OpenFloor {

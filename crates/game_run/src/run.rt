@@ -5,7 +5,6 @@ ghost use Rattle.tac_io.specs.Lines.{link_of};
 ghost use Rattle.game_run.specs.{AreFilled, AreLinksOf, IsReadyForArrivals, IsReserved, hosted_game, IsGameEnd, IsRunFault, missed_of};
 ghost use Rattle.clock_events.specs.Clocking.{WaitsForAll};
 ghost use Rattle.line_protocol.specs.Heads.{head_of};
-ghost use Rattle.agent_gate.specs.Dialects.{dialect_of};
 
 use crate::admission::admit;
 use crate::arrivals::Arrivals;
@@ -131,10 +130,10 @@ pub fn run_game<R: Threads + Sync + Wait + Clock, D: Dialect + Sync, N: Links, T
 ) -> Result<GameEnd<N::Link>, RunFault<N::Link>>
     requires ports { IfSome (N.state links.old).ports (λ ports. ports ≡ []) }
     requires ticks { IfSome (T.state ticker.old).waited (λ waits. waits ≡ []) }
-    ensures played { IfOk result (IsGameEnd N.Link.state (hosted_game game.now (dialect_of (D.may_answer dialect.now) (D.text dialect.now)) port)
+    ensures played { IfOk result (IsGameEnd N.Link.state (hosted_game game.now (D.form dialect.now) port)
         (N.state links.old) (N.state links.new)) }
     ensures waits { IfOk result (λ end. WaitsForAll (T.state ticker.old) (T.state ticker.new) (missed_of (head_of end.head))) }
-    ensures not_played { IfErr result (IsRunFault N.Link.state (hosted_game game.now (dialect_of (D.may_answer dialect.now) (D.text dialect.now)) port)
+    ensures not_played { IfErr result (IsRunFault N.Link.state (hosted_game game.now (D.form dialect.now) port)
         (N.state links.old) (N.state links.new)) }
     ensures untouched { IfErr result (λ _. ticker.new ≡ ticker.old) }
 {

@@ -4,7 +4,6 @@ ghost use Rattle.floor.specs.Answers.{IsSameDesk};
 ghost use Rattle.floor.specs.Floors.{floor_ids};
 ghost use Rattle.clock_events.specs.Clocking.{WaitsForAll};
 ghost use Rattle.game_run.specs.Seatings.{AreBoth, AreEightPlayed, AreEightReady, AreTakenPlayed, BothOver, IsPlayedSeat, IsReadySeat, IsReadyClock, HasMadeAll};
-ghost use Rattle.agent_gate.specs.Dialects.{dialect_of};
 
 use agent_gate::{Dialect, SessionEnd, run_session};
 use clock_events::{ClockEnd, run_clock};
@@ -50,8 +49,7 @@ fn run_seat<R: Wait + Clock, D: Dialect, L: Link>(
     agent_seat: AgentSeat<L>,
 ) -> PlayedSeat<L>
     requires ready { IsReadySeat (floor_ids floor.now) agent_seat }
-    ensures { IsPlayedSeat L.state
-        (dialect_of (D.may_answer dialect.now) (D.text dialect.now)) game.now agent_seat result }
+    ensures { IsPlayedSeat L.state (D.form dialect.now) game.now agent_seat result }
 {
     let AgentSeat { desk, lines } = agent_seat;
     match lines {
@@ -80,7 +78,7 @@ fn run_two<R: Threads + Sync + Wait + Clock, D: Dialect + Sync, L: Link + Send +
     agent_seats: Two<AgentSeat<L>>,
 ) -> Two<PlayedSeat<L>>
     requires ready { AreBoth (IsReadySeat (floor_ids floor.now)) agent_seats }
-    ensures { BothOver (IsPlayedSeat L.state (dialect_of (D.may_answer dialect.now) (D.text dialect.now)) game.now) agent_seats result }
+    ensures { BothOver (IsPlayedSeat L.state (D.form dialect.now) game.now) agent_seats result }
 {
     let Two { first, second } = agent_seats;
     let (first, second) = join(
@@ -100,7 +98,7 @@ fn run_four<R: Threads + Sync + Wait + Clock, D: Dialect + Sync, L: Link + Send 
     agent_seats: Four<AgentSeat<L>>,
 ) -> Four<PlayedSeat<L>>
     requires ready { AreBoth (AreBoth (IsReadySeat (floor_ids floor.now))) agent_seats }
-    ensures { BothOver (BothOver (IsPlayedSeat L.state (dialect_of (D.may_answer dialect.now) (D.text dialect.now)) game.now)) agent_seats result }
+    ensures { BothOver (BothOver (IsPlayedSeat L.state (D.form dialect.now) game.now)) agent_seats result }
 {
     let Two { first, second } = agent_seats;
     let (first, second) = join(
@@ -124,8 +122,7 @@ fn run_eight<R: Threads + Sync + Wait + Clock, D: Dialect + Sync, L: Link + Send
     agent_seats: Eight<AgentSeat<L>>,
 ) -> Eight<PlayedSeat<L>>
     requires ready { AreEightReady (floor_ids floor.now) agent_seats }
-    ensures { AreEightPlayed L.state
-        (dialect_of (D.may_answer dialect.now) (D.text dialect.now)) game.now agent_seats result }
+    ensures { AreEightPlayed L.state (D.form dialect.now) game.now agent_seats result }
 {
     let Two { first, second } = agent_seats;
     let (first, second) = join(
@@ -149,8 +146,7 @@ fn run_taken<R: Threads + Sync + Wait + Clock, D: Dialect + Sync, L: Link + Send
     agent_seats: &mut Option<Eight<AgentSeat<L>>>,
 ) -> Eight<PlayedSeat<L>>
     requires ready { IsSomeAnd agent_seats.old (λ p. AreEightReady (floor_ids floor.now) p) }
-    ensures { AreTakenPlayed L.state
-        (dialect_of (D.may_answer dialect.now) (D.text dialect.now)) game.now agent_seats.old result }
+    ensures { AreTakenPlayed L.state (D.form dialect.now) game.now agent_seats.old result }
 {
     run_eight(rt, floor, game, dialect, agent_seats.take().unwrap())
 }
@@ -193,8 +189,7 @@ pub(crate) fn run_all<
     requires ready { AreEightReady (floor_ids floor.now) agent_seats }
     requires clock { IsReadyClock (floor_ids floor.now) clock }
     requires ticks { IfSome (T.state ticker.old).waited (λ waits. waits ≡ []) }
-    ensures played { AreTakenPlayed L.state
-        (dialect_of (D.may_answer dialect.now) (D.text dialect.now)) game.now (Some agent_seats) result.0 }
+    ensures played { AreTakenPlayed L.state (D.form dialect.now) game.now (Some agent_seats) result.0 }
     ensures made { HasMadeAll game.now clock result.1.desk }
     ensures same { IsSameDesk clock result.1.desk }
     ensures waits { WaitsForAll (T.state ticker.old) (T.state ticker.new) result.1.missed }
@@ -205,8 +200,7 @@ pub(crate) fn run_all<
         rt,
         &mut || -> Eight<PlayedSeat<L>>
             requires { IsSomeAnd agent_seats (λ p. AreEightReady (floor_ids floor.now) p) }
-            ensures { AreTakenPlayed L.state
-                (dialect_of (D.may_answer dialect.entry.now) (D.text dialect.entry.now)) game.entry.now agent_seats.entry result }
+            ensures { AreTakenPlayed L.state (D.form dialect.entry.now) game.entry.now agent_seats.entry result }
         { run_taken(rt, floor, game, dialect, &mut agent_seats) },
         &mut ||
             requires { IsSomeAnd clock (λ d. IsReadyClock (floor_ids floor.now) d) × IfSome (T.state ticker.now).waited (λ waits. waits ≡ []) }

@@ -29,9 +29,7 @@ impl Dialect for JsonDialect {
     ghost use Rattle.json_dialect.specs.JsonRequests.{asks_json};
     ghost use Rattle.json_dialect.specs.JsonReplies.{json_text};
 
-    ghost may_answer = { λ _ line answer. (answer ≡ asks_json line) ⊎ (answer ≡ Err Memory) };
-
-    ghost text = { λ _ said. json_text said };
+    ghost form = { λ _. record { may_answer = λ line answer. (answer ≡ asks_json line) ⊎ (answer ≡ Err Memory); text = json_text } };
 
     fn read(&self, line: &[u8]) -> Result<Request, RequestFault> {
         read_line(self.alloc, line)

@@ -68,17 +68,17 @@ module _ (setup : Setup) (history : List Entry) (position : ℕ) (e : Entry) (at
           nets_are = slice_get-map nets_by history position ∙ (ap (option_map nets_by) at ∙ (λ i. Some (record { dollars = sym dollars i })));
         }
 
--- the result of a call, if the reply and the trades are those of the rules, and if they are not
-abbrev pub IsSameAs : Setup → Option Nets → List Trade → List Entry → ℕ → Call → Reply → Type 0
-IsSameAs setup found trades past caller call reply =
-    MatchOption found (reply ≡ reply_of setup (reverse past) caller call → trades ≡ trades_of setup (reverse past) caller call → ⊥)
-    (λ nets. (reply ≡ reply_of setup (reverse past) caller call) × (trades ≡ trades_of setup (reverse past) caller call) × (nets.dollars ≡ nets_of trades))
+-- the result of a call, if the reply and the trades of its entry are those of the rules, and if they are not
+abbrev pub IsSameAs : Setup → Option Nets → List Entry → Entry → Type 0
+IsSameAs setup found past e =
+    MatchOption found (e.reply ≡ reply_of setup (reverse past) e.caller e.call → e.trades ≡ trades_of setup (reverse past) e.caller e.call → ⊥)
+    (λ nets. (e.reply ≡ reply_of setup (reverse past) e.caller e.call) × (e.trades ≡ trades_of setup (reverse past) e.caller e.call) × (nets.dollars ≡ nets_of e.trades))
 
 -- the entry after those of a past was struck, or is not fair
 pub struck_next : (setup : Setup) (history past : List Entry) (e : Entry) (shown : StoredEntry) (after : List Entry) (counts counts' : List ℕ) (trades : List Trade) (found : Option Nets)
     → past ≡ take (length past) history → slice_get history (length past) ≡ Some e → Shows history (length past) e shown → trades ≡ e.trades → shown.caller ≤ 8
     → entries_of past shown.caller < cap shown.caller → AreCounts past counts → length counts ≡ 9 → counts' ≡ slice_set counts shown.caller (slice_index counts shown.caller + 1)
-    → after ≡ past ++ entry_of setup (reverse past) shown.caller shown.call ∷ [] → IsSameAs setup found trades past shown.caller shown.call shown.reply
+    → after ≡ past ++ entry_of setup (reverse past) shown.caller shown.call ∷ [] → IsSameAs setup found past (record { caller = shown.caller; call = shown.call; reply = shown.reply; trades = trades })
     → MatchOption found (HasFairEntry setup history (length past) → ⊥) (λ nets. IsStruck setup history (length past) after counts' nets)
 struck_next setup history past e shown after counts counts' trades found before at shows own low room counted nine more made same =
     let n = length past in
@@ -87,4 +87,4 @@ struck_next setup history past e shown after counts counts' trades found before 
     (made ∙ (λ i. before i ++ entry_of setup (reverse (before i)) (shows.caller i) (shows.call i) ∷ []))
     (counted_more (take n history) e counts counts' (subst (λ (h : List Entry). AreCounts h counts) before counted) nine (subst (λ (k : ℕ). k ≤ 8) shows.caller low)
     (more ∙ ap (λ (k : ℕ). slice_set counts k (slice_index counts k + 1)) shows.caller))
-    (let P : List Entry × ℕ × Call × Reply → Type 0 = λ q. IsSameAs setup found trades q.0 q.1 q.2 q.3 in subst P (λ i. (before i, shows.caller i, shows.call i, shows.reply i)) same)
+    (let P : List Entry × ℕ × Call × Reply → Type 0 = λ q. IsSameAs setup found q.0 (record { caller = q.1; call = q.2; reply = q.3; trades = trades }) in subst P (λ i. (before i, shows.caller i, shows.call i, shows.reply i)) same)

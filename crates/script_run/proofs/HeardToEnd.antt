@@ -18,17 +18,22 @@ use Rattle.script_run.specs.{HasRunGame, Heard, heard, heard_from, heard_lines, 
 use Rattle.script_run.proofs.Answering.{all_written}
 use Rattle.script_run.proofs.SteppedGames.{heard_beyond, heard_so_far, heard_within, open_stands, prompt_after, prompt_now, stands_beyond, stands_within, tells_as, took_none, took_replies}
 
+-- the files that are read and the sink that is written
+pub record HeardOutside : Type 0 where
+  pub files : FilesState
+  pub sink : SinkState
+
 -- the selected file gave so many bytes, and all lines in them were answered
-pub record IsHearing (game : GameFile) (files files' : FilesState) (start sink : SinkState) (stepper : Stepper) (count : ℕ) : Type 0 where
+pub record IsHearing (game : GameFile) (before after : HeardOutside) (stepper : Stepper) (count : ℕ) : Type 0 where
   pub given : List ℕ
   pub count_is : count ≡ length given
   pub within : count ≤ 67108864
-  pub answered : HasAnswered game given start stepper sink
-  pub left : files.left ≡ then_known given files'.left
-  pub quiet : files'.faults ≡ files.faults
+  pub answered : HasAnswered game given before.sink stepper after.sink
+  pub left : before.files.left ≡ then_known given after.files.left
+  pub quiet : after.files.faults ≡ before.files.faults
 
 -- nothing was read yet
-pub hears_nothing : (game : GameFile) (files : FilesState) (start : SinkState) (stepper : Stepper) → stepper.run.text.items ≡ [] → IsStepping game [] [] stepper → IsHearing game files files start start stepper 0
+pub hears_nothing : (game : GameFile) (files : FilesState) (start : SinkState) (stepper : Stepper) → stepper.run.text.items ≡ [] → IsStepping game [] [] stepper → IsHearing game (record { files = files; sink = start }) (record { files = files; sink = start }) stepper 0
 hears_nothing game files start stepper none s = record {
   given = [];
   count_is = refl;
@@ -51,7 +56,7 @@ module _ (game : GameFile) (files : FilesState) (start : SinkState) where
     prompt,
   )
 
-  module _ (files' : FilesState) (sink : SinkState) (stepper : Stepper) (count : ℕ) (h : IsHearing game files files' start sink stepper count) where
+  module _ (files' : FilesState) (sink : SinkState) (stepper : Stepper) (count : ℕ) (h : IsHearing game (record { files = files; sink = start }) (record { files = files'; sink = sink }) stepper count) where
     short : length h.given ≤ 67108864
     short = let is = h.count_is in let low = h.within in omega (arith, is, low)
 
@@ -149,7 +154,7 @@ module _ (game : GameFile) (files : FilesState) (start : SinkState) where
         answered_fault Unread stepper' answer = absurd answer
         answered_fault Memory stepper' answer = absurd answer
 
-        pub goes_on : (stepper' : Stepper) (count' : ℕ) → count' ≡ count + length (take n piece) → HasAnswered game (h.given ++ take n piece) start stepper' sink' → IsHearing game files files'' start sink' stepper' count'
+        pub goes_on : (stepper' : Stepper) (count' : ℕ) → count' ≡ count + length (take n piece) → HasAnswered game (h.given ++ take n piece) start stepper' sink' → IsHearing game (record { files = files; sink = start }) (record { files = files''; sink = sink' }) stepper' count'
         goes_on stepper' count' is answer =
             let was = h.count_is in
             record {

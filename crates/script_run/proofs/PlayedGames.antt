@@ -32,7 +32,7 @@ pub record IsPlaying (game : GameFile) (script rest : List ℕ) (number : ℕ) (
 
 -- what a bad line makes of the whole script
 pub fails : (game : GameFile) (script rest line after : List ℕ) (number : ℕ) (run run' : GameRun) (fault : ScriptFault) (playing : IsPlaying game script rest number run) →
-    parts_of 10 rest ≡ line ∷ parts_of 10 after → PlaysGameLine game playing.lines [] number line run' (Err fault) → PlaysLines game script (Err fault)
+    parts_of 10 rest ≡ line ∷ parts_of 10 after → PlaysGameLine game playing.lines [] (record { number = number; bytes = line }) run' (Err fault) → PlaysLines game script (Err fault)
 fails game script rest line after number run run' (Line at reason) playing e stepped =
     stops judge_game_line playing.lines script rest line after number stepped.0 playing.read e stepped.3
     ∙ (λ i. Err (sym stepped.1 i, sym stepped.2 i))

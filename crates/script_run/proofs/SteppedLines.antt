@@ -93,7 +93,7 @@ module _ (game : GameFile) (given written : List ℕ) (stepper stepper' : Steppe
   )
 
   -- the step at the end of a line failed, though memory was not refused
-  pub failed : (fault : ScriptFault) (line : List ℕ) → line ≡ s.rest → PlaysGameLine game s.lines written stepper.number line stepper'.run (Err fault) → IsGranted (Err fault) →
+  pub failed : (fault : ScriptFault) (line : List ℕ) → line ≡ s.rest → PlaysGameLine game s.lines written (record { number = stepper.number; bytes = line }) stepper'.run (Err fault) → IsGranted (Err fault) →
       StopsAt game (given ++ 10 ∷ []) written stepper' fault
   failed (scripts.Line number reason) line is steps granted =
       stopped steps.0 number reason steps.1 steps.2 (subst (λ (l : List ℕ). judge_game_line s.lines l ≡ Err steps.0) is steps.3) steps.4

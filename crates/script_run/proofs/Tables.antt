@@ -273,18 +273,20 @@ pub call_at : (calls : List (ℕ × Call)) (n tick : ℕ) (call : ℕ × Call) �
 call_at calls n tick call all is =
     subst (IsDueCall tick) (get_or_from_slice_get calls n call call is) (all n call (slice_get_within calls n call is))
 
--- the call that stands next, and what it leaves
-pub record ClockStep (game : GameFile) (state : GameState) (counts : CallCounts) (read : List ℕ) (tick n good : ℕ) (call : Call) : Type 0 where
-  pub fit : IsFit call
-  pub room : entries_of (past_at state.pasts good) clock < cap clock
-  pub cash_room : length (part by state.cash clock) < cash_cap clock
-  pub counted : AreCounted game (called game clock good call state) counts read
-  pub next : HasClockRoom game (called game clock good call state) (drop (n + 1) (schedule.calls_at game tick))
-  pub same : clocked game (drop (n + 1) (schedule.calls_at game tick)) (called game clock good call state) ≡ clocked game (drop n (schedule.calls_at game tick)) state
+-- the call of a good that stands next, and what it leaves
+pub record ClockStep (seen : SeenGame) (counts : CallCounts) (read : List ℕ) (tick n : ℕ) (call : ℕ × Call) : Type 0 where
+  pub fit : IsFit call.1
+  pub room : entries_of (past_at seen.state.pasts call.0) clock < cap clock
+  pub cash_room : length (part by seen.state.cash clock) < cash_cap clock
+  pub counted : AreCounted seen.game (called seen.game clock call.0 call.1 seen.state) counts read
+  pub next : HasClockRoom seen.game (called seen.game clock call.0 call.1 seen.state) (drop (n + 1) (schedule.calls_at seen.game tick))
+  pub same :
+      clocked seen.game (drop (n + 1) (schedule.calls_at seen.game tick)) (called seen.game clock call.0 call.1 seen.state)
+      ≡ clocked seen.game (drop n (schedule.calls_at seen.game tick)) seen.state
 
 pub clock_step : (game answered : GameFile) (state : GameState) (counts : CallCounts) (read : List ℕ) (tick n good : ℕ) (call : Call) → answered ≡ game → AreCounted game state counts read →
     All (IsDueCall tick) (schedule.calls_at answered tick) → length (schedule.schedule answered) ≡ 480 → slice_get (schedule.calls_at answered tick) n ≡ Some (good, call) → good ≤ 27 →
-    HasClockRoom game state (drop n (schedule.calls_at game tick)) → ClockStep game state counts read tick n good call
+    HasClockRoom game state (drop n (schedule.calls_at game tick)) → ClockStep (record { game = game; state = state }) counts read tick n (good, call)
 clock_step game answered state counts read tick n good call is counted due_all whole there low room =
     let here : slice_get (schedule.calls_at game tick) n ≡ Some (good, call) = subst (λ (g : GameFile). slice_get (schedule.calls_at g tick) n ≡ Some (good, call)) is there in
     let most : due game state.ticks ≤ 480 = due_most game state.ticks (subst (λ (g : GameFile). length (schedule.schedule g) ≡ 480) is whole) in

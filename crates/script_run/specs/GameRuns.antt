@@ -1,5 +1,6 @@
 -- A game that is played by the lines of a script.
 use Rattle.std.specs.Prelude.{◌≡◌, ℕ, ⊤, List, [], ◌∷◌, ◌++◌, Result, Ok, Err}
+use Rattle.text_forms.specs.Lines.{NumberedLine}
 use Rattle.game_text.specs.Games.{GameFile}
 use Rattle.script_run.specs.declared.game.lines.GameLine.{GameLine}
 use Rattle.script_run.specs.declared.game.run.GameRun.{GameRun}
@@ -19,13 +20,13 @@ pub record HasRunGame (game : GameFile) (lines : List GameLine) (written : List 
   pub text : written ++ run.text.items ≡ replies game lines
 
 -- a line after others was played, or is bad, and nothing was written of it, or memory was refused for its text
-abbrev pub PlaysGameLine : GameFile → List GameLine → List ℕ → ℕ → List ℕ → GameRun → Result (Unit {0}) ScriptFault → Type 0
-PlaysGameLine game lines written number line run (Ok done) = (asked : GameLine) × (judge_game_line lines line ≡ Ok asked) × HasRunGame game (asked ∷ lines) written run
-PlaysGameLine game lines written number line run (Err (Line line_number reason)) =
-    (why : ScriptReason) × (line_number ≡ number) × (reason ≡ script_reason_number why) × (judge_game_line lines line ≡ Err why) × (written ++ run.text.items ≡ replies game lines)
-PlaysGameLine game lines written number line run (Err TooLong) = ⊥
-PlaysGameLine game lines written number line run (Err Failed) = ⊥
-PlaysGameLine game lines written number line run (Err Memory) = ⊤
+abbrev pub PlaysGameLine : GameFile → List GameLine → List ℕ → NumberedLine → GameRun → Result (Unit {0}) ScriptFault → Type 0
+PlaysGameLine game lines written line run (Ok done) = (asked : GameLine) × (judge_game_line lines line.bytes ≡ Ok asked) × HasRunGame game (asked ∷ lines) written run
+PlaysGameLine game lines written line run (Err (Line number reason)) =
+    (why : ScriptReason) × (number ≡ line.number) × (reason ≡ script_reason_number why) × (judge_game_line lines line.bytes ≡ Err why) × (written ++ run.text.items ≡ replies game lines)
+PlaysGameLine game lines written line run (Err TooLong) = ⊥
+PlaysGameLine game lines written line run (Err Failed) = ⊥
+PlaysGameLine game lines written line run (Err Memory) = ⊤
 
 -- memory was not refused
 abbrev pub IsGranted : Result (Unit {0}) ScriptFault → Type 0

@@ -1,12 +1,12 @@
 -- What the words of a command line ask for.
-use Rattle.std.specs.Prelude.{ℕ, ◌+◌, ◌%◌, ◌^◌, ◌==◌, ◌&&◌, nat_lt, nat_le, List, [], ◌∷◌, length, map, string_bytes, Option, Some, None, if◌then◌else◌, codes, option_map}
+use Rattle.std.specs.Prelude.{ℕ, ◌+◌, ◌%◌, ◌^◌, ◌==◌, ◌&&◌, nat_lt, nat_le, List, [], ◌∷◌, length, Option, Some, None, if◌then◌else◌, codes, option_map}
 use Rattle.std.specs.Str.{bytes_eq}
 use Rattle.tac_base.specs.declared.limits.TheConstants.{FILE_NAMES, MADE_REQUESTS}
 use Rattle.tac_base.specs.Numerals.{below, numeral}
 use Rattle.tac_commands.specs.declared.services.Service.{Service as ServiceAsked}
 use Rattle.tac_commands.specs.declared.words.BatchCommand.{BatchCommand as BatchAsked}
 use Rattle.tac_commands.specs.declared.words.BatchCommand.TheVariants as batch
-use Rattle.tac_commands.specs.Services.{Service, service_of}
+use Rattle.tac_commands.specs.Services.{Service, bytes_of_words, service_of}
 
 -- a command that needs no links, with its words
 pub data BatchCommand : Type 0 where
@@ -101,4 +101,4 @@ seen_batch (batch.Play game script) = Play game.now script.now
 seen_batch (batch.Step game script) = Step game.now script.now
 seen_batch (batch.Trial seed count) = Trial seed count
 seen_batch (batch.Audit game log) = Audit game.now log.now
-seen_batch (batch.Table names) = Table (in_pairs (map (λ name. string_bytes name) names.now))
+seen_batch (batch.Table names) = Table (in_pairs (bytes_of_words names.now))

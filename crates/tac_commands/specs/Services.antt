@@ -1,10 +1,15 @@
 -- Which words of a command line ask for the service of a game.
-use Rattle.std.specs.Prelude.{ℕ, ◌&&◌, nat_le, List, [], ◌∷◌, Option, Some, None, if◌then◌else◌, codes}
+use Rattle.std.specs.Prelude.{ℕ, ◌&&◌, nat_le, List, [], ◌∷◌, Option, Some, None, String, if◌then◌else◌, codes, map, string_bytes}
 use Rattle.std.specs.Str.{bytes_eq}
+use Rattle.std.specs.declared.alloc.Global.{Global}
 use Rattle.tac_base.specs.declared.limits.TheConstants.{PACE, PORT}
 use Rattle.tac_base.specs.Numerals.{numeral}
 use Rattle.tac_commands.specs.declared.services.Form.{Form}
 use Rattle.tac_commands.specs.declared.services.Form.TheVariants.{Lines, Json}
+
+-- the bytes of the words of a command line
+abbrev pub bytes_of_words : List (String Global) → List (List ℕ)
+bytes_of_words words = map (λ word. string_bytes word) words
 
 -- the name of a game's file, a port, 1 to 65535, a pace, 1 to 60000 milliseconds a tick, and a form of lines
 pub record Service : Type 0 where

@@ -1,9 +1,10 @@
 // The service of a game that the words of a command line ask for.
-ghost use Rattle.std.specs.Prelude.{◌≡◌, ◌≤◌, [], ◌∷◌, length, map, string_bytes, string_len, MatchOption, Some, None, All, IfSome};
+ghost use Rattle.std.specs.Prelude.{◌≡◌, ◌≤◌, [], ◌∷◌, length, string_len, MatchOption, Some, None, All, IfSome};
 ghost use Rattle.tac_base.specs.declared.limits.TheConstants.{NAME_BYTES};
 ghost use Rattle.tac_base.specs.Numerals.{numeral};
 ghost use Rattle.tac_commands.specs.{seen_service, service_of};
 ghost use Rattle.tac_commands.specs.Services as services;
+ghost use Rattle.tac_commands.specs.Services.{bytes_of_words};
 
 use tac_base::limits::{PACE, PORT};
 use tac_base::read_numeral;
@@ -105,8 +106,8 @@ fn service_in_json<'a>(
 
 /// The service that the words ask for, if they ask for one.
 pub fn service_asked(words: &[String]) -> Option<Service<'_>>
-    ensures service { MatchOption result (service_of (map (λ word. string_bytes word) words.now) ≡ None)
-        (λ service. service_of (map (λ word. string_bytes word) words.now) ≡ Some (seen_service service)) }
+    ensures service { MatchOption result (service_of (bytes_of_words words.now) ≡ None)
+        (λ service. service_of (bytes_of_words words.now) ≡ Some (seen_service service)) }
     ensures short { All (λ word. string_len word ≤ NAME_BYTES) words.now → IfSome result (λ service. length service.game.now ≤ NAME_BYTES) }
 {
     match words {

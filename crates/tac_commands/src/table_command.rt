@@ -1,5 +1,5 @@
 // The command that shows the standings of the teams of several games.
-ghost use Rattle.std.specs.Prelude.{◌≡◌, ◌+◌, ◌*◌, ◌/◌, ◌≤◌, ◌<◌, ℕ, List, [], ◌∷◌, length, map, string_bytes, string_len, All, IfErr, IfOk, IfSome, OnOk};
+ghost use Rattle.std.specs.Prelude.{◌≡◌, ◌+◌, ◌*◌, ◌/◌, ◌≤◌, ◌<◌, ℕ, List, [], ◌∷◌, length, string_len, All, IfErr, IfOk, IfSome, OnOk};
 ghost use Rattle.tac_base.specs.declared.limits.TheConstants.{FILE_NAMES, NAME_BYTES};
 ghost use Rattle.tac_io.specs.Known.{known_then};
 ghost use Rattle.game_text.specs.Games.{GameFile};
@@ -13,6 +13,7 @@ ghost use Rattle.tac_commands.specs.Ends.{Ends, EndsBatch};
 ghost use Rattle.tac_commands.specs.FlawTexts as texts;
 ghost use Rattle.tac_commands.specs.Outcomes as outcomes;
 ghost use Rattle.tac_commands.specs.Runs.{Runs, StopsAt};
+ghost use Rattle.tac_commands.specs.Services.{bytes_of_words};
 
 use crate::ends::End;
 use crate::numbered_lines::counted;
@@ -95,8 +96,8 @@ fn add_pairs<F: Files>(
 ) -> Result<Standings, TableFault>
     requires names { IfSome (F.state files.old).names (λ selected. (selected ≡ []) × All (λ name. string_len name ≤ NAME_BYTES) names.now) }
     requires few { length names.now ≤ FILE_NAMES }
-    ensures all { IfOk result (TableGoesOn (in_pairs (map (λ name. string_bytes name) names.now)) [] (length names.now / 2) (F.state files.old) (F.state files.new)) }
-    ensures fault { IfErr result (λ fault. Runs (table_steps [] (in_pairs (map (λ name. string_bytes name) names.now)))
+    ensures all { IfOk result (TableGoesOn (in_pairs (bytes_of_words names.now)) [] (length names.now / 2) (F.state files.old) (F.state files.new)) }
+    ensures fault { IfErr result (λ fault. Runs (table_steps [] (in_pairs (bytes_of_words names.now)))
         (F.state files.old) (F.state files.new) (outcome_of fault)) }
 {
     let mut standings = Standings::begin(alloc);
@@ -142,7 +143,7 @@ pub(crate) fn table_files<F: Files, K: Sink>(
 ) -> End
     requires names { IfSome (F.state files.old).names (λ selected. (selected ≡ []) × All (λ name. string_len name ≤ NAME_BYTES) names.now) }
     requires few { length names.now ≤ FILE_NAMES }
-    ensures { EndsBatch (commands.Table (in_pairs (map (λ name. string_bytes name) names.now))) (F.state files.old) (F.state files.new) (K.state out.old) (K.state out.new) result }
+    ensures { EndsBatch (commands.Table (in_pairs (bytes_of_words names.now))) (F.state files.old) (F.state files.new) (K.state out.old) (K.state out.new) result }
 {
     match add_pairs(alloc, names, files) {
         Ok(standings) => write_standings(alloc, &standings, out),

@@ -1,8 +1,9 @@
 // The words of a command that needs no links.
-ghost use Rattle.std.specs.Prelude.{◌≡◌, ◌+◌, ◌≤◌, ◌^◌, length, map, string_bytes, string_len, MatchOption, Some, None, All, IfSome};
+ghost use Rattle.std.specs.Prelude.{◌≡◌, ◌+◌, ◌≤◌, ◌^◌, length, string_len, MatchOption, Some, None, All, IfSome};
 ghost use Rattle.tac_base.specs.declared.limits.TheConstants.{MADE_REQUESTS, NAME_BYTES};
 ghost use Rattle.tac_base.specs.Numerals.{below, numeral};
 ghost use Rattle.tac_commands.specs.Commands as commands;
+ghost use Rattle.tac_commands.specs.Services.{bytes_of_words};
 ghost use Rattle.tac_commands.specs.{batch_of, seen_batch, IsShortBatch, IsWithinBatch};
 
 use tac_base::limits::{FILE_NAMES, MADE_REQUESTS};
@@ -124,8 +125,8 @@ fn batch_with_two<'a>(word: &str, first: &'a str, second: &'a str) -> Option<Bat
 
 /// The table of the games and logs of these names, in turn.
 fn table_of(names: &[String]) -> Option<BatchCommand<'_>>
-    ensures command { MatchOption result (commands.table_of (map (λ name. string_bytes name) names.now) ≡ None)
-        (λ asked. commands.table_of (map (λ name. string_bytes name) names.now) ≡ Some (seen_batch asked)) }
+    ensures command { MatchOption result (commands.table_of (bytes_of_words names.now) ≡ None)
+        (λ asked. commands.table_of (bytes_of_words names.now) ≡ Some (seen_batch asked)) }
     ensures within { IfSome result IsWithinBatch }
     ensures short { All (λ name. string_len name ≤ NAME_BYTES) names.now → IfSome result IsShortBatch }
 {
@@ -138,8 +139,8 @@ fn table_of(names: &[String]) -> Option<BatchCommand<'_>>
 
 /// The command of a word and those after it, by their number.
 fn batch_by_count<'a>(word: &str, others: &'a [String]) -> Option<BatchCommand<'a>>
-    ensures command { MatchOption result (commands.batch_by_count word.now (map (λ other. string_bytes other) others.now) ≡ None)
-        (λ asked. commands.batch_by_count word.now (map (λ other. string_bytes other) others.now) ≡ Some (seen_batch asked)) }
+    ensures command { MatchOption result (commands.batch_by_count word.now (bytes_of_words others.now) ≡ None)
+        (λ asked. commands.batch_by_count word.now (bytes_of_words others.now) ≡ Some (seen_batch asked)) }
     ensures within { IfSome result IsWithinBatch }
     ensures short { All (λ other. string_len other ≤ NAME_BYTES) others.now → IfSome result IsShortBatch }
 {
@@ -152,8 +153,8 @@ fn batch_by_count<'a>(word: &str, others: &'a [String]) -> Option<BatchCommand<'
 
 /// The command that the words ask for, if they ask for one that needs no links.
 pub(crate) fn batch_asked(words: &[String]) -> Option<BatchCommand<'_>>
-    ensures command { MatchOption result (batch_of (map (λ word. string_bytes word) words.now) ≡ None)
-        (λ asked. batch_of (map (λ word. string_bytes word) words.now) ≡ Some (seen_batch asked)) }
+    ensures command { MatchOption result (batch_of (bytes_of_words words.now) ≡ None)
+        (λ asked. batch_of (bytes_of_words words.now) ≡ Some (seen_batch asked)) }
     ensures within { IfSome result IsWithinBatch }
     ensures short { All (λ word. string_len word ≤ NAME_BYTES) words.now → IfSome result IsShortBatch }
 {

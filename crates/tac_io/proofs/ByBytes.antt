@@ -5,10 +5,9 @@ use Rattle.std.specs.declared.option.Option.{Option}
 use Rattle.std.proofs.lemmas.Bool.Decides.{nat_tests}
 use Rattle.tac_io.specs.AllAnswers.{all_answers, ended_line}
 use Rattle.tac_io.specs.AnswersInTurn.{answers_left, IsFirst, IsInTurn}
-use Rattle.tac_io.specs.HeldBytes.{Held}
+use Rattle.tac_io.specs.HeldBytes.{Held, LinkPlace}
 use Rattle.tac_io.specs.LineAnswers.{Answers, IsNext}
 use Rattle.tac_io.specs.LineText.{has_end, BeginsWithLine}
-use Rattle.tac_io.specs.States.{LinkState}
 use Rattle.tac_io.specs.Known.{then_known, IsAtEnd}
 use Rattle.tac_io.proofs.LineEnds.{neither}
 use Rattle.tac_io.specs.declared.line_got.LineGot.{LineGot}
@@ -66,43 +65,42 @@ line_first held new left left' more line count gave le b =
     ap (all_answers [] (2 ^ 26 - count + length held.unread)) bytes
     ∙ all_answers-line [] line (new.unread ++ left') (2 ^ 26 - count + length held.unread) (2 ^ 26 - (count + length more) + length new.unread) b.first (omega (arith, size, le))
 
-next_is_first : (held new : Held) (before after : LinkState) (left left' : List ℕ) (count count' : ℕ) (got : LineGot) → before.left ≡ Some left → after.left ≡ Some left'
-    → Answers held new before after count count' got → count' ≤ 2 ^ 26 → IsFirst got new.line (answers_left held left count) (answers_left new left' count')
-next_is_first held new before after left left' count count' got had has answers le =
-    first got (subst (λ l. IsNext got (held.unread ++ answers.more) new (IsAtEnd l) count') has answers.next)
+next_is_first : (old new : LinkPlace) (left left' : List ℕ) (got : LineGot) → old.link.left ≡ Some left → new.link.left ≡ Some left'
+    → Answers old new got → new.count ≤ 2 ^ 26 → IsFirst got new.held.line (answers_left old.held left old.count) (answers_left new.held left' new.count)
+next_is_first old new left left' got had has answers le =
+    first got (subst (λ l. IsNext got (old.held.unread ++ answers.more) new.held (IsAtEnd l) new.count) has answers.next)
   where
     gave : left ≡ answers.more ++ left'
     gave = some_inj left (answers.more ++ left') (sym had ∙ answers.gave.1 ∙ ap (then_known answers.more) has)
 
-    within : count + length answers.more ≤ 2 ^ 26
+    within : old.count + length answers.more ≤ 2 ^ 26
     within = omega (arith, answers.counted, le)
 
-    behind : (line : List ℕ) → BeginsWithLine (held.unread ++ answers.more) line new.unread → answers_left held left count ≡ ended_line line ∷ answers_left new left' count'
-    behind line b = line_first held new left left' answers.more line count gave within b ∙ ap (λ n. ended_line line ∷ answers_left new left' n) (sym answers.counted)
+    behind : (line : List ℕ) → BeginsWithLine (old.held.unread ++ answers.more) line new.held.unread → answers_left old.held left old.count ≡ ended_line line ∷ answers_left new.held left' new.count
+    behind line b = line_first old.held new.held left left' answers.more line old.count gave within b ∙ ap (λ n. ended_line line ∷ answers_left new.held left' n) (sym answers.counted)
 
-    size : length (held.unread ++ answers.more) ≡ length held.unread + length answers.more
-    size = length-append held.unread answers.more
+    size : length (old.held.unread ++ answers.more) ≡ length old.held.unread + length answers.more
+    size = length-append old.held.unread answers.more
 
-    bytes : held.unread ++ left ≡ (held.unread ++ answers.more) ++ left'
-    bytes = ap (λ l. held.unread ++ l) gave ∙ sym (append_assoc held.unread answers.more left')
+    bytes : old.held.unread ++ left ≡ (old.held.unread ++ answers.more) ++ left'
+    bytes = ap (λ l. old.held.unread ++ l) gave ∙ sym (append_assoc old.held.unread answers.more left')
 
-    first : (got : LineGot) → IsNext got (held.unread ++ answers.more) new (left' ≡ []) count' → IsFirst got new.line (answers_left held left count) (answers_left new left' count')
-    first Line next = behind new.line next.0 ∙ ap (λ line. line ∷ answers_left new left' count') (short_line new.line next.1)
-    first TooLong next = behind next.0 next.1 ∙ ap (λ line. line ∷ answers_left new left' count') (long_line next.0 next.2)
+    first : (got : LineGot) → IsNext got (old.held.unread ++ answers.more) new.held (left' ≡ []) new.count → IsFirst got new.held.line (answers_left old.held left old.count) (answers_left new.held left' new.count)
+    first Line next = behind new.held.line next.0 ∙ ap (λ line. line ∷ answers_left new.held left' new.count) (short_line new.held.line next.1)
+    first TooLong next = behind next.0 next.1 ∙ ap (λ line. line ∷ answers_left new.held left' new.count) (long_line next.0 next.2)
     first End next =
-        ap (all_answers [] (2 ^ 26 - count + length held.unread)) (bytes ∙ ap (λ l. (held.unread ++ answers.more) ++ l) next.2 ∙ append-nil (held.unread ++ answers.more))
-        ∙ all_answers-end [] (held.unread ++ answers.more) (2 ^ 26 - count + length held.unread) next.0 (omega (arith, size, next.1, answers.counted))
+        ap (all_answers [] (2 ^ 26 - old.count + length old.held.unread)) (bytes ∙ ap (λ l. (old.held.unread ++ answers.more) ++ l) next.2 ∙ append-nil (old.held.unread ++ answers.more))
+        ∙ all_answers-end [] (old.held.unread ++ answers.more) (2 ^ 26 - old.count + length old.held.unread) next.0 (omega (arith, size, next.1, answers.counted))
     first Failed next = tt
     first Budget next =
-        ap (all_answers [] (2 ^ 26 - count + length held.unread)) bytes
-        ∙ all_answers-budget [] (held.unread ++ answers.more) left' (2 ^ 26 - count + length held.unread) next.0 (omega (arith, size, next.1, answers.counted))
+        ap (all_answers [] (2 ^ 26 - old.count + length old.held.unread)) bytes
+        ∙ all_answers-budget [] (old.held.unread ++ answers.more) left' (2 ^ 26 - old.count + length old.held.unread) next.0 (omega (arith, size, next.1, answers.counted))
 
-pub in_turn : (held new : Held) (before after : LinkState) (count count' : ℕ) (got : LineGot) → Answers held new before after count count' got → count' ≤ 2 ^ 26
-    → IsInTurn held new before after count count' got
-in_turn held new before after count count' got answers le = by_left before.left after.left refl refl
+pub in_turn : (old new : LinkPlace) (got : LineGot) → Answers old new got → new.count ≤ 2 ^ 26 → IsInTurn old new got
+in_turn old new got answers le = by_left old.link.left new.link.left refl refl
   where
-    by_left : (left left' : Option (List ℕ)) → before.left ≡ left → after.left ≡ left'
-        → IfSome left (λ bytes. IfSome left' (λ rest. IsFirst got new.line (answers_left held bytes count) (answers_left new rest count')))
+    by_left : (left left' : Option (List ℕ)) → old.link.left ≡ left → new.link.left ≡ left'
+        → IfSome left (λ bytes. IfSome left' (λ rest. IsFirst got new.held.line (answers_left old.held bytes old.count) (answers_left new.held rest new.count)))
     by_left None left' had has = tt
     by_left (Some left) None had has = tt
-    by_left (Some left) (Some left') had has = next_is_first held new before after left left' count count' got had has answers le
+    by_left (Some left) (Some left') had has = next_is_first old new left left' got had has answers le

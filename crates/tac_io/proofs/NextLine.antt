@@ -2,7 +2,7 @@
 use Rattle.std.proofs.Common.{◌≡◌, ℕ, ◌+◌, ◌<◌, List, [], ◌∷◌, ◌++◌, length, refl, ap, sym, ◌∙◌, true, false, Bool, arith, length-append, append_assoc, append-nil, subst, inl, inr}
 use Rattle.std.specs.Prelude.{◌^◌, MatchBool}
 use Rattle.std.proofs.lemmas.List.{nil_from_length}
-use Rattle.tac_io.specs.HeldBytes.{Gives, Held}
+use Rattle.tac_io.specs.HeldBytes.{Gives, Held, LinkPlace}
 use Rattle.tac_io.specs.LineText.{has_end, BeginsWithLine}
 use Rattle.tac_io.specs.LineAnswers.{Answers, IsDecided, IsKind, IsNext}
 use Rattle.tac_io.specs.declared.line_got.LineGot.{LineGot}
@@ -14,12 +14,12 @@ use Rattle.tac_io.proofs.KnownPieces.{known_then-nothing, then_known-nothing, ga
 use Rattle.tac_io.proofs.LineEnds.{no_end-append, no_end-front}
 
 -- `more` was taken, and of all the bytes no line end is in those that were skipped.
-pub record IsGoing (unread₀ : List ℕ) (count₀ : ℕ) (before : LinkState) (long : Bool) (unread : List ℕ) (count : ℕ) (now : LinkState) : Type 0 where
+pub record IsGoing (from : LinkPlace) (long : Bool) (unread : List ℕ) (count : ℕ) (now : LinkState) : Type 0 where
   pub more : List ℕ
   pub skipped : List ℕ
-  pub gave : GaveBytes more before now
-  pub counted : count ≡ count₀ + length more
-  pub whole : unread₀ ++ more ≡ skipped ++ unread
+  pub gave : GaveBytes more from.link now
+  pub counted : count ≡ from.count + length more
+  pub whole : from.held.unread ++ more ≡ skipped ++ unread
   pub plain : has_end skipped ≡ false
   pub is_long : MatchBool long (512 < length skipped) (skipped ≡ [])
 
@@ -29,28 +29,28 @@ nothing_given old new now now' n gives z =
     let e : gives.more ≡ [] = nil_from_length gives.more (gives.count ∙ z) in
     (gives.gave.0 ∙ ap (known_then now.taken) e ∙ known_then-nothing now.taken, sym (gives.gave.1 ∙ ap (λ more. then_known more now'.left) e ∙ then_known-nothing now'.left))
 
-module _ (unread₀ : List ℕ) (count₀ : ℕ) (before : LinkState) where
+module _ (from : LinkPlace) where
   -- no line end is in all the bytes
-  pub going_none : (long : Bool) (unread : List ℕ) (count : ℕ) (now : LinkState) (going : IsGoing unread₀ count₀ before long unread count now) → has_end unread ≡ false → has_end (unread₀ ++ going.more) ≡ false
+  pub going_none : (long : Bool) (unread : List ℕ) (count : ℕ) (now : LinkState) (going : IsGoing from long unread count now) → has_end unread ≡ false → has_end (from.held.unread ++ going.more) ≡ false
   going_none long unread count now going none = ap has_end going.whole ∙ no_end-append going.skipped unread going.plain none
 
   -- the bytes that were held at first decide nothing
-  pub going_undecided : {A : Type 0} (long : Bool) (unread : List ℕ) (count : ℕ) (now : LinkState) (going : IsGoing unread₀ count₀ before long unread count now)
-      → has_end unread ≡ false → count < 2 ^ 26 → IsDecided unread₀ count₀ → A
+  pub going_undecided : {A : Type 0} (long : Bool) (unread : List ℕ) (count : ℕ) (now : LinkState) (going : IsGoing from long unread count now)
+      → has_end unread ≡ false → count < 2 ^ 26 → IsDecided from.held.unread from.count → A
   going_undecided long unread count now going none below (inl some) =
-      let h : has_end unread₀ ≡ false = no_end-front unread₀ going.more (going_none long unread count now going none) in absurd (cc)
+      let h : has_end from.held.unread ≡ false = no_end-front from.held.unread going.more (going_none long unread count now going none) in absurd (cc)
   going_undecided long unread count now going none below (inr all) = absurd (omega (arith, all, below, going.counted))
 
   -- a line stands after what was skipped
-  pub going_line : (long : Bool) (unread : List ℕ) (count : ℕ) (now : LinkState) (line rest : List ℕ) (going : IsGoing unread₀ count₀ before long unread count now) → BeginsWithLine unread line rest → BeginsWithLine (unread₀ ++ going.more) (going.skipped ++ line) rest
+  pub going_line : (long : Bool) (unread : List ℕ) (count : ℕ) (now : LinkState) (line rest : List ℕ) (going : IsGoing from long unread count now) → BeginsWithLine unread line rest → BeginsWithLine (from.held.unread ++ going.more) (going.skipped ++ line) rest
   going_line long unread count now line rest going b = record {
     whole = going.whole ∙ ap (λ l. going.skipped ++ l) b.whole ∙ sym (append_assoc going.skipped line (10 ∷ rest));
     first = no_end-append going.skipped line going.plain b.first;
   }
 
   -- what is held of a line that is too long is dropped
-  pub going_skip : (long : Bool) (unread : List ℕ) (count : ℕ) (now : LinkState) (long' : Bool) (unread' : List ℕ) → IsGoing unread₀ count₀ before long unread count now → has_end unread ≡ false
-      → MatchBool long' ((unread' ≡ []) × (long ≡ false → 512 < length unread)) ((unread' ≡ unread) × (long ≡ false)) → IsGoing unread₀ count₀ before long' unread' count now
+  pub going_skip : (long : Bool) (unread : List ℕ) (count : ℕ) (now : LinkState) (long' : Bool) (unread' : List ℕ) → IsGoing from long unread count now → has_end unread ≡ false
+      → MatchBool long' ((unread' ≡ []) × (long ≡ false → 512 < length unread)) ((unread' ≡ unread) × (long ≡ false)) → IsGoing from long' unread' count now
   going_skip long unread count now false unread' going none h = record {
     more = going.more;
     skipped = going.skipped;
@@ -75,28 +75,28 @@ module _ (unread₀ : List ℕ) (count₀ : ℕ) (before : LinkState) where
       longer false p f = let q : 512 < length unread = f refl in omega (arith, length-append going.skipped unread)
 
   -- more bytes come
-  pub going_fill : (long : Bool) (unread : List ℕ) (count : ℕ) (now : LinkState) (unread' : List ℕ) (now' : LinkState) (n : ℕ) → IsGoing unread₀ count₀ before long unread count now
-      → Gives unread unread' now now' n → IsGoing unread₀ count₀ before long unread' (count + n) now'
+  pub going_fill : (long : Bool) (unread : List ℕ) (count : ℕ) (now : LinkState) (unread' : List ℕ) (now' : LinkState) (n : ℕ) → IsGoing from long unread count now
+      → Gives unread unread' now now' n → IsGoing from long unread' (count + n) now'
   going_fill long unread count now unread' now' n going gives = record {
     more = going.more ++ gives.more;
     skipped = going.skipped;
-    gave = gave_twice before now now' going.more gives.more going.gave gives.gave;
+    gave = gave_twice from.link now now' going.more gives.more going.gave gives.gave;
     counted = omega (arith, going.counted, gives.count, length-append going.more gives.more);
-    whole = sym (append_assoc unread₀ going.more gives.more) ∙ ap (λ l. l ++ gives.more) going.whole ∙ append_assoc going.skipped unread gives.more ∙ ap (λ l. going.skipped ++ l) (sym gives.held);
+    whole = sym (append_assoc from.held.unread going.more gives.more) ∙ ap (λ l. l ++ gives.more) going.whole ∙ append_assoc going.skipped unread gives.more ∙ ap (λ l. going.skipped ++ l) (sym gives.held);
     plain = going.plain;
     is_long = going.is_long;
   }
 
-  pub answers_line : (held new : Held) (long : Bool) (count : ℕ) (now : LinkState) (n : ℕ) (got : LineGot) (unread : List ℕ) → held.unread ≡ unread₀ → IsGoing unread₀ count₀ before long unread count now
-      → BeginsWithLine unread new.line new.unread → n ≡ length new.line → IsKind got long n → Answers held new before now count₀ count got
-  answers_line held new long count now n got unread first going b len kind = record {
+  pub answers_line : (new : Held) (long : Bool) (count : ℕ) (now : LinkState) (n : ℕ) (got : LineGot) (unread : List ℕ) → IsGoing from long unread count now
+      → BeginsWithLine unread new.line new.unread → n ≡ length new.line → IsKind got long n → Answers from (record { held = new; count = count; link = now }) got
+  answers_line new long count now n got unread going b len kind = record {
     more = going.more;
     gave = going.gave;
     counted = going.counted;
-    next = subst (λ bytes. IsNext got (bytes ++ going.more) new (IsAtEnd now.left) count) (sym first) (next_is got kind);
+    next = next_is got kind;
   }
     where
-      b' : BeginsWithLine (unread₀ ++ going.more) (going.skipped ++ new.line) new.unread
+      b' : BeginsWithLine (from.held.unread ++ going.more) (going.skipped ++ new.line) new.unread
       b' = going_line long unread count now new.line new.unread going b
 
       size : length (going.skipped ++ new.line) ≡ length going.skipped + length new.line
@@ -108,23 +108,23 @@ module _ (unread₀ : List ℕ) (count₀ : ℕ) (before : LinkState) where
       short_is : long ≡ false → going.skipped ≡ []
       short_is e = subst (λ b. MatchBool b (512 < length going.skipped) (going.skipped ≡ [])) e going.is_long
 
-      next_is : (got : LineGot) → IsKind got long n → IsNext got (unread₀ ++ going.more) new (IsAtEnd now.left) count
-      next_is Line k = (subst (λ l. BeginsWithLine (unread₀ ++ going.more) (l ++ new.line) new.unread) (short_is k.0) b', omega (arith, k.1, len))
+      next_is : (got : LineGot) → IsKind got long n → IsNext got (from.held.unread ++ going.more) new (IsAtEnd now.left) count
+      next_is Line k = (subst (λ l. BeginsWithLine (from.held.unread ++ going.more) (l ++ new.line) new.unread) (short_is k.0) b', omega (arith, k.1, len))
       next_is TooLong k = (going.skipped ++ new.line, b', elim k [ inl e ↦ omega (arith, long_is e, size) | inr lt ↦ omega (arith, lt, len, size) ])
       next_is End k = absurd k
       next_is Failed k = absurd k
       next_is Budget k = absurd k
 
-  pub answers_none : (held new : Held) (long : Bool) (count : ℕ) (now : LinkState) (got : LineGot) (unread : List ℕ) → held.unread ≡ unread₀ → IsGoing unread₀ count₀ before long unread count now
-      → has_end unread ≡ false → ((bytes : List ℕ) → has_end bytes ≡ false → IsNext got bytes new (IsAtEnd now.left) count) → Answers held new before now count₀ count got
-  answers_none held new long count now got unread first going none next_is = record {
+  pub answers_none : (new : Held) (long : Bool) (count : ℕ) (now : LinkState) (got : LineGot) (unread : List ℕ) → IsGoing from long unread count now
+      → has_end unread ≡ false → ((bytes : List ℕ) → has_end bytes ≡ false → IsNext got bytes new (IsAtEnd now.left) count) → Answers from (record { held = new; count = count; link = now }) got
+  answers_none new long count now got unread going none next_is = record {
     more = going.more;
     gave = going.gave;
     counted = going.counted;
-    next = subst (λ bytes. IsNext got (bytes ++ going.more) new (IsAtEnd now.left) count) (sym first) (next_is (unread₀ ++ going.more) (going_none long unread count now going none));
+    next = next_is (from.held.unread ++ going.more) (going_none long unread count now going none);
   }
 
-  pub going_same : (long : Bool) (unread : List ℕ) (count : ℕ) (now now' : LinkState) → IsGoing unread₀ count₀ before long unread count now → now'.taken ≡ now.taken → now'.left ≡ now.left → IsGoing unread₀ count₀ before long unread count now'
+  pub going_same : (long : Bool) (unread : List ℕ) (count : ℕ) (now now' : LinkState) → IsGoing from long unread count now → now'.taken ≡ now.taken → now'.left ≡ now.left → IsGoing from long unread count now'
   going_same long unread count now now' going e f = record {
     more = going.more;
     skipped = going.skipped;

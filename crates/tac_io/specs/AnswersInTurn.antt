@@ -1,8 +1,7 @@
 -- What one answer of the lines of a link takes from those that are still to come.
 use Rattle.std.specs.Prelude.{⊤, ◌≡◌, ℕ, ◌+◌, ◌-◌, ◌++◌, List, [], ◌∷◌, length, IfSome}
 use Rattle.tac_base.specs.declared.limits.TheConstants.{LINK_BYTES}
-use Rattle.tac_io.specs.HeldBytes.{Held}
-use Rattle.tac_io.specs.States.{LinkState}
+use Rattle.tac_io.specs.HeldBytes.{Held, LinkPlace}
 use Rattle.tac_io.specs.declared.line_got.LineGot.{LineGot}
 use Rattle.tac_io.specs.declared.line_got.LineGot.TheVariants.{Line, TooLong, End, Failed, Budget}
 use Rattle.tac_io.specs.AllAnswers.{all_answers}
@@ -20,6 +19,7 @@ IsFirst Failed line all others = ⊤
 IsFirst Budget line all others = all ≡ (Budget, []) ∷ []
 
 -- Where it is known what is left, the answer is the first of those to come, and then the others come.
-abbrev pub IsInTurn : Held → Held → LinkState → LinkState → ℕ → ℕ → LineGot → Type 0
-IsInTurn held held' before after count count' got =
-    IfSome before.left (λ bytes. IfSome after.left (λ rest. IsFirst got held'.line (answers_left held bytes count) (answers_left held' rest count')))
+abbrev pub IsInTurn : LinkPlace → LinkPlace → LineGot → Type 0
+IsInTurn before after got =
+    IfSome before.link.left (λ bytes. IfSome after.link.left (λ rest.
+    IsFirst got after.held.line (answers_left before.held bytes before.count) (answers_left after.held rest after.count)))

@@ -9,6 +9,12 @@ pub record Held : Type 0 where
   pub line : List ℕ
   pub unread : List ℕ
 
+-- how far a link was read: what its lines hold, how many bytes were taken of it, and the link
+pub record LinkPlace : Type 0 where
+  pub held : Held
+  pub count : ℕ
+  pub link : LinkState
+
 -- A read put n more bytes behind those that are held, took them from the link and no others, and gave none only at the end.
 pub record Gives (bytes bytes' : List ℕ) (before after : LinkState) (n : ℕ) : Type 0 where
   pub more : List ℕ

@@ -2,7 +2,7 @@
 use Rattle.std.specs.Prelude.{◌≡◌, ℕ, ◌+◌, ◌≤◌, ◌<◌, ◌⊎◌, List, ◌++◌, Bool, true, false, length, None, Some}
 use Rattle.std.specs.declared.option.Option.{Option}
 use Rattle.tac_base.specs.declared.limits.TheConstants.{LINE_BYTES, LINK_BYTES}
-use Rattle.tac_io.specs.HeldBytes.{Held}
+use Rattle.tac_io.specs.HeldBytes.{Held, LinkPlace}
 use Rattle.tac_io.specs.LineText.{has_end, BeginsWithLine}
 use Rattle.tac_io.specs.LinkCalls.{GaveBytes, LastReadFails, NoReadFails}
 use Rattle.tac_io.specs.States.{LinkState}
@@ -20,11 +20,11 @@ IsNext Failed bytes held at_end count = (has_end bytes ≡ false) × (count < LI
 IsNext Budget bytes held at_end count = (has_end bytes ≡ false) × (count ≡ LINK_BYTES)
 
 -- What comes next in the bytes that were held and, after them, those that the call took, `more`.
-pub record Answers (held held' : Held) (before after : LinkState) (count count' : ℕ) (got : LineGot) : Type 0 where
+pub record Answers (before after : LinkPlace) (got : LineGot) : Type 0 where
   pub more : List ℕ
-  pub gave : GaveBytes more before after
-  pub counted : count' ≡ count + length more
-  pub next : IsNext got (held.unread ++ more) held' (IsAtEnd after.left) count'
+  pub gave : GaveBytes more before.link after.link
+  pub counted : after.count ≡ before.count + length more
+  pub next : IsNext got (before.held.unread ++ more) after.held (IsAtEnd after.link.left) after.count
 
 -- `Failed` comes exactly if a read failed, and nothing was taken after that.
 abbrev pub HasLineCause : LinkState → LinkState → LineGot → Type 0

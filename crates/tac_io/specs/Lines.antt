@@ -1,7 +1,8 @@
 -- A link's lines, as their clauses show them.
 use Rattle.std.specs.Prelude.{◌≡◌, ℕ}
 use Rattle.std.specs.declared.option.Option.{Option}
-use Rattle.tac_io.specs.HeldBytes.{Held}
+use Rattle.tac_io.specs.HeldBytes.{Held, LinkPlace}
+use Rattle.tac_io.specs.States.{LinkState}
 use Rattle.tac_io.specs.declared.line_got.LineGot.{LineGot}
 use Rattle.tac_io.specs.declared.lines.Lines.{Lines}
 
@@ -20,6 +21,10 @@ count_of s = s.taken
 -- the last answer, if there was one
 abbrev pub last_of : {L : Type 0} → Lines L → Option LineGot
 last_of s = s.last
+
+-- how far the link was read, which is in this state
+abbrev pub link_place : {L : Type 0} → (L → LinkState) → Lines L → LinkPlace
+link_place state s = record { held = held_of s; count = count_of s; link = state (link_of s) }
 
 -- nothing was read, and the last line is the same
 abbrev pub KeepsPlace : {L : Type 0} → Lines L → Lines L → Type 0

@@ -37,7 +37,8 @@ fn kind(long: bool, length: usize) -> LineGot
 // What comes next of a link.
 fn next_line<L: Link>(link: &mut L, buffer: &mut Buffer, taken: &mut u32) -> LineGot
     requires { taken.old ≤ LINK_BYTES }
-    ensures answer { Answers buffer.old buffer.new (L.state link.old) (L.state link.new) taken.old taken.new result }
+    ensures answer { Answers (record { held = buffer.old; count = taken.old; link = L.state link.old })
+        (record { held = buffer.new; count = taken.new; link = L.state link.new }) result }
     ensures budget { taken.new ≤ LINK_BYTES }
     ensures decided { IsDecided buffer.old.unread taken.old → link.new ≡ link.old }
     ensures cause { HasLineCause (L.state link.old) (L.state link.new) result }
@@ -88,7 +89,7 @@ pub struct Lines<L> {
 impl<L: Link> Lines<L> {
     ghost use Rattle.tac_io.specs.AnswersInTurn.{IsInTurn};
     ghost use Rattle.tac_io.specs.LineAnswers.{goes_on};
-    ghost use Rattle.tac_io.specs.Lines.{KeepsPlace, count_of, held_of, last_of, link_of};
+    ghost use Rattle.tac_io.specs.Lines.{KeepsPlace, count_of, held_of, last_of, link_of, link_place};
 
     /// The lines of a link, none of which was read.
     pub fn new(link: L) -> Lines<L>
@@ -111,10 +112,8 @@ impl<L: Link> Lines<L> {
     /// failed it does not read again.
     pub fn next(&mut self) -> LineGot
         requires { goes_on (last_of self.old) ≡ true }
-        ensures answer { Answers (held_of self.old) (held_of self.new)
-            (L.state (link_of self.old)) (L.state (link_of self.new)) (count_of self.old) (count_of self.new) result }
-        ensures in_turn { IsInTurn (held_of self.old) (held_of self.new)
-            (L.state (link_of self.old)) (L.state (link_of self.new)) (count_of self.old) (count_of self.new) result }
+        ensures answer { Answers (link_place L.state self.old) (link_place L.state self.new) result }
+        ensures in_turn { IsInTurn (link_place L.state self.old) (link_place L.state self.new) result }
         ensures last { last_of self.new ≡ Some result }
         ensures budget { count_of self.new ≤ LINK_BYTES }
         ensures decided { IsDecided (held_of self.old).unread (count_of self.old) → link_of self.new ≡ link_of self.old }

@@ -8,7 +8,6 @@ ghost use Rattle.tac_commands.specs.Reporting.{Reports};
 ghost use Rattle.tac_commands.specs.Outcomes.{Outcome};
 ghost use Rattle.tacd.specs.Finishing as finishing;
 ghost use Rattle.tac_commands.specs.Outsides.{outside_of};
-ghost use Rattle.agent_gate.specs.Dialects.{dialect_of};
 ghost use Rattle.game_run.specs.Hosted.{hosted_game};
 ghost use Rattle.game_run.specs.Outcomes.{missed_of};
 ghost use Rattle.tac_io.specs.States.{FilesState, MaySelect};
@@ -113,7 +112,7 @@ fn serve_game<
     requires ports { IfSome (N.state links.old).ports (λ ports. ports ≡ []) }
     requires ticks { IfSome (T.state ticker.old).waited (λ ticks. ticks ≡ []) }
     ensures { (before after : FilesState) → (outcome : Outcome)
-        × ServesGame N.Link.state (hosted_game game.now (dialect_of (D.may_answer dialect.now) (D.text dialect.now)) port)
+        × ServesGame N.Link.state (hosted_game game.now (D.form dialect.now) port)
         (at_pace pace (outside_of before (K.state out.old) (N.state links.old) (T.state ticker.old)))
         (outside_of after (K.state out.new) (N.state links.new) (T.state ticker.new)) result outcome
         × Reports outcome (K.state out.old) (K.state out.new) result.code }

@@ -1,10 +1,10 @@
 // The top call.
-ghost use Rattle.std.specs.Prelude.{◌≡◌, ◌≤◌, [], None, map, string_bytes, string_len, All, IfSome};
+ghost use Rattle.std.specs.Prelude.{◌≡◌, ◌≤◌, [], None, string_len, All, IfSome};
 ghost use Rattle.tac_base.specs.declared.limits.TheConstants.{NAME_BYTES};
 ghost use Rattle.tac_commands.specs.Causes.{ClockFaultExactly, GameRefusedExactly, IsComplete, LinkFaultExactly, ReadFaultExactly, TextRefusedExactly, UnsoundExactly, UsageExactly, WriteFaultExactly};
 ghost use Rattle.tac_commands.specs.Cash.{IsCashOfPosts};
 ghost use Rattle.tac_commands.specs.Commands.{command_of};
-ghost use Rattle.tac_commands.specs.Services.{service_of};
+ghost use Rattle.tac_commands.specs.Services.{bytes_of_words, service_of};
 ghost use Rattle.tac_commands.specs.Allowed.{Allows};
 ghost use Rattle.tac_commands.specs.Reporting.{Reports};
 ghost use Rattle.tac_commands.specs.Outcomes.{Outcome};
@@ -40,29 +40,29 @@ pub fn tac<R: Threads + Sync + Wait + Clock, F: Files, K: Sink, N: Links, T: Tic
     requires ticks { IfSome (T.state ticker.old).waited (λ ticks. ticks ≡ []) }
     // The outcome is one that the words and the files allow, and the files that were selected are those that it implies.
     ensures outcome { (outcome : Outcome)
-        × Allows (command_of (map (λ word. string_bytes word) words.now)) (F.state files.old) (F.state files.new) outcome
+        × Allows (command_of (bytes_of_words words.now)) (F.state files.old) (F.state files.new) outcome
         × Reports outcome (K.state out.old) (K.state out.new) result.code }
     // A game over links: the log shows what was played, and what each link asked and was sent.
-    ensures service { IfSome (service_of (map (λ word. string_bytes word) words.now)) (λ service. Serves N.Link.state service
+    ensures service { IfSome (service_of (bytes_of_words words.now)) (λ service. Serves N.Link.state service
         (outside_of (F.state files.old) (K.state out.old) (N.state links.old) (T.state ticker.old))
         (outside_of (F.state files.new) (K.state out.new) (N.state links.new) (T.state ticker.new)) result) }
     // The cash of each agent in the sheet of that game is the sum of its nets over all posts of its cash history.
     ensures cash { IfSome result.played (λ played. IsCashOfPosts played.closed) }
-    ensures others { service_of (map (λ word. string_bytes word) words.now) ≡ None → (links.new ≡ links.old) × (ticker.new ≡ ticker.old) × (result.ended.items ≡ []) × (result.played ≡ None) }
-    ensures usage { UsageExactly (command_of (map (λ word. string_bytes word) words.now)) result.code }
+    ensures others { service_of (bytes_of_words words.now) ≡ None → (links.new ≡ links.old) × (ticker.new ≡ ticker.old) × (result.ended.items ≡ []) × (result.played ≡ None) }
+    ensures usage { UsageExactly (command_of (bytes_of_words words.now)) result.code }
     ensures read_fault { ReadFaultExactly (F.state files.old) (F.state files.new) result.code }
     ensures write_fault { WriteFaultExactly (K.state out.old) (K.state out.new) result.code }
     ensures link_fault { LinkFaultExactly (N.state links.old) (N.state links.new) result.code }
     ensures clock_fault { ClockFaultExactly (T.state ticker.old) (T.state ticker.new) result.code }
-    ensures game_refused { GameRefusedExactly (command_of (map (λ word. string_bytes word) words.now)) (F.state files.old) (F.state files.new) result.code }
-    ensures text_refused { TextRefusedExactly (command_of (map (λ word. string_bytes word) words.now)) (F.state files.old) (F.state files.new) result.code }
-    ensures unsound { UnsoundExactly (command_of (map (λ word. string_bytes word) words.now)) (F.state files.old) (F.state files.new) result.code }
-    ensures complete { IsComplete (command_of (map (λ word. string_bytes word) words.now))
+    ensures game_refused { GameRefusedExactly (command_of (bytes_of_words words.now)) (F.state files.old) (F.state files.new) result.code }
+    ensures text_refused { TextRefusedExactly (command_of (bytes_of_words words.now)) (F.state files.old) (F.state files.new) result.code }
+    ensures unsound { UnsoundExactly (command_of (bytes_of_words words.now)) (F.state files.old) (F.state files.new) result.code }
+    ensures complete { IsComplete (command_of (bytes_of_words words.now))
         (outside_of (F.state files.old) (K.state out.old) (N.state links.old) (T.state ticker.old))
         (outside_of (F.state files.new) (K.state out.new) (N.state links.new) (T.state ticker.new)) result.code }
     // A game that is played line by line is answered at once.
-    ensures prompt { IsPromptCommand (command_of (map (λ word. string_bytes word) words.now)) (F.state files.old) (F.state files.new) (K.state out.old) (K.state out.new) }
-    ensures names { Selects (command_of (map (λ word. string_bytes word) words.now)) (F.state files.old) (F.state files.new) result.code }
+    ensures prompt { IsPromptCommand (command_of (bytes_of_words words.now)) (F.state files.old) (F.state files.new) (K.state out.old) (K.state out.new) }
+    ensures names { Selects (command_of (bytes_of_words words.now)) (F.state files.old) (F.state files.new) result.code }
 {
     match service_asked(words) {
         Some(service) => serve(rt, alloc, service, files, out, links, ticker),

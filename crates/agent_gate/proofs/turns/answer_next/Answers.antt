@@ -10,7 +10,7 @@ returns-in-Line-clause-next g c = record {
   got = gots.Line;
   answer = c.in-Line.ensures.answer;
   within = c.in-Line.ensures.budget;
-  asked = subst (λ line. TakesTurn (IsItem (g.D.Dialect.may_answer c.args.dialect.now) (gots.Line, line)) c.args.desk.now c.answer_line.new.desk c.answer_line.result) c.line.ensures c.answer_line.ensures.turn;
+  asked = subst (λ line. TakesTurn (IsItem (g.D.Dialect.form c.args.dialect.now).may_answer (gots.Line, line)) c.args.desk.now c.answer_line.new.desk c.answer_line.result) c.line.ensures c.answer_line.ensures.turn;
 }
 
 pub returns-in-TooLong-clause-next : goal.returns-in-TooLong-clause-next
@@ -18,5 +18,5 @@ returns-in-TooLong-clause-next g c = record {
   got = gots.TooLong;
   answer = c.in-TooLong.ensures.answer;
   within = c.in-TooLong.ensures.budget;
-  asked = line_skipped (IsItem (g.D.Dialect.may_answer c.args.dialect.now) (gots.TooLong, (held_of c.next.new.self).line)) _ tt;
+  asked = line_skipped (IsItem (g.D.Dialect.form c.args.dialect.now).may_answer (gots.TooLong, (held_of c.next.new.self).line)) _ tt;
 }

@@ -11,7 +11,6 @@ use Rattle.game_run.specs.Seatings.{eight_of, played_end, played_link, AreTakenP
 use Rattle.game_run.proofs.AgentParts.{new_desk, eight_ready, clock_ready}
 use Rattle.game_run.proofs.PlayedSeats.{eight_agents, all_back, played_through}
 use Rattle.game_run.proofs.play.play_out.Goals as goal
-use Rattle.agent_gate.specs.Dialects.{dialect_of}
 
 pub agent_seats-agent_seats-requires-clause-desks : goal.agent_seats-agent_seats-requires-clause-desks
 agent_seats-agent_seats-requires-clause-desks g c =
@@ -38,7 +37,7 @@ add_eight-requires-clause-agents g c =
     let desks_are : c.args.open_floor.desks.items ≡ map (λ p. p.desk) (eight_of e) ++ clock ∷ [] = c.pop.ensures.items ∙ ap (λ o. c.pop.new.self.items ++ option_to_list o) c.unwrap-clock.ensures ∙ ap (λ l. l ++ clock ∷ []) c.agent_seats-agent_seats.ensures.desks in
     let p = c.run_all-played.result.0 in let clock' = c.run_all-played.result.1.desk in
     let fresh = new_desk ids e clock c.args.open_floor.desks.items c.args.lines.items desks_are c.agent_seats-agent_seats.ensures.lines c.requires.open_floor.floor.fresh c.requires.readable in
-    eight_agents g.L.Link.state (dialect_of (g.D.Dialect.may_answer c.args.dialect.now) (g.D.Dialect.text c.args.dialect.now)) c.args.game.now e p clock clock' ids fresh c.run_all-played.ensures.played
+    eight_agents g.L.Link.state (g.D.Dialect.form c.args.dialect.now) c.args.game.now e p clock clock' ids fresh c.run_all-played.ensures.played
 
 pub close-requires : goal.close-requires
 unfolding AreTakenPlayed
@@ -49,7 +48,7 @@ close-requires g c =
     let fresh = new_desk ids e clock c.args.open_floor.desks.items c.args.lines.items desks_are c.agent_seats-agent_seats.ensures.lines c.requires.open_floor.floor.fresh c.requires.readable in
     let desks_back : c.push_reserved.new.self.items ≡ map (λ q. q.desk) (eight_of p) ++ clock' ∷ [] =
     c.push_reserved.ensures.items ∙ ap (λ l. l ++ clock' ∷ []) (c.add_eight.ensures.gathers.desks ∙ ap (λ l. l ++ map (λ q. q.desk) (eight_of p)) c.requires.open_floor.session_ends.desks.0) in
-    let back = all_back g.L.Link.state (dialect_of (g.D.Dialect.may_answer c.args.dialect.now) (g.D.Dialect.text c.args.dialect.now)) c.args.game.now e p clock clock' ids fresh c.run_all-played.ensures.played c.run_all-played.ensures.same in
+    let back = all_back g.L.Link.state (g.D.Dialect.form c.args.dialect.now) c.args.game.now e p clock clock' ids fresh c.run_all-played.ensures.played c.run_all-played.ensures.same in
     (ap (map (λ d. desk_ids d)) desks_back ∙ back.0, subst (IsPermutation _) (sym (ap (map (λ d. desk_caller d)) desks_back ∙ back.1)) (IsPermutation-refl _))
 
 pub returns-clause-through : goal.returns-clause-through
@@ -62,7 +61,7 @@ returns-clause-through g c =
     let desks_back : c.push_reserved.new.self.items ≡ map (λ q. q.desk) (eight_of p) ++ clock' ∷ [] =
     c.push_reserved.ensures.items ∙ ap (λ l. l ++ clock' ∷ []) (c.add_eight.ensures.gathers.desks ∙ ap (λ l. l ++ map (λ q. q.desk) (eight_of p)) c.requires.open_floor.session_ends.desks.0) in
     let setups = c.close.ensures.setups ∙ ap (map (λ s. s.setup)) c.requires.open_floor.floor.starts in
-    played_through g.L.Link.state (dialect_of (g.D.Dialect.may_answer c.args.dialect.now) (g.D.Dialect.text c.args.dialect.now)) c.args.game.now e p clock clock' ids fresh c.run_all-played.ensures.played c.close.result setups
+    played_through g.L.Link.state (g.D.Dialect.form c.args.dialect.now) c.args.game.now e p clock clock' ids fresh c.run_all-played.ensures.played c.close.result setups
     (subst (All (IsBorneOut c.close.result)) desks_back c.close.ensures.borne_out) c.args.lines.items c.add_eight.new.self.links.items c.add_eight.new.self.ends.items c.agent_seats-agent_seats.ensures.lines
     (c.add_eight.ensures.gathers.links ∙ ap (λ l. l ++ map played_link (eight_of p)) c.requires.open_floor.session_ends.links.0)
     (c.add_eight.ensures.gathers.ends ∙ ap (λ l. l ++ filter_map played_end (eight_of p)) c.requires.open_floor.session_ends.ends.0)

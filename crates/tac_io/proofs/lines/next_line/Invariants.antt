@@ -6,7 +6,7 @@ use Rattle.tac_io.proofs.lines.next_line.Given as goal
 
 abbrev pub invariant-bytes : goal.invariant-bytes
 invariant-bytes g l = record {
-  going : IsGoing l.fn.buffer.unread l.fn.taken (g.L.Link.state l.fn.link) l.long l.buffer.unread l.taken (g.L.Link.state l.link);
+  going : IsGoing (record { held = l.fn.buffer; count = l.fn.taken; link = g.L.Link.state l.fn.link }) l.long l.buffer.unread l.taken (g.L.Link.state l.link);
   budget : l.taken ≤ 2 ^ 26;
   decided : IsDecided l.fn.buffer.unread l.fn.taken → l.link ≡ l.fn.link;
   quiet : NoReadFails (g.L.Link.state l.fn.link) (g.L.Link.state l.link);

@@ -4,7 +4,8 @@ use Rattle.script_run.proofs.game.stepping.hear_lines.Given as goal
 
 abbrev pub invariant-pieces : goal.invariant-pieces
 invariant-pieces g l = record {
-  hearing : IsHearing l.game (g.F.Files.state l.fn.files) (g.F.Files.state l.files) (g.K.Sink.state l.fn.out) (g.K.Sink.state l.out) l.stepper l.given;
+  hearing : IsHearing l.game (record { files = g.F.Files.state l.fn.files; sink = g.K.Sink.state l.fn.out })
+      (record { files = g.F.Files.state l.files; sink = g.K.Sink.state l.out }) l.stepper l.given;
   number : l.stepper.number ≤ l.given + 1;
   within : l.given ≤ 67108864;
   len : vec_len l.stepper.run.text ≡ 0;

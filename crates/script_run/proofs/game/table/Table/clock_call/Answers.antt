@@ -11,7 +11,7 @@ use Rattle.script_run.proofs.Counted.{by}
 use Rattle.script_run.proofs.Tables.{ClockStep, clock_step, none_left}
 use Rattle.script_run.proofs.game.table.Table.clock_call.Goals as goal
 
-step : (c : goal.After-call-arg-in-Some-1) → ClockStep c.self.inside.open.game c.self.inside.open.state c.self.inside.calls c.self.inside.readings c.args.tick c.args.n c.in-Some.good c.in-Some.call
+step : (c : goal.After-call-arg-in-Some-1) → ClockStep (record { game = c.self.inside.open.game; state = c.self.inside.open.state }) c.self.inside.calls c.self.inside.readings c.args.tick c.args.n (c.in-Some.good, c.in-Some.call)
 step c =
     let t = c.self.inside in
     let low : 1 ≤ c.args.tick = search rules in
@@ -22,7 +22,7 @@ step c =
     (subst (λ (s : SeenGame). HasClockRoom s.game s.state (drop c.args.n (calls_at s.game c.args.tick))) (sym c.self.view_is) c.requires.room)
 
 -- the same after the call
-stepped : (c : goal.After-call) → ClockStep c.self.inside.open.game c.self.inside.open.state c.self.inside.calls c.self.inside.readings c.args.tick c.args.n c.in-Some.good c.in-Some.call
+stepped : (c : goal.After-call) → ClockStep (record { game = c.self.inside.open.game; state = c.self.inside.open.state }) c.self.inside.calls c.self.inside.readings c.args.tick c.args.n (c.in-Some.good, c.in-Some.call)
 stepped c =
     let t = c.self.inside in
     let low : 1 ≤ c.args.tick = search rules in
