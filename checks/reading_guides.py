@@ -248,11 +248,12 @@ and with what it left in the histories. Three equations hold it, and the rest is
 
 - **Look for** what each of the five causes asks; the table below has the rule in words. `Quit`: the
   agent left. `End`: the bytes gave no further line, and nothing is left to give. `ReadFault`: the
-  same, but something may be left, and `HasSessionCause` counts a failed read. `WriteFault`: cut
-  off. `Budget`: 65,536 turns, or all bytes used up. Only the `WriteFault` may leave a reply unsent.
+  same, but something may be left, and the last read failed. `WriteFault`: cut off. `Budget`: 65,536
+  turns, or all bytes used up. Only the `WriteFault` may leave a reply unsent, and only it counts a
+  failed write.
 - **A read fault also has `ComesTo gots.End`**, though the type `LineGot` has a `Failed`:
   `all_answers` goes by the bytes alone, and gives a line, one that is too long, `End` or `Budget`,
-  and never `Failed`. That a read failed is what `HasSessionCause` says, by the count of faults.
+  and never `Failed`. That a read failed is what `LastReadFails` says, by the count of faults.
 - **Nothing comes after `quit`**: the second half of `AreLawful`. At each turn `has_left` of the
   turns before it is `false`, so `Left` is the last turn. With `Quit`, `EndsBy` looks at nothing
   that the link gives after that line.
@@ -354,8 +355,9 @@ CAUSE_ROWS: List[Tuple[str, Tuple[List[str], List[str]]]] = [
     ("End",
      (["end_with_all_taken"],
       ["no_end_with_bytes_left", "no_end_with_a_reply_unsent", "end_counts_no_fault"])),
-    ("ReadFault", (["read_fault_with_bytes_left", "read_fault_is_counted"], [])),
-    ("WriteFault", (["write_fault_cuts_the_last_line", "write_fault_is_counted"], [])),
+    ("ReadFault", (["read_fault_with_bytes_left"], [])),
+    ("WriteFault",
+     (["write_fault_cuts_the_last_line"], ["no_session_writes_after_a_failed_write"])),
     ("Budget",
      (["budget_after_65536_turns", "budget_with_all_bytes_used_up"],
       ["no_budget_after_one_turn"])),

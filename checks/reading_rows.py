@@ -310,24 +310,23 @@ ROWS = [
          "worked_rows/Ends:read_fault_with_bytes_left"],
         ["agent_gate/Served.EndsBy", "agent_gate/Served.ComesTo"],
         ("No further line. If nothing is left the cause is `End`; if the link has an `x` left it "
-         "is not `End`, and may be `ReadFault`")),
+         "is not `End`; if a read failed, the last one, it is `ReadFault`")),
     Row(["worked_rows/Ends:no_end_with_a_reply_unsent",
          "worked_rows/Ends:write_fault_cuts_the_last_line"],
         ["agent_gate/Served.EndsBy", "agent_gate/Served.IsCutOff"],
         ("Of the reply `no toolong` only `no too` was sent: the cause is not `End`; it is "
-         "`WriteFault`, with the 6 first bytes of the last piece")),
+         "`WriteFault`, with the 6 first bytes of the last piece and a write that failed there")),
     Row(["worked_rows/Ends:no_budget_after_one_turn", "worked_rows/Ends:budget_after_65536_turns",
          "worked_rows/Ends:budget_with_all_bytes_used_up"],
         ["agent_gate/Served.EndsBy", "agent_gate/Served.IsUsedUp"],
         ("All is sent. 1 turn, and then the end of the bytes: never `Budget`. 65536 turns without "
          "`quit`, whatever they are, and bytes left: `Budget`, and so after 1 turn where the bytes "
          "that may be taken are used up")),
-    Row(["worked_rows/Ends:read_fault_is_counted", "worked_rows/Ends:write_fault_is_counted",
-         "worked_rows/Ends:end_counts_no_fault",
+    Row(["worked_rows/Ends:end_counts_no_fault",
          "worked_rows/Ends:no_session_writes_after_a_failed_write"],
-        ["agent_gate/Served.HasSessionCause"],
-        ("A count of failed reads that rose from 3 to 4 is a `ReadFault`, and no `End`; one of "
-         "failed writes is a `WriteFault`, but never where bytes were sent after the failure")),
+        ["agent_gate/Served.EndsBy", "agent_gate/Served.IsCutOff"],
+        ("Where the count of failed reads rose from 3 to 4 the cause is not `End`. A write that "
+         "failed after 2 bytes, with more sent after it, is no `WriteFault`")),
     # A game over links
     Row(["worked_rows/Links:second_greeting_is_taken"], ["game_run/Admission.HasFirstLine"],
         ("The seat of agent 2 is given. A link gives `hello seat2`, and then `hello seat3`: by its "

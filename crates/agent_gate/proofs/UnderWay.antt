@@ -7,13 +7,13 @@ use Rattle.std.proofs.lemmas.Grind.{flat_map-append}
 use Rattle.tac_io.specs.AnswersInTurn.{answers_left}
 use Rattle.tac_io.specs.HeldBytes.{Held, LinkPlace}
 use Rattle.tac_io.specs.LineAnswers.{Answers}
-use Rattle.tac_io.specs.LinkCalls.{GaveBytes}
+use Rattle.tac_io.specs.LinkCalls.{GaveBytes, NoReadFails, NoWriteFails}
 use Rattle.tac_io.specs.States.{LinkState}
 use Rattle.tac_io.specs.Known.{known_then, IsAtEnd, TakesSome}
 use Rattle.tac_io.specs.declared.line_got.LineGot.{LineGot}
 use Rattle.tac_io.specs.declared.line_got.LineGot.TheVariants as gots
 use Rattle.tac_io.proofs.ByBytes.{in_turn}
-use Rattle.tac_io.proofs.KnownPieces.{known_then-twice, gave_twice}
+use Rattle.tac_io.proofs.KnownPieces.{known_then-twice, gave_twice, last_read_fails_then, last_write_fails_then, no_read_fails_twice, no_write_fails_twice}
 use Rattle.line_protocol.specs.declared.asking.Request.{Request}
 use Rattle.line_protocol.specs.declared.asking.RequestFault.{RequestFault}
 use Rattle.line_protocol.specs.declared.saying.Said.{Said}
@@ -24,7 +24,7 @@ use Rattle.floor.specs.declared.desk.Desk.{Desk}
 use Rattle.floor.specs.Answers.{IsSameDesk}
 use Rattle.floor.specs.Desks.{desk_caller}
 use Rattle.game_text.specs.Games.{GameFile}
-use Rattle.agent_gate.specs.{Dialect, SessionState, Item, Asks, Overlong, IsItem, AreItems, Turn, Called, CallDenied, CashRead, CashDenied, Quoted, Refused, Skipped, Left, item_of, said_of, is_leaving, has_left, AreLawful, Session, reply_line, IsServed, IsSession, lines_of, welcome_text, cause_without_line, Says, HasTurn, count_whole}
+use Rattle.agent_gate.specs.{Dialect, SessionState, Item, Asks, Overlong, IsItem, AreItems, Turn, Called, CallDenied, CashRead, CashDenied, Quoted, Refused, Skipped, Left, item_of, said_of, is_leaving, has_left, AreLawful, Session, reply_line, IsServed, IsSession, HasSessionCause, lines_of, welcome_text, cause_without_line, Says, HasTurn, count_whole}
 use Rattle.agent_gate.proofs.TurnEnds.{standing}
 use Rattle.agent_gate.proofs.WholeTexts.{session_text, EndsFor, ends_by}
 use Rattle.agent_gate.proofs.LawfulTurns.{lawful_more, has_left-more, none_lawful, zip_more}
@@ -94,6 +94,16 @@ module _ (old new : LinkPlace) where
   budget_comes gots.TooLong a le is = absurd (cc)
   budget_comes gots.End a le is = absurd (cc)
   budget_comes gots.Failed a le is = absurd (cc)
+
+-- ---- what failed
+
+-- a session ends for a fault of its last turn, if no call failed before that turn
+pub caused_from : (before now after : LinkState) → NoReadFails before now → NoWriteFails before now → (cause : Cause) → HasSessionCause now after cause → HasSessionCause before after cause
+caused_from before now after reads writes causes.Quit h = (no_read_fails_twice before now after reads h.0, no_write_fails_twice before now after writes h.1)
+caused_from before now after reads writes causes.End h = (no_read_fails_twice before now after reads h.0, no_write_fails_twice before now after writes h.1)
+caused_from before now after reads writes causes.ReadFault h = (last_read_fails_then before now after reads h.0, no_write_fails_twice before now after writes h.1)
+caused_from before now after reads writes causes.WriteFault h = (no_read_fails_twice before now after reads h.0, last_write_fails_then before now after writes h.1)
+caused_from before now after reads writes causes.Budget h = (no_read_fails_twice before now after reads h.0, no_write_fails_twice before now after writes h.1)
 
 -- ---- which answer is `bye`
 
@@ -219,10 +229,11 @@ module _ (dialect : Dialect) (game : GameFile) (before : SessionState) where
         record { more = more; gave = gave; turns = turns; rest = rest; served = served; counted = counted; made = all_made turns before.desk new.desk made }
 
     with_turn : (got : LineGot) (said : Said) (a : Answers now.place new.place got) → new.place.count ≤ 2 ^ 26 → (s : Says dialect got now new said) → IsSameDesk now.desk new.desk → answered < 65536
-        → (lines : ℕ) (cause : Cause) → ((rest : List (LineGot × List ℕ)) → EndsFor cause text welcome (u.turns ++ s.turn ∷ []) rest before.place.link new.place.link lines) → HasSession new.place.link new.desk lines cause
-    with_turn got said a le s same lt lines cause end = let o = on got said a le s same in
+        → (lines : ℕ) (cause : Cause) → ((rest : List (LineGot × List ℕ)) → EndsFor cause text (session_with (u.turns ++ s.turn ∷ []) rest) lines)
+        → HasSessionCause before.place.link new.place.link cause → HasSession new.place.link new.desk lines cause
+    with_turn got said a le s same lt lines cause end faults = let o = on got said a le s same in
         let turns = u.turns ++ s.turn ∷ [] in let rest = to_come new [] in
-        let ended = ends_by text (session_with turns rest) cause lines (end rest) in
+        let ended = ends_by text (session_with turns rest) cause lines (end rest) faults in
         session_of o.more o.gave turns rest lines cause (record {
           read = o.read;
           from = ap (to_come before) (sym (append-nil o.more)) ∙ o.from [];
@@ -233,9 +244,9 @@ module _ (dialect : Dialect) (game : GameFile) (before : SessionState) where
         }) ended.1 o.made
 
     without_turn : (got : LineGot) (a : Answers now.place new.place got) → new.desk ≡ now.desk → answered < 65536 → (rest : List (LineGot × List ℕ)) → to_come now a.more ≡ rest
-        → (cause : Cause) → EndsFor cause text welcome u.turns rest before.place.link new.place.link answered → HasSession new.place.link new.desk answered cause
-    without_turn got a same lt rest is cause end =
-        let ended = ends_by text (session_with u.turns rest) cause answered end in
+        → (cause : Cause) → EndsFor cause text (session_with u.turns rest) answered → HasSessionCause before.place.link new.place.link cause → HasSession new.place.link new.desk answered cause
+    without_turn got a same lt rest is cause end faults =
+        let ended = ends_by text (session_with u.turns rest) cause answered end faults in
         session_of (u.more ++ a.more) (gave_on a.more a.gave) u.turns rest answered cause (record {
           read = u.read;
           from = u.from a.more ∙ ap (λ l. u.read ++ l) is;
@@ -252,25 +263,25 @@ module _ (dialect : Dialect) (game : GameFile) (before : SessionState) where
     few_turns lt = omega (arith, u.many, lt)
 
     pub ends : {T : Type 0} (cause : Cause) (t : HasTurn {T = T} dialect now new (Err cause)) → IsSameDesk now.desk new.desk → answered < 65536
-        → HasSession new.place.link new.desk (count_whole answered cause) cause
-    ends causes.Quit t same lt = let s = t.turned.0 in
+        → HasSessionCause before.place.link new.place.link cause → HasSession new.place.link new.desk (count_whole answered cause) cause
+    ends causes.Quit t same lt faults = let s = t.turned.0 in
         with_turn t.got Bye t.answer t.within s same lt (answered + 1) causes.Quit
-        (λ rest. (has_left-more u.turns s.turn true u.here (leaves s.turn s.said), (sent_on Bye s.turn s.said t.turned.1, omega (arith, length-append u.turns (s.turn ∷ []), u.many))))
-    ends causes.End t same lt = let e = end_comes now.place new.place t.got t.answer t.within t.turned.0 in
-        without_turn t.got t.answer t.turned.1 lt ((gots.End, []) ∷ []) e.0 causes.End (u.here, few_turns lt, refl, e.1, still_whole t.turned.2)
-    ends causes.ReadFault t same lt =
-        without_turn t.got t.answer t.turned.1 lt ((gots.End, []) ∷ []) (fault_comes now.place new.place t.got t.answer t.within t.turned.0) causes.ReadFault (u.here, few_turns lt, refl, still_whole t.turned.2)
-    ends causes.WriteFault t same lt = let s = t.turned.1 in
+        (λ rest. (has_left-more u.turns s.turn true u.here (leaves s.turn s.said), (sent_on Bye s.turn s.said t.turned.1, omega (arith, length-append u.turns (s.turn ∷ []), u.many)))) faults
+    ends causes.End t same lt faults = let e = end_comes now.place new.place t.got t.answer t.within t.turned.0 in
+        without_turn t.got t.answer t.turned.1 lt ((gots.End, []) ∷ []) e.0 causes.End ((u.here, few_turns lt, refl), e.1, still_whole t.turned.2) faults
+    ends causes.ReadFault t same lt faults =
+        without_turn t.got t.answer t.turned.1 lt ((gots.End, []) ∷ []) (fault_comes now.place new.place t.got t.answer t.within t.turned.0) causes.ReadFault ((u.here, few_turns lt, refl), still_whole t.turned.2) faults
+    ends causes.WriteFault t same lt faults = let s = t.turned.1 in
         with_turn t.got t.turned.0 t.answer t.within s same lt answered causes.WriteFault
-        (λ rest. inr (u.turns, s.turn, refl, subst (λ (w : Option (List ℕ) × Said). TakesSome w.0 new.place.link.sent (text w.1 ++ 10 ∷ [])) (λ i. (u.sent_is i, sym s.said i)) t.turned.2, sym u.many))
-    ends causes.Budget t same lt =
+        (λ rest. inr (u.turns, s.turn, refl, subst (λ (w : Option (List ℕ) × Said). TakesSome w.0 new.place.link.sent (text w.1 ++ 10 ∷ [])) (λ i. (u.sent_is i, sym s.said i)) t.turned.2, sym u.many)) faults
+    ends causes.Budget t same lt faults =
         without_turn t.got t.answer t.turned.1 lt ((gots.Budget, []) ∷ []) (budget_comes now.place new.place t.got t.answer t.within t.turned.0) causes.Budget
-        (u.here, inr (few_turns lt, refl), still_whole t.turned.2)
+        (inr (u.here, few_turns lt, refl), still_whole t.turned.2) faults
 
   -- all the lines of a session were answered
   pub ends_full : (now : SessionState) (answered : ℕ) (u : IsUnderWay now answered) → answered ≡ 65536
-      → HasSession now.place.link now.desk answered causes.Budget
-  ends_full now answered u full = record {
+      → HasSessionCause before.place.link now.place.link causes.Budget → HasSession now.place.link now.desk answered causes.Budget
+  ends_full now answered u full faults = record {
     more = u.more;
     gave = u.gave;
     turns = u.turns;
@@ -281,19 +292,17 @@ module _ (dialect : Dialect) (game : GameFile) (before : SessionState) where
       items = u.items;
       few = omega (arith, u.many, full);
       lawful = u.lawful;
-      end = (
-        inl (u.here, u.many ∙ full),
-        (ends_by text (record { welcome = welcome; turns = u.turns; rest = to_come now []; before = before.place.link; after = now.place.link }) causes.Budget answered
-            (u.here, inl (u.many ∙ full), (u.sent_is, sym u.many))).0.1,
-      );
+      end = (ends_by text (record { welcome = welcome; turns = u.turns; rest = to_come now []; before = before.place.link; after = now.place.link }) causes.Budget answered
+          (inl (u.here, u.many ∙ full), (u.sent_is, sym u.many)) faults).0;
     };
     counted = sym u.many;
     made = all_made u.turns before.desk now.desk u.made;
   }
 
   -- the welcome was not sent whole, so nothing was asked
-  pub ends_at_once : (link : LinkState) → GaveBytes [] before.place.link link → HasMade [] before.desk before.desk → TakesSome before.place.link.sent link.sent welcome → HasSession link before.desk 0 causes.WriteFault
-  ends_at_once link gave made some = record {
+  pub ends_at_once : (link : LinkState) → GaveBytes [] before.place.link link → HasMade [] before.desk before.desk → TakesSome before.place.link.sent link.sent welcome → HasSessionCause before.place.link link causes.WriteFault
+      → HasSession link before.desk 0 causes.WriteFault
+  ends_at_once link gave made some faults = record {
     more = [];
     gave = gave;
     turns = [];
@@ -304,7 +313,7 @@ module _ (dialect : Dialect) (game : GameFile) (before : SessionState) where
       items = tt;
       few = omega arith;
       lawful = none_lawful;
-      end = (ends_by text (record { welcome = welcome; turns = []; rest = to_come before []; before = before.place.link; after = link }) causes.WriteFault 0 (inl (refl, some, refl))).0;
+      end = (ends_by text (record { welcome = welcome; turns = []; rest = to_come before []; before = before.place.link; after = link }) causes.WriteFault 0 (inl (refl, some, refl)) faults).0;
     };
     counted = refl;
     made = all_made [] before.desk before.desk made;

@@ -1,20 +1,18 @@
 -- A session's end, said of its text as a whole and of its last turn: the same as by its pieces, for all sessions.
-use Rattle.std.proofs.Common.{◌≡◌, ℕ, ◌-◌, ◌<◌, List, [], ◌∷◌, ◌++◌, map, length, true, false, refl, sym, ap, ◌∙◌, subst, arith, inl, inr, length-append}
+use Rattle.std.proofs.Common.{◌≡◌, ℕ, ◌-◌, List, [], ◌∷◌, ◌++◌, map, length, true, refl, sym, ap, ◌∙◌, subst, arith, inl, inr, length-append}
 use Rattle.std.specs.Prelude.{◌⊎◌}
 use Rattle.std.specs.List.{concat, flat_map}
 use Rattle.std.proofs.lemmas.List.{map-append}
 use Rattle.std.proofs.lemmas.List.Concat.{concat_is}
 use Rattle.std.proofs.lemmas.List.Folds.{flat_map-map}
-use Rattle.tac_base.specs.declared.limits.TheConstants.{SESSION_LINES}
-use Rattle.tac_io.specs.States.{LinkState}
+use Rattle.tac_io.specs.LinkCalls.{LastWriteFails, NoWriteFails}
 use Rattle.tac_io.specs.Known.{known_then, IsAtEnd, TakesSome}
-use Rattle.tac_io.specs.declared.line_got.LineGot.{LineGot}
 use Rattle.tac_io.specs.declared.line_got.LineGot.TheVariants as gots
 use Rattle.tac_io.proofs.KnownPieces.{known_then-nothing}
 use Rattle.line_protocol.specs.declared.saying.Said.{Said}
 use Rattle.line_protocol.specs.declared.admission.Cause.{Cause}
 use Rattle.line_protocol.specs.declared.admission.Cause.TheVariants as causes
-use Rattle.agent_gate.specs.{Session, reply_line, SendsAll, IsCutOff, ComesTo, IsUsedUp, EndsBy, lines_of, Turn, has_left}
+use Rattle.agent_gate.specs.{HasSessionCause, Session, reply_line, SendsAll, IsCutOff, ComesTo, IsUsedUp, EndsBy, lines_of, Turn, has_left}
 
 -- ---- the text as a whole
 
@@ -22,27 +20,28 @@ use Rattle.agent_gate.specs.{Session, reply_line, SendsAll, IsCutOff, ComesTo, I
 abbrev pub session_text : (Said → List ℕ) → List ℕ → List Turn → List ℕ
 session_text text welcome turns = welcome ++ flat_map (reply_line text) turns
 
+-- what is sent in a session
+abbrev pub text_of : (Said → List ℕ) → Session → List ℕ
+text_of text session = session_text text session.welcome session.turns
+
 -- the session's text was sent whole, and each turn's line is counted
-abbrev pub IsWhole : (Said → List ℕ) → List ℕ → List Turn → LinkState → LinkState → ℕ → Type 0
-IsWhole text welcome turns before after lines = (after.sent ≡ known_then before.sent (session_text text welcome turns)) × (lines ≡ length turns)
+abbrev pub IsWhole : (Said → List ℕ) → Session → ℕ → Type 0
+IsWhole text session lines = (session.after.sent ≡ known_then session.before.sent (text_of text session)) × (lines ≡ length session.turns)
 
 -- a write failed: in the welcome, so nothing was asked; or in the line of the last turn
-abbrev pub IsInterrupted : (Said → List ℕ) → List ℕ → List Turn → LinkState → LinkState → ℕ → Type 0
-IsInterrupted text welcome turns before after lines =
-    ((turns ≡ []) × TakesSome before.sent after.sent welcome × (lines ≡ 0))
-    ⊎ ((answered : List Turn) × (last : Turn) × (turns ≡ answered ++ last ∷ [])
-    × TakesSome (known_then before.sent (session_text text welcome answered)) after.sent (reply_line text last) × (lines ≡ length answered))
+abbrev pub IsInterrupted : (Said → List ℕ) → Session → ℕ → Type 0
+IsInterrupted text session lines =
+    ((session.turns ≡ []) × TakesSome session.before.sent session.after.sent session.welcome × (lines ≡ 0))
+    ⊎ ((answered : List Turn) × (last : Turn) × (session.turns ≡ answered ++ last ∷ [])
+    × TakesSome (known_then session.before.sent (session_text text session.welcome answered)) session.after.sent (reply_line text last) × (lines ≡ length answered))
 
--- the causes of a session's end
-abbrev pub EndsFor : Cause → (Said → List ℕ) → List ℕ → List Turn → List (LineGot × List ℕ) → LinkState → LinkState → ℕ → Type 0
-EndsFor causes.Quit text welcome turns rest before after lines = (has_left turns ≡ true) × IsWhole text welcome turns before after lines
-EndsFor causes.End text welcome turns rest before after lines =
-    (has_left turns ≡ false) × (length turns < SESSION_LINES) × (rest ≡ (gots.End, []) ∷ []) × IsAtEnd after.left × IsWhole text welcome turns before after lines
-EndsFor causes.ReadFault text welcome turns rest before after lines =
-    (has_left turns ≡ false) × (length turns < SESSION_LINES) × (rest ≡ (gots.End, []) ∷ []) × IsWhole text welcome turns before after lines
-EndsFor causes.WriteFault text welcome turns rest before after lines = IsInterrupted text welcome turns before after lines
-EndsFor causes.Budget text welcome turns rest before after lines =
-    (has_left turns ≡ false) × ((length turns ≡ SESSION_LINES) ⊎ ((length turns < SESSION_LINES) × (rest ≡ (gots.Budget, []) ∷ []))) × IsWhole text welcome turns before after lines
+-- the causes of a session's end, but for the counts of faults
+abbrev pub EndsFor : Cause → (Said → List ℕ) → Session → ℕ → Type 0
+EndsFor causes.Quit text session lines = (has_left session.turns ≡ true) × IsWhole text session lines
+EndsFor causes.End text session lines = ComesTo gots.End session × IsAtEnd session.after.left × IsWhole text session lines
+EndsFor causes.ReadFault text session lines = ComesTo gots.End session × IsWhole text session lines
+EndsFor causes.WriteFault text session lines = IsInterrupted text session lines
+EndsFor causes.Budget text session lines = (IsUsedUp session ⊎ ComesTo gots.Budget session) × IsWhole text session lines
 
 -- ---- from pieces to the text and back
 
@@ -65,43 +64,42 @@ module _ (text : Said → List ℕ) (session : Session) where
   abbrev turns : List Turn
   turns = session.turns
 
-  abbrev EndsSo : Cause → ℕ → Type 0
-  EndsSo cause lines = EndsFor cause text welcome turns session.rest session.before session.after lines
-
   joined : (some : List Turn) → concat (welcome ∷ map (reply_line text) some) ≡ session_text text welcome some
   joined some = ap (λ l. welcome ++ l) (concat_is (map (reply_line text) some) ∙ flat_map-map (λ x. x) (reply_line text) some)
 
-  all_sent : session.after.sent ≡ known_then session.before.sent (session_text text welcome turns) → SendsAll text session
-  all_sent whole = whole ∙ ap (known_then session.before.sent) (sym (joined turns))
+  all_sent : session.after.sent ≡ known_then session.before.sent (text_of text session) → NoWriteFails session.before session.after → SendsAll text session
+  all_sent whole quiet = (whole ∙ ap (known_then session.before.sent) (sym (joined turns)), quiet)
 
-  whole_sent : SendsAll text session → session.after.sent ≡ known_then session.before.sent (session_text text welcome turns)
-  whole_sent all = all ∙ ap (known_then session.before.sent) (joined turns)
+  whole_sent : SendsAll text session → session.after.sent ≡ known_then session.before.sent (text_of text session)
+  whole_sent all = all.0 ∙ ap (known_then session.before.sent) (joined turns)
 
-  cut_off : (lines : ℕ) → IsInterrupted text welcome turns session.before session.after lines → IsCutOff text session × (lines ≡ length turns - 1)
-  cut_off lines (inl h) = (
+  cut_off : (lines : ℕ) → IsInterrupted text session lines → LastWriteFails session.before session.after → IsCutOff text session × (lines ≡ length turns - 1)
+  cut_off lines (inl h) failed = (
     record {
       whole = [];
       last = welcome;
       pieces = ap (λ some. welcome ∷ map (reply_line text) some) h.0;
       cut = subst (λ sent. TakesSome sent session.after.sent welcome) (sym (known_then-nothing session.before.sent)) h.1;
+      failed = failed;
     },
     h.2 ∙ ap (λ some. length some - 1) (sym h.0),
   )
-  cut_off lines (inr h) = (
+  cut_off lines (inr h) failed = (
     record {
       whole = welcome ∷ map (reply_line text) h.0;
       last = reply_line text h.1;
       pieces = ap (λ some. welcome ∷ map (reply_line text) some) h.2 ∙ ap (λ l. welcome ∷ l) (map-append (reply_line text) h.0 (h.1 ∷ []));
       cut = subst (λ sent. TakesSome (known_then session.before.sent sent) session.after.sent (reply_line text h.1)) (sym (joined h.0)) h.3;
+      failed = failed;
     },
     omega (arith, h.4, length-append h.0 (h.1 ∷ []), ap length h.2),
   )
 
-  interrupted : IsCutOff text session → IsInterrupted text welcome turns session.before session.after (length turns - 1)
+  interrupted : IsCutOff text session → IsInterrupted text session (length turns - 1)
   interrupted cut = by_pieces cut.whole cut.pieces cut.cut
     where
       by_pieces : (whole : List (List ℕ)) → welcome ∷ map (reply_line text) turns ≡ whole ++ cut.last ∷ [] → TakesSome (known_then session.before.sent (concat whole)) session.after.sent cut.last
-          → IsInterrupted text welcome turns session.before session.after (length turns - 1)
+          → IsInterrupted text session (length turns - 1)
       by_pieces [] pieces some =
           let none : map (reply_line text) turns ≡ [] = cc in
           let first : cut.last ≡ welcome = cc in
@@ -127,21 +125,16 @@ module _ (text : Said → List ℕ) (session : Session) where
 
   -- ---- why a session ends
 
-  pub ends_by : (cause : Cause) (lines : ℕ) → EndsSo cause lines → EndsBy cause text session × (lines ≡ lines_of cause turns)
-  ends_by causes.Quit lines h = ((h.0, all_sent h.1.0), h.1.1)
-  ends_by causes.End lines h = (((h.0, h.1, h.2), h.3, all_sent h.4.0), h.4.1)
-  ends_by causes.ReadFault lines h = (((h.0, h.1, h.2), all_sent h.3.0), h.3.1)
-  ends_by causes.WriteFault lines h = cut_off lines h
-  ends_by causes.Budget lines h = ((used_up h.1, all_sent h.2.0), h.2.1)
-    where
-      used_up : (length turns ≡ SESSION_LINES) ⊎ ((length turns < SESSION_LINES) × (session.rest ≡ (gots.Budget, []) ∷ [])) → IsUsedUp session ⊎ ComesTo gots.Budget session
-      used_up (inl full) = inl (h.0, full)
-      used_up (inr over) = inr (h.0, over.0, over.1)
+  pub ends_by : (cause : Cause) (lines : ℕ) → EndsFor cause text session lines → HasSessionCause session.before session.after cause → EndsBy cause text session × (lines ≡ lines_of cause turns)
+  ends_by causes.Quit lines h faults = ((h.0, all_sent h.1.0 faults.1, faults.0), h.1.1)
+  ends_by causes.End lines h faults = ((h.0, h.1, all_sent h.2.0 faults.1, faults.0), h.2.1)
+  ends_by causes.ReadFault lines h faults = ((h.0, all_sent h.1.0 faults.1, faults.0), h.1.1)
+  ends_by causes.WriteFault lines h faults = let cut = cut_off lines h faults.1 in ((cut.0, faults.0), cut.1)
+  ends_by causes.Budget lines h faults = ((h.0, all_sent h.1.0 faults.1, faults.0), h.1.1)
 
-  pub ends_for : (cause : Cause) → EndsBy cause text session → EndsSo cause (lines_of cause turns)
-  ends_for causes.Quit h = (h.0, (whole_sent h.1, refl))
-  ends_for causes.End h = (h.0.0, h.0.1, h.0.2, h.1, (whole_sent h.2, refl))
-  ends_for causes.ReadFault h = (h.0.0, h.0.1, h.0.2, (whole_sent h.1, refl))
-  ends_for causes.WriteFault h = interrupted h
-  ends_for causes.Budget (inl full, sent) = (full.0, inl full.1, (whole_sent sent, refl))
-  ends_for causes.Budget (inr over, sent) = (over.0, inr (over.1, over.2), (whole_sent sent, refl))
+  pub ends_for : (cause : Cause) → EndsBy cause text session → EndsFor cause text session (lines_of cause turns) × HasSessionCause session.before session.after cause
+  ends_for causes.Quit h = ((h.0, (whole_sent h.1, refl)), (h.2, h.1.1))
+  ends_for causes.End h = ((h.0, h.1, (whole_sent h.2, refl)), (h.3, h.2.1))
+  ends_for causes.ReadFault h = ((h.0, (whole_sent h.1, refl)), (h.2, h.1.1))
+  ends_for causes.WriteFault h = let cut = h.0 in (interrupted cut, (h.1, cut.failed))
+  ends_for causes.Budget h = ((h.0, (whole_sent h.1, refl)), (h.2, h.1.1))

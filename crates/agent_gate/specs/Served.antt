@@ -32,16 +32,18 @@ reply_line text turn = text (said_of turn) ++ 10 ∷ []
 abbrev pub pieces_of : (Said → List ℕ) → Session → List (List ℕ)
 pieces_of text session = session.welcome ∷ map (reply_line text) session.turns
 
--- all of it was sent
+-- all of it was sent, and no write failed
 abbrev pub SendsAll : (Said → List ℕ) → Session → Type 0
-SendsAll text session = session.after.sent ≡ known_then session.before.sent (concat (pieces_of text session))
+SendsAll text session = (session.after.sent ≡ known_then session.before.sent (concat (pieces_of text session))) × NoWriteFails session.before session.after
 
--- a write of the last piece failed: those before it were sent whole, and of the last one the first bytes at most
+-- A write of the last piece failed, and nothing was sent after that: the pieces before it were sent whole, and of the last one the first
+-- bytes at most.
 pub record IsCutOff (text : Said → List ℕ) (session : Session) : Type 0 where
   pub whole : List (List ℕ)
   pub last : List ℕ
   pub pieces : pieces_of text session ≡ whole ++ last ∷ []
   pub cut : TakesSome (known_then session.before.sent (concat whole)) session.after.sent last
+  pub failed : LastWriteFails session.before session.after
 
 -- ---- why it ends
 
@@ -53,21 +55,15 @@ ComesTo got session = (has_left session.turns ≡ false) × (length session.turn
 abbrev pub IsUsedUp : Session → Type 0
 IsUsedUp session = (has_left session.turns ≡ false) × (length session.turns ≡ SESSION_LINES)
 
--- the causes of a session's end: `quit` was answered; the link's bytes came to an end; a read failed, whatever bytes were left;
--- a text was cut off by a failed write; or the lines, or the bytes, of a session were used up
+-- The causes of a session's end, a row for each: what came last, what was sent, and whether a read failed, after which nothing was taken.
+-- `quit` was answered; the link's bytes came to an end; a read failed, whatever bytes were left; a text was cut off by a failed write; or
+-- the lines, or the bytes, of a session were used up.
 abbrev pub EndsBy : Cause → (Said → List ℕ) → Session → Type 0
-EndsBy causes.Quit text session = (has_left session.turns ≡ true) × SendsAll text session
-EndsBy causes.End text session = ComesTo gots.End session × IsAtEnd session.after.left × SendsAll text session
-EndsBy causes.ReadFault text session = ComesTo gots.End session × SendsAll text session
-EndsBy causes.WriteFault text session = IsCutOff text session
-EndsBy causes.Budget text session = (IsUsedUp session ⊎ ComesTo gots.Budget session) × SendsAll text session
-
--- A session ends for a read fault exactly if a read failed, and nothing was taken after that; and likewise for a write, after which nothing
--- was sent.
-abbrev pub HasSessionCause : LinkState → LinkState → Cause → Type 0
-HasSessionCause before after causes.ReadFault = LastReadFails before after × NoWriteFails before after
-HasSessionCause before after causes.WriteFault = NoReadFails before after × LastWriteFails before after
-HasSessionCause before after cause = NoReadFails before after × NoWriteFails before after
+EndsBy causes.Quit text session = (has_left session.turns ≡ true) × SendsAll text session × NoReadFails session.before session.after
+EndsBy causes.End text session = ComesTo gots.End session × IsAtEnd session.after.left × SendsAll text session × NoReadFails session.before session.after
+EndsBy causes.ReadFault text session = ComesTo gots.End session × SendsAll text session × LastReadFails session.before session.after
+EndsBy causes.WriteFault text session = IsCutOff text session × NoReadFails session.before session.after
+EndsBy causes.Budget text session = (IsUsedUp session ⊎ ComesTo gots.Budget session) × SendsAll text session × NoReadFails session.before session.after
 
 -- The turns of a session are what its bytes ask, each answered. `answers` is what the bytes taken give, line by line, after
 -- the lines that were read before the session.

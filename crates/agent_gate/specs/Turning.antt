@@ -3,7 +3,7 @@ use Rattle.std.specs.Prelude.{◌≡◌, ◌≢◌, ℕ, ◌+◌, ◌≤◌, ◌
 use Rattle.tac_base.specs.declared.limits.TheConstants.{LINK_BYTES}
 use Rattle.tac_io.specs.HeldBytes.{LinkPlace}
 use Rattle.tac_io.specs.LineAnswers.{Answers}
-use Rattle.tac_io.specs.LinkCalls.{NoReadFails, NoWriteFails}
+use Rattle.tac_io.specs.LinkCalls.{LastReadFails, LastWriteFails, NoReadFails, NoWriteFails}
 use Rattle.tac_io.specs.Lines.{link_place}
 use Rattle.tac_io.specs.States.{LinkState}
 use Rattle.tac_io.specs.Known.{known_then, TakesSome}
@@ -18,7 +18,6 @@ use Rattle.floor.specs.declared.desk.Desk.{Desk}
 use Rattle.agent_gate.specs.Dialects.{Dialect}
 use Rattle.agent_gate.specs.Items.{IsItem}
 use Rattle.agent_gate.specs.Answering.{TakesTurn}
-use Rattle.agent_gate.specs.Served.{HasSessionCause}
 
 -- why a session ends if no line comes
 abbrev pub cause_without_line : LineGot → Option Cause
@@ -68,6 +67,12 @@ pub record HasTurn {T : Type 0} (dialect : Dialect) (before after : SessionState
   pub answer : Answers before.place after.place got
   pub within : after.place.count ≤ LINK_BYTES
   pub turned : IsTurned dialect got before after result
+
+-- A read failed exactly if that is the cause, and nothing was taken after that; and likewise for a write, after which nothing was sent.
+abbrev pub HasSessionCause : LinkState → LinkState → Cause → Type 0
+HasSessionCause before after causes.ReadFault = LastReadFails before after × NoWriteFails before after
+HasSessionCause before after causes.WriteFault = NoReadFails before after × LastWriteFails before after
+HasSessionCause before after cause = NoReadFails before after × NoWriteFails before after
 
 -- a read or a write fails in a turn only if the turn ends the session for that fault
 abbrev pub HasTurnCause : {T : Type 0} → LinkState → LinkState → Result T Cause → Type 0

@@ -3,8 +3,8 @@ ghost use Rattle.std.specs.Prelude.{◌≡◌, ◌<◌, [], true, replicate};
 ghost use Rattle.floor.specs.Desks.{desk_ids, desk_caller, desk_entries, desk_cash};
 ghost use Rattle.floor.specs.Floors.{floor_ids};
 ghost use Rattle.tac_io.specs.LineAnswers.{goes_on};
-ghost use Rattle.tac_io.specs.Lines.{last_of, link_of};
-ghost use Rattle.agent_gate.specs.{HasSessionCause, IsSession, count_whole, ended_session, session_state};
+ghost use Rattle.tac_io.specs.Lines.{last_of};
+ghost use Rattle.agent_gate.specs.{IsSession, count_whole, ended_session, session_state};
 
 use crate::dialect::Dialect;
 use crate::turns::turn;
@@ -54,7 +54,6 @@ pub fn run_session<R: Wait + Clock, L: Link, D: Dialect>(
     requires no_calls { (desk_entries desk ≡ replicate GOODS []) × (desk_cash desk ≡ []) }
     requires goes_on { goes_on (last_of lines) ≡ true }
     ensures session { IsSession (D.form dialect.now) game.now (session_state L.state lines desk) (ended_session L.state result) }
-    ensures cause { HasSessionCause (L.state (link_of lines)) (L.state result.link) result.cause }
 {
     let agent = Agent::new(desk.caller().get()).unwrap();
     let Ok(()) = welcome(&mut lines, game, agent) else {

@@ -106,7 +106,6 @@ module _ {L : Type 0} (state : L → LinkState) (dialect : Dialect) (game : Game
       served = subst (λ n. IsServed dialect (all_answers [] (2 ^ 26 - count_of lines + length (held_of lines).unread) ((held_of lines).unread ++ by.session.more))
           (record { welcome = welcome_text game n; turns = by.session.turns; rest = by.session.rest; before = state (link_of lines); after = state link }) cause) new.caller by.session.served;
       transcript = transcript_of closed long ids agent before after new borne by.session.turns by.session.made;
-      faults = by.faults;
     }
 
     pub agents_part : (agent : ℕ) (before : Desk) (lines : Option (Lines L)) (after : Desk) (end : Option (L × Cause)) → IsNewDesk ids agent before → IsBorneOut closed after

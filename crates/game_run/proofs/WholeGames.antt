@@ -30,7 +30,7 @@ use Rattle.game_run.proofs.Admitting.{follows}
 use Rattle.game_run.proofs.ByIndex.{admitted}
 use Rattle.game_run.proofs.FirstLines.{first_line, begins_with}
 use Rattle.game_run.proofs.LinksBack.{filled_alike}
-use Rattle.game_run.proofs.SameStart.{caused_from, served_from}
+use Rattle.game_run.proofs.SameStart.{served_from}
 use Rattle.game_run.proofs.KeptSeats.{seat_was_free, filled, links_hold, get_map}
 use Rattle.game_run.proofs.Transcripts.{map_at}
 use Rattle.agent_gate.specs.Dialects.{Dialect}
@@ -111,9 +111,8 @@ module _ {L : Type 0} (state : L → LinkState) (hosted : HostedGame) (arrivals 
     seat = g.seat;
     turns = s.turns;
     rest = s.rest;
-    served = served_from before (state (link_of lines)) (state link) g.quiet.0 hosted.dialect _ (record { welcome = welcome_text hosted.game agent; turns = s.turns; rest = s.rest; before = before; after = state link }) cause s.served;
+    served = served_from before (state (link_of lines)) (state link) g.quiet.0 g.reads g.quiet.1 hosted.dialect _ (record { welcome = welcome_text hosted.game agent; turns = s.turns; rest = s.rest; before = before; after = state link }) cause s.served;
     transcript = s.transcript;
-    faults = caused_from before (state (link_of lines)) (state link) g.reads g.quiet.1 cause s.faults;
   }
 
   served_link : (seats : Seats) (agent : ℕ) (before : LinkState) (lines : Lines L) (o : Option L) → IsGreeted state seats agent before lines → IsAgentsPart state hosted.dialect hosted.game closed ends agent (Some lines) o

@@ -17,7 +17,7 @@ use Rattle.floor.specs.declared.floor.Floor.{Floor}
 use Rattle.floor.specs.Desks.{IsNewDesk}
 use Rattle.floor.specs.Floors.{floor_ids, starts_of, AreDesksOf}
 use Rattle.game_text.specs.Schedule.{clock_calls}
-use Rattle.agent_gate.specs.Served.{IsServed, HasSessionCause}
+use Rattle.agent_gate.specs.Served.{IsServed}
 use Rattle.agent_gate.specs.Transcript.{IsTranscript}
 use Rattle.agent_gate.specs.Turns.{Turn}
 use Rattle.agent_gate.specs.Welcome.{welcome_text}
@@ -58,7 +58,6 @@ module _ {L : Type 0} (state : L → LinkState) (dialect : Dialect) (game : Game
     pub served : IsServed dialect (all_answers [] (LINK_BYTES - count_of lines + length (held_of lines).unread) ((held_of lines).unread ++ more))
         (record { welcome = welcome_text game agent; turns = turns; rest = rest; before = state (link_of lines); after = state link }) cause
     pub transcript : IsTranscript agent closed turns
-    pub faults : HasSessionCause (state (link_of lines)) (state link) cause
 
   -- what became of an agent: one with lines was served, and has its end; one without made no call
   abbrev pub IsAgentsPart : List (ℕ × Cause) → ℕ → Option (Lines L) → Option L → Type 0

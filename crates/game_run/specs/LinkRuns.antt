@@ -9,7 +9,7 @@ use Rattle.tac_io.specs.declared.line_got.LineGot.TheVariants as gots
 use Rattle.line_protocol.specs.declared.admission.Cause.{Cause}
 use Rattle.line_protocol.specs.declared.admission.Verdict.TheVariants.{Seated}
 use Rattle.agent_gate.specs.Gates.{Seats, verdict_of}
-use Rattle.agent_gate.specs.Served.{IsServed, HasSessionCause}
+use Rattle.agent_gate.specs.Served.{IsServed}
 use Rattle.agent_gate.specs.Transcript.{IsTranscript}
 use Rattle.agent_gate.specs.Turns.{Turn}
 use Rattle.agent_gate.specs.Welcome.{welcome_text}
@@ -33,7 +33,6 @@ pub record IsSeated (hosted : HostedGame) (played : PlayedGame) (seats : Seats) 
   pub rest : List (LineGot × List ℕ)
   pub served : IsServed hosted.dialect answers (record { welcome = welcome_text hosted.game agent; turns = turns; rest = rest; before = before; after = after }) cause
   pub transcript : IsTranscript agent played.closed turns
-  pub faults : HasSessionCause before after cause
 
 -- a link that has a seat in a game that was not played was sent nothing
 abbrev pub IsLeftUnplayed : Seats → ℕ → LinkState → LinkState → Type 0

@@ -8,14 +8,13 @@ use Rattle.turn_lock.specs.Passes.{LockId}
 use Rattle.auction_core.specs.Auctions.{AuctionHistory}
 use Rattle.game_text.specs.Games.{GameFile}
 use Rattle.tac_io.specs.LineAnswers.{goes_on}
-use Rattle.tac_io.specs.Lines.{last_of, link_of}
+use Rattle.tac_io.specs.Lines.{last_of}
 use Rattle.tac_io.specs.declared.lines.Lines.{Lines}
 use Rattle.line_protocol.specs.declared.admission.Cause.{Cause}
 use Rattle.floor.specs.declared.desk.Desk.{Desk}
 use Rattle.floor.specs.Desks.{desk_ids, desk_caller, entries_at, desk_entries, desk_cash}
 use Rattle.game_text.specs.Schedule.{clock_calls, schedule}
 use Rattle.clock_events.specs.MadeCalls.{MakesCalls}
-use Rattle.agent_gate.specs.Served.{HasSessionCause}
 use Rattle.agent_gate.specs.Sessions.{IsSession}
 use Rattle.agent_gate.specs.Turning.{session_state}
 use Rattle.game_run.specs.declared.sessions.Two.{Two}
@@ -80,7 +79,6 @@ module _ {L : Type 0} (state : L → LinkState) (dialect : Dialect) (game : Game
   pub record IsServedBy (before : Desk) (lines : Lines L) (after : Desk) (link : L) (cause : Cause) : Type 0 where
     pub count : ℕ
     pub session : IsSession dialect game (session_state state lines before) (record { link = state link; desk = after; lines = count; cause = cause })
-    pub faults : HasSessionCause (state (link_of lines)) (state link) cause
 
   -- a seat without lines was left as it was; a seat with lines had its session
   abbrev pub IsPlayedOut : Desk → Option (Lines L) → Desk → Option (L × Cause) → Type 0
