@@ -273,15 +273,14 @@ and with what it left in the histories. Three equations hold it, and the rest is
 Every link that came is in the list `given`, in order, with its verdict at the same place; `CameTo`
 says for each verdict what became of it, and hands the seated ones to `IsSeated`, which puts the
 session together (the chapter above). So read `Admission` first, then `IsSeated`, and `IsPlayedBy`
-last: its five fields are the whole rest of the headline.
+last: its four fields are the whole rest of the headline.
 
 - **Look for** `take n verdicts` in `AreAdmitted`: the n-th link is judged by the seats that the
   earlier verdicts left. `AreAllTaken` has both directions: none is taken too many, and none is left
   out that could be taken. In `IsPlayedBy`: the agents with an end are exactly those with a seat,
-  the others made no call, and the clock's calls are the schedule's, good by good. The field
-  `clock_transcript` says for the clock what `IsTranscript` says for an agent: its turns make the
-  whole schedule in order, and its part of the cash history is the posts of these turns, in that
-  order.
+  and the others made no call. The field `clock_transcript` says for the clock what `IsTranscript`
+  says for an agent: its turns make the whole schedule in order, so of each good its calls are the
+  schedule's, and its part of the cash history is the posts of these turns, in that order.
 - **`paced : after.paced ≡ before.paced`** in `WaitsForAll` does not say that no pace was set:
   `ServeAllows` calls it with `at_pace` of the outside before, in which the pace is already that of
   the command line (the last chapter). So the field says that the pace stays PACE to the end, and

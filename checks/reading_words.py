@@ -81,6 +81,8 @@ ROW_WORDS: Dict[str, str] = {
          "pair of caller and call, the entry is `entry_of` of the past of those before it"),
     "auction_rules/Part.callers_part":
         "a caller's entries of a history, each in a pair with its position, as `part` has them",
+    "game_text/Schedule.clock_calls":
+        "`clock_calls game good` are the calls of a good among those of the schedule, in order",
     "game_text/QuietGames.quiet_game":
         ("a game in which flights stay at 300 dollars (first price 300, bound 10, each draw 10), "
          "nobody has a ticket at first, each hotel night has 16 rooms, quotes are not live, the "
@@ -429,8 +431,8 @@ SENTENCES: List[Tuple[str, List[str]]] = [
      ["agent_gate/Served.pieces_of", "agent_gate/Served.SendsAll", "agent_gate/Served.IsCutOff",
       "line_protocol/Replies.said_text"]),
     ("and the clock's are the game file's;",
-     ["game_run/PlayedGame.IsPlayedBy", "game_text/Schedule.clock_calls",
-      "game_run/PlayedGame.IsClockTranscript", "clock_events/Clocking.WaitsForAll"]),
+     ["game_run/PlayedGame.IsPlayedBy", "game_run/PlayedGame.IsClockTranscript",
+      "game_text/Schedule.schedule", "clock_events/Clocking.WaitsForAll"]),
     ("goods and cash equal the trades recorded;",
      ["trade_ledger/Posts.Matched", "settlement/Settlement.settlement_of",
       "settlement/Settlement.cash_gained", "auction_rules/Effects.holding",

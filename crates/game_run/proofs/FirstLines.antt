@@ -9,7 +9,6 @@ use Rattle.tac_io.specs.LineAnswers.{Answers, HasLineCause, goes_on}
 use Rattle.tac_io.specs.LineText.{has_end, BeginsWithLine}
 use Rattle.tac_io.specs.Lines.{count_of, held_of, last_of, link_of, link_place}
 use Rattle.tac_io.specs.LinkCalls.{GaveBytes, NoReadFails, ReadsNothing, SendsNothing}
-use Rattle.std.specs.Prelude.{◌⊎◌}
 use Rattle.tac_io.specs.Known.{known_then, then_known, IsAtEnd, TakesSome}
 use Rattle.tac_io.specs.declared.line_got.LineGot.{LineGot}
 use Rattle.tac_io.specs.declared.line_got.LineGot.TheVariants as gots

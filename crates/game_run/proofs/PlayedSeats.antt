@@ -8,6 +8,8 @@ use Rattle.std.proofs.lemmas.Option.{slice_get_within}
 use mathlib.Core.Option.{some}
 use lib.ListN.{get_elem?}
 use Rattle.game_text.specs.Games.{GameFile}
+use Rattle.game_text.specs.Schedule.{schedule}
+use Rattle.clock_events.specs.MadeCalls.{MakesCalls}
 use Rattle.tac_base.specs.Goods.{agents}
 use Rattle.auction_core.specs.ClosedGame.{ClosedGame, all_goods}
 use Rattle.auction_core.specs.Setups.{setup_of}
@@ -20,10 +22,10 @@ use Rattle.floor.specs.Desks.{desk_ids, desk_caller, IsNewDesk}
 use Rattle.game_run.specs.declared.sessions.AgentSeat.{AgentSeat}
 use Rattle.game_run.specs.declared.sessions.PlayedSeat.{PlayedSeat}
 use Rattle.game_run.specs.declared.sessions.Two.{Two}
-use Rattle.game_run.specs.{IsAgents, IsLegalGame, AreBoth, FloorIds, eight_of, played_end, played_link, IsPlayedSeat, AreEightPlayed, HasMadeAll, IsAgentsPart, IsPlayedThrough}
+use Rattle.game_run.specs.{IsAgents, IsLegalGame, AreBoth, FloorIds, eight_of, played_end, played_link, IsPlayedSeat, AreEightPlayed, IsAgentsPart, IsPlayedThrough}
 use Rattle.tac_io.specs.States.{LinkState}
 use Rattle.game_run.proofs.AgentParts.{below_eight, same_out, same_kind, agents_part, end_of_agent, ends_in_order}
-use Rattle.game_run.proofs.Transcripts.{clock_transcript_of, scheduled_of}
+use Rattle.game_run.proofs.Transcripts.{clock_transcript_of}
 use Rattle.agent_gate.specs.Dialects.{Dialect}
 
 same_value : {A : Type 0} (a b : A) → Some a ≡ Some b → a ≡ b
@@ -127,7 +129,7 @@ module _ {L : Type 0} (state : L → LinkState) (dialect : Dialect) (game : Game
         (λ k q at. each_end k (slice_get_within (eight_of p) k q at) q at)
 
     pub played_through : (lines : List (Option (Lines L))) (links : List (Option L)) (ends : List (ℕ × Cause)) → lines ≡ map (λ q. q.lines) (eight_of e) → links ≡ map played_link (eight_of p)
-        → ends ≡ filter_map played_end (eight_of p) → IsLegalGame game closed → IsSameDesk clock clock' → HasMadeAll game clock clock' → IsPlayedThrough state dialect game closed lines links ends
+        → ends ≡ filter_map played_end (eight_of p) → IsLegalGame game closed → IsSameDesk clock clock' → MakesCalls (schedule game) clock clock' → IsPlayedThrough state dialect game closed lines links ends
     played_through lines links ends lines_are links_are ends_are legal same made =
         let new = fresh 8 clock refl in
         record {
@@ -138,6 +140,5 @@ module _ {L : Type 0} (state : L → LinkState) (dialect : Dialect) (game : Game
           wide = ap length links_are;
           ended = ap (map (λ end. end.0)) ends_are ∙ (ended ∙ ap (λ ls. filter (λ agent. slice_index_or (map (λ l. is_some l) ls) agent false) agents) (sym lines_are));
           legal_game = legal;
-          scheduled = scheduled_of game closed long clock clock' (borne 8 clock' (omega arith)) (same.1 ∙ new.caller) made;
-          clock_transcript = clock_transcript_of game closed ids clock clock' new (borne 8 clock' (omega arith)) (same.1 ∙ new.caller) made.made;
+          clock_transcript = clock_transcript_of game closed ids clock clock' new (borne 8 clock' (omega arith)) (same.1 ∙ new.caller) made;
         }

@@ -1,25 +1,26 @@
 -- What a desk knew of a closed game is its caller's transcript.
-use Rattle.std.proofs.Common.{zero, suc, ◌≡◌, ℕ, ◌<◌, ◌+◌, List, [], ◌∷◌, ◌++◌, map, length, refl, ap, sym, ◌∙◌, subst, arith, add-zero}
-use Rattle.std.specs.Prelude.{slice_index_or}
+use Rattle.std.proofs.Common.{zero, suc, ◌≡◌, ℕ, ◌<◌, ◌+◌, List, [], ◌∷◌, ◌++◌, map, length, refl, ap, sym, ◌∙◌, subst, arith, add-zero, inl, inr}
+use Rattle.std.specs.Prelude.{◌==◌, filter, slice_index_or}
 use Rattle.std.specs.List.{AllZip, range_with_len}
-use Rattle.std.proofs.lemmas.List.{get_or-replicate, length-map}
+use Rattle.std.proofs.lemmas.List.{get_or-replicate}
 use Rattle.std.proofs.lemmas.Slice.Zip.{AllZip-long}
+use Rattle.std.proofs.lemmas.Bool.{cases_Bool}
 use Rattle.game_text.specs.Games.{GameFile}
-use Rattle.auction_rules.specs.History.{Entry}
 use Rattle.turn_lock.specs.Part.{part}
 use Rattle.turn_lock.specs.Notes.{AreNotes}
 use Rattle.auction_core.specs.ClosedGame.{ClosedGame, all_goods}
 use Rattle.floor.specs.declared.desk.Desk.{Desk}
-use Rattle.floor.specs.Desks.{desk_caller, desk_entries, desk_cash, boards_of, IsNewDesk}
+use Rattle.floor.specs.Desks.{desk_caller, desk_entries, boards_of, IsNewDesk}
 use Rattle.floor.specs.Closing.{IsBorneOut}
 use Rattle.floor.specs.ClosedBoards.{board_of}
 use Rattle.game_text.specs.Schedule.{clock_calls, schedule}
-use Rattle.clock_events.specs.ClockTurns.{clock_entries, clock_posts}
+use Rattle.clock_events.specs.ClockTurns.{ClockTurn, call_made, clock_entries, clock_posts}
 use Rattle.clock_events.specs.MadeCalls.{MakesCalls}
 use Rattle.agent_gate.specs.Sessions.{AreMadeBy}
 use Rattle.agent_gate.specs.Transcript.{IsTranscript}
 use Rattle.agent_gate.specs.Turns.{Turn, cash_made, boards_shown}
-use Rattle.game_run.specs.{caller_parts, IsAbsent, FloorIds, HasMadeAll}
+use Rattle.agent_gate.proofs.DeskTurns.{all_made, made_none}
+use Rattle.game_run.specs.{caller_parts, FloorIds}
 use Rattle.game_run.specs.PlayedGame.{IsClockTranscript}
 
 -- ---- lists by place
@@ -72,22 +73,28 @@ module _ (closed : ClosedGame) (long : length closed.auctions ≡ 28) (ids : Flo
             (subst (λ l. AllZip (λ auction seen. AreNotes (board_of auction) auction.history (length auction.history) seen) closed.auctions l) (boards_are turns made) borne.boards);
       }
 
-  pub absent_of : after ≡ before → IsAbsent closed number
-  absent_of same =
-      let is : desk_caller after ≡ number = ap desk_caller same ∙ new.caller in
-      record {
-        calls = sym (of_caller is) ∙ (ap desk_entries same ∙ new.entries);
-        cash = ap (λ n. part (λ e. e.caller) closed.cash n) (sym is) ∙ (sym borne.cash ∙ (ap desk_cash same ∙ new.cash));
-      }
+  pub absent_of : after ≡ before → IsTranscript number closed []
+  absent_of same = transcript_of [] (subst (AreMadeBy [] before) (sym same) (all_made [] before before (made_none before new.entries new.cash)))
 
--- the calls of the clock are those of the schedule
-pub scheduled_of : (game : GameFile) (closed : ClosedGame) → length closed.auctions ≡ 28 → (before desk : Desk) → IsBorneOut closed desk → desk_caller desk ≡ 8 → HasMadeAll game before desk
-    → map (λ calls. map (λ p. p.1.call) calls) (caller_parts closed 8) ≡ map (clock_calls game) all_goods
-scheduled_of game closed long before desk borne is made =
-    let own : desk_entries desk ≡ caller_parts closed 8 = borne.entries ∙ ap (caller_parts closed) is in
-    let call_list = λ (calls : List (ℕ × Entry)). map (λ p. p.1.call) calls in
-    by_goods (map call_list (caller_parts closed 8)) (clock_calls game) [] (length-map (caller_parts closed 8) call_list ∙ (length-map closed.auctions (λ auction. part (λ e. e.caller) auction.history 8) ∙ long))
-    (λ good lt. map_at call_list (caller_parts closed 8) good [] ∙ (ap (λ l. call_list (slice_index_or l good [])) (sym own) ∙ made.each good lt))
+-- ---- the transcript of the clock
+
+-- the calls of a good that turns made
+calls_at_good : (good : ℕ) (turns : List ClockTurn) → map (λ p. p.1.call) (clock_entries good turns) ≡ map (λ call. call.1) (filter (λ call. call.0 == good) (map call_made turns))
+calls_at_good good [] = refl
+calls_at_good good (turn ∷ turns) = elim (cases_Bool (turn.good == good)) [ inl t ↦ rw t (ap (λ calls. turn.entry.call ∷ calls) (calls_at_good good turns)) | inr f ↦ rw f (calls_at_good good turns) ]
+
+-- turns that make the calls of a schedule make those of each good
+calls_at_goods : (game : GameFile) (turns : List ClockTurn) → map call_made turns ≡ schedule game → (goods : List ℕ)
+    → map (λ calls. map (λ p. p.1.call) calls) (map (λ good. clock_entries good turns) goods) ≡ map (clock_calls game) goods
+calls_at_goods game turns asked [] = refl
+calls_at_goods game turns asked (good ∷ goods) =
+    let here : map (λ p. p.1.call) (clock_entries good turns) ≡ clock_calls game good =
+    calls_at_good good turns ∙ ap (λ calls. map (λ call. call.1) (filter (λ call. call.0 == good) calls)) asked in
+    λ i. here i ∷ calls_at_goods game turns asked goods i
+
+-- of each good the clock's calls are those of the schedule
+pub scheduled_in : (game : GameFile) (closed : ClosedGame) → IsClockTranscript game closed → map (λ calls. map (λ p. p.1.call) calls) (caller_parts closed 8) ≡ map (clock_calls game) all_goods
+scheduled_in game closed transcript = ap (map (λ calls. map (λ p. p.1.call) calls)) transcript.calls ∙ calls_at_goods game transcript.turns transcript.asked all_goods
 
 -- the turns of the clock are its part of the histories
 pub clock_transcript_of : (game : GameFile) (closed : ClosedGame) (ids : FloorIds) (before after : Desk) → IsNewDesk ids 8 before → IsBorneOut closed after → desk_caller after ≡ 8

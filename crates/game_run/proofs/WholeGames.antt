@@ -25,7 +25,8 @@ use Rattle.game_run.specs.declared.arrivals.Arrivals.{Arrivals}
 use Rattle.game_run.specs.declared.arrivals.Holder.{Holder}
 use Rattle.game_run.specs.declared.arrivals.Holder.TheVariants.{Seat, Unseated}
 use Rattle.game_run.specs.{free_seats, seats_given, CameTo, MayGoOn, IsGreeted, IsTurnedAway, Keeps, AreKept, AreTaken, IsSeated, IsLeftUnplayed, IsPlayedOver, IsNotPlayed, AreFilled, AreLinksOf, HostedGame, IsServedAs, IsAgentsPart, IsPlayedThrough}
-use Rattle.game_run.specs.PlayedGame.{PlayedGame, IsAbsent}
+use Rattle.agent_gate.specs.Transcript.{IsTranscript}
+use Rattle.game_run.specs.PlayedGame.{PlayedGame}
 use Rattle.game_run.proofs.Admitting.{follows}
 use Rattle.game_run.proofs.ByIndex.{admitted}
 use Rattle.game_run.proofs.FirstLines.{first_line, begins_with}
@@ -120,7 +121,7 @@ module _ {L : Type 0} (state : L → LinkState) (hosted : HostedGame) (arrivals 
   served_link seats agent before lines None g part = absurd part
   served_link seats agent before lines (Some link) g part = (link, refl, seated_so seats agent before lines link part.0 g part.1 part.2)
 
-  absent_part : (agent : ℕ) (o : Option (Lines L)) (l : Option L) → is_some o ≡ false → IsAgentsPart state hosted.dialect hosted.game closed ends agent o l → IsAbsent closed agent
+  absent_part : (agent : ℕ) (o : Option (Lines L)) (l : Option L) → is_some o ≡ false → IsAgentsPart state hosted.dialect hosted.game closed ends agent o l → IsTranscript agent closed []
   absent_part agent None None no_lines part = part
   absent_part agent None (Some link) no_lines part = absurd part
   absent_part agent (Some lines) l no_lines part = absurd (cc)
@@ -135,7 +136,7 @@ module _ {L : Type 0} (state : L → LinkState) (hosted : HostedGame) (arrivals 
         let served = served_link seats agent before k.0 (slice_index_or agent_seats agent None) k.3 part in
         (served.0, k.1, slice_get-get_or agent_seats agent None (omega (arith, lt, through.wide)) ∙ ap (λ o. Some o) served.1, served.2)
 
-    absent : (taken : List Bool) → map (λ ls. is_some ls) lines ≡ taken → (agent : ℕ) → agent < 8 → slice_index_or taken agent false ≡ false → IsAbsent closed agent
+    absent : (taken : List Bool) → map (λ ls. is_some ls) lines ≡ taken → (agent : ℕ) → agent < 8 → slice_index_or taken agent false ≡ false → IsTranscript agent closed []
     absent taken same agent lt free =
         absent_part agent (slice_index_or lines agent None) (slice_index_or agent_seats agent None)
         (sym (map_at (λ (ls : Option (Lines L)). is_some ls) lines agent None) ∙ (ap (λ l. slice_index_or l agent false) same ∙ free)) (through.each_agent agent lt)
@@ -158,7 +159,6 @@ module _ {L : Type 0} (state : L → LinkState) (hosted : HostedGame) (arrivals 
           legal_game = through.legal_game;
           each_end = through.ended ∙ ap (λ taken. filter (λ agent. slice_index_or taken agent false) agents) kept.seats;
           absent = absent lines agent_seats kept.wide through (seats_given hosted.game verdicts).taken kept.seats;
-          scheduled = through.scheduled;
           clock_transcript = through.clock_transcript;
         };
       }

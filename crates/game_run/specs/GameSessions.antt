@@ -4,7 +4,7 @@ use mathlib.Core.Option.{some}
 use lib.ListN.{get_elem?}
 use Rattle.tac_base.specs.declared.limits.TheConstants.{AGENTS, CALLERS, LINK_BYTES}
 use Rattle.game_text.specs.Games.{GameFile}
-use Rattle.tac_base.specs.Goods.{agents, clock}
+use Rattle.tac_base.specs.Goods.{agents}
 use Rattle.auction_core.specs.ClosedGame.{ClosedGame, all_goods}
 use Rattle.auction_core.specs.Setups.{setup_of}
 use Rattle.tac_io.specs.AllAnswers.{all_answers}
@@ -16,7 +16,6 @@ use Rattle.floor.specs.declared.desk.Desk.{Desk}
 use Rattle.floor.specs.declared.floor.Floor.{Floor}
 use Rattle.floor.specs.Desks.{IsNewDesk}
 use Rattle.floor.specs.Floors.{floor_ids, starts_of, AreDesksOf}
-use Rattle.game_text.specs.Schedule.{clock_calls}
 use Rattle.agent_gate.specs.Served.{IsServed}
 use Rattle.agent_gate.specs.Transcript.{IsTranscript}
 use Rattle.agent_gate.specs.Turns.{Turn}
@@ -25,7 +24,7 @@ use Rattle.game_run.specs.declared.session_ends.SessionEnds.{SessionEnds}
 use Rattle.game_run.specs.declared.play.OpenFloor.{OpenFloor}
 use Rattle.tac_io.specs.States.{LinkState}
 use Rattle.tac_io.specs.declared.line_got.LineGot.{LineGot}
-use Rattle.game_run.specs.PlayedGame.{caller_parts, IsLegalGame, IsAbsent, IsClockTranscript}
+use Rattle.game_run.specs.PlayedGame.{IsLegalGame, IsClockTranscript}
 use Rattle.agent_gate.specs.Dialects.{Dialect}
 
 -- ---- before the game
@@ -59,9 +58,9 @@ module _ {L : Type 0} (state : L → LinkState) (dialect : Dialect) (game : Game
         (record { welcome = welcome_text game agent; turns = turns; rest = rest; before = state (link_of lines); after = state link }) cause
     pub transcript : IsTranscript agent closed turns
 
-  -- what became of an agent: one with lines was served, and has its end; one without made no call
+  -- what became of an agent: one with lines was served, and has its end; one without took no turn
   abbrev pub IsAgentsPart : List (ℕ × Cause) → ℕ → Option (Lines L) → Option L → Type 0
-  IsAgentsPart ends agent None None = IsAbsent closed agent
+  IsAgentsPart ends agent None None = IsTranscript agent closed []
   IsAgentsPart ends agent (Some lines) (Some link) = (cause : Cause) × Contains ends (agent, cause) × IsServedAs agent lines link cause
   IsAgentsPart ends agent lines link = ⊥
 
@@ -71,5 +70,4 @@ module _ {L : Type 0} (state : L → LinkState) (dialect : Dialect) (game : Game
     pub wide : length links ≡ AGENTS
     pub ended : map (λ end. end.0) ends ≡ filter (λ agent. slice_index_or (map (λ ls. is_some ls) lines) agent false) agents
     pub legal_game : IsLegalGame game closed
-    pub scheduled : map (λ calls. map (λ p. p.1.call) calls) (caller_parts closed clock) ≡ map (clock_calls game) all_goods
     pub clock_transcript : IsClockTranscript game closed

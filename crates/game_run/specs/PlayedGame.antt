@@ -1,39 +1,33 @@
 -- A game that was played over links.
-use Rattle.std.specs.Prelude.{◌≡◌, ℕ, ◌<◌, ◌≤◌, List, [], false, All, filter, map, replicate, slice_index_or}
+use Rattle.std.specs.Prelude.{◌≡◌, ℕ, ◌<◌, List, [], false, All, filter, map, slice_index_or}
 use Rattle.game_text.specs.Games.{GameFile}
-use Rattle.tac_base.specs.Goods.{agents, clock, house}
-use Rattle.tac_base.specs.declared.limits.TheConstants.{AGENTS, GOODS}
-use Rattle.auction_rules.specs.Effects.{dollars}
+use Rattle.tac_base.specs.Goods.{agents, clock}
+use Rattle.tac_base.specs.declared.limits.TheConstants.{AGENTS}
 use Rattle.auction_rules.specs.History.{Entry}
 use Rattle.auction_rules.specs.Legal.{Legal}
 use Rattle.turn_lock.specs.Part.{part}
-use Rattle.trade_ledger.specs.CashHistory.{IsLegalCash, cash_total}
-use Rattle.trade_ledger.specs.Posts.{Matched, trades_of_all}
+use Rattle.trade_ledger.specs.CashHistory.{IsLegalCash}
+use Rattle.trade_ledger.specs.Posts.{Matched}
 use Rattle.auction_core.specs.ClosedGame.{ClosedGame, all_goods}
 use Rattle.auction_core.specs.Setups.{setup_of}
-use Rattle.game_text.specs.Schedule.{clock_calls, schedule}
+use Rattle.game_text.specs.Schedule.{schedule}
 use Rattle.clock_events.specs.ClockTurns.{ClockTurn, call_made, clock_entries, clock_posts}
 use Rattle.line_protocol.specs.declared.admission.Cause.{Cause}
 use Rattle.line_protocol.specs.declared.admission.Verdict.{Verdict}
+use Rattle.agent_gate.specs.Transcript.{IsTranscript}
 use Rattle.game_run.specs.Admission.{seats_given}
 
 -- the parts of a caller in all histories
 abbrev pub caller_parts : ClosedGame → ℕ → List (List (ℕ × Entry))
 caller_parts closed caller = map (λ auction. part (λ e. e.caller) auction.history caller) closed.auctions
 
--- the histories of the 28 auctions are legal by the rules of the game, and so is the cash history; it has exactly one post for each entry
--- with trades, and a party's total is the sum of its dollars over all trades
+-- The histories of the 28 auctions are legal by the rules of the game, and so is the cash history; it has exactly one post for each entry
+-- with trades, so a party's total is the sum of its dollars over all trades.
 pub record IsLegalGame (game : GameFile) (closed : ClosedGame) : Type 0 where
   pub setups : map (λ auction. auction.setup) closed.auctions ≡ map (λ good. setup_of good game) all_goods
   pub legal : All (λ auction. Legal auction.setup auction.history) closed.auctions
   pub cash : IsLegalCash closed.cash
   pub matched : Matched (map (λ auction. auction.history) closed.auctions) closed.cash
-  pub totals : (party : ℕ) → party ≤ house → cash_total closed.cash party ≡ dollars (trades_of_all (map (λ auction. auction.history) closed.auctions)) party
-
--- a caller made no call
-pub record IsAbsent (closed : ClosedGame) (caller : ℕ) : Type 0 where
-  pub calls : caller_parts closed caller ≡ replicate GOODS []
-  pub cash : part (λ e. e.caller) closed.cash caller ≡ []
 
 -- The turns of the clock against the histories: in order they make the calls of the schedule. At each good the clock's part of the history is
 -- what its turns made, by position, call and reply. Its part of the cash history is, in the order of the turns, a post for each turn with
@@ -51,11 +45,9 @@ pub record PlayedGame : Type 0 where
   pub ends : List (ℕ × Cause)
   pub closed : ClosedGame
 
--- Each seated agent has one end, in rising order; an agent without a seat made no call; and the clock's calls are those of the schedule,
--- of each good and, with its posts, in the order across the goods.
+-- Each seated agent has one end, in rising order; an agent without a seat took no turn; and the clock's turns are those of the schedule.
 pub record IsPlayedBy (game : GameFile) (played : PlayedGame) : Type 0 where
   pub legal_game : IsLegalGame game played.closed
   pub each_end : map (λ end. end.0) played.ends ≡ filter (λ agent. slice_index_or (seats_given game played.verdicts).taken agent false) agents
-  pub absent : (agent : ℕ) → agent < AGENTS → slice_index_or (seats_given game played.verdicts).taken agent false ≡ false → IsAbsent played.closed agent
-  pub scheduled : map (λ calls. map (λ p. p.1.call) calls) (caller_parts played.closed clock) ≡ map (clock_calls game) all_goods
+  pub absent : (agent : ℕ) → agent < AGENTS → slice_index_or (seats_given game played.verdicts).taken agent false ≡ false → IsTranscript agent played.closed []
   pub clock_transcript : IsClockTranscript game played.closed

@@ -1,5 +1,5 @@
 -- Eight seats, and what is at them before and after the sessions.
-use Rattle.std.specs.Prelude.{◌≡◌, ℕ, ◌<◌, List, [], ◌∷◌, ◌++◌, Option, Some, None, true, map, replicate, IfSome}
+use Rattle.std.specs.Prelude.{◌≡◌, ℕ, ◌<◌, List, [], ◌∷◌, ◌++◌, Option, Some, None, true, replicate, IfSome}
 use Rattle.std.specs.Option.{option_map}
 use Rattle.tac_base.specs.declared.limits.TheConstants.{AGENTS, GOODS}
 use Rattle.tac_base.specs.Goods.{clock}
@@ -12,9 +12,7 @@ use Rattle.tac_io.specs.Lines.{last_of}
 use Rattle.tac_io.specs.declared.lines.Lines.{Lines}
 use Rattle.line_protocol.specs.declared.admission.Cause.{Cause}
 use Rattle.floor.specs.declared.desk.Desk.{Desk}
-use Rattle.floor.specs.Desks.{desk_ids, desk_caller, entries_at, desk_entries, desk_cash}
-use Rattle.game_text.specs.Schedule.{clock_calls, schedule}
-use Rattle.clock_events.specs.MadeCalls.{MakesCalls}
+use Rattle.floor.specs.Desks.{desk_ids, desk_caller, desk_entries, desk_cash}
 use Rattle.agent_gate.specs.Sessions.{IsSession}
 use Rattle.agent_gate.specs.Turning.{session_state}
 use Rattle.game_run.specs.declared.sessions.Two.{Two}
@@ -67,12 +65,6 @@ abbrev pub AreEightReady : {L : Type 0} → FloorIds → Two (Two (Two (AgentSea
 AreEightReady ids eight = AreBoth (AreBoth (AreBoth (IsReadySeat ids))) eight
 
 -- ---- after the sessions
-
--- the clock's desk, which had made no call, made all calls of the schedule: of each good in order and, with its posts, in the order across
--- the goods
-pub record HasMadeAll (game : GameFile) (before after : Desk) : Type 0 where
-  pub each : (good : ℕ) → good < GOODS → map (λ p. p.1.call) (entries_at after good) ≡ clock_calls game good
-  pub made : MakesCalls (schedule game) before after
 
 module _ {L : Type 0} (state : L → LinkState) (dialect : Dialect) (game : GameFile) where
   -- a session of these lines at this desk left the link and the desk, and ended so

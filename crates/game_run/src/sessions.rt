@@ -2,8 +2,10 @@
 ghost use Rattle.std.specs.Prelude.{◌≡◌, IsSomeAnd, IfSome, Some, []};
 ghost use Rattle.floor.specs.Answers.{IsSameDesk};
 ghost use Rattle.floor.specs.Floors.{floor_ids};
+ghost use Rattle.game_text.specs.Schedule.{schedule};
 ghost use Rattle.clock_events.specs.Clocking.{WaitsForAll};
-ghost use Rattle.game_run.specs.Seatings.{AreBoth, AreEightPlayed, AreEightReady, AreTakenPlayed, BothOver, IsPlayedSeat, IsReadySeat, IsReadyClock, HasMadeAll};
+ghost use Rattle.clock_events.specs.MadeCalls.{MakesCalls};
+ghost use Rattle.game_run.specs.Seatings.{AreBoth, AreEightPlayed, AreEightReady, AreTakenPlayed, BothOver, IsPlayedSeat, IsReadySeat, IsReadyClock};
 
 use agent_gate::{Dialect, SessionEnd, run_session};
 use clock_events::{ClockEnd, run_clock};
@@ -161,7 +163,7 @@ fn run_ready_clock<R: Wait + Clock, T: Ticker>(
 ) -> ClockEnd
     requires ready { IsReadyClock (floor_ids floor.now) desk }
     requires ticks { IfSome (T.state ticker.old).waited (λ waits. waits ≡ []) }
-    ensures made { HasMadeAll game.now desk result.desk }
+    ensures made { MakesCalls (schedule game.now) desk result.desk }
     ensures same { IsSameDesk desk result.desk }
     ensures waits { WaitsForAll (T.state ticker.old) (T.state ticker.new) result.missed }
 {
@@ -190,7 +192,7 @@ pub(crate) fn run_all<
     requires clock { IsReadyClock (floor_ids floor.now) clock }
     requires ticks { IfSome (T.state ticker.old).waited (λ waits. waits ≡ []) }
     ensures played { AreTakenPlayed L.state (D.form dialect.now) game.now (Some agent_seats) result.0 }
-    ensures made { HasMadeAll game.now clock result.1.desk }
+    ensures made { MakesCalls (schedule game.now) clock result.1.desk }
     ensures same { IsSameDesk clock result.1.desk }
     ensures waits { WaitsForAll (T.state ticker.old) (T.state ticker.new) result.1.missed }
 {

@@ -30,14 +30,17 @@ use Rattle.log_text.specs.SoundLog.{seatings, IsService, IsSoundHead}
 use Rattle.clock_events.specs.Clocking.{WaitsForAll}
 use Rattle.game_log.specs.ShownGames.{IsShowable}
 use Rattle.game_log.specs.ScoredGames.{IsSheetOf}
+use Rattle.agent_gate.specs.Transcript.{IsTranscript}
+use Rattle.agent_gate.specs.Turns.{made_at}
 use Rattle.game_run.specs.Admission.{free_seats, seats_given, CameTo}
 use Rattle.game_run.specs.LinkRuns.{IsSeated}
 use Rattle.tac_io.specs.States.{LinkState, LinksState, TickWait, TickerState}
 use Rattle.game_run.specs.Hosted.{HostedGame}
 use Rattle.game_run.specs.Outcomes.{IsPlayedOver, IsGameEnd, missed_of}
-use Rattle.game_run.specs.PlayedGame.{PlayedGame, caller_parts, IsAbsent, IsPlayedBy}
+use Rattle.game_run.specs.PlayedGame.{PlayedGame, caller_parts, IsPlayedBy}
 use Rattle.game_run.proofs.ByIndex.{admitted_in_turn}
 use Rattle.game_run.proofs.KeptSeats.{seat_was_free}
+use Rattle.game_run.proofs.Transcripts.{scheduled_in}
 use Rattle.game_run.specs.declared.run.GameEnd.{GameEnd}
 use Rattle.script_run.specs.LawfulGames.{closed_history, calls_by, IsLawfulGame}
 use Rattle.tac_commands.specs.Outcomes.{Outcome, Done, Lapsed, Unsound, Stopped, Unread, Unwritten, Refused}
@@ -95,7 +98,7 @@ module _ (game : GameFile) (over : PlayedGame) (played : IsPlayedBy game over) w
       let wide : length (caller_parts over.closed clock) ≡ 28 = length-map over.closed.auctions (λ (a : AuctionHistory). part (λ (e : Entry). e.caller) a.history clock) ∙ count in
       ap calls (sym (part_there good clock low))
       ∙ (sym (get_or-map calls (caller_parts over.closed clock) good [] [] (omega (arith, low, wide)))
-      ∙ (ap (λ (l : List (List Call)). get_or l good []) played.scheduled
+      ∙ (ap (λ (l : List (List Call)). get_or l good []) (scheduled_in game over.closed played.clock_transcript)
       ∙ get_or-map-range_with_len (clock_calls game) 0 28 good good [] low (omega arith)))
 
   pub lawful : IsLawfulGame game over.closed
@@ -110,10 +113,10 @@ module _ (game : GameFile) (over : PlayedGame) (played : IsPlayedBy game over) w
   }
 
   -- an agent without a seat has no entry
-  absent : (head : Head) (sheet : List Scored) (agent : ℕ) → IsAbsent over.closed agent → sound.HasNoEntry (log_of_game head over.closed sheet) agent
+  absent : (head : Head) (sheet : List Scored) (agent : ℕ) → IsTranscript agent over.closed [] → sound.HasNoEntry (log_of_game head over.closed sheet) agent
   absent head sheet agent none = record {
     calls = λ good low. none_of (λ (e : Entry). e.caller) agent 0 (closed_history over.closed good)
-        (sym (part_there good agent low) ∙ (ap (λ (l : List (List (ℕ × Entry))). get_or l good []) none.calls ∙ get_or-replicate 28 good [] [] low));
+        (sym (part_there good agent low) ∙ (ap (λ (l : List (List (ℕ × Entry))). get_or l good []) none.calls ∙ get_or-map-range_with_len (λ (g : ℕ). made_at g []) 0 28 good good [] low (omega arith)));
     cash = none_of (λ (e : CashEntry). e.caller) agent 0 over.closed.cash none.cash;
   }
 

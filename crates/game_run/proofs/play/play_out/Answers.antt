@@ -65,5 +65,5 @@ returns-clause-through g c =
     (subst (All (IsBorneOut c.close.result)) desks_back c.close.ensures.borne_out) c.args.lines.items c.add_eight.new.self.links.items c.add_eight.new.self.ends.items c.agent_seats-agent_seats.ensures.lines
     (c.add_eight.ensures.gathers.links ∙ ap (λ l. l ++ map played_link (eight_of p)) c.requires.open_floor.session_ends.links.0)
     (c.add_eight.ensures.gathers.ends ∙ ap (λ l. l ++ filter_map played_end (eight_of p)) c.requires.open_floor.session_ends.ends.0)
-    (record { setups = setups; legal = c.close.ensures.legal; cash = c.close.ensures.cash; matched = c.close.ensures.matched; totals = c.close.ensures.totals })
+    (record { setups = setups; legal = c.close.ensures.legal; cash = c.close.ensures.cash; matched = c.close.ensures.matched })
     c.run_all-played.ensures.same c.run_all-played.ensures.made
