@@ -27,9 +27,10 @@ pub record IsAuctionKept (setup : Setup) (book : Book) (holdings : List ℤ) (hi
   pub loggable : AllByRecursion (IsEntry setup.good) history
   pub told : AllByRecursion (λ e. IsToldInRange e.reply) history
 
--- a stored history is kept so, with room for all entries that the caps allow, and for all their trades
-pub record IsAuctionSound (setup : Setup) (book : Book) (holdings : List ℤ) (entries : List StoredEntry) (trades : List Trade) (entry_capacity trade_capacity : ℕ) : Type 0 where
-  pub kept : IsAuctionKept setup book holdings (stored entries trades)
-  pub stored : IsStored entries trades
-  pub entry_room : AUCTION_ENTRIES ≤ entry_capacity
-  pub trade_room : BID_UNITS * AUCTION_ENTRIES + ENTRY_TRADES ≤ trade_capacity
+module _ (setup : Setup) where
+  -- a stored history is kept so, with room for all entries that the caps allow, and for all their trades
+  pub record IsAuctionSound (book : Book) (holdings : List ℤ) (entries : List StoredEntry) (trades : List Trade) (entry_capacity trade_capacity : ℕ) : Type 0 where
+    pub kept : IsAuctionKept setup book holdings (stored entries trades)
+    pub stored : IsStored entries trades
+    pub entry_room : AUCTION_ENTRIES ≤ entry_capacity
+    pub trade_room : BID_UNITS * AUCTION_ENTRIES + ENTRY_TRADES ≤ trade_capacity

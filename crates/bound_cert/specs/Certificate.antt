@@ -13,17 +13,17 @@ abbrev pub is_within : Option ℤ → ℕ → Bool
 is_within None claim = true
 is_within (Some bound) claim = int_le bound (pos claim)
 
-abbrev mutual
-  -- the part of a certificate holds, if these packages are left
-  pub holds : AccountFile → ℕ → Narrowing → Tree → Bool
-  holds account claim left (leaf prices) = is_within (leaf_bound account left prices) claim
-  holds account claim left (split client feature children) = tree_count children == values_of feature && all_hold account claim left client feature 0 children
+module _ (account : AccountFile) (claim : ℕ) where
+  abbrev mutual
+    -- the part of a certificate holds, if these packages are left
+    pub holds : Narrowing → Tree → Bool
+    holds left (leaf prices) = is_within (leaf_bound account left prices) claim
+    holds left (split client feature children) = tree_count children == values_of feature && all_hold left client feature 0 children
 
-  -- the children of a split hold, the first being for this value
-  pub all_hold : AccountFile → ℕ → Narrowing → ℕ → ℕ → ℕ → Trees → Bool
-  all_hold account claim left client feature value no_trees = true
-  all_hold account claim left client feature value (more tree trees) =
-      holds account claim (narrowed left client feature value) tree && all_hold account claim left client feature (value + 1) trees
+    -- the children of a split hold, the first being for this value
+    pub all_hold : Narrowing → ℕ → ℕ → ℕ → Trees → Bool
+    all_hold left client feature value no_trees = true
+    all_hold left client feature value (more tree trees) = holds (narrowed left client feature value) tree && all_hold left client feature (value + 1) trees
 
 -- every package is left to every client
 abbrev pub all_left : Narrowing

@@ -28,17 +28,18 @@ count_readings cash = count_by (λ p. not (is_post p.1.call)) cash
 abbrev pub count_entries : List (List (ℕ × Entry)) → ℕ
 count_entries entries = sum_by (λ row. length row) entries
 
--- The desk of a caller has a pass of the caller at each of 28 auctions. Calls made plus turns left are the cap. It counts its
--- readings, a limited number, of which the clock makes none; and each post that is due is made.
-pub record IsDeskKept (caller : ℕ) (callers lefts : List ℕ) (entries : List (List (ℕ × Entry))) (cash_left : ℕ) (cash : List (ℕ × CashEntry)) (count : ℕ) : Type 0 where
-  pub goods : length entries ≡ GOODS
-  pub own : callers ≡ replicate GOODS caller
-  pub capped : (good : ℕ) → good < GOODS → slice_index_or lefts good 0 + length (slice_index_or entries good []) ≡ cap caller
-  pub cash_capped : cash_left + length cash ≡ cash_cap caller
-  pub counted : count ≡ count_readings cash
-  pub few : count ≤ CASH_READINGS
-  pub clock_reads_nothing : caller ≡ clock → count ≡ 0
-  pub posted : IsPosted entries cash
+module _ (caller : ℕ) where
+  -- The desk of a caller has a pass of the caller at each of 28 auctions. Calls made plus turns left are the cap. It counts its
+  -- readings, a limited number, of which the clock makes none; and each post that is due is made.
+  pub record IsDeskKept (callers lefts : List ℕ) (entries : List (List (ℕ × Entry))) (cash_left : ℕ) (cash : List (ℕ × CashEntry)) (count : ℕ) : Type 0 where
+    pub goods : length entries ≡ GOODS
+    pub own : callers ≡ replicate GOODS caller
+    pub capped : (good : ℕ) → good < GOODS → slice_index_or lefts good 0 + length (slice_index_or entries good []) ≡ cap caller
+    pub cash_capped : cash_left + length cash ≡ cash_cap caller
+    pub counted : count ≡ count_readings cash
+    pub few : count ≤ CASH_READINGS
+    pub clock_reads_nothing : caller ≡ clock → count ≡ 0
+    pub posted : IsPosted entries cash
 
 -- what was answered of a good is in order: positions rise, and what was seen is above each, and not below the count of a board
 pub record IsInOrder (entries : List (ℕ × Entry)) (boards : List (ℕ × Board)) (seen : ℕ) : Type 0 where

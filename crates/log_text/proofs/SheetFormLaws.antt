@@ -156,8 +156,8 @@ none_words agent client low small =
     (decimal_lacks 32 agent (lit< tt) (omega (arith, low)), (decimal_lacks 32 client (lit< tt) (omega (arith, small)), (lacks 32 (codes "none") refl, tt)))
 
 -- the numbers of a trip
-abbrev trip_row : ℕ → ℕ → ℕ → ℕ → ℕ → ℕ → ℕ → ℕ → List ℤ
-trip_row agent client hotel arrive depart first second third = pos agent ∷ pos client ∷ pos hotel ∷ pos arrive ∷ pos depart ∷ pos first ∷ pos second ∷ pos third ∷ []
+abbrev trip_row : ℕ → ℕ → ℕ → ℕ → ℕ → List ℕ → List ℤ
+trip_row agent client hotel arrive depart nights = pos agent ∷ pos client ∷ pos hotel ∷ pos arrive ∷ pos depart ∷ map pos nights
 
 row_words : (numbers : List ℤ) → length numbers ≡ 8 → all_in trip_columns numbers ≡ true → words_of (row_text (codes "package") numbers) ≡ codes "package" ∷ map signed_decimal numbers
 row_words numbers count range = joined_parts 32 (codes "package") (map signed_decimal numbers) (lacks 32 (codes "package") refl) (numbers_lack trip_columns numbers refl count range 32 (lit< tt))
@@ -172,7 +172,7 @@ record AreBytes (hotel arrive depart first second third : ℕ) : Type 0 where
   third_byte : third ≤ 255
 
 trip_range : (agent client hotel arrive depart first second third : ℕ) → agent ≤ 7 → client ≤ 7 → AreBytes hotel arrive depart first second third →
-    all_in trip_columns (trip_row agent client hotel arrive depart first second third) ≡ true
+    all_in trip_columns (trip_row agent client hotel arrive depart (first ∷ second ∷ third ∷ [])) ≡ true
 trip_range agent client hotel arrive depart first second third low small are =
     rw (
       in_within 0 255 agent (omega arith) (omega (arith, low)),
@@ -187,10 +187,10 @@ trip_range agent client hotel arrive depart first second third low small are =
 
 trip_again : (agent client hotel arrive depart first second third : ℕ) → agent ≤ 7 → client ≤ 7 → AreBytes hotel arrive depart first second third →
     is_package (packages.Trip hotel arrive depart (first ∷ second ∷ third ∷ [])) ≡ true →
-    package_of agent client (row_text (codes "package") (trip_row agent client hotel arrive depart first second third)) ≡ Some (packages.Trip hotel arrive depart (first ∷ second ∷ third ∷ []))
+    package_of agent client (row_text (codes "package") (trip_row agent client hotel arrive depart (first ∷ second ∷ third ∷ []))) ≡ Some (packages.Trip hotel arrive depart (first ∷ second ∷ third ∷ []))
 unfolding package_of
 trip_again agent client hotel arrive depart first second third low small are is =
-    let numbers = trip_row agent client hotel arrive depart first second third in
+    let numbers = trip_row agent client hotel arrive depart (first ∷ second ∷ third ∷ []) in
     let line = row_text (codes "package") numbers in
     let range = trip_range agent client hotel arrive depart first second third low small are in
     let read = numbers_again (codes "package") trip_columns numbers (lacks 32 (codes "package") refl) refl refl range in
@@ -270,9 +270,9 @@ count_again agent count low few =
 -- ---- no line end within a line
 
 trip_lacks : (agent client hotel arrive depart first second third : ℕ) → agent ≤ 7 → client ≤ 7 → AreBytes hotel arrive depart first second third →
-    Lacks 10 (row_text (codes "package") (trip_row agent client hotel arrive depart first second third))
+    Lacks 10 (row_text (codes "package") (trip_row agent client hotel arrive depart (first ∷ second ∷ third ∷ [])))
 trip_lacks agent client hotel arrive depart first second third low small are =
-    let numbers = trip_row agent client hotel arrive depart first second third in
+    let numbers = trip_row agent client hotel arrive depart (first ∷ second ∷ third ∷ []) in
     join_lacks 10 (codes "package" ∷ map signed_decimal numbers) refl
     (lacks 10 (codes "package") refl, numbers_lack trip_columns numbers refl refl (trip_range agent client hotel arrive depart first second third low small are) 10 (lit< tt))
 

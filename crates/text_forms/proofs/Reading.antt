@@ -61,11 +61,12 @@ line_takes form text P is i left x e =
     let one = is i r.0 x.0 r.2 in
     (took_line left x.1 r.0 (text i x.0) one.0 r.1, one.1)
 
--- parts that were taken one after the other
-pub record TookParts {A : Type 0} (lines : ℕ → A → List (List ℕ)) (P : A → Type 0) (count from : ℕ) (left : Remaining) (xs : List A) (after : Remaining) : Type 0 where
-  pub took : Took left (lines_of_parts lines from xs) after
-  pub count_is : length xs ≡ count
-  pub each : All P xs
+module _ {A : Type 0} (lines : ℕ → A → List (List ℕ)) (P : A → Type 0) where
+  -- parts that were taken one after the other
+  pub record TookParts (count from : ℕ) (left : Remaining) (xs : List A) (after : Remaining) : Type 0 where
+    pub took : Took left (lines_of_parts lines from xs) after
+    pub count_is : length xs ≡ count
+    pub each : All P xs
 
 pub repeat_took : {A : Type 0} (step : ℕ → Remaining → Result (A × Remaining) BadLine) (lines : ℕ → A → List (List ℕ)) (P : A → Type 0) → Takes step lines P
     → (count from : ℕ) (left : Remaining) (x : List A × Remaining) → repeat count from step left ≡ Ok x → TookParts lines P count from left x.0 x.1

@@ -49,9 +49,18 @@ module _ {S G E : Type 0} where
   abbrev pub drew : Step S → Me S (View S G E) → ℕ → Me S (View S G E) → Type 0
   drew step before found after = after ≡ (ticketed before.0 found, before.1)
 
+  -- the board was read, and its count is not below what was seen before
+  abbrev pub peeked : Step S → Me S (View S G E) → ℕ → Me S (View S G E) → Type 0
+  peeked step before found after = (after ≡ (noted before.0 (unpacked found), before.1)) × (before.0.seen ≤ found % 16777216)
+
+  -- the state was given back, with its board
+  abbrev pub PublishesBoard : (S → List E) → (E → ℕ) → Step S → Me S (View S G E) → ℕ → Me S (View S G E) → Type 0
+  PublishesBoard history caller_of step before found after = (x : S) → before.1 ≡ (0, x) ∷ [] → after ≡ (turned caller_of before.0 (history x), [])
+
+module _ {S G E : Type 0} (setup : S → G) (history : S → List E) (caller_of : E → ℕ) where
   -- the state was taken. It has the setup of the lock's first state, as many entries as the ticket says, and of the seat's caller
   -- those that it made
-  pub record Took (setup : S → G) (history : S → List E) (caller_of : E → ℕ) (before after : Me S (View S G E)) : Type 0 where
+  pub record Took (before after : Me S (View S G E)) : Type 0 where
     pub state : S
     pub is : after ≡ (at_turn before.0 (setup state) (history state), (0, state) ∷ [])
     pub kept : (start : S) → before.0.start ≡ Some start → setup state ≡ setup start
@@ -60,14 +69,6 @@ module _ {S G E : Type 0} where
     pub seen : before.0.seen ≤ length (history state)
 
   -- the state was taken if the count of the board was the ticket, and otherwise nothing changed
-  abbrev pub looked : (S → G) → (S → List E) → (E → ℕ) → Step S → Me S (View S G E) → ℕ → Me S (View S G E) → Type 0
-  looked setup history caller_of step before found after =
-      (found % 16777216 ≡ before.0.ticket → Took setup history caller_of before after) × (found % 16777216 ≢ before.0.ticket → after ≡ before)
-
-  -- the state was given back, with its board
-  abbrev pub PublishesBoard : (S → List E) → (E → ℕ) → Step S → Me S (View S G E) → ℕ → Me S (View S G E) → Type 0
-  PublishesBoard history caller_of step before found after = (x : S) → before.1 ≡ (0, x) ∷ [] → after ≡ (turned caller_of before.0 (history x), [])
-
-  -- the board was read, and its count is not below what was seen before
-  abbrev pub peeked : Step S → Me S (View S G E) → ℕ → Me S (View S G E) → Type 0
-  peeked step before found after = (after ≡ (noted before.0 (unpacked found), before.1)) × (before.0.seen ≤ found % 16777216)
+  abbrev pub looked : Step S → Me S (View S G E) → ℕ → Me S (View S G E) → Type 0
+  looked step before found after =
+      (found % 16777216 ≡ before.0.ticket → Took before after) × (found % 16777216 ≢ before.0.ticket → after ≡ before)

@@ -33,8 +33,16 @@ module _ {S G E : Type 0} where
   own_view [] = spent
   own_view (v ∷ vs) = v
 
+  -- what a returned pass left holds of the history, and its seat is spent
+  pub record IsReturned (board : List E → Board) (caller_of : E → ℕ) (history : List E) (views : List (View S G E)) (r : Returned E) : Type 0 where
+    pub made : r.caller + 1 < length views
+    pub spent : (v : View S G E) → get_elem? views (r.caller + 1) ≡ some v → v.live ≡ 0
+    pub mine : r.mine ≡ part caller_of history r.caller
+    pub notes : AreNotes board history (length history) r.notes
+
+module _ {S G E : Type 0} (board : List E → Board) (caller_of : E → ℕ) (start : S) (setup : G) where
   -- what the pass at the seat i knows
-  pub record KnowsPass (board : List E → Board) (caller_of : E → ℕ) (start : S) (setup : G) (history : List E) (drawn i : ℕ) (v : View S G E) : Type 0 where
+  pub record KnowsPass (history : List E) (drawn i : ℕ) (v : View S G E) : Type 0 where
     pub seat : v.caller + 1 ≡ i
     -- the state that the lock was made with
     pub origin : v.start ≡ Some start
@@ -49,17 +57,10 @@ module _ {S G E : Type 0} where
     pub held : (g : G) (h : List E) → v.held ≡ Some (g, h) → (v.waits ≡ 1) × (v.ticket ≡ length history) × (g ≡ setup) × (h ≡ history)
 
   -- what a seat knows; only the seat of a live pass knows something
-  pub record Knows (board : List E → Board) (caller_of : E → ℕ) (start : S) (setup : G) (history : List E) (drawn i : ℕ) (v : View S G E) : Type 0 where
+  pub record Knows (history : List E) (drawn i : ℕ) (v : View S G E) : Type 0 where
     pub flags : (v.live ≤ 1) × (v.waits ≤ v.live)
     pub idle : v.live ≡ 0 → v.held ≡ None
-    pub pass : v.live ≡ 1 → KnowsPass board caller_of start setup history drawn i v
-
-  -- what a returned pass left holds of the history, and its seat is spent
-  pub record IsReturned (board : List E → Board) (caller_of : E → ℕ) (history : List E) (views : List (View S G E)) (r : Returned E) : Type 0 where
-    pub made : r.caller + 1 < length views
-    pub spent : (v : View S G E) → get_elem? views (r.caller + 1) ≡ some v → v.live ≡ 0
-    pub mine : r.mine ≡ part caller_of history r.caller
-    pub notes : AreNotes board history (length history) r.notes
+    pub pass : v.live ≡ 1 → KnowsPass history drawn i v
 
 module _ {S G E : Type 0} (setup : S → G) (history : S → List E) (legal : G → List E → Type 0) (board : G → List E → Board) (caller_of : E → ℕ) (start : S) where
   -- the state is in the slot and stands for the history, and no pass holds it; or the slot is empty, and a pass holds that history
