@@ -89,12 +89,20 @@ waits_for_all before after many missed so_far all = record {
   paced = so_far.paced;
 }
 
--- the steps of a desk over the waits that are known so far
-pub record TakesSteps (mark : ℕ) (game : GameFile) (before after : TickerState) (first last : List Step) (many missed : ℕ) : Type 0 where
-  pub waits : WaitsFor before after many missed
-  pub steps : last ≡ first ++ steps_over mark game before.waited waits.waits
+-- a ticker, and the steps that a desk has taken
+pub record Moment : Type 0 where
+  pub ticker : TickerState
+  pub steps : List Step
 
-pub takes_none : (mark : ℕ) (game : GameFile) (ticker : TickerState) (steps : List Step) → TakesSteps mark game ticker ticker steps steps 0 0
+abbrev pub moment : TickerState → List Step → Moment
+moment ticker steps = record { ticker = ticker; steps = steps }
+
+-- the steps of a desk over the waits that are known so far
+pub record TakesSteps (mark : ℕ) (game : GameFile) (before after : Moment) (many missed : ℕ) : Type 0 where
+  pub waits : WaitsFor before.ticker after.ticker many missed
+  pub steps : after.steps ≡ before.steps ++ steps_over mark game before.ticker.waited waits.waits
+
+pub takes_none : (mark : ℕ) (game : GameFile) (ticker : TickerState) (steps : List Step) → TakesSteps mark game (moment ticker steps) (moment ticker steps) 0 0
 unfolding waits_for_none
 takes_none mark game ticker steps = record { waits = waits_for_none ticker; steps = sym (append-nil steps) }
 
@@ -107,9 +115,9 @@ steps_over-more mark game waited (w ∷ waits) wait =
     ap (λ l. steps_at mark game w.tick ++ WaitsNoted now ∷ l) (steps_over-more mark game now waits wait ∙ ap (λ known. steps_over mark game now waits ++ more known) (known_then-twice waited (w ∷ []) (waits ++ wait ∷ [])))
     ∙ sym (append_assoc (steps_at mark game w.tick) (WaitsNoted now ∷ steps_over mark game now waits) (more (known_then waited (w ∷ waits ++ wait ∷ []))))
 
-pub takes_more : (mark : ℕ) (game : GameFile) (before now after : TickerState) (first between last : List Step) (tick missed : ℕ) (lapsed : Bool) → 1 ≤ tick → tick ≤ 54 → TakesSteps mark game before now first between (tick - 1) missed
+pub takes_more : (mark : ℕ) (game : GameFile) (before now after : TickerState) (first between last : List Step) (tick missed : ℕ) (lapsed : Bool) → 1 ≤ tick → tick ≤ 54 → TakesSteps mark game (moment before first) (moment now between) (tick - 1) missed
     → after.waited ≡ known_then now.waited (record { tick = tick; lapsed = lapsed; paced = now.paced } ∷ []) → after.paced ≡ now.paced → MatchBool lapsed (Rose now.faults after.faults) (after.faults ≡ now.faults)
-    → last ≡ between ++ (steps_at mark game tick ++ WaitsNoted after.waited ∷ []) → TakesSteps mark game before after first last tick (missed + from_bool lapsed)
+    → last ≡ between ++ (steps_at mark game tick ++ WaitsNoted after.waited ∷ []) → TakesSteps mark game (moment before first) (moment after last) tick (missed + from_bool lapsed)
 unfolding waits_for_more
 takes_more mark game before now after first between last tick missed lapsed low high so_far e paced rose more =
     let wait : TickWait = record { tick = tick; lapsed = lapsed; paced = now.paced } in
@@ -121,7 +129,7 @@ takes_more mark game before now after first between last tick missed lapsed low 
           ∙ ap (λ l. first ++ l) (sym (steps_over-more mark game before.waited so_far.waits.waits wait));
     }
 
-pub takes_all : (mark : ℕ) (game : GameFile) (before after : TickerState) (first last : List Step) (many missed : ℕ) → TakesSteps mark game before after first last many missed → many ≡ 54
+pub takes_all : (mark : ℕ) (game : GameFile) (before after : TickerState) (first last : List Step) (many missed : ℕ) → TakesSteps mark game (moment before first) (moment after last) many missed → many ≡ 54
     → (all : WaitsForAll before after missed) × (last ≡ first ++ steps_over mark game before.waited all.waits)
 unfolding waits_for_all
 takes_all mark game before after first last many missed so_far all = (waits_for_all before after many missed so_far.waits all, so_far.steps)

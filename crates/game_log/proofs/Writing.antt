@@ -134,18 +134,18 @@ pieces_all piece xs i d lt =
 
 -- ---- loops that gather a text for each item
 
--- the texts of the items before one were gathered whole
-abbrev pub GatheredUpTo : {A : Type 0} → (A → List ℕ) → List A → ℕ → List ℕ → List ℕ → SinkState → SinkState → Type 0
-GatheredUpTo piece xs i = GathersWhole (flat_map piece (take i xs))
+-- the texts of the items before one
+abbrev pub texts_before : {A : Type 0} → (A → List ℕ) → List A → ℕ → List ℕ
+texts_before piece xs i = flat_map piece (take i xs)
 
 -- one more text was gathered
-pub gathered_next : {A : Type 0} (piece : A → List ℕ) (xs : List A) (i : ℕ) (x : A) (a h0 h1 h2 : List ℕ) (s0 s1 s2 : SinkState) → i < length xs → get_or xs i x ≡ x → a ≡ piece x → GatheredUpTo piece xs i h0 h1 s0 s1 → GathersWhole a h1 h2 s1 s2 → GatheredUpTo piece xs (i + 1) h0 h2 s0 s2
+pub gathered_next : {A : Type 0} (piece : A → List ℕ) (xs : List A) (i : ℕ) (x : A) (a h0 h1 h2 : List ℕ) (s0 s1 s2 : SinkState) → i < length xs → get_or xs i x ≡ x → a ≡ piece x → GathersWhole (texts_before piece xs i) h0 h1 s0 s1 → GathersWhole a h1 h2 s1 s2 → GathersWhole (texts_before piece xs (i + 1)) h0 h2 s0 s2
 gathered_next {A = A} piece xs i x a h0 h1 h2 s0 s1 s2 lt is e before w =
     let all : flat_map piece (take (i + 1) xs) ≡ flat_map piece (take i xs) ++ a = pieces_more piece xs i x lt ∙ ap (λ (y : A). flat_map piece (take i xs) ++ piece y) is ∙ ap (λ (t : List ℕ). flat_map piece (take i xs) ++ t) (sym e) in
     subst (λ (t : List ℕ). GathersWhole t h0 h2 s0 s2) (sym all) (whole_both (flat_map piece (take i xs)) a h0 h1 h2 s0 s1 s2 before w)
 
 -- a text was not gathered whole, which is the loop's answer
-pub failed_next : {A : Type 0} (piece : A → List ℕ) (xs : List A) (i : ℕ) (x : A) (a h0 h1 h2 : List ℕ) (s0 s1 s2 : SinkState) (r : Result (Unit {0}) Failed) → i < length xs → get_or xs i x ≡ x → a ≡ piece x → GatheredUpTo piece xs i h0 h1 s0 s1 → GathersPart a h1 s1 s2 → IsErr r → Gathers (flat_map piece xs) h0 h2 s0 s2 r
+pub failed_next : {A : Type 0} (piece : A → List ℕ) (xs : List A) (i : ℕ) (x : A) (a h0 h1 h2 : List ℕ) (s0 s1 s2 : SinkState) (r : Result (Unit {0}) Failed) → i < length xs → get_or xs i x ≡ x → a ≡ piece x → GathersWhole (texts_before piece xs i) h0 h1 s0 s1 → GathersPart a h1 s1 s2 → IsErr r → Gathers (flat_map piece xs) h0 h2 s0 s2 r
 failed_next {A = A} piece xs i x a h0 h1 h2 s0 s1 s2 r lt is e before w h =
     let after = flat_map piece (drop (i + 1) xs) in
     let all : flat_map piece xs ≡ flat_map piece (take i xs) ++ (a ++ after) = pieces_all piece xs i x lt ∙ ap (λ (y : A). flat_map piece (take i xs) ++ (piece y ++ after)) is ∙ ap (λ (t : List ℕ). flat_map piece (take i xs) ++ (t ++ after)) (sym e) in
@@ -154,7 +154,7 @@ failed_next {A = A} piece xs i x a h0 h1 h2 s0 s1 s2 r lt is e before w h =
     h
 
 -- the texts of all items were gathered whole
-pub gathered_all : {A : Type 0} (piece : A → List ℕ) (xs : List A) (i : ℕ) (h0 h1 : List ℕ) (s0 s1 : SinkState) → length xs ≤ i → GatheredUpTo piece xs i h0 h1 s0 s1 → GathersWhole (flat_map piece xs) h0 h1 s0 s1
+pub gathered_all : {A : Type 0} (piece : A → List ℕ) (xs : List A) (i : ℕ) (h0 h1 : List ℕ) (s0 s1 : SinkState) → length xs ≤ i → GathersWhole (texts_before piece xs i) h0 h1 s0 s1 → GathersWhole (flat_map piece xs) h0 h1 s0 s1
 gathered_all {A = A} piece xs i h0 h1 s0 s1 past w = subst (λ (ys : List A). GathersWhole (flat_map piece ys) h0 h1 s0 s1) (take_all i xs past) w
 
 -- the item of a list at a place

@@ -10,7 +10,7 @@ use Rattle.clock_events.specs.MadeCalls.{MakesCalls}
 use Rattle.clock_events.specs.Steps.{steps_at}
 use Rattle.clock_events.proofs.ClockTurns.{makes_both, makes_none, makes_still}
 use Rattle.clock_events.proofs.TickCalls.{tick_done}
-use Rattle.clock_events.proofs.Waits.{TakesSteps, one_at_most, takes_all, takes_more, takes_none}
+use Rattle.clock_events.proofs.Waits.{TakesSteps, moment, one_at_most, takes_all, takes_more, takes_none}
 use Rattle.clock_events.proofs.clock.run_clock.Goals as goal
 
 pub loop-number-init : goal.loop-number-init
@@ -49,8 +49,8 @@ loop-number-preserved g c =
       boards = noted.boards ∙ c.clock_tick.ensures.boards ∙ before.boards;
       same = (noted.same.0 ∙ c.clock_tick.ensures.same.0 ∙ before.same.0, noted.same.1 ∙ c.clock_tick.ensures.same.1 ∙ before.same.1);
       few = omega (arith, one, count, few);
-      steps = subst (λ k. TakesSteps mark c.args.game.now (state c.args.ticker.now) (state c.wait_for-due.new.ticker) (desk_steps c.args.desk) (desk_steps c.note_waits.new.self) k (c.loop-number.missed + c.from-missed.result)) (sym same)
-          (subst (λ k. TakesSteps mark c.args.game.now (state c.args.ticker.now) (state c.wait_for-due.new.ticker) (desk_steps c.args.desk) (desk_steps c.note_waits.new.self) c.loop-number.number (c.loop-number.missed + k)) (sym count) steps);
+      steps = subst (λ k. TakesSteps mark c.args.game.now (moment (state c.args.ticker.now) (desk_steps c.args.desk)) (moment (state c.wait_for-due.new.ticker) (desk_steps c.note_waits.new.self)) k (c.loop-number.missed + c.from-missed.result)) (sym same)
+          (subst (λ k. TakesSteps mark c.args.game.now (moment (state c.args.ticker.now) (desk_steps c.args.desk)) (moment (state c.wait_for-due.new.ticker) (desk_steps c.note_waits.new.self)) c.loop-number.number (c.loop-number.missed + k)) (sym count) steps);
     }
 
 pub returns-clause-calls : goal.returns-clause-calls

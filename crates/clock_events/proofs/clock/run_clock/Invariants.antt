@@ -4,7 +4,7 @@ use Rattle.floor.specs.Answers.{IsSameDesk}
 use Rattle.floor.specs.Desks.{boards_of, desk_calls, desk_steps}
 use Rattle.game_text.specs.Schedule.{calls_at, ticks}
 use Rattle.clock_events.specs.MadeCalls.{MakesCalls}
-use Rattle.clock_events.proofs.Waits.{TakesSteps}
+use Rattle.clock_events.proofs.Waits.{TakesSteps, moment}
 use Rattle.clock_events.proofs.clock.run_clock.Given as goal
 
 abbrev pub invariant-loop-number : goal.invariant-loop-number
@@ -14,5 +14,5 @@ invariant-loop-number g l = record {
   boards : boards_of l.desk ≡ boards_of l.initial.desk;
   same : IsSameDesk l.initial.desk l.desk;
   few : l.missed < l.number;
-  steps : TakesSteps g.T.Ticker.mark l.game (g.T.Ticker.state l.fn.ticker) (g.T.Ticker.state l.ticker) (desk_steps l.initial.desk) (desk_steps l.desk) (l.number - 1) l.missed;
+  steps : TakesSteps g.T.Ticker.mark l.game (moment (g.T.Ticker.state l.fn.ticker) (desk_steps l.initial.desk)) (moment (g.T.Ticker.state l.ticker) (desk_steps l.desk)) (l.number - 1) l.missed;
 }
