@@ -28,12 +28,12 @@ Takes before after result piece = MatchResult result
     (λ n. (0 < n) × (n ≤ length piece) × (after ≡ known_then before (take n piece)))
     (λ _. after ≡ before)
 
--- where calls failed, and one more after these bytes; not known if the bytes are not
+-- The failures so far, each by the number of bytes before it, and one more after these bytes. If the bytes are not known, the failures are not.
 abbrev pub failed_at : Option (List ℕ) → Option (List ℕ) → Option (List ℕ)
 failed_at None failures = None
 failed_at (Some bytes) failures = known_then failures (length bytes ∷ [])
 
--- A call that failed is noted after these bytes. One that did not fail is not noted.
+-- A call that failed adds a failure after these bytes. One that did not fail adds none.
 abbrev pub NotesFailure : {T E : Type 0} → Option (List ℕ) → Option (List ℕ) → Option (List ℕ) → Result T E → Type 0
 NotesFailure bytes before after result = MatchResult result (λ _. after ≡ before) (λ _. after ≡ failed_at bytes before)
 
