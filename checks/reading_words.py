@@ -64,8 +64,9 @@ TRUTHS = """\
   must have been answered. Any read or write may fail, so each reply goes out before the next read.
 - **When the clock makes its calls.** The clause `service` says that they are the schedule's, good
   by good, that their posts are in the order of the schedule, and that the ticks were waited for.
-  The order of all calls across the goods, and that a tick's calls are made after its wait and
-  before the next, are clauses of `run_clock` (`crates/clock_events`), and not of `tac`.
+  The order of all calls across the goods, and that a tick's calls are made after its wait and,
+  where the ticker tells its waits, before the next, are clauses of `run_clock`
+  (`crates/clock_events`), and not of `tac`.
 - **How far a reading of cash may lag.** The desk's clause bounds it, and not that of `tac`: every
   desk has posted what is due before its call returns. A body that appended the clock's posts at the
   end, in the order of the schedule, would meet the clauses of `tac`.
