@@ -48,6 +48,17 @@ rose_from f0 f1 f2 e r = rw e at r
 failed_from : (s0 s1 s2 : SinkState) → s1.failures ≡ s0.failures → s2.failures ≡ failed_at s2.taken s1.failures → s2.failures ≡ failed_at s2.taken s0.failures
 failed_from s0 s1 s2 same failed = failed ∙ ap (failed_at s2.taken) same
 
+-- two pieces, of which the first was written whole
+pub writes_both : (a b p q : List ℕ) (s0 s1 s2 : SinkState) (r : Result (Unit {0}) Failed) → a ≡ p → b ≡ q → TookWhole s0 s1 a → WritesPiece b s1 s2 r → WritesPiece (p ++ q) s0 s2 r
+writes_both a b p q s0 s1 s2 (Ok done) pa qb v w =
+    (wrote_both s0.taken s1.taken s2.taken p q (v.0 ∙ ap (known_then s0.taken) pa) (w.0 ∙ ap (known_then s1.taken) qb), w.1 ∙ v.1, w.2 ∙ v.2)
+writes_both a b p q s0 s1 s2 (Err failed) pa qb v w =
+    (some_after s0.taken s1.taken s2.taken p q (v.0 ∙ ap (known_then s0.taken) pa) (subst (TakesSome s1.taken s2.taken) qb w.0), rose_from s0.faults s1.faults s2.faults v.1 w.1, failed_from s0 s1 s2 v.2 w.2)
+
+-- two pieces, of which the first was not written whole
+pub fails_both : (a p q : List ℕ) (s0 s1 : SinkState) → a ≡ p → TookPart s0 s1 a → TookPart s0 s1 (p ++ q)
+fails_both a p q s0 s1 pa w = (some_before s0.taken s1.taken p q (subst (TakesSome s0.taken s1.taken) pa w.0), w.1, w.2)
+
 pub then_whole : (p q : List ℕ) (s0 s1 s2 : SinkState) → TookWhole s0 s1 p → TookWhole s1 s2 q → TookWhole s0 s2 (p ++ q)
 then_whole p q s0 s1 s2 v w = (wrote_both s0.taken s1.taken s2.taken p q v.0 w.0, w.1 ∙ v.1, w.2 ∙ v.2)
 
@@ -94,8 +105,8 @@ gathers_both a b p q h0 h1 h2 s0 s1 s2 (Err failed) pa qb v w =
     part_second p q h0 h1 s0 s1 s2 (subst (λ (t : List ℕ). GathersWhole t h0 h1 s0 s1) pa v) (subst (λ (t : List ℕ). GathersPart t h1 s1 s2) qb w)
 
 -- two texts, of which the first was not gathered whole
-pub fails_both : (a p q h0 : List ℕ) (s0 s1 : SinkState) → a ≡ p → GathersPart a h0 s0 s1 → GathersPart (p ++ q) h0 s0 s1
-fails_both a p q h0 s0 s1 pa w = part_first p q h0 s0 s1 (subst (λ (t : List ℕ). GathersPart t h0 s0 s1) pa w)
+pub gathers_part : (a p q h0 : List ℕ) (s0 s1 : SinkState) → a ≡ p → GathersPart a h0 s0 s1 → GathersPart (p ++ q) h0 s0 s1
+gathers_part a p q h0 s0 s1 pa w = part_first p q h0 s0 s1 (subst (λ (t : List ℕ). GathersPart t h0 s0 s1) pa w)
 
 -- an answer that is no success
 pub refused : (p h0 h1 : List ℕ) (s0 s1 : SinkState) (r : Result (Unit {0}) Failed) → GathersPart p h0 s0 s1 → IsErr r → Gathers p h0 h1 s0 s1 r
@@ -106,14 +117,12 @@ refused p h0 h1 s0 s1 (Err failed) w h = w
 
 -- what is held at last is written
 pub writes_gathered : (text h0 held : List ℕ) (s0 s1 s2 : SinkState) (r : Result (Unit {0}) Failed) → h0 ≡ [] → GathersWhole text h0 held s0 s1 → WritesPiece held s1 s2 r → WritesPiece text s0 s2 r
-writes_gathered text h0 held s0 s1 s2 (Ok done) none v w =
-    subst (TookWhole s0 s2) (sym v.split ∙ ap (λ (t : List ℕ). t ++ text) none) (then_whole v.written held s0 s1 s2 v.took w)
-writes_gathered text h0 held s0 s1 s2 (Err failed) none v w =
-    subst (TookPart s0 s2) (sym v.split ∙ ap (λ (t : List ℕ). t ++ text) none) (then_some v.written held s0 s1 s2 v.took w)
+writes_gathered text h0 held s0 s1 s2 r none v w =
+    subst (λ (t : List ℕ). WritesPiece t s0 s2 r) (sym v.split ∙ ap (λ (t : List ℕ). t ++ text) none) (writes_both v.written held v.written held s0 s1 s2 r refl refl v.took w)
 
 pub fails_gathered : (text h0 : List ℕ) (s0 s1 : SinkState) → h0 ≡ [] → GathersPart text h0 s0 s1 → TookPart s0 s1 text
 fails_gathered text h0 s0 s1 none w =
-    subst (TookPart s0 s1) (sym w.split ∙ ap (λ (t : List ℕ). t ++ text) none) (some_before s0.taken s1.taken w.written w.rest w.took.0, w.took.1, w.took.2)
+    subst (TookPart s0 s1) (sym w.split ∙ ap (λ (t : List ℕ). t ++ text) none) (fails_both w.written w.written w.rest s0 s1 refl w.took)
 
 -- ---- the pieces of a list
 

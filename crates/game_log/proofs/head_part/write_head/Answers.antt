@@ -2,7 +2,7 @@ use Rattle.std.proofs.Common.{refl}
 use Rattle.std.specs.Prelude.{codes}
 use Rattle.line_protocol.specs.Heads.{head_of}
 use Rattle.log_text.specs.LogText.{head_text}
-use Rattle.game_log.proofs.Writing.{gathers_both, fails_both}
+use Rattle.game_log.proofs.Writing.{gathers_both, gathers_part}
 use Rattle.game_log.proofs.head_part.write_head.Goals as goal
 
 pub returns-in-Ok : goal.returns-in-Ok
@@ -10,4 +10,4 @@ returns-in-Ok g c =
     gathers_both _ _ (codes "taclog 1\n") (head_text (head_of c.args.head.now)) _ _ _ _ _ _ c.write_kind.result refl refl c.in-Ok.ensures c.write_kind.ensures
 
 pub returns-in-Err : goal.returns-in-Err
-returns-in-Err g c = fails_both _ (codes "taclog 1\n") (head_text (head_of c.args.head.now)) _ _ _ refl c.in-Err.ensures
+returns-in-Err g c = gathers_part _ (codes "taclog 1\n") (head_text (head_of c.args.head.now)) _ _ _ refl c.in-Err.ensures

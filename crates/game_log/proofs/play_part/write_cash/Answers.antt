@@ -1,7 +1,7 @@
 use Rattle.std.proofs.Common.{◌∙◌, length, refl, ap}
 use Rattle.std.specs.List.{flat_map}
 use Rattle.log_text.specs.LogText.{cash_line, cash_entry_line}
-use Rattle.game_log.proofs.Writing.{gathers_both, fails_both}
+use Rattle.game_log.proofs.Writing.{gathers_both, gathers_part}
 use Rattle.game_log.proofs.play_part.write_cash.Goals as goal
 
 pub returns-in-Ok : goal.returns-in-Ok
@@ -14,4 +14,4 @@ pub returns-in-Err : goal.returns-in-Err
 returns-in-Err g c =
     let cash = c.args.cash.now in
     let line = c.as_slice.ensures.value ∙ c.cash_line.ensures ∙ ap cash_line c.board-count.ensures.count in
-    fails_both _ (cash_line (length cash)) (flat_map cash_entry_line cash) _ _ _ line c.in-Err.ensures
+    gathers_part _ (cash_line (length cash)) (flat_map cash_entry_line cash) _ _ _ line c.in-Err.ensures

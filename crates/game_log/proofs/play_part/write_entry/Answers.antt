@@ -9,7 +9,7 @@ use Rattle.tac_base.specs.declared.calls.Trade.{Trade}
 use Rattle.auction_rules.specs.History.{Entry}
 use Rattle.auction_core.specs.Stored.{IsShown}
 use Rattle.log_text.specs.LogText.{entry_line, trade_line}
-use Rattle.game_log.proofs.Writing.{gathers_both, fails_both}
+use Rattle.game_log.proofs.Writing.{gathers_both, gathers_part}
 use Rattle.game_log.proofs.play_part.write_entry.Goals as goal
 
 -- the line of what is shown of an entry is the entry's
@@ -36,4 +36,4 @@ pub returns-in-Err : goal.returns-in-Err
 returns-in-Err g c e found =
     let history = c.args.auction.now.history in
     let line = c.as_slice.ensures.value ∙ c.entry_line-line.ensures ∙ shown_line history c.args.position e c.in-Some.entry.now found c.in-Some.ensures in
-    fails_both _ (entry_line e.caller e.call e.reply) (flat_map trade_line e.trades) _ _ _ line c.in-Err.ensures
+    gathers_part _ (entry_line e.caller e.call e.reply) (flat_map trade_line e.trades) _ _ _ line c.in-Err.ensures

@@ -4,7 +4,7 @@ use Rattle.auction_core.specs.ClosedGame.{ClosedGame}
 use Rattle.log_text.proofs.InOrder.{kept_text, in_order}
 use Rattle.log_text.specs.LogText.{cash_text}
 use Rattle.game_log.specs.Gathering.{Gathers}
-use Rattle.game_log.proofs.Writing.{gathers_both, fails_both}
+use Rattle.game_log.proofs.Writing.{gathers_both, gathers_part}
 use Rattle.log_text.proofs.Trades.{goods_of}
 use Rattle.game_log.proofs.play_part.write_histories.Goals as goal
 
@@ -26,5 +26,5 @@ returns-in-Err g c =
     let auctions = ap (flat_map kept_text) (c.as_slice.ensures.value ∙ ap (λ (game : ClosedGame). game.auctions) c.closed.view_is) in
     let sink = g.K.Sink.state in
     subst (λ (t : List ℕ). Gathers t c.args.gathered.now c.write_auctions.new.gathered (sink c.args.sink.now) (sink c.write_auctions.new.sink) (Err c.in-Err.failed)) (in_order game goods) (
-    fails_both _ (flat_map kept_text game.auctions) (cash_text game.cash) _ _ _ auctions c.in-Err.ensures
+    gathers_part _ (flat_map kept_text game.auctions) (cash_text game.cash) _ _ _ auctions c.in-Err.ensures
     )

@@ -1,7 +1,7 @@
 use Rattle.std.proofs.Common.{refl}
 use Rattle.line_protocol.specs.Heads.{head_of}
 use Rattle.log_text.specs.LogText.{first_lines, histories_of, histories_text}
-use Rattle.game_log.proofs.Writing.{gathers_both, fails_both}
+use Rattle.game_log.proofs.Writing.{gathers_both, gathers_part}
 use Rattle.game_log.proofs.play_part.write_lines.Goals as goal
 
 pub returns-in-Ok : goal.returns-in-Ok
@@ -12,4 +12,4 @@ returns-in-Ok g c =
 
 pub returns-in-Err : goal.returns-in-Err
 returns-in-Err g c =
-    fails_both _ (first_lines (head_of c.args.head.now)) (histories_text (histories_of c.args.closed.now) c.args.closed.now.cash) _ _ _ refl c.in-Err.ensures
+    gathers_part _ (first_lines (head_of c.args.head.now)) (histories_text (histories_of c.args.closed.now) c.args.closed.now.cash) _ _ _ refl c.in-Err.ensures
