@@ -1,5 +1,5 @@
-mod Positions
-mod Fairness
+pub mod Positions
+pub mod Fairness
 mod TrueReadings
 mod Sums
 mod Marks

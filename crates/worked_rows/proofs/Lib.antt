@@ -5,3 +5,4 @@ mod Lines
 mod Sessions
 mod Ends
 mod CommandLines
+mod Vouched

@@ -1,0 +1,15 @@
+mod Rest
+mod Walking
+mod Lawful
+mod Easier
+mod Leading
+mod Determined
+mod Posting
+mod Found
+mod Steps
+mod Cuts
+mod Walked
+mod Welcomes
+mod Transcribed
+mod Prefixes
+mod Vouched

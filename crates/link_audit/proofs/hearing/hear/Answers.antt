@@ -1,0 +1,145 @@
+use Rattle.std.proofs.Common.{◌≡◌, ◌+◌, ◌-◌, ℕ, suc, List, [], ◌∷◌, true, refl, sym, ◌∙◌, subst, arith}
+use Rattle.std.specs.Prelude.{slice_range}
+use Rattle.tac_base.specs.declared.limits.TheConstants.{SESSION_LINES}
+use Rattle.tac_io.specs.AllAnswers.{ended_line}
+use Rattle.tac_io.specs.declared.line_got.LineGot.TheVariants as gots
+use Rattle.agent_gate.specs.Dialects.{Dialect, dialect_of}
+use Rattle.link_audit.specs.declared.places.Places.{Places}
+use Rattle.link_audit.specs.declared.stepping.Step.TheVariants.{Taken, Leaves, Stuck}
+use Rattle.link_audit.specs.Ahead.{Subject, IsAsked, FitsReply, IsAhead, IsOver, IsStep, subject_of}
+use Rattle.link_audit.specs.Walks.{IsAheadAt, IsBehind, IsLeft, lines_at, replies_at}
+use Rattle.link_audit.proofs.Cuts.{lines_here, lines_end, replies_here, replies_end}
+use Rattle.link_audit.proofs.Walked.{walked_on, walk_stuck, walk_left, left_walk, walk_ended, walk_full, more_replies, left_heard, taken_wide}
+use Rattle.link_audit.proofs.hearing.hear.Goals as goal
+
+pub returns-in_default : goal.returns-in_default
+returns-in_default g c =
+    let dialect : Dialect = dialect_of (g.D.Dialect.may_answer c.args.dialect.now) (g.D.Dialect.text c.args.dialect.now) in
+    let s : Subject = subject_of c.args.log.now c.args.boards.now c.args.agent in
+    let asked : List ℕ = c.args.asked.now in let said : List ℕ = c.args.said.now in
+    let Before : Type 0 = IsAheadAt dialect s asked c.args.from (replies_at said c.args.told) SESSION_LINES in
+    let places : Places = c.loop-lines.places in let at = c.loop-lines.at in let place = c.loop-lines.place in let lines = c.loop-lines.lines in
+    let v = c.loop-lines.invariant in (
+      subst (λ (l : List (List ℕ)). IsBehind Before (IsAhead dialect s places (lines_at asked at) l (SESSION_LINES - lines))) (replies_end said place c.in_default.ensures) v.behind,
+      v.wide,
+      v.within,
+      (let low = c.loop-lines-test.true in omega (arith, low)),
+    )
+
+pub returns-in_default-line_end : goal.returns-in_default-line_end
+returns-in_default-line_end g c =
+    let dialect : Dialect = dialect_of (g.D.Dialect.may_answer c.args.dialect.now) (g.D.Dialect.text c.args.dialect.now) in
+    let s : Subject = subject_of c.args.log.now c.args.boards.now c.args.agent in
+    let asked : List ℕ = c.args.asked.now in let said : List ℕ = c.args.said.now in
+    let Before : Type 0 = IsAheadAt dialect s asked c.args.from (replies_at said c.args.told) SESSION_LINES in
+    let places : Places = c.loop-lines.places in let at = c.loop-lines.at in let place = c.loop-lines.place in let lines = c.loop-lines.lines in
+    let v = c.loop-lines.invariant in
+    let reply_end = c.in-Some.reply_end in
+    let reply = slice_range said place reply_end in
+    let replies_are : replies_at said place ≡ reply ∷ replies_at said (reply_end + 1) = replies_here said place reply_end c.in-Some.ensures.2 in
+    let low = c.loop-lines-test.true in
+    let room_is : SESSION_LINES - lines ≡ suc (SESSION_LINES - (lines + 1)) = omega (arith, low) in
+    walk_ended dialect s Before places v.wide (lines_at asked at) [] (gots.End, []) (lines_end asked at c.requires.short.1 v.within c.in_default-line_end.ensures) (SESSION_LINES - lines) (SESSION_LINES - (lines + 1)) room_is
+    (replies_at said place) (replies_at said (reply_end + 1)) reply replies_are v.behind refl
+
+pub returns-in-Leaves : goal.returns-in-Leaves
+returns-in-Leaves g c =
+    let dialect : Dialect = dialect_of (g.D.Dialect.may_answer c.args.dialect.now) (g.D.Dialect.text c.args.dialect.now) in
+    let s : Subject = subject_of c.args.log.now c.args.boards.now c.args.agent in
+    let asked : List ℕ = c.args.asked.now in let said : List ℕ = c.args.said.now in
+    let Before : Type 0 = IsAheadAt dialect s asked c.args.from (replies_at said c.args.told) SESSION_LINES in
+    let places : Places = c.loop-lines.places in let at = c.loop-lines.at in let place = c.loop-lines.place in let lines = c.loop-lines.lines in
+    let v = c.loop-lines.invariant in
+    let reply_end = c.in-Some.reply_end in
+    let reply = slice_range said place reply_end in
+    let replies_are : replies_at said place ≡ reply ∷ replies_at said (reply_end + 1) = replies_here said place reply_end c.in-Some.ensures.2 in
+    let low = c.loop-lines-test.true in
+    let room_is : SESSION_LINES - lines ≡ suc (SESSION_LINES - (lines + 1)) = omega (arith, low) in
+    let end = c.in-Some-line_end.end in
+    let line = slice_range asked at end in
+    let lines_are : lines_at asked at ≡ ended_line line ∷ lines_at asked (end + 1) =
+    lines_here asked at c.requires.short.1 v.within end c.in-Some-line_end.ensures.0 c.in-Some-line_end.ensures.1 c.in-Some-line_end.ensures.2 in
+    let leaves : IsStep (IsAsked dialect true (ended_line line)) (FitsReply dialect.text true reply) s places c.step_line.new.places Leaves =
+    subst (IsStep (IsAsked dialect true (ended_line line)) (FitsReply dialect.text true reply) s places c.step_line.new.places) c.in-Leaves.is c.in_ok-step_line.ensures in
+    let more = more_replies said (reply_end + 1) c.line_end-in-Leaves.result c.line_end-in-Leaves.ensures in
+    let is = subst (λ (p : Places). IsLeft (IsOver s p) c.is_some-more.result c.leave.result) leaves.1 (c.leave.ensures c.args.boards.now) in
+    left_heard dialect s asked c.args.from (replies_at said c.args.told) (replies_at said (reply_end + 1)) (IsOver s places) c.is_some-more.result c.leave.result is
+    (λ no. more.0 (sym c.is_some-more.ensures ∙ no)) (λ none. c.is_some-more.ensures ∙ more.1 none)
+    (walk_left dialect s Before places v.wide (lines_at asked at) (lines_at asked (end + 1)) (ended_line line) lines_are (SESSION_LINES - lines) (SESSION_LINES - (lines + 1)) room_is (replies_at said place) (replies_at said (reply_end + 1)) reply replies_are v.behind leaves.0)
+    (left_walk dialect s Before places v.wide (lines_at asked at) (lines_at asked (end + 1)) (ended_line line) lines_are (SESSION_LINES - lines) (SESSION_LINES - (lines + 1)) room_is (replies_at said place) (replies_at said (reply_end + 1)) reply replies_are v.behind leaves.0)
+
+pub returns-in-Stuck : goal.returns-in-Stuck
+returns-in-Stuck g c =
+    let dialect : Dialect = dialect_of (g.D.Dialect.may_answer c.args.dialect.now) (g.D.Dialect.text c.args.dialect.now) in
+    let s : Subject = subject_of c.args.log.now c.args.boards.now c.args.agent in
+    let asked : List ℕ = c.args.asked.now in let said : List ℕ = c.args.said.now in
+    let Before : Type 0 = IsAheadAt dialect s asked c.args.from (replies_at said c.args.told) SESSION_LINES in
+    let places : Places = c.loop-lines.places in let at = c.loop-lines.at in let place = c.loop-lines.place in let lines = c.loop-lines.lines in
+    let v = c.loop-lines.invariant in
+    let reply_end = c.in-Some.reply_end in
+    let reply = slice_range said place reply_end in
+    let replies_are : replies_at said place ≡ reply ∷ replies_at said (reply_end + 1) = replies_here said place reply_end c.in-Some.ensures.2 in
+    let low = c.loop-lines-test.true in
+    let room_is : SESSION_LINES - lines ≡ suc (SESSION_LINES - (lines + 1)) = omega (arith, low) in
+    let end = c.in-Some-line_end.end in
+    let line = slice_range asked at end in
+    let lines_are : lines_at asked at ≡ ended_line line ∷ lines_at asked (end + 1) =
+    lines_here asked at c.requires.short.1 v.within end c.in-Some-line_end.ensures.0 c.in-Some-line_end.ensures.1 c.in-Some-line_end.ensures.2 in
+    let stuck : IsStep (IsAsked dialect true (ended_line line)) (FitsReply dialect.text true reply) s places c.step_line.new.places Stuck =
+    subst (IsStep (IsAsked dialect true (ended_line line)) (FitsReply dialect.text true reply) s places c.step_line.new.places) c.in-Stuck.is c.in_ok-step_line.ensures in
+    walk_stuck dialect s Before places v.wide (lines_at asked at) (lines_at asked (end + 1)) (ended_line line) lines_are (SESSION_LINES - lines) (SESSION_LINES - (lines + 1)) room_is (replies_at said place) (replies_at said (reply_end + 1)) reply replies_are v.behind stuck
+
+pub loop-lines-preserved : goal.loop-lines-preserved
+loop-lines-preserved g c =
+    let dialect : Dialect = dialect_of (g.D.Dialect.may_answer c.args.dialect.now) (g.D.Dialect.text c.args.dialect.now) in
+    let s : Subject = subject_of c.args.log.now c.args.boards.now c.args.agent in
+    let asked : List ℕ = c.args.asked.now in let said : List ℕ = c.args.said.now in
+    let Before : Type 0 = IsAheadAt dialect s asked c.args.from (replies_at said c.args.told) SESSION_LINES in
+    let places : Places = c.loop-lines.places in let at = c.loop-lines.at in let place = c.loop-lines.place in let lines = c.loop-lines.lines in
+    let v = c.loop-lines.invariant in
+    let reply_end = c.in-Some.reply_end in
+    let reply = slice_range said place reply_end in
+    let replies_are : replies_at said place ≡ reply ∷ replies_at said (reply_end + 1) = replies_here said place reply_end c.in-Some.ensures.2 in
+    let low = c.loop-lines-test.true in
+    let room_is : SESSION_LINES - lines ≡ suc (SESSION_LINES - (lines + 1)) = omega (arith, low) in
+    let end = c.in-Some-line_end.end in
+    let line = slice_range asked at end in
+    let lines_are : lines_at asked at ≡ ended_line line ∷ lines_at asked (end + 1) =
+    lines_here asked at c.requires.short.1 v.within end c.in-Some-line_end.ensures.0 c.in-Some-line_end.ensures.1 c.in-Some-line_end.ensures.2 in
+    let taken : IsStep (IsAsked dialect true (ended_line line)) (FitsReply dialect.text true reply) s places c.step_line.new.places Taken =
+    subst (IsStep (IsAsked dialect true (ended_line line)) (FitsReply dialect.text true reply) s places c.step_line.new.places) c.in-Taken.is c.in_ok-step_line.ensures in
+    record {
+      behind = walked_on dialect s Before places v.wide (lines_at asked at) (lines_at asked (end + 1)) (ended_line line) lines_are (SESSION_LINES - lines) (SESSION_LINES - (lines + 1)) room_is (replies_at said place) (replies_at said (reply_end + 1)) reply replies_are v.behind c.step_line.new.places taken;
+      wide = taken_wide dialect true (ended_line line) reply s places c.step_line.new.places v.wide taken;
+      within = (let inside = c.in-Some-line_end.ensures.1 in omega (arith, inside));
+      told_within = (let inside = c.in-Some.ensures.1 in omega (arith, inside));
+    }
+
+pub returns-in-None : goal.returns-in-None
+returns-in-None g c =
+    let dialect : Dialect = dialect_of (g.D.Dialect.may_answer c.args.dialect.now) (g.D.Dialect.text c.args.dialect.now) in
+    let s : Subject = subject_of c.args.log.now c.args.boards.now c.args.agent in
+    let asked : List ℕ = c.args.asked.now in let said : List ℕ = c.args.said.now in
+    let Before : Type 0 = IsAheadAt dialect s asked c.args.from (replies_at said c.args.told) SESSION_LINES in
+    let places : Places = c.loop-lines.places in let at = c.loop-lines.at in let place = c.loop-lines.place in let lines = c.loop-lines.lines in
+    let v = c.loop-lines.invariant in
+    let all : lines ≡ SESSION_LINES = (let past = c.loop-lines-test.false in let most = c.loop-lines.auto.lines-end in omega (arith, past, most)) in (
+      subst (λ (n : ℕ). IsBehind Before (IsAhead dialect s places (lines_at asked at) [] (SESSION_LINES - n))) all
+          (subst (λ (l : List (List ℕ)). IsBehind Before (IsAhead dialect s places (lines_at asked at) l (SESSION_LINES - lines))) (replies_end said place c.in-None.ensures) v.behind),
+      v.wide,
+      v.within,
+      omega arith,
+    )
+
+pub returns-in-Some-line_end-2 : goal.returns-in-Some-line_end-2
+returns-in-Some-line_end-2 g c =
+    let dialect : Dialect = dialect_of (g.D.Dialect.may_answer c.args.dialect.now) (g.D.Dialect.text c.args.dialect.now) in
+    let s : Subject = subject_of c.args.log.now c.args.boards.now c.args.agent in
+    let asked : List ℕ = c.args.asked.now in let said : List ℕ = c.args.said.now in
+    let Before : Type 0 = IsAheadAt dialect s asked c.args.from (replies_at said c.args.told) SESSION_LINES in
+    let places : Places = c.loop-lines.places in let at = c.loop-lines.at in let place = c.loop-lines.place in let lines = c.loop-lines.lines in
+    let v = c.loop-lines.invariant in
+    let past = c.loop-lines-test.false in
+    let reply_end = c.in-Some-line_end-2.field-0 in
+    walk_full dialect s Before places v.wide (lines_at asked at) (replies_at said place) (replies_at said (reply_end + 1)) (slice_range said place reply_end) (SESSION_LINES - lines)
+    (replies_here said place reply_end c.in-Some-line_end-2.ensures.2) (omega (arith, past)) v.behind

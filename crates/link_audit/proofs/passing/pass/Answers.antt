@@ -1,0 +1,120 @@
+use Rattle.std.proofs.Common.{◌≡◌, ◌+◌, ◌-◌, ℕ, suc, List, [], ◌∷◌, false, refl, subst, arith}
+use Rattle.std.specs.Prelude.{slice_range}
+use Rattle.tac_base.specs.declared.limits.TheConstants.{SESSION_LINES}
+use Rattle.tac_io.specs.AllAnswers.{ended_line}
+use Rattle.tac_io.specs.declared.line_got.LineGot.TheVariants as gots
+use Rattle.agent_gate.specs.Dialects.{Dialect, dialect_of}
+use Rattle.link_audit.specs.declared.places.Places.{Places}
+use Rattle.link_audit.specs.declared.stepping.Step.TheVariants.{Taken, Leaves, Stuck}
+use Rattle.link_audit.specs.Ahead.{Subject, IsAsked, FitsReply, IsAhead, IsOver, IsStep, subject_of}
+use Rattle.link_audit.specs.Walks.{lines_at}
+use Rattle.link_audit.proofs.Cuts.{lines_here, lines_end}
+use Rattle.link_audit.proofs.Walked.{passed_on, pass_stuck, pass_left, pass_ended, pass_full, pass_over, taken_wide}
+use Rattle.link_audit.proofs.passing.pass.Goals as goal
+
+pub returns-in_default : goal.returns-in_default
+returns-in_default g c =
+    let dialect : Dialect = dialect_of (g.D.Dialect.may_answer c.args.dialect.now) (g.D.Dialect.text c.args.dialect.now) in
+    let s : Subject = subject_of c.args.log.now c.args.boards.now c.args.agent in
+    let asked : List ℕ = c.args.asked.now in
+    let Before : Type 0 = IsAhead dialect s c.args.reached.now (lines_at asked c.args.from) [] (SESSION_LINES - c.args.lines) in
+    let places : Places = c.loop-line.places in let at = c.loop-line.at in let lines = c.loop-line.line in
+    let v = c.loop-line.invariant in
+    pass_over dialect s Before places v.wide (lines_at asked at) (SESSION_LINES - lines) ((c.first_left.ensures c.args.boards.now).0 c.in_default.is) v.behind
+
+pub returns-in_default-line_end : goal.returns-in_default-line_end
+returns-in_default-line_end g c =
+    let dialect : Dialect = dialect_of (g.D.Dialect.may_answer c.args.dialect.now) (g.D.Dialect.text c.args.dialect.now) in
+    let s : Subject = subject_of c.args.log.now c.args.boards.now c.args.agent in
+    let asked : List ℕ = c.args.asked.now in
+    let Before : Type 0 = IsAhead dialect s c.args.reached.now (lines_at asked c.args.from) [] (SESSION_LINES - c.args.lines) in
+    let places : Places = c.loop-line.places in let at = c.loop-line.at in let lines = c.loop-line.line in
+    let v = c.loop-line.invariant in
+    let low = c.loop-line-test.true in
+    let room_is : SESSION_LINES - lines ≡ suc (SESSION_LINES - (lines + 1)) = omega (arith, low) in
+    let more : IsOver s places → ⊥ = λ over. (let none = (c.first_left.ensures c.args.boards.now).1 over in let some = c.in-Some.is in absurd cc) in
+    pass_ended dialect s Before places v.wide (lines_at asked at) [] (gots.End, []) (lines_end asked at c.requires.short.1 v.within c.in_default-line_end.ensures) (SESSION_LINES - lines) (SESSION_LINES - (lines + 1)) room_is v.behind more refl
+
+pub returns-in-Leaves : goal.returns-in-Leaves
+returns-in-Leaves g c =
+    let dialect : Dialect = dialect_of (g.D.Dialect.may_answer c.args.dialect.now) (g.D.Dialect.text c.args.dialect.now) in
+    let s : Subject = subject_of c.args.log.now c.args.boards.now c.args.agent in
+    let asked : List ℕ = c.args.asked.now in
+    let Before : Type 0 = IsAhead dialect s c.args.reached.now (lines_at asked c.args.from) [] (SESSION_LINES - c.args.lines) in
+    let places : Places = c.loop-line.places in let at = c.loop-line.at in let lines = c.loop-line.line in
+    let v = c.loop-line.invariant in
+    let low = c.loop-line-test.true in
+    let room_is : SESSION_LINES - lines ≡ suc (SESSION_LINES - (lines + 1)) = omega (arith, low) in
+    let more : IsOver s places → ⊥ = λ over. (let none = (c.first_left.ensures c.args.boards.now).1 over in let some = c.in-Some.is in absurd cc) in
+    let end = c.in-Some-line_end.end in
+    let line = slice_range asked at end in
+    let lines_are : lines_at asked at ≡ ended_line line ∷ lines_at asked (end + 1) =
+    lines_here asked at c.requires.short.1 v.within end c.in-Some-line_end.ensures.0 c.in-Some-line_end.ensures.1 c.in-Some-line_end.ensures.2 in
+    let leaves : IsStep (IsAsked dialect false (ended_line line)) (FitsReply dialect.text false []) s places c.step_line.new.places Leaves =
+    subst (IsStep (IsAsked dialect false (ended_line line)) (FitsReply dialect.text false []) s places c.step_line.new.places) c.in-Leaves.is c.in_ok-step_line.ensures in
+    pass_left dialect s Before places v.wide (lines_at asked at) (lines_at asked (end + 1)) (ended_line line) lines_are (SESSION_LINES - lines) (SESSION_LINES - (lines + 1)) room_is v.behind more leaves.0
+
+pub returns-in-Stuck : goal.returns-in-Stuck
+returns-in-Stuck g c =
+    let dialect : Dialect = dialect_of (g.D.Dialect.may_answer c.args.dialect.now) (g.D.Dialect.text c.args.dialect.now) in
+    let s : Subject = subject_of c.args.log.now c.args.boards.now c.args.agent in
+    let asked : List ℕ = c.args.asked.now in
+    let Before : Type 0 = IsAhead dialect s c.args.reached.now (lines_at asked c.args.from) [] (SESSION_LINES - c.args.lines) in
+    let places : Places = c.loop-line.places in let at = c.loop-line.at in let lines = c.loop-line.line in
+    let v = c.loop-line.invariant in
+    let low = c.loop-line-test.true in
+    let room_is : SESSION_LINES - lines ≡ suc (SESSION_LINES - (lines + 1)) = omega (arith, low) in
+    let more : IsOver s places → ⊥ = λ over. (let none = (c.first_left.ensures c.args.boards.now).1 over in let some = c.in-Some.is in absurd cc) in
+    let end = c.in-Some-line_end.end in
+    let line = slice_range asked at end in
+    let lines_are : lines_at asked at ≡ ended_line line ∷ lines_at asked (end + 1) =
+    lines_here asked at c.requires.short.1 v.within end c.in-Some-line_end.ensures.0 c.in-Some-line_end.ensures.1 c.in-Some-line_end.ensures.2 in
+    let stuck : IsStep (IsAsked dialect false (ended_line line)) (FitsReply dialect.text false []) s places c.step_line.new.places Stuck =
+    subst (IsStep (IsAsked dialect false (ended_line line)) (FitsReply dialect.text false []) s places c.step_line.new.places) c.in-Stuck.is c.in_ok-step_line.ensures in
+    pass_stuck dialect s Before places v.wide (lines_at asked at) (lines_at asked (end + 1)) (ended_line line) lines_are (SESSION_LINES - lines) (SESSION_LINES - (lines + 1)) room_is v.behind more stuck
+
+pub loop-line-preserved : goal.loop-line-preserved
+loop-line-preserved g c =
+    let dialect : Dialect = dialect_of (g.D.Dialect.may_answer c.args.dialect.now) (g.D.Dialect.text c.args.dialect.now) in
+    let s : Subject = subject_of c.args.log.now c.args.boards.now c.args.agent in
+    let asked : List ℕ = c.args.asked.now in
+    let Before : Type 0 = IsAhead dialect s c.args.reached.now (lines_at asked c.args.from) [] (SESSION_LINES - c.args.lines) in
+    let places : Places = c.loop-line.places in let at = c.loop-line.at in let lines = c.loop-line.line in
+    let v = c.loop-line.invariant in
+    let low = c.loop-line-test.true in
+    let room_is : SESSION_LINES - lines ≡ suc (SESSION_LINES - (lines + 1)) = omega (arith, low) in
+    let more : IsOver s places → ⊥ = λ over. (let none = (c.first_left.ensures c.args.boards.now).1 over in let some = c.in-Some.is in absurd cc) in
+    let end = c.in-Some-line_end.end in
+    let line = slice_range asked at end in
+    let lines_are : lines_at asked at ≡ ended_line line ∷ lines_at asked (end + 1) =
+    lines_here asked at c.requires.short.1 v.within end c.in-Some-line_end.ensures.0 c.in-Some-line_end.ensures.1 c.in-Some-line_end.ensures.2 in
+    let taken : IsStep (IsAsked dialect false (ended_line line)) (FitsReply dialect.text false []) s places c.step_line.new.places Taken =
+    subst (IsStep (IsAsked dialect false (ended_line line)) (FitsReply dialect.text false []) s places c.step_line.new.places) c.in-Taken.is c.in_ok-step_line.ensures in
+    record {
+      behind = passed_on dialect s Before places v.wide (lines_at asked at) (lines_at asked (end + 1)) (ended_line line) lines_are (SESSION_LINES - lines) (SESSION_LINES - (lines + 1)) room_is v.behind more c.step_line.new.places taken;
+      wide = taken_wide dialect false (ended_line line) [] s places c.step_line.new.places v.wide taken;
+      within = (let inside = c.in-Some-line_end.ensures.1 in omega (arith, inside));
+      few = (let few = v.few in let counted = c.count_if_moved-count.ensures in omega (arith, few, counted));
+    }
+
+pub returns-in-None : goal.returns-in-None
+returns-in-None g c =
+    let dialect : Dialect = dialect_of (g.D.Dialect.may_answer c.args.dialect.now) (g.D.Dialect.text c.args.dialect.now) in
+    let s : Subject = subject_of c.args.log.now c.args.boards.now c.args.agent in
+    let asked : List ℕ = c.args.asked.now in
+    let Before : Type 0 = IsAhead dialect s c.args.reached.now (lines_at asked c.args.from) [] (SESSION_LINES - c.args.lines) in
+    let places : Places = c.loop-line.places in let at = c.loop-line.at in let lines = c.loop-line.line in
+    let v = c.loop-line.invariant in
+    pass_over dialect s Before places v.wide (lines_at asked at) (SESSION_LINES - lines) ((c.first_left-2.ensures c.args.boards.now).0 c.in-None.is) v.behind
+
+pub returns-in-Some-first_left : goal.returns-in-Some-first_left
+returns-in-Some-first_left g c =
+    let dialect : Dialect = dialect_of (g.D.Dialect.may_answer c.args.dialect.now) (g.D.Dialect.text c.args.dialect.now) in
+    let s : Subject = subject_of c.args.log.now c.args.boards.now c.args.agent in
+    let asked : List ℕ = c.args.asked.now in
+    let Before : Type 0 = IsAhead dialect s c.args.reached.now (lines_at asked c.args.from) [] (SESSION_LINES - c.args.lines) in
+    let places : Places = c.loop-line.places in let at = c.loop-line.at in let lines = c.loop-line.line in
+    let v = c.loop-line.invariant in
+    let past = c.loop-line-test.false in
+    λ before. (let over = pass_full dialect s Before places v.wide (lines_at asked at) (SESSION_LINES - lines) (omega (arith, past)) v.behind before in
+    let none = (c.first_left-2.ensures c.args.boards.now).1 over in let some = c.in-Some-first_left.is in absurd cc)

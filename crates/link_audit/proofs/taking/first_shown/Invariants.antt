@@ -1,0 +1,10 @@
+use Rattle.std.proofs.Common.{◌≡◌, ℕ, ◌<◌, ◌≤◌, Some}
+use Rattle.std.specs.Prelude.{slice_get}
+use Rattle.tac_base.specs.declared.calls.Board.{Board}
+use Rattle.line_protocol.specs.declared.saying.Said.TheVariants.{Quote}
+use Rattle.link_audit.specs.Ahead.{FitsReply}
+use Rattle.link_audit.proofs.taking.first_shown.Given as goal
+
+-- no board before this count has the line
+abbrev pub invariant-loop-count : goal.invariant-loop-count
+invariant-loop-count g l = (k : ℕ) (board : Board) → l.from ≤ k → k < l.count → slice_get l.shown k ≡ Some board → FitsReply (g.D.Dialect.text l.dialect) l.heard l.reply (Quote board) → ⊥

@@ -1,0 +1,4 @@
+pub mod Links
+pub mod Vouchings
+pub mod Ahead
+pub mod Walks

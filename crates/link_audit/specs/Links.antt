@@ -1,0 +1,99 @@
+-- When a log is right about one link, by the bytes that it gave and those that it was sent. The two relations are our own.
+use Rattle.std.specs.Prelude.{◌≡◌, ◌≢◌, ℕ, ◌==◌, ◌≤◌, if◌then◌else◌, List, [], ◌∷◌, ◌++◌, Result, Err, Some, true, length, map, slice_get, take}
+use Rattle.std.specs.List.{list_any}
+use Rattle.tac_base.specs.declared.limits.TheConstants.{LINK_BYTES, SESSION_LINES}
+use Rattle.game_text.specs.Games.{GameFile}
+use Rattle.tac_io.specs.AllAnswers.{all_answers}
+use Rattle.tac_io.specs.States.{LinkState}
+use Rattle.tac_io.specs.declared.line_got.LineGot.{LineGot}
+use Rattle.tac_io.specs.declared.line_got.LineGot.TheVariants as gots
+use Rattle.line_protocol.specs.declared.admission.Cause.{Cause}
+use Rattle.line_protocol.specs.declared.admission.Verdict.{Verdict}
+use Rattle.line_protocol.specs.declared.admission.Verdict.TheVariants.{Seated}
+use Rattle.line_protocol.specs.declared.asking.Request.{Request}
+use Rattle.line_protocol.specs.declared.asking.RequestFault.{RequestFault}
+use Rattle.line_protocol.specs.declared.asking.RequestFault.TheVariants.{Memory}
+use Rattle.line_protocol.specs.Heads.{Head, Play, Serve}
+use Rattle.auction_core.specs.ClosedGame.{ClosedGame}
+use Rattle.log_text.specs.LoggedGames.{LoggedGame}
+use Rattle.log_text.specs.SoundLog.{auctions_in, gives_seat}
+use Rattle.agent_gate.specs.Dialects.{Dialect}
+use Rattle.agent_gate.specs.Gates.{verdict_of}
+use Rattle.agent_gate.specs.Items.{AreItems}
+use Rattle.agent_gate.specs.Transcript.{IsTranscript}
+use Rattle.agent_gate.specs.Turns.{Turn, AreLawful, item_of, said_of}
+use Rattle.agent_gate.specs.Welcome.{welcome_lines}
+use Rattle.game_run.specs.Admission.{free_seats, seats_given}
+use Rattle.game_run.specs.Hosted.{HostedGame}
+use Rattle.game_run.specs.LinkRuns.{IsSeated}
+use Rattle.game_run.specs.PlayedGame.{PlayedGame}
+
+-- ---- what a log says of a game over links
+
+-- the verdicts on the links, in order of arrival; a game from a script has none
+abbrev pub logged_verdicts : Head → List Verdict
+logged_verdicts Play = []
+logged_verdicts (Serve verdicts ends missed) = verdicts
+
+-- why the session of each seated agent ended
+abbrev pub logged_ends : Head → List (ℕ × Cause)
+logged_ends Play = []
+logged_ends (Serve verdicts ends missed) = ends
+
+-- the auctions and the cash history
+abbrev pub closed_in : GameFile → LoggedGame → ClosedGame
+closed_in game log = record { auctions = auctions_in game log; cash = log.cash }
+
+-- the game that was played
+abbrev pub played_in : GameFile → LoggedGame → PlayedGame
+played_in game log = record { verdicts = logged_verdicts log.head; ends = logged_ends log.head; closed = closed_in game log }
+
+-- ---- the link that the server had
+
+-- a link that has these bytes to give: none of them was taken, it was sent nothing, and none of its calls failed
+abbrev pub fresh_link : List ℕ → LinkState
+fresh_link bytes = record { taken = Some []; left = Some bytes; sent = Some []; reads = 0; writes = 0; read_failures = Some []; write_failures = Some [] }
+
+-- The log's head gives a link the agent's seat, and a link that had the bytes `asked` to give came to this by the log: it was sent exactly
+-- `said`, was served as the agent until its session ended for the cause that the head has, and its turns are the agent's part of the log.
+pub record IsLinkOfLog (hosted : HostedGame) (log : LoggedGame) (agent : ℕ) (asked said : List ℕ) : Type 0 where
+  pub place : ℕ
+  pub listed : slice_get (logged_verdicts log.head) place ≡ Some (Seated agent)
+  pub after : LinkState
+  pub sent : after.sent ≡ Some said
+  pub seated : IsSeated hosted (played_in hosted.game log) (seats_given hosted.game (take place (logged_verdicts log.head))) agent (fresh_link asked) after
+
+-- ---- the far end of a link
+
+-- the lines of a text before its last line end, where `line` stands before these bytes; what stands behind that end is left out
+abbrev pub whole_lines_after : List ℕ → List ℕ → List (List ℕ)
+whole_lines_after line [] = []
+whole_lines_after line (byte ∷ bytes) = if byte == 10 then line ∷ whole_lines_after [] bytes else whole_lines_after (line ++ byte ∷ []) bytes
+
+abbrev pub whole_lines : List ℕ → List (List ℕ)
+whole_lines bytes = whole_lines_after [] bytes
+
+-- what a line may be read as, if memory to read it is not refused
+abbrev pub MayAsk : (List ℕ → Result Request RequestFault → Type 0) → List ℕ → Result Request RequestFault → Type 0
+MayAsk may_answer line answer = may_answer line answer × (answer ≢ Err Memory)
+
+-- A sound log is right about a link, as its far end saw it, which tried to send `asked` and got `said`. The first line asks for the agent's
+-- seat, which the log's head gives to a link. Of the lines behind it some first ones were answered, by turns that are lawful one after the
+-- other, at most 65,536, and together are the agent's whole part of the log. The replies to the first of these turns are all the whole lines
+-- that came, behind the welcome; those to the others did not come whole.
+pub record IsVouched (game : GameFile) (dialect : Dialect) (log : LoggedGame) (agent : ℕ) (asked said : List ℕ) : Type 0 where
+  pub listed : list_any (gives_seat agent) (logged_verdicts log.head) ≡ true
+  pub line : List ℕ
+  pub answered : List (LineGot × List ℕ)
+  pub unanswered : List (LineGot × List ℕ)
+  pub later : List (LineGot × List ℕ)
+  pub lines : all_answers [] LINK_BYTES asked ≡ (gots.Line, line) ∷ answered ++ (unanswered ++ later)
+  pub seat : verdict_of (free_seats game) line ≡ Seated agent
+  pub heard : List Turn
+  pub unheard : List Turn
+  pub heard_items : AreItems dialect.may_answer answered (map item_of heard)
+  pub unheard_items : AreItems (MayAsk dialect.may_answer) unanswered (map item_of unheard)
+  pub few : length (heard ++ unheard) ≤ SESSION_LINES
+  pub lawful : AreLawful (heard ++ unheard)
+  pub replies : whole_lines said ≡ welcome_lines game agent ++ map (λ turn. dialect.text (said_of turn)) heard
+  pub transcript : IsTranscript agent (closed_in game log) (heard ++ unheard)

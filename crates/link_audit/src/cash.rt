@@ -1,0 +1,53 @@
+// An agent's next entry in the cash history.
+ghost use Rattle.std.specs.Prelude.{◌≡◌, ◌≤◌, ◌↔◌, ℕ, ℤ, [], Some, length, slice_get, IsTrue, MatchOption};
+ghost use Rattle.tac_base.specs.declared.calls.Nets.{Nets};
+ghost use Rattle.tac_base.specs.declared.limits.TheConstants.{CASH_ENTRIES};
+ghost use Rattle.trade_ledger.specs.declared.cash_calls.CashCall.TheVariants as cash_calls;
+ghost use Rattle.trade_ledger.specs.declared.cash_calls.CashEntry.{CashEntry as SeenEntry};
+ghost use Rattle.log_text.specs.LoggedGames.{IsLoggedCashEntry};
+ghost use Rattle.agent_gate.specs.Turns.{reading};
+ghost use Rattle.link_audit.specs.Ahead.{HasNext, cash_caller, rest_of};
+
+use log_reader::Log;
+use tac_base::{Agent, Good};
+use trade_ledger::{CashCall, CashEntry, CashReply};
+
+/// The position of the agent's next entry in the cash history, from a position on.
+pub(crate) fn next_cash(log: &Log, from: u32, agent: Agent) -> Option<u32>
+    ensures next { MatchOption result (rest_of cash_caller agent from log.now.cash ≡ [])
+        (λ p. (e : SeenEntry) × (slice_get log.now.cash p ≡ Some e) × (e.caller ≡ agent) × HasNext cash_caller agent from log.now.cash p e) }
+    ensures few { length log.now.cash ≤ CASH_ENTRIES }
+{
+    let cash = log.cash();
+    for position in from as usize..cash.len() {
+        if cash[position].caller == agent.caller() {
+            return Some(position as u32);
+        }
+    }
+    None
+}
+
+/// The dollars that an entry in its ranges shows, if it is a reading.
+pub(crate) fn amount_read(entry: &CashEntry) -> Option<i64>
+    requires { IsLoggedCashEntry entry.now }
+    ensures { MatchOption result ((agent : ℕ) (dollars : ℤ) → reading agent dollars ≡ entry.now → ⊥) (λ dollars. reading entry.now.caller dollars ≡ entry.now) }
+{
+    match entry.reply {
+        CashReply::Cash(dollars) => Some(dollars),
+        CashReply::Done => None,
+    }
+}
+
+/// Whether an entry is a post that names this place of an auction.
+pub(crate) fn is_post(entry: &CashEntry, good: Good, place: u32) -> bool
+    ensures { IsTrue result ↔ ((nets : Nets) × (entry.now.call ≡ cash_calls.Post good place nets)) }
+{
+    match &entry.call {
+        CashCall::Post {
+            good: other,
+            position,
+            ..
+        } => *other == good && *position == place,
+        CashCall::Read { .. } => false,
+    }
+}

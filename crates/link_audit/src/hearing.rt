@@ -1,0 +1,112 @@
+// The lines of a link whose replies came, and those whose replies did not.
+ghost use Rattle.std.specs.Prelude.{◌≡◌, ◌<◌, ◌≤◌, List, IfOk, length};
+ghost use Rattle.std.specs.Global.{Vec as SeenVec};
+ghost use Rattle.tac_base.specs.declared.calls.Board.{Board as SeenBoard};
+ghost use Rattle.tac_base.specs.declared.limits.TheConstants.{LINK_BYTES};
+ghost use Rattle.agent_gate.specs.Dialects.{dialect_of};
+ghost use Rattle.link_audit.specs.Ahead.{HasTruePosts, IsOver, IsTable, start, subject_of};
+ghost use Rattle.link_audit.specs.Walks.{IsHeard, IsLeft, replies_at};
+
+use crate::known::KnownDialect;
+use crate::leftovers::first_left;
+use crate::lines::line_end;
+use crate::places::Places;
+use crate::stepping::{Step, step_line};
+use crate::vouching::Difference;
+use log_reader::Log;
+use tac_base::limits::SESSION_LINES;
+use tac_base::{Agent, Board, Memory};
+
+/// What a walk over the lines whose replies came led to.
+#[derive(Clone, Copy, Debug)]
+pub(crate) enum Heard {
+    /// Each of so many lines was answered so. The next line begins at this place.
+    Through {
+        places: Places,
+        at: usize,
+        lines: u32,
+    },
+    /// The agent left by the last of so many lines, and the log has nothing more of it.
+    Gone {
+        lines: u32,
+    },
+    /// They were not all answered so.
+    Not(Difference),
+}
+
+/// Nothing was walked.
+fn start_places() -> Places
+    ensures { result ≡ start }
+{
+    Places {
+        next: [0; 28],
+        made: [0; 28],
+        seen: [0; 28],
+        cash: 0,
+        readings: 0,
+    }
+}
+
+/// The end of a walk by a line by which the agent left.
+fn leave(log: &Log, agent: Agent, places: &Places, more: bool, lines: u32) -> Heard
+    requires { lines < SESSION_LINES }
+    ensures { (boards : List (SeenVec SeenBoard)) → IsLeft (IsOver (subject_of log.now boards agent) places.now) more result }
+{
+    if more {
+        return Heard::Not(Difference::Line(lines + 2));
+    }
+    match first_left(log, agent, places) {
+        None => Heard::Gone { lines: lines + 1 },
+        Some(left) => Heard::Not(left),
+    }
+}
+
+/// Walks over the lines whose replies came.
+pub(crate) fn hear<D: KnownDialect>(
+    log: &Log,
+    boards: &[Vec<Board>],
+    agent: Agent,
+    dialect: &D,
+    asked: &[u8],
+    from: usize,
+    said: &[u8],
+    told: usize,
+) -> Result<Heard, Memory>
+    requires posts { HasTruePosts log.now }
+    requires table { IsTable boards.now }
+    requires short { (from ≤ length asked.now) × (length asked.now < LINK_BYTES) }
+    requires welcome { told ≤ length said.now }
+    ensures { IfOk result (IsHeard (dialect_of (D.may_answer dialect.now) (D.text dialect.now)) (subject_of log.now boards.now agent) asked.now from (replies_at said.now told)) }
+{
+    let mut places = start_places();
+    let mut at = from;
+    let mut place = told;
+    for lines in 0..SESSION_LINES {
+        let Some(reply_end) = line_end(said, place) else {
+            return Ok(Heard::Through { places, at, lines });
+        };
+        let Some(end) = line_end(asked, at) else {
+            return Ok(Heard::Not(Difference::Line(lines + 1)));
+        };
+        let reply = &said[place..reply_end];
+        let line = &asked[at..end];
+        match step_line(log, boards, agent, &mut places, dialect, line, true, reply)? {
+            Step::Taken => {}
+            Step::Leaves => {
+                let more = line_end(said, reply_end + 1).is_some();
+                return Ok(leave(log, agent, &places, more, lines));
+            }
+            Step::Stuck => return Ok(Heard::Not(Difference::Line(lines + 1))),
+        }
+        at = end + 1;
+        place = reply_end + 1;
+    }
+    match line_end(said, place) {
+        None => Ok(Heard::Through {
+            places,
+            at,
+            lines: SESSION_LINES,
+        }),
+        Some(_) => Ok(Heard::Not(Difference::Line(SESSION_LINES + 1))),
+    }
+}

@@ -1,0 +1,63 @@
+// Forms of lines of which it is known what each line asked.
+ghost use Rattle.std.specs.Prelude.{◌≡◌, ◌↔◌, Result, IfOk, IsTrue, codes};
+ghost use Rattle.line_protocol.specs.declared.asking.Request.{Request as SeenRequest};
+ghost use Rattle.line_protocol.specs.declared.asking.RequestFault.{RequestFault as SeenFault};
+ghost use Rattle.line_protocol.specs.declared.saying.Said.{Said};
+ghost use Rattle.link_audit.specs.Ahead.{FitsReply, IsAnswerTo, ReadsBy};
+
+use agent_gate::{Dialect, LineDialect};
+use json_dialect::JsonDialect;
+use line_protocol::{Request, RequestFault};
+use tac_base::Memory;
+
+/// A form of lines in which a line, with its reply if that came, tells what was asked.
+pub trait KnownDialect: Dialect {
+    /// What a line asked that was answered so, or whose reply did not come. `Memory` is for our own memory.
+    fn asks(
+        &self,
+        line: &[u8],
+        heard: bool,
+        reply: &[u8],
+    ) -> Result<Result<Request, RequestFault>, Memory>
+        ensures may { IfOk result (λ asked. ReadsBy (Self.may_answer self.now) heard line.now asked) }
+        ensures only { IfOk result (λ asked. (other : Result SeenRequest SeenFault) (said : Said) → ReadsBy (Self.may_answer self.now) heard line.now other
+            → IsAnswerTo other said → FitsReply (Self.text self.now) heard reply.now said → other ≡ asked) };
+}
+
+impl KnownDialect for LineDialect {
+    fn asks(
+        &self,
+        line: &[u8],
+        _heard: bool,
+        _reply: &[u8],
+    ) -> Result<Result<Request, RequestFault>, Memory> {
+        match self.read(line) {
+            Err(RequestFault::Memory) => Err(Memory),
+            asked => Ok(asked),
+        }
+    }
+}
+
+/// Whether a reply is that to a line for which the server had no memory.
+fn is_no_memory(reply: &[u8]) -> bool
+    ensures { IsTrue result ↔ (reply.now ≡ codes "{\"no\":\"memory\"}") }
+{
+    reply == b"{\"no\":\"memory\"}".as_slice()
+}
+
+impl KnownDialect for JsonDialect {
+    fn asks(
+        &self,
+        line: &[u8],
+        heard: bool,
+        reply: &[u8],
+    ) -> Result<Result<Request, RequestFault>, Memory> {
+        if heard && is_no_memory(reply) {
+            return Ok(Err(RequestFault::Memory));
+        }
+        match self.read(line) {
+            Err(RequestFault::Memory) => Err(Memory),
+            asked => Ok(asked),
+        }
+    }
+}

@@ -1,0 +1,34 @@
+// What a log still has of an agent.
+ghost use Rattle.std.specs.Prelude.{◌≡◌, ◌↔◌, List, None};
+ghost use Rattle.std.specs.Global.{Vec as SeenVec};
+ghost use Rattle.tac_base.specs.declared.calls.Board.{Board};
+ghost use Rattle.link_audit.specs.Ahead.{IsOver, subject_of};
+
+use crate::cash::next_cash;
+use crate::goods::good_of;
+use crate::next::next_entry;
+use crate::places::Places;
+use crate::vouching::Difference;
+use log_reader::Log;
+use tac_base::Agent;
+use tac_base::limits::GOODS;
+
+/// The first entry of the agent from some places on, the lowest good first and the cash history last.
+pub(crate) fn first_left(log: &Log, agent: Agent, places: &Places) -> Option<Difference>
+    ensures { (boards : List (SeenVec Board)) → (result ≡ None) ↔ IsOver (subject_of log.now boards agent) places.now }
+{
+    for number in 0..GOODS {
+        let good = good_of(number);
+        if let Some(position) = next_entry(
+            log.history(good),
+            places.next[usize::from(number)],
+            agent,
+        ) {
+            return Some(Difference::Entry { good, position });
+        }
+    }
+    match next_cash(log, places.cash, agent) {
+        Some(position) => Some(Difference::Cash(position)),
+        None => None,
+    }
+}

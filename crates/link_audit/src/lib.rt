@@ -1,0 +1,24 @@
+//! One link, audited from outside: whether a log is right about the bytes that an agent's link asked and was said.
+#![tactic(auto)]
+
+mod calls;
+mod cash;
+mod goods;
+mod greeting;
+mod hearing;
+mod judging;
+mod known;
+mod leftovers;
+mod lines;
+mod next;
+mod passing;
+mod places;
+mod replies;
+mod stepping;
+mod table;
+mod taking;
+mod vouching;
+
+pub use judging::vouch;
+pub use known::KnownDialect;
+pub use vouching::{Difference, Vouching};

@@ -1,0 +1,79 @@
+// The lines of a link whose replies did not come.
+ghost use Rattle.std.specs.Prelude.{◌≡◌, ◌+◌, ◌-◌, ◌<◌, ◌≤◌, [], IfOk, MatchResult, length};
+ghost use Rattle.tac_base.specs.declared.limits.TheConstants.{LINK_BYTES};
+ghost use Rattle.agent_gate.specs.Dialects.{dialect_of};
+ghost use Rattle.link_audit.specs.Ahead.{HasTruePosts, IsAhead, IsTable, IsWide, subject_of};
+ghost use Rattle.link_audit.specs.Walks.{lines_at};
+
+use crate::known::KnownDialect;
+use crate::leftovers::first_left;
+use crate::lines::line_end;
+use crate::places::Places;
+use crate::stepping::{Step, step_line};
+use crate::vouching::Difference;
+use log_reader::Log;
+use tac_base::limits::SESSION_LINES;
+use tac_base::{Agent, Board, Memory};
+
+/// One more than a count, if a line left something in the log.
+fn count_if_moved(count: u32, before: &Places, after: &Places) -> u32
+    requires { count < SESSION_LINES }
+    ensures { result ≤ count + 1 }
+{
+    if before == after { count } else { count + 1 }
+}
+
+/// Walks on over lines whose replies did not come, until the log has nothing more of the agent, from places that were reached by some
+/// lines. Answers how many of them left something in the log, or the first entry that none of them asked.
+pub(crate) fn pass<D: KnownDialect>(
+    log: &Log,
+    boards: &[Vec<Board>],
+    agent: Agent,
+    dialect: &D,
+    asked: &[u8],
+    from: usize,
+    reached: &Places,
+    lines: u32,
+) -> Result<Result<u32, Difference>, Memory>
+    requires posts { HasTruePosts log.now }
+    requires table { IsTable boards.now }
+    requires short { (from ≤ length asked.now) × (length asked.now < LINK_BYTES) }
+    requires wide { IsWide reached.now }
+    requires few { lines ≤ SESSION_LINES }
+    ensures { IfOk result (λ passed. MatchResult passed
+        (λ count. IsAhead (dialect_of (D.may_answer dialect.now) (D.text dialect.now)) (subject_of log.now boards.now agent) reached.now (lines_at asked.now from) [] (SESSION_LINES - lines))
+        (λ left. IsAhead (dialect_of (D.may_answer dialect.now) (D.text dialect.now)) (subject_of log.now boards.now agent) reached.now (lines_at asked.now from) [] (SESSION_LINES - lines) → ⊥)) }
+{
+    let mut places = *reached;
+    let mut at = from;
+    let mut count = 0;
+    for line in lines..SESSION_LINES {
+        let Some(left) = first_left(log, agent, &places) else {
+            return Ok(Ok(count));
+        };
+        let Some(end) = line_end(asked, at) else {
+            return Ok(Err(left));
+        };
+        let before = places;
+        match step_line(
+            log,
+            boards,
+            agent,
+            &mut places,
+            dialect,
+            &asked[at..end],
+            false,
+            &[],
+        )? {
+            Step::Taken => {}
+            Step::Leaves => return Ok(Err(left)),
+            Step::Stuck => return Ok(Err(left)),
+        }
+        count = count_if_moved(count, &before, &places);
+        at = end + 1;
+    }
+    match first_left(log, agent, &places) {
+        None => Ok(Ok(count)),
+        Some(left) => Ok(Err(left)),
+    }
+}
