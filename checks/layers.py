@@ -16,7 +16,7 @@ from typing import Callable, Dict, Iterable, List, Set
 from definitions import CRATES, ROOT, Definitions
 
 SOUND = "log_text.specs.SoundLog"
-JUDGES = ["log_text", "log_reader", "reading_laws", "log_audit", "tourney"]
+JUDGES = ["log_text", "log_reader", "reading_laws", "log_audit", "tourney", "link_audit"]
 SEARCH = {"relaxation", "dual_bound", "allocator", "score_sheet"}
 
 
