@@ -3,7 +3,6 @@ ghost use Rattle.std.specs.Prelude.{◌≡◌, ◌<◌, ◌≤◌, List, IfOk, l
 ghost use Rattle.std.specs.Global.{Vec as SeenVec};
 ghost use Rattle.tac_base.specs.declared.calls.Board.{Board as SeenBoard};
 ghost use Rattle.tac_base.specs.declared.limits.TheConstants.{LINK_BYTES};
-ghost use Rattle.agent_gate.specs.Dialects.{dialect_of};
 ghost use Rattle.link_audit.specs.Ahead.{HasTruePosts, IsOver, IsTable, start, subject_of};
 ghost use Rattle.link_audit.specs.Walks.{IsHeard, IsLeft, replies_at};
 
@@ -76,7 +75,7 @@ pub(crate) fn hear<D: KnownDialect>(
     requires table { IsTable boards.now }
     requires short { (from ≤ length asked.now) × (length asked.now < LINK_BYTES) }
     requires welcome { told ≤ length said.now }
-    ensures { IfOk result (IsHeard (dialect_of (D.may_answer dialect.now) (D.text dialect.now)) (subject_of log.now boards.now agent) asked.now from (replies_at said.now told)) }
+    ensures { IfOk result (IsHeard (D.form dialect.now) (subject_of log.now boards.now agent) asked.now from (replies_at said.now told)) }
 {
     let mut places = start_places();
     let mut at = from;

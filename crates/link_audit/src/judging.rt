@@ -2,7 +2,6 @@
 ghost use Rattle.std.specs.Prelude.{◌≡◌, ◌<◌, ◌≤◌, ◌-◌, ◌↔◌, ℕ, [], IfOk, length};
 ghost use Rattle.tac_base.specs.declared.limits.TheConstants.{LINK_BYTES, SESSION_LINES};
 ghost use Rattle.log_text.specs.SoundLog.{IsSound};
-ghost use Rattle.agent_gate.specs.Dialects.{dialect_of};
 ghost use Rattle.link_audit.specs.Ahead.{HasTruePosts, IsAhead, IsTable, IsWide, subject_of};
 ghost use Rattle.link_audit.specs.Links.{IsVouched};
 ghost use Rattle.link_audit.specs.Vouchings.{IsYes};
@@ -64,7 +63,7 @@ fn finish<D: KnownDialect>(
     requires wide { IsWide places.now }
     requires few { lines ≤ SESSION_LINES }
     ensures { IfOk result (λ vouching. (other : ℕ) → IsYes other vouching ↔ ((agent ≡ other)
-        × IsAhead (dialect_of (D.may_answer dialect.now) (D.text dialect.now)) (subject_of log.now boards.now agent) places.now (lines_at asked.now at) [] (SESSION_LINES - lines))) }
+        × IsAhead (D.form dialect.now) (subject_of log.now boards.now agent) places.now (lines_at asked.now at) [] (SESSION_LINES - lines))) }
 {
     match pass(log, boards, agent, dialect, asked, at, places, lines)? {
         Ok(after) => {
@@ -90,7 +89,7 @@ pub fn vouch<D: KnownDialect>(
     requires short { length asked.now < LINK_BYTES }
     // The link is vouched for exactly if it is one of the log.
     ensures { IfOk result (λ vouching. (agent : ℕ) → IsYes agent vouching
-        ↔ IsVouched game.now (dialect_of (D.may_answer dialect.now) (D.text dialect.now)) log.now agent asked.now said.now) }
+        ↔ IsVouched game.now (D.form dialect.now) log.now agent asked.now said.now) }
 {
     // The log is in its ranges, and has no flaw.
     let _head = log.head();

@@ -19,9 +19,9 @@ pub trait KnownDialect: Dialect {
         heard: bool,
         reply: &[u8],
     ) -> Result<Result<Request, RequestFault>, Memory>
-        ensures may { IfOk result (λ asked. ReadsBy (Self.may_answer self.now) heard line.now asked) }
-        ensures only { IfOk result (λ asked. (other : Result SeenRequest SeenFault) (said : Said) → ReadsBy (Self.may_answer self.now) heard line.now other
-            → IsAnswerTo other said → FitsReply (Self.text self.now) heard reply.now said → other ≡ asked) };
+        ensures may { IfOk result (λ asked. ReadsBy (Self.form self.now).may_answer heard line.now asked) }
+        ensures only { IfOk result (λ asked. (other : Result SeenRequest SeenFault) (said : Said) → ReadsBy (Self.form self.now).may_answer heard line.now other
+            → IsAnswerTo other said → FitsReply (Self.form self.now).text heard reply.now said → other ≡ asked) };
 }
 
 impl KnownDialect for LineDialect {

@@ -1,7 +1,6 @@
 // The lines of a link whose replies did not come.
 ghost use Rattle.std.specs.Prelude.{◌≡◌, ◌+◌, ◌-◌, ◌<◌, ◌≤◌, [], IfOk, MatchResult, length};
 ghost use Rattle.tac_base.specs.declared.limits.TheConstants.{LINK_BYTES};
-ghost use Rattle.agent_gate.specs.Dialects.{dialect_of};
 ghost use Rattle.link_audit.specs.Ahead.{HasTruePosts, IsAhead, IsTable, IsWide, subject_of};
 ghost use Rattle.link_audit.specs.Walks.{lines_at};
 
@@ -41,8 +40,8 @@ pub(crate) fn pass<D: KnownDialect>(
     requires wide { IsWide reached.now }
     requires few { lines ≤ SESSION_LINES }
     ensures { IfOk result (λ passed. MatchResult passed
-        (λ count. IsAhead (dialect_of (D.may_answer dialect.now) (D.text dialect.now)) (subject_of log.now boards.now agent) reached.now (lines_at asked.now from) [] (SESSION_LINES - lines))
-        (λ left. IsAhead (dialect_of (D.may_answer dialect.now) (D.text dialect.now)) (subject_of log.now boards.now agent) reached.now (lines_at asked.now from) [] (SESSION_LINES - lines) → ⊥)) }
+        (λ count. IsAhead (D.form dialect.now) (subject_of log.now boards.now agent) reached.now (lines_at asked.now from) [] (SESSION_LINES - lines))
+        (λ left. IsAhead (D.form dialect.now) (subject_of log.now boards.now agent) reached.now (lines_at asked.now from) [] (SESSION_LINES - lines) → ⊥)) }
 {
     let mut places = *reached;
     let mut at = from;

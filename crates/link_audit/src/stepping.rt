@@ -1,7 +1,6 @@
 // What a line of a link led to.
 ghost use Rattle.std.specs.Prelude.{◌≡◌, if◌then◌else◌, IfOk, Ok};
 ghost use Rattle.tac_io.specs.AllAnswers.{ended_line};
-ghost use Rattle.agent_gate.specs.Dialects.{dialect_of};
 ghost use Rattle.agent_gate.specs.Items.{Asks};
 ghost use Rattle.link_audit.specs.Ahead.{FitsReply, HasTruePosts, IsAsked, IsStep, IsTable, subject_of};
 
@@ -46,7 +45,7 @@ fn step_request<D: Dialect>(
 ) -> Step
     requires posts { HasTruePosts log.now }
     requires table { IsTable boards.now }
-    ensures { IsStep (λ item. item ≡ Asks (Ok request.now)) (FitsReply (D.text dialect.now) heard reply.now) (subject_of log.now boards.now agent) places.old places.new result }
+    ensures { IsStep (λ item. item ≡ Asks (Ok request.now)) (FitsReply (D.form dialect.now).text heard reply.now) (subject_of log.now boards.now agent) places.old places.new result }
 {
     match request {
         Request::Bid { good, .. } | Request::Withdraw { good } | Request::Own { good } => {
@@ -81,7 +80,7 @@ fn step_asked<D: Dialect>(
 ) -> Step
     requires posts { HasTruePosts log.now }
     requires table { IsTable boards.now }
-    ensures { IsStep (λ item. item ≡ Asks asked.now) (FitsReply (D.text dialect.now) heard reply.now) (subject_of log.now boards.now agent) places.old places.new result }
+    ensures { IsStep (λ item. item ≡ Asks asked.now) (FitsReply (D.form dialect.now).text heard reply.now) (subject_of log.now boards.now agent) places.old places.new result }
 {
     match asked {
         Ok(request) => step_request(log, boards, agent, places, dialect, request, heard, reply),
@@ -102,8 +101,8 @@ pub(crate) fn step_line<D: KnownDialect>(
 ) -> Result<Step, Memory>
     requires posts { HasTruePosts log.now }
     requires table { IsTable boards.now }
-    ensures { IfOk result (IsStep (IsAsked (dialect_of (D.may_answer dialect.now) (D.text dialect.now)) heard (ended_line line.now))
-        (FitsReply (D.text dialect.now) heard reply.now) (subject_of log.now boards.now agent) places.old places.new) }
+    ensures { IfOk result (IsStep (IsAsked (D.form dialect.now) heard (ended_line line.now))
+        (FitsReply (D.form dialect.now).text heard reply.now) (subject_of log.now boards.now agent) places.old places.new) }
 {
     if line.len() > LINE_BYTES as usize {
         return Ok(step_if(fits(dialect, &Said::TooLong, heard, reply)));

@@ -63,8 +63,8 @@ pub(crate) fn take_call<D: Dialect>(
 ) -> bool
     requires posts { HasTruePosts log.now }
     requires asks { option_map (λ p. p.0) (asked_call request.now) ≡ Some good }
-    ensures yes { IsTrue result → IsTaken (λ item. item ≡ Asks (Ok request.now)) (FitsReply (D.text dialect.now) heard reply.now) (subject_of log.now boards.now agent) places.old places.new }
-    ensures no { result ≡ false → IsStuck (λ item. item ≡ Asks (Ok request.now)) (FitsReply (D.text dialect.now) heard reply.now) (subject_of log.now boards.now agent) places.old }
+    ensures yes { IsTrue result → IsTaken (λ item. item ≡ Asks (Ok request.now)) (FitsReply (D.form dialect.now).text heard reply.now) (subject_of log.now boards.now agent) places.old places.new }
+    ensures no { result ≡ false → IsStuck (λ item. item ≡ Asks (Ok request.now)) (FitsReply (D.form dialect.now).text heard reply.now) (subject_of log.now boards.now agent) places.old }
 {
     let row = usize::from(good.get());
     if places.made[row] == AGENT_CALLS {
@@ -110,8 +110,8 @@ pub(crate) fn take_reading<D: Dialect>(
     reply: &[u8],
 ) -> bool
     requires posts { HasTruePosts log.now }
-    ensures yes { IsTrue result → IsTaken (λ item. item ≡ Asks (Ok requests.Cash)) (FitsReply (D.text dialect.now) heard reply.now) (subject_of log.now boards.now agent) places.old places.new }
-    ensures no { result ≡ false → IsStuck (λ item. item ≡ Asks (Ok requests.Cash)) (FitsReply (D.text dialect.now) heard reply.now) (subject_of log.now boards.now agent) places.old }
+    ensures yes { IsTrue result → IsTaken (λ item. item ≡ Asks (Ok requests.Cash)) (FitsReply (D.form dialect.now).text heard reply.now) (subject_of log.now boards.now agent) places.old places.new }
+    ensures no { result ≡ false → IsStuck (λ item. item ≡ Asks (Ok requests.Cash)) (FitsReply (D.form dialect.now).text heard reply.now) (subject_of log.now boards.now agent) places.old }
 {
     if places.readings == CASH_READINGS {
         return fits(dialect, &Said::Spent, heard, reply);
@@ -150,9 +150,9 @@ fn first_shown<D: Dialect>(
 ) -> Option<u32>
     requires { length shown.now ≤ 8257 }
     ensures { MatchOption result
-        ((n : ℕ) (board : SeenBoard) → from ≤ n → slice_get shown.now n ≡ Some board → FitsReply (D.text dialect.now) heard reply.now (Quote board) → ⊥)
-        (λ n. (from ≤ n) × ((board : SeenBoard) × (slice_get shown.now n ≡ Some board) × FitsReply (D.text dialect.now) heard reply.now (Quote board))
-        × ((k : ℕ) (board : SeenBoard) → from ≤ k → k < n → slice_get shown.now k ≡ Some board → FitsReply (D.text dialect.now) heard reply.now (Quote board) → ⊥)) }
+        ((n : ℕ) (board : SeenBoard) → from ≤ n → slice_get shown.now n ≡ Some board → FitsReply (D.form dialect.now).text heard reply.now (Quote board) → ⊥)
+        (λ n. (from ≤ n) × ((board : SeenBoard) × (slice_get shown.now n ≡ Some board) × FitsReply (D.form dialect.now).text heard reply.now (Quote board))
+        × ((k : ℕ) (board : SeenBoard) → from ≤ k → k < n → slice_get shown.now k ≡ Some board → FitsReply (D.form dialect.now).text heard reply.now (Quote board) → ⊥)) }
 {
     for count in from as usize..shown.len() {
         if fits(dialect, &Said::Quote(shown[count]), heard, reply) {
@@ -174,8 +174,8 @@ pub(crate) fn take_quote<D: Dialect>(
     reply: &[u8],
 ) -> bool
     requires table { IsTable boards.now }
-    ensures yes { IsTrue result → IsTaken (λ item. item ≡ Asks (Ok (requests.Quote good))) (FitsReply (D.text dialect.now) heard reply.now) (subject_of log.now boards.now agent) places.old places.new }
-    ensures no { result ≡ false → IsStuck (λ item. item ≡ Asks (Ok (requests.Quote good))) (FitsReply (D.text dialect.now) heard reply.now) (subject_of log.now boards.now agent) places.old }
+    ensures yes { IsTrue result → IsTaken (λ item. item ≡ Asks (Ok (requests.Quote good))) (FitsReply (D.form dialect.now).text heard reply.now) (subject_of log.now boards.now agent) places.old places.new }
+    ensures no { result ≡ false → IsStuck (λ item. item ≡ Asks (Ok (requests.Quote good))) (FitsReply (D.form dialect.now).text heard reply.now) (subject_of log.now boards.now agent) places.old }
 {
     let _goods = width(places);
     let row = usize::from(good.get());

@@ -31,7 +31,7 @@ use Rattle.line_protocol.specs.Requests.{request_of}
 use Rattle.line_protocol.specs.Replies.{said_text}
 use Rattle.log_text.specs.LoggedGames.{LoggedGame}
 use Rattle.log_text.specs.SoundLog.{gives_seat}
-use Rattle.agent_gate.specs.Dialects.{Dialect, dialect_of}
+use Rattle.agent_gate.specs.Dialects.{Dialect}
 use Rattle.agent_gate.specs.Items.{Asks, IsItem}
 use Rattle.agent_gate.specs.Turns.{Turn, Called, CashRead, boards_shown}
 use Rattle.agent_gate.specs.Welcome.{welcome_lines, welcome_text}
@@ -52,7 +52,7 @@ heads_say_what_became_of_links = (refl, refl, refl, refl)
 
 -- a JSON line may have been answered for want of memory; where its reply did not come, it was not
 abbrev json : Dialect
-json = dialect_of (λ line answer. (answer ≡ asks_json line) ⊎ (answer ≡ Err Memory)) json_text
+json = record { may_answer = λ line answer. (answer ≡ asks_json line) ⊎ (answer ≡ Err Memory); text = json_text }
 
 memory_is_told_by_its_reply_alone : IsItem json.may_answer (gots.Line, codes "{\"do\":\"cash\"}") (Asks (Err Memory)) × (IsItem (MayAsk json.may_answer) (gots.Line, codes "{\"do\":\"cash\"}") (Asks (Err Memory)) → ⊥)
 memory_is_told_by_its_reply_alone = (inr refl, λ asked. asked.1 refl)
@@ -60,7 +60,7 @@ memory_is_told_by_its_reply_alone = (inr refl, λ asked. asked.1 refl)
 -- ---- a link of agent 2, which bought two seats and read its cash, and whose last reply did not come
 
 abbrev words : Dialect
-words = dialect_of (λ line answer. answer ≡ request_of line) said_text
+words = record { may_answer = λ line answer. answer ≡ request_of line; text = said_text }
 
 abbrev bid_entry : Entry
 bid_entry = record {

@@ -3,7 +3,7 @@ use Rattle.std.specs.Prelude.{slice_range}
 use Rattle.tac_base.specs.declared.limits.TheConstants.{SESSION_LINES}
 use Rattle.tac_io.specs.AllAnswers.{ended_line}
 use Rattle.tac_io.specs.declared.line_got.LineGot.TheVariants as gots
-use Rattle.agent_gate.specs.Dialects.{Dialect, dialect_of}
+use Rattle.agent_gate.specs.Dialects.{Dialect}
 use Rattle.link_audit.specs.declared.places.Places.{Places}
 use Rattle.link_audit.specs.declared.stepping.Step.TheVariants.{Taken, Leaves, Stuck}
 use Rattle.link_audit.specs.Ahead.{Subject, IsAsked, FitsReply, IsAhead, IsOver, IsStep, subject_of}
@@ -14,7 +14,7 @@ use Rattle.link_audit.proofs.hearing.hear.Goals as goal
 
 pub returns-in_default : goal.returns-in_default
 returns-in_default g c =
-    let dialect : Dialect = dialect_of (g.D.Dialect.may_answer c.args.dialect.now) (g.D.Dialect.text c.args.dialect.now) in
+    let dialect : Dialect = g.D.Dialect.form c.args.dialect.now in
     let s : Subject = subject_of c.args.log.now c.args.boards.now c.args.agent in
     let asked : List ℕ = c.args.asked.now in let said : List ℕ = c.args.said.now in
     let Before : Type 0 = IsAheadAt dialect s asked c.args.from (replies_at said c.args.told) SESSION_LINES in
@@ -28,7 +28,7 @@ returns-in_default g c =
 
 pub returns-in_default-line_end : goal.returns-in_default-line_end
 returns-in_default-line_end g c =
-    let dialect : Dialect = dialect_of (g.D.Dialect.may_answer c.args.dialect.now) (g.D.Dialect.text c.args.dialect.now) in
+    let dialect : Dialect = g.D.Dialect.form c.args.dialect.now in
     let s : Subject = subject_of c.args.log.now c.args.boards.now c.args.agent in
     let asked : List ℕ = c.args.asked.now in let said : List ℕ = c.args.said.now in
     let Before : Type 0 = IsAheadAt dialect s asked c.args.from (replies_at said c.args.told) SESSION_LINES in
@@ -44,7 +44,7 @@ returns-in_default-line_end g c =
 
 pub returns-in-Leaves : goal.returns-in-Leaves
 returns-in-Leaves g c =
-    let dialect : Dialect = dialect_of (g.D.Dialect.may_answer c.args.dialect.now) (g.D.Dialect.text c.args.dialect.now) in
+    let dialect : Dialect = g.D.Dialect.form c.args.dialect.now in
     let s : Subject = subject_of c.args.log.now c.args.boards.now c.args.agent in
     let asked : List ℕ = c.args.asked.now in let said : List ℕ = c.args.said.now in
     let Before : Type 0 = IsAheadAt dialect s asked c.args.from (replies_at said c.args.told) SESSION_LINES in
@@ -70,7 +70,7 @@ returns-in-Leaves g c =
 
 pub returns-in-Stuck : goal.returns-in-Stuck
 returns-in-Stuck g c =
-    let dialect : Dialect = dialect_of (g.D.Dialect.may_answer c.args.dialect.now) (g.D.Dialect.text c.args.dialect.now) in
+    let dialect : Dialect = g.D.Dialect.form c.args.dialect.now in
     let s : Subject = subject_of c.args.log.now c.args.boards.now c.args.agent in
     let asked : List ℕ = c.args.asked.now in let said : List ℕ = c.args.said.now in
     let Before : Type 0 = IsAheadAt dialect s asked c.args.from (replies_at said c.args.told) SESSION_LINES in
@@ -91,7 +91,7 @@ returns-in-Stuck g c =
 
 pub loop-lines-preserved : goal.loop-lines-preserved
 loop-lines-preserved g c =
-    let dialect : Dialect = dialect_of (g.D.Dialect.may_answer c.args.dialect.now) (g.D.Dialect.text c.args.dialect.now) in
+    let dialect : Dialect = g.D.Dialect.form c.args.dialect.now in
     let s : Subject = subject_of c.args.log.now c.args.boards.now c.args.agent in
     let asked : List ℕ = c.args.asked.now in let said : List ℕ = c.args.said.now in
     let Before : Type 0 = IsAheadAt dialect s asked c.args.from (replies_at said c.args.told) SESSION_LINES in
@@ -117,7 +117,7 @@ loop-lines-preserved g c =
 
 pub returns-in-None : goal.returns-in-None
 returns-in-None g c =
-    let dialect : Dialect = dialect_of (g.D.Dialect.may_answer c.args.dialect.now) (g.D.Dialect.text c.args.dialect.now) in
+    let dialect : Dialect = g.D.Dialect.form c.args.dialect.now in
     let s : Subject = subject_of c.args.log.now c.args.boards.now c.args.agent in
     let asked : List ℕ = c.args.asked.now in let said : List ℕ = c.args.said.now in
     let Before : Type 0 = IsAheadAt dialect s asked c.args.from (replies_at said c.args.told) SESSION_LINES in
@@ -133,7 +133,7 @@ returns-in-None g c =
 
 pub returns-in-Some-line_end-2 : goal.returns-in-Some-line_end-2
 returns-in-Some-line_end-2 g c =
-    let dialect : Dialect = dialect_of (g.D.Dialect.may_answer c.args.dialect.now) (g.D.Dialect.text c.args.dialect.now) in
+    let dialect : Dialect = g.D.Dialect.form c.args.dialect.now in
     let s : Subject = subject_of c.args.log.now c.args.boards.now c.args.agent in
     let asked : List ℕ = c.args.asked.now in let said : List ℕ = c.args.said.now in
     let Before : Type 0 = IsAheadAt dialect s asked c.args.from (replies_at said c.args.told) SESSION_LINES in

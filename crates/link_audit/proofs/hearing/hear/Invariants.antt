@@ -1,6 +1,5 @@
 use Rattle.std.proofs.Common.{◌≤◌, ◌-◌, length}
 use Rattle.tac_base.specs.declared.limits.TheConstants.{SESSION_LINES}
-use Rattle.agent_gate.specs.Dialects.{dialect_of}
 use Rattle.link_audit.specs.Ahead.{IsAhead, IsWide, subject_of}
 use Rattle.link_audit.specs.Walks.{IsAheadAt, IsBehind, lines_at, replies_at}
 use Rattle.link_audit.proofs.hearing.hear.Given as goal
@@ -8,8 +7,8 @@ use Rattle.link_audit.proofs.hearing.hear.Given as goal
 abbrev pub invariant-loop-lines : goal.invariant-loop-lines
 invariant-loop-lines g l = record {
   behind : IsBehind
-      (IsAheadAt (dialect_of (g.D.Dialect.may_answer l.dialect) (g.D.Dialect.text l.dialect)) (subject_of l.log l.boards l.agent) l.asked l.from (replies_at l.said l.told) SESSION_LINES)
-      (IsAhead (dialect_of (g.D.Dialect.may_answer l.dialect) (g.D.Dialect.text l.dialect)) (subject_of l.log l.boards l.agent) l.places (lines_at l.asked l.at) (replies_at l.said l.place) (SESSION_LINES - l.lines));
+      (IsAheadAt (g.D.Dialect.form l.dialect) (subject_of l.log l.boards l.agent) l.asked l.from (replies_at l.said l.told) SESSION_LINES)
+      (IsAhead (g.D.Dialect.form l.dialect) (subject_of l.log l.boards l.agent) l.places (lines_at l.asked l.at) (replies_at l.said l.place) (SESSION_LINES - l.lines));
   wide : IsWide l.places;
   within : l.at ≤ length l.asked;
   told_within : l.place ≤ length l.said;

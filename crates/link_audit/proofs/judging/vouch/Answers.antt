@@ -6,7 +6,7 @@ use Rattle.tac_base.specs.declared.memory.Memory.{Memory}
 use Rattle.tac_base.specs.declared.limits.TheConstants.{LINK_BYTES, SESSION_LINES}
 use Rattle.tac_io.specs.AllAnswers.{all_answers, ended_line}
 use Rattle.log_audit.specs.declared.findings.Flaw.TheVariants as flaws
-use Rattle.agent_gate.specs.Dialects.{Dialect, dialect_of}
+use Rattle.agent_gate.specs.Dialects.{Dialect}
 use Rattle.link_audit.specs.declared.hearing.Heard.TheVariants.{Through, Gone, Not}
 use Rattle.link_audit.specs.declared.vouching.Vouching.{Vouching}
 use Rattle.link_audit.specs.Ahead.{Subject, AreBoards, IsAhead, subject_of}
@@ -23,13 +23,13 @@ ok_then (Err memory) P Q is then = tt
 
 pub returns-in_default : goal.returns-in_default
 returns-in_default g c =
-    let dialect : Dialect = dialect_of (g.D.Dialect.may_answer c.args.dialect.now) (g.D.Dialect.text c.args.dialect.now) in
+    let dialect : Dialect = g.D.Dialect.form c.args.dialect.now in
     let game = c.args.game.now in let log = c.args.log.now in let asked : List ℕ = c.args.asked.now in let said : List ℕ = c.args.said.now in
     λ other. ((λ never. absurd never), unvouched_end game dialect log asked said other (lines_end asked 0 c.requires.short (omega arith) c.in_default.ensures))
 
 pub returns-in_default-seat_of : goal.returns-in_default-seat_of
 returns-in_default-seat_of g c =
-    let dialect : Dialect = dialect_of (g.D.Dialect.may_answer c.args.dialect.now) (g.D.Dialect.text c.args.dialect.now) in
+    let dialect : Dialect = g.D.Dialect.form c.args.dialect.now in
     let game = c.args.game.now in let log = c.args.log.now in let asked : List ℕ = c.args.asked.now in let said : List ℕ = c.args.said.now in
     let end = c.in-Some.end in let line = slice_range asked 0 end in let lines = lines_at asked (end + 1) in
     let first : all_answers [] LINK_BYTES asked ≡ ended_line line ∷ lines = lines_here asked 0 c.requires.short (omega arith) end c.in-Some.ensures.0 c.in-Some.ensures.1 c.in-Some.ensures.2 in
@@ -37,7 +37,7 @@ returns-in_default-seat_of g c =
 
 pub returns-in_default-behind_welcome : goal.returns-in_default-behind_welcome
 returns-in_default-behind_welcome g c =
-    let dialect : Dialect = dialect_of (g.D.Dialect.may_answer c.args.dialect.now) (g.D.Dialect.text c.args.dialect.now) in
+    let dialect : Dialect = g.D.Dialect.form c.args.dialect.now in
     let game = c.args.game.now in let log = c.args.log.now in let asked : List ℕ = c.args.asked.now in let said : List ℕ = c.args.said.now in
     let end = c.in-Some.end in let line = slice_range asked 0 end in let lines = lines_at asked (end + 1) in
     let first : all_answers [] LINK_BYTES asked ≡ ended_line line ∷ lines = lines_here asked 0 c.requires.short (omega arith) end c.in-Some.ensures.0 c.in-Some.ensures.1 c.in-Some.ensures.2 in
@@ -56,7 +56,7 @@ finish-requires-clause-posts g c =
 
 pub returns-in-Through : goal.returns-in-Through
 returns-in-Through g c =
-    let dialect : Dialect = dialect_of (g.D.Dialect.may_answer c.args.dialect.now) (g.D.Dialect.text c.args.dialect.now) in
+    let dialect : Dialect = g.D.Dialect.form c.args.dialect.now in
     let game = c.args.game.now in let log = c.args.log.now in let asked : List ℕ = c.args.asked.now in let said : List ℕ = c.args.said.now in
     let end = c.in-Some.end in let line = slice_range asked 0 end in let lines = lines_at asked (end + 1) in
     let first : all_answers [] LINK_BYTES asked ≡ ended_line line ∷ lines = lines_here asked 0 c.requires.short (omega arith) end c.in-Some.ensures.0 c.in-Some.ensures.1 c.in-Some.ensures.2 in
@@ -83,7 +83,7 @@ returns-in-Through g c =
 
 pub returns-in-Gone : goal.returns-in-Gone
 returns-in-Gone g c =
-    let dialect : Dialect = dialect_of (g.D.Dialect.may_answer c.args.dialect.now) (g.D.Dialect.text c.args.dialect.now) in
+    let dialect : Dialect = g.D.Dialect.form c.args.dialect.now in
     let game = c.args.game.now in let log = c.args.log.now in let asked : List ℕ = c.args.asked.now in let said : List ℕ = c.args.said.now in
     let end = c.in-Some.end in let line = slice_range asked 0 end in let lines = lines_at asked (end + 1) in
     let first : all_answers [] LINK_BYTES asked ≡ ended_line line ∷ lines = lines_here asked 0 c.requires.short (omega arith) end c.in-Some.ensures.0 c.in-Some.ensures.1 c.in-Some.ensures.2 in
@@ -102,7 +102,7 @@ returns-in-Gone g c =
 
 pub returns : goal.returns
 returns g c =
-    let dialect : Dialect = dialect_of (g.D.Dialect.may_answer c.args.dialect.now) (g.D.Dialect.text c.args.dialect.now) in
+    let dialect : Dialect = g.D.Dialect.form c.args.dialect.now in
     let game = c.args.game.now in let log = c.args.log.now in let asked : List ℕ = c.args.asked.now in let said : List ℕ = c.args.said.now in
     let end = c.in-Some.end in let line = slice_range asked 0 end in let lines = lines_at asked (end + 1) in
     let first : all_answers [] LINK_BYTES asked ≡ ended_line line ∷ lines = lines_here asked 0 c.requires.short (omega arith) end c.in-Some.ensures.0 c.in-Some.ensures.1 c.in-Some.ensures.2 in

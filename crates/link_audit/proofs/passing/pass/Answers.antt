@@ -3,7 +3,7 @@ use Rattle.std.specs.Prelude.{slice_range}
 use Rattle.tac_base.specs.declared.limits.TheConstants.{SESSION_LINES}
 use Rattle.tac_io.specs.AllAnswers.{ended_line}
 use Rattle.tac_io.specs.declared.line_got.LineGot.TheVariants as gots
-use Rattle.agent_gate.specs.Dialects.{Dialect, dialect_of}
+use Rattle.agent_gate.specs.Dialects.{Dialect}
 use Rattle.link_audit.specs.declared.places.Places.{Places}
 use Rattle.link_audit.specs.declared.stepping.Step.TheVariants.{Taken, Leaves, Stuck}
 use Rattle.link_audit.specs.Ahead.{Subject, IsAsked, FitsReply, IsAhead, IsOver, IsStep, subject_of}
@@ -14,7 +14,7 @@ use Rattle.link_audit.proofs.passing.pass.Goals as goal
 
 pub returns-in_default : goal.returns-in_default
 returns-in_default g c =
-    let dialect : Dialect = dialect_of (g.D.Dialect.may_answer c.args.dialect.now) (g.D.Dialect.text c.args.dialect.now) in
+    let dialect : Dialect = g.D.Dialect.form c.args.dialect.now in
     let s : Subject = subject_of c.args.log.now c.args.boards.now c.args.agent in
     let asked : List ℕ = c.args.asked.now in
     let Before : Type 0 = IsAhead dialect s c.args.reached.now (lines_at asked c.args.from) [] (SESSION_LINES - c.args.lines) in
@@ -24,7 +24,7 @@ returns-in_default g c =
 
 pub returns-in_default-line_end : goal.returns-in_default-line_end
 returns-in_default-line_end g c =
-    let dialect : Dialect = dialect_of (g.D.Dialect.may_answer c.args.dialect.now) (g.D.Dialect.text c.args.dialect.now) in
+    let dialect : Dialect = g.D.Dialect.form c.args.dialect.now in
     let s : Subject = subject_of c.args.log.now c.args.boards.now c.args.agent in
     let asked : List ℕ = c.args.asked.now in
     let Before : Type 0 = IsAhead dialect s c.args.reached.now (lines_at asked c.args.from) [] (SESSION_LINES - c.args.lines) in
@@ -37,7 +37,7 @@ returns-in_default-line_end g c =
 
 pub returns-in-Leaves : goal.returns-in-Leaves
 returns-in-Leaves g c =
-    let dialect : Dialect = dialect_of (g.D.Dialect.may_answer c.args.dialect.now) (g.D.Dialect.text c.args.dialect.now) in
+    let dialect : Dialect = g.D.Dialect.form c.args.dialect.now in
     let s : Subject = subject_of c.args.log.now c.args.boards.now c.args.agent in
     let asked : List ℕ = c.args.asked.now in
     let Before : Type 0 = IsAhead dialect s c.args.reached.now (lines_at asked c.args.from) [] (SESSION_LINES - c.args.lines) in
@@ -56,7 +56,7 @@ returns-in-Leaves g c =
 
 pub returns-in-Stuck : goal.returns-in-Stuck
 returns-in-Stuck g c =
-    let dialect : Dialect = dialect_of (g.D.Dialect.may_answer c.args.dialect.now) (g.D.Dialect.text c.args.dialect.now) in
+    let dialect : Dialect = g.D.Dialect.form c.args.dialect.now in
     let s : Subject = subject_of c.args.log.now c.args.boards.now c.args.agent in
     let asked : List ℕ = c.args.asked.now in
     let Before : Type 0 = IsAhead dialect s c.args.reached.now (lines_at asked c.args.from) [] (SESSION_LINES - c.args.lines) in
@@ -75,7 +75,7 @@ returns-in-Stuck g c =
 
 pub loop-line-preserved : goal.loop-line-preserved
 loop-line-preserved g c =
-    let dialect : Dialect = dialect_of (g.D.Dialect.may_answer c.args.dialect.now) (g.D.Dialect.text c.args.dialect.now) in
+    let dialect : Dialect = g.D.Dialect.form c.args.dialect.now in
     let s : Subject = subject_of c.args.log.now c.args.boards.now c.args.agent in
     let asked : List ℕ = c.args.asked.now in
     let Before : Type 0 = IsAhead dialect s c.args.reached.now (lines_at asked c.args.from) [] (SESSION_LINES - c.args.lines) in
@@ -99,7 +99,7 @@ loop-line-preserved g c =
 
 pub returns-in-None : goal.returns-in-None
 returns-in-None g c =
-    let dialect : Dialect = dialect_of (g.D.Dialect.may_answer c.args.dialect.now) (g.D.Dialect.text c.args.dialect.now) in
+    let dialect : Dialect = g.D.Dialect.form c.args.dialect.now in
     let s : Subject = subject_of c.args.log.now c.args.boards.now c.args.agent in
     let asked : List ℕ = c.args.asked.now in
     let Before : Type 0 = IsAhead dialect s c.args.reached.now (lines_at asked c.args.from) [] (SESSION_LINES - c.args.lines) in
@@ -109,7 +109,7 @@ returns-in-None g c =
 
 pub returns-in-Some-first_left : goal.returns-in-Some-first_left
 returns-in-Some-first_left g c =
-    let dialect : Dialect = dialect_of (g.D.Dialect.may_answer c.args.dialect.now) (g.D.Dialect.text c.args.dialect.now) in
+    let dialect : Dialect = g.D.Dialect.form c.args.dialect.now in
     let s : Subject = subject_of c.args.log.now c.args.boards.now c.args.agent in
     let asked : List ℕ = c.args.asked.now in
     let Before : Type 0 = IsAhead dialect s c.args.reached.now (lines_at asked c.args.from) [] (SESSION_LINES - c.args.lines) in

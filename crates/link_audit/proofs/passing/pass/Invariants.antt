@@ -1,6 +1,5 @@
 use Rattle.std.proofs.Common.{◌≤◌, ◌-◌, [], length}
 use Rattle.tac_base.specs.declared.limits.TheConstants.{SESSION_LINES}
-use Rattle.agent_gate.specs.Dialects.{dialect_of}
 use Rattle.link_audit.specs.Ahead.{IsAhead, IsWide, subject_of}
 use Rattle.link_audit.specs.Walks.{IsBehind, lines_at}
 use Rattle.link_audit.proofs.passing.pass.Given as goal
@@ -8,8 +7,8 @@ use Rattle.link_audit.proofs.passing.pass.Given as goal
 abbrev pub invariant-loop-line : goal.invariant-loop-line
 invariant-loop-line g l = record {
   behind : IsBehind
-      (IsAhead (dialect_of (g.D.Dialect.may_answer l.dialect) (g.D.Dialect.text l.dialect)) (subject_of l.log l.boards l.agent) l.reached (lines_at l.asked l.from) [] (SESSION_LINES - l.lines))
-      (IsAhead (dialect_of (g.D.Dialect.may_answer l.dialect) (g.D.Dialect.text l.dialect)) (subject_of l.log l.boards l.agent) l.places (lines_at l.asked l.at) [] (SESSION_LINES - l.line));
+      (IsAhead (g.D.Dialect.form l.dialect) (subject_of l.log l.boards l.agent) l.reached (lines_at l.asked l.from) [] (SESSION_LINES - l.lines))
+      (IsAhead (g.D.Dialect.form l.dialect) (subject_of l.log l.boards l.agent) l.places (lines_at l.asked l.at) [] (SESSION_LINES - l.line));
   wide : IsWide l.places;
   within : l.at ≤ length l.asked;
   few : l.count ≤ l.line;
