@@ -293,6 +293,7 @@ IN_WORDS: Dict[str, Tuple[str, str]] = {
     "draw_maker": ("FORMATS", "Made games"),
     "good_worth": ("FORMATS", "What a unit is worth"),
     "log_audit": ("FORMATS", "The audit of a log"),
+    "link_audit": ("FORMATS", "The audit of a link"),
     "tourney": ("FORMATS", "The standings"),
     "script_run": ("FORMATS", "Game script"),
 }

@@ -4,7 +4,7 @@ _geesefuton() {
     local programs commands
     programs="data doctor live lobby profiles quickstart recover report room seat tac tournament"
     programs+=" version"
-    commands="audit hotel make play serve show solve step table trial upgrade worth"
+    commands="audit hotel make play serve show solve step table trial upgrade vouch worth"
     if [ "$COMP_CWORD" -eq 1 ]; then
         mapfile -t COMPREPLY < <(compgen -W "$programs --help" -- "$word")
     elif [ "$COMP_CWORD" -eq 2 ] && [ "${COMP_WORDS[1]}" = tac ]; then

@@ -5,17 +5,14 @@ use Rattle.tac_io.specs.Counts.{Rose}
 use Rattle.tac_io.specs.States.{FilesState}
 use Rattle.game_text.specs.declared.fault.GameFault.{GameFault}
 use Rattle.game_text.specs.declared.fault.GameFault.TheVariants.{Line, TooLong}
-use Rattle.game_text.specs.Games.{GameFile}
-use Rattle.log_text.specs.LoggedGames.{LoggedGame}
-use Rattle.log_text.specs.SoundLog.{IsSound}
 use Rattle.script_run.specs.declared.game.lines.GameLine.{GameLine as ScriptLine}
 use Rattle.tac_commands.specs.declared.file_kinds.FileKind.{FileKind}
-use Rattle.tac_commands.specs.declared.file_kinds.FileKind.TheVariants.{Game, HotelScript, GameScript, Account, Log}
+use Rattle.tac_commands.specs.declared.file_kinds.FileKind.TheVariants.{Game, HotelScript, GameScript, Account, Log, Bytes}
 use Rattle.tac_commands.specs.declared.refusals.Refusal.{Refusal}
 use Rattle.tac_commands.specs.declared.refusals.Refusal.TheVariants.{Memory}
 use Rattle.tac_commands.specs.{Value, read_as, refusal_of, refused_code, Content, IsFileRead, IsNotRead, HasFault, Outcome, Unsound, Refused, refusal_end, code_of, IsQuiet, Holds, HasBad, HasRefused, AreGood, HasUnsound, EndsAt, EndsAtAudit, SelectsFiles}
 use Rattle.tac_commands.specs.Runs.{Runs, StopsAt, with_name}
-use Rattle.tac_commands.specs.Steps.{NamedFile, Steps, Reads, Audits, Hears, EndsWith, file as named}
+use Rattle.tac_commands.specs.Steps.{NamedFile, Steps, Reads, Judges, Hears, EndsWith, file as named}
 use Rattle.tac_commands.proofs.HeardFiles.{HeardSo, StopsSo, heard_so}
 use Rattle.tac_commands.proofs.Unambiguous.{not_both, same_file, same_value}
 use Rattle.tac_commands.proofs.OwnCodes.{EndsWithin, IsLastCode}
@@ -29,6 +26,7 @@ kind_code HotelScript = inr refl
 kind_code GameScript = inr refl
 kind_code Account = inr refl
 kind_code Log = inr refl
+kind_code Bytes = inr refl
 
 fault_code : (kind : FileKind) (fault : GameFault) → (refusal_end (refusal_of kind fault)).0 ≡ refused_code kind
 fault_code Game (Line line reason) = refl
@@ -41,6 +39,8 @@ fault_code Account (Line line reason) = refl
 fault_code Account TooLong = refl
 fault_code Log (Line line reason) = refl
 fault_code Log TooLong = refl
+fault_code Bytes (Line line reason) = refl
+fault_code Bytes TooLong = refl
 
 stopped : (files files' : FilesState) (kind : FileKind) (name : List ℕ) (refusal : Refusal) (outcome : Outcome) → outcome ≡ Refused refusal → IsNotRead files files' kind name refusal →
     StopsSo files files' kind name (code_of outcome)
@@ -91,13 +91,13 @@ same_read (Some files) file value read good is =
 -- ---- one audit
 
 -- why the run stopped at an audit, with its code
-abbrev StoppedSo : GameFile → LoggedGame → ℕ → Type 0
-StoppedSo game log code = ((code ≡ 9) × (IsSound game log → ⊥)) ⊎ (code ≡ 7)
+abbrev StoppedSo : Type 0 → ℕ → Type 0
+StoppedSo IsRight code = ((code ≡ 9) × (IsRight → ⊥)) ⊎ (code ≡ 7)
 
-audit_stopped : (game : GameFile) (log : LoggedGame) (IsDue : List ℕ → Type 0) (outcome : Outcome) → StopsAt game log IsDue outcome → StoppedSo game log (code_of outcome)
-audit_stopped game log IsDue (Unsound text) stop = inl (refl, stop.0)
-audit_stopped game log IsDue (Refused Memory) stop = inr refl
-audit_stopped game log IsDue outcome stop = absurd stop
+audit_stopped : (IsRight : Type 0) (IsDue : List ℕ → Type 0) (outcome : Outcome) → StopsAt IsRight IsDue outcome → StoppedSo IsRight (code_of outcome)
+audit_stopped IsRight IsDue (Unsound text) stop = inl (refl, stop.0)
+audit_stopped IsRight IsDue (Refused Memory) stop = inr refl
+audit_stopped IsRight IsDue outcome stop = absurd stop
 
 -- ---- all steps
 
@@ -111,9 +111,9 @@ module _ (files' : FilesState) (outcome : Outcome) where
   explained_at files kind name (inr (inl memory)) = let seven = memory.0 in inr (λ three. omega (arith, seven, three), memory.1)
   explained_at files kind name (inr (inr refused)) = let is = refused.0 in let either = kind_code kind in inr (λ three. grind (arith, is, either, three), refused.2)
 
-  explained_at_audit : (files : FilesState) (game : GameFile) (log : LoggedGame) → StoppedSo game log (code_of outcome) → files'.faults ≡ files.faults → IsExplained files
-  explained_at_audit files game log (inl unsound) same = let nine = unsound.0 in inr (λ three. omega (arith, nine, three), same)
-  explained_at_audit files game log (inr seven) same = inr (λ three. omega (arith, seven, three), same)
+  explained_at_audit : (files : FilesState) (IsRight : Type 0) → StoppedSo IsRight (code_of outcome) → files'.faults ≡ files.faults → IsExplained files
+  explained_at_audit files IsRight (inl unsound) same = let nine = unsound.0 in inr (λ three. omega (arith, nine, three), same)
+  explained_at_audit files IsRight (inr seven) same = inr (λ three. omega (arith, seven, three), same)
 
   -- a refused file's code
   abbrev pub IsRefusing : ℕ → Type 0
@@ -141,9 +141,9 @@ module _ (files' : FilesState) (outcome : Outcome) where
   script_refused files code name replies allows refusing is (inr (inl memory)) = let seven = memory.0 in absurd (grind (arith, refusing, is, seven))
   script_refused files code name replies allows refusing is (inr (inr refused)) = here_bad files.content code name replies allows refused.1.0 (sym is ∙ refused.0) refused.1.1
 
-  audit_refuses_none : (code : ℕ) (game : GameFile) (log : LoggedGame) → IsRefusing code → code_of outcome ≡ code → StoppedSo game log (code_of outcome) → ⊥
-  audit_refuses_none code game log refusing is (inl unsound) = let nine = unsound.0 in grind (arith, refusing, is, nine)
-  audit_refuses_none code game log refusing is (inr seven) = grind (arith, refusing, is, seven)
+  audit_refuses_none : (code : ℕ) (IsRight : Type 0) → IsRefusing code → code_of outcome ≡ code → StoppedSo IsRight (code_of outcome) → ⊥
+  audit_refuses_none code IsRight refusing is (inl unsound) = let nine = unsound.0 in grind (arith, refusing, is, nine)
+  audit_refuses_none code IsRight refusing is (inr seven) = grind (arith, refusing, is, seven)
 
   -- a later file is refused if this one was read
   later_refused : (known : Content) (code : ℕ) (file : NamedFile) (next : Value file.kind → Steps) (value : Value file.kind) → IsFileRead known file.kind file.name value →
@@ -173,9 +173,9 @@ module _ (files' : FilesState) (outcome : Outcome) where
   good_at files file value good quiet (inr (inr refused)) = absurd (good_no_fault files.content file value refused.1.0 good refused.1.1)
 
   -- a log that is sound stops no run, but memory may be refused for the audit
-  sound_at : (game : GameFile) (log : LoggedGame) → IsSound game log → StoppedSo game log (code_of outcome) → code_of outcome ≡ 7
-  sound_at game log sound (inl unsound) = absurd (unsound.1 sound)
-  sound_at game log sound (inr seven) = seven
+  sound_at : (IsRight : Type 0) → IsRight → StoppedSo IsRight (code_of outcome) → code_of outcome ≡ 7
+  sound_at IsRight sound (inl unsound) = absurd (unsound.1 sound)
+  sound_at IsRight sound (inr seven) = seven
 
   pub refused_due : (code : ℕ) (steps : Steps) (files : FilesState) → IsQuiet files.faults files'.faults → HasRefused files.content code steps → Runs steps files files' outcome → IsCodeDue code
   refused_due code (Reads file next) files quiet (inl here) (inl read) = absurd (read_not_bad files.content file read.0 read.1 here.1)
@@ -186,8 +186,8 @@ module _ (files' : FilesState) (outcome : Outcome) where
       (subst (λ (v : Value file.kind). Runs (next v) (with_name files file.name) files' outcome) (same_read files.content file later.0 read.0 later.1 read.1) read.2)
   refused_due code (Reads file next) files quiet (inr later) (inr stop) =
       inr (inl (good_at files file later.0 later.1 quiet (stopped files files' file.kind file.name stop.0 outcome stop.1 stop.2)))
-  refused_due code (Audits game log IsDue next) files quiet refused (inl run) = refused_due code next files quiet refused.1 run.1
-  refused_due code (Audits game log IsDue next) files quiet refused (inr stop) = inr (inl (sound_at game log refused.0 (audit_stopped game log IsDue outcome stop.0)))
+  refused_due code (Judges IsRight IsDue next) files quiet refused (inl run) = refused_due code next files quiet refused.1 run.1
+  refused_due code (Judges IsRight IsDue next) files quiet refused (inr stop) = inr (inl (sound_at IsRight refused.0 (audit_stopped IsRight IsDue outcome stop.0)))
   refused_due code (Hears name replies allows) files quiet refused run = heard_due (heard_so replies allows files files' name outcome run.0)
     where
       heard_due : HeardSo files files' allows name outcome → IsCodeDue code
@@ -198,9 +198,9 @@ module _ (files' : FilesState) (outcome : Outcome) where
 
   -- ---- a log that is not sound
 
-  unsound_at : (game : GameFile) (log : LoggedGame) → StoppedSo game log (code_of outcome) → (code_of outcome ≡ 9) ⊎ (code_of outcome ≡ 7)
-  unsound_at game log (inl unsound) = inl unsound.0
-  unsound_at game log (inr seven) = inr seven
+  unsound_at : (IsRight : Type 0) → StoppedSo IsRight (code_of outcome) → (code_of outcome ≡ 9) ⊎ (code_of outcome ≡ 7)
+  unsound_at IsRight (inl unsound) = inl unsound.0
+  unsound_at IsRight (inr seven) = inr seven
 
   pub unsound_due : (steps : Steps) (files : FilesState) → IsQuiet files.faults files'.faults → HasUnsound files.content steps → Runs steps files files' outcome →
       (code_of outcome ≡ 9) ⊎ (code_of outcome ≡ 7)
@@ -209,9 +209,9 @@ module _ (files' : FilesState) (outcome : Outcome) where
       (subst (λ (v : Value file.kind). Runs (next v) (with_name files file.name) files' outcome) (same_read files.content file unsound.0 read.0 unsound.1 read.1) read.2)
   unsound_due (Reads file next) files quiet unsound (inr stop) =
       inr (good_at files file unsound.0 unsound.1 quiet (stopped files files' file.kind file.name stop.0 outcome stop.1 stop.2))
-  unsound_due (Audits game log IsDue next) files quiet (inl not_sound) (inl run) = absurd (not_sound run.0)
-  unsound_due (Audits game log IsDue next) files quiet (inr later) (inl run) = unsound_due next files quiet later.1 run.1
-  unsound_due (Audits game log IsDue next) files quiet unsound (inr stop) = unsound_at game log (audit_stopped game log IsDue outcome stop.0)
+  unsound_due (Judges IsRight IsDue next) files quiet (inl not_sound) (inl run) = absurd (not_sound run.0)
+  unsound_due (Judges IsRight IsDue next) files quiet (inr later) (inl run) = unsound_due next files quiet later.1 run.1
+  unsound_due (Judges IsRight IsDue next) files quiet unsound (inr stop) = unsound_at IsRight (audit_stopped IsRight IsDue outcome stop.0)
   unsound_due (Hears name replies allows) files quiet unsound run = absurd unsound
   unsound_due (EndsWith allows) files quiet unsound run = absurd unsound
 
@@ -220,18 +220,18 @@ module _ (files' : FilesState) (outcome : Outcome) where
   no_unsound_file files file is (inr (inl memory)) = let seven = memory.0 in omega (arith, is, seven)
   no_unsound_file files file is (inr (inr refused)) = let same = refused.0 in let either = kind_code file.kind in grind (arith, is, same, either)
 
-  unsound_here : (game : GameFile) (log : LoggedGame) → code_of outcome ≡ 9 → StoppedSo game log (code_of outcome) → IsSound game log → ⊥
-  unsound_here game log is (inl unsound) = unsound.1
-  unsound_here game log is (inr seven) = absurd (omega (arith, is, seven))
+  unsound_here : (IsRight : Type 0) → code_of outcome ≡ 9 → StoppedSo IsRight (code_of outcome) → IsRight → ⊥
+  unsound_here IsRight is (inl unsound) = unsound.1
+  unsound_here IsRight is (inr seven) = absurd (omega (arith, is, seven))
 
   later_unsound : (known : Content) (file : NamedFile) (next : Value file.kind → Steps) (value : Value file.kind) → IsFileRead known file.kind file.name value →
       IfSome known (λ _. HasUnsound known (next value)) → IfSome known (λ _. HasUnsound known (Reads file next))
   later_unsound None file next value is unsound = tt
   later_unsound (Some given) file next value is unsound = (value, good given file value is, unsound)
 
-  here_unsound : (known : Content) (game : GameFile) (log : LoggedGame) (IsDue : List ℕ → Type 0) (next : Steps) → (IsSound game log → ⊥) → IfSome known (λ _. HasUnsound known (Audits game log IsDue next))
-  here_unsound None game log IsDue next not_sound = tt
-  here_unsound (Some given) game log IsDue next not_sound = inl not_sound
+  here_unsound : (known : Content) (IsRight : Type 0) (IsDue : List ℕ → Type 0) (next : Steps) → (IsRight → ⊥) → IfSome known (λ _. HasUnsound known (Judges IsRight IsDue next))
+  here_unsound None IsRight IsDue next not_sound = tt
+  here_unsound (Some given) IsRight IsDue next not_sound = inl not_sound
 
   -- ---- by the codes of the last step
 
@@ -239,8 +239,8 @@ module _ (files' : FilesState) (outcome : Outcome) where
     pub read_explained : (steps : Steps) → EndsWithin Own steps → (files : FilesState) → Runs steps files files' outcome → IsExplained files
     read_explained (Reads file next) own files (inl read) = read_explained (next read.0) (own read.0) (with_name files file.name) read.2
     read_explained (Reads file next) own files (inr stop) = explained_at files file.kind file.name (stopped files files' file.kind file.name stop.0 outcome stop.1 stop.2)
-    read_explained (Audits game log IsDue next) own files (inl run) = read_explained next own files run.1
-    read_explained (Audits game log IsDue next) own files (inr stop) = explained_at_audit files game log (audit_stopped game log IsDue outcome stop.0) stop.1.1
+    read_explained (Judges IsRight IsDue next) own files (inl run) = read_explained next own files run.1
+    read_explained (Judges IsRight IsDue next) own files (inr stop) = explained_at_audit files IsRight (audit_stopped IsRight IsDue outcome stop.0) stop.1.1
     read_explained (Hears name replies allows) own files run = heard_told (heard_so replies allows files files' name outcome run.0)
       where
         heard_told : HeardSo files files' allows name outcome → IsExplained files
@@ -260,9 +260,9 @@ module _ (files' : FilesState) (outcome : Outcome) where
         later_refused files.content code file next read.0 read.1 (refused_only code refusing (next read.0) (own read.0) (with_name files file.name) read.2 is)
     refused_only code refusing (Reads file next) own files (inr stop) is =
         refused_at files code file next refusing is (stopped files files' file.kind file.name stop.0 outcome stop.1 stop.2)
-    refused_only code refusing (Audits game log IsDue next) own files (inl run) is =
-        behind_sound files.content (HasRefused files.content code next) (IsSound game log × HasRefused files.content code next) (λ refused. (run.0, refused)) (refused_only code refusing next own files run.1 is)
-    refused_only code refusing (Audits game log IsDue next) own files (inr stop) is = absurd (audit_refuses_none code game log refusing is (audit_stopped game log IsDue outcome stop.0))
+    refused_only code refusing (Judges IsRight IsDue next) own files (inl run) is =
+        behind_sound files.content (HasRefused files.content code next) (IsRight × HasRefused files.content code next) (λ refused. (run.0, refused)) (refused_only code refusing next own files run.1 is)
+    refused_only code refusing (Judges IsRight IsDue next) own files (inr stop) is = absurd (audit_refuses_none code IsRight refusing is (audit_stopped IsRight IsDue outcome stop.0))
     refused_only code refusing (Hears name replies allows) own files run is = heard_refused (heard_so replies allows files files' name outcome run.0)
       where
         heard_refused : HeardSo files files' allows name outcome → IfSome files.content (λ _. HasRefused files.content code (Hears name replies allows))
@@ -277,10 +277,10 @@ module _ (files' : FilesState) (outcome : Outcome) where
     unsound_only (Reads file next) own files (inl read) is =
         later_unsound files.content file next read.0 read.1 (unsound_only (next read.0) (own read.0) (with_name files file.name) read.2 is)
     unsound_only (Reads file next) own files (inr stop) is = absurd (no_unsound_file files file is (stopped files files' file.kind file.name stop.0 outcome stop.1 stop.2))
-    unsound_only (Audits game log IsDue next) own files (inl run) is =
-        behind_sound files.content (HasUnsound files.content next) (HasUnsound files.content (Audits game log IsDue next)) (λ unsound. inr (run.0, unsound)) (unsound_only next own files run.1 is)
-    unsound_only (Audits game log IsDue next) own files (inr stop) is =
-        here_unsound files.content game log IsDue next (unsound_here game log is (audit_stopped game log IsDue outcome stop.0))
+    unsound_only (Judges IsRight IsDue next) own files (inl run) is =
+        behind_sound files.content (HasUnsound files.content next) (HasUnsound files.content (Judges IsRight IsDue next)) (λ unsound. inr (run.0, unsound)) (unsound_only next own files run.1 is)
+    unsound_only (Judges IsRight IsDue next) own files (inr stop) is =
+        here_unsound files.content IsRight IsDue next (unsound_here IsRight is (audit_stopped IsRight IsDue outcome stop.0))
     unsound_only (Hears name replies allows) own files run is = absurd (heard_sound (heard_so replies allows files files' name outcome run.0))
       where
         heard_sound : HeardSo files files' allows name outcome → ⊥
@@ -299,15 +299,15 @@ module _ (files' : FilesState) (outcome : Outcome) where
     ready_later content file next value good (inr (inr (inl four))) = inr (inr (inl four))
     ready_later content file next value good (inr (inr (inr unsound))) = inr (inr (inr (unsound.0, (value, good, unsound.1))))
 
-    ready_behind : (content : Content) (game : GameFile) (log : LoggedGame) (IsDue : List ℕ → Type 0) (next : Steps) → IsSound game log → IsReadyEnd content next → IsReadyEnd content (Audits game log IsDue next)
-    ready_behind content game log IsDue next sound (inl own) = inl own
-    ready_behind content game log IsDue next sound (inr (inl seven)) = inr (inl seven)
-    ready_behind content game log IsDue next sound (inr (inr (inl four))) = inr (inr (inl four))
-    ready_behind content game log IsDue next sound (inr (inr (inr unsound))) = inr (inr (inr (unsound.0, inr (sound, unsound.1))))
+    ready_behind : (content : Content) (IsRight : Type 0) (IsDue : List ℕ → Type 0) (next : Steps) → IsRight → IsReadyEnd content next → IsReadyEnd content (Judges IsRight IsDue next)
+    ready_behind content IsRight IsDue next sound (inl own) = inl own
+    ready_behind content IsRight IsDue next sound (inr (inl seven)) = inr (inl seven)
+    ready_behind content IsRight IsDue next sound (inr (inr (inl four))) = inr (inr (inl four))
+    ready_behind content IsRight IsDue next sound (inr (inr (inr unsound))) = inr (inr (inr (unsound.0, inr (sound, unsound.1))))
 
-    ready_at_audit : (content : Content) (game : GameFile) (log : LoggedGame) (IsDue : List ℕ → Type 0) (next : Steps) → StoppedSo game log (code_of outcome) → IsReadyEnd content (Audits game log IsDue next)
-    ready_at_audit content game log IsDue next (inl unsound) = inr (inr (inr (unsound.0, inl unsound.1)))
-    ready_at_audit content game log IsDue next (inr seven) = inr (inl seven)
+    ready_at_audit : (content : Content) (IsRight : Type 0) (IsDue : List ℕ → Type 0) (next : Steps) → StoppedSo IsRight (code_of outcome) → IsReadyEnd content (Judges IsRight IsDue next)
+    ready_at_audit content IsRight IsDue next (inl unsound) = inr (inr (inr (unsound.0, inl unsound.1)))
+    ready_at_audit content IsRight IsDue next (inr seven) = inr (inl seven)
 
     pub ready : (steps : Steps) → EndsWithin Own steps → (files : FilesState) → IsQuiet files.faults files'.faults → AreGood files.content steps → Runs steps files files' outcome → IsReadyEnd files.content steps
     ready (Reads file next) own files quiet are_good (inl read) =
@@ -315,9 +315,9 @@ module _ (files' : FilesState) (outcome : Outcome) where
         (subst (λ (v : Value file.kind). Runs (next v) (with_name files file.name) files' outcome) (same_read files.content file are_good.0 read.0 are_good.1 read.1) read.2))
     ready (Reads file next) own files quiet are_good (inr stop) =
         inr (inl (good_at files file are_good.0 are_good.1 quiet (stopped files files' file.kind file.name stop.0 outcome stop.1 stop.2)))
-    ready (Audits game log IsDue next) own files quiet are_good (inl run) =
-        ready_behind files.content game log IsDue next run.0 (ready next own files quiet (are_good run.0) run.1)
-    ready (Audits game log IsDue next) own files quiet are_good (inr stop) = ready_at_audit files.content game log IsDue next (audit_stopped game log IsDue outcome stop.0)
+    ready (Judges IsRight IsDue next) own files quiet are_good (inl run) =
+        ready_behind files.content IsRight IsDue next run.0 (ready next own files quiet (are_good run.0) run.1)
+    ready (Judges IsRight IsDue next) own files quiet are_good (inr stop) = ready_at_audit files.content IsRight IsDue next (audit_stopped IsRight IsDue outcome stop.0)
     ready (Hears name replies allows) own files quiet are_good run = heard_ready (heard_so replies allows files files' name outcome run.0)
       where
         heard_ready : HeardSo files files' allows name outcome → IsReadyEnd files.content (Hears name replies allows)
@@ -341,16 +341,16 @@ module _ (files' : FilesState) (outcome : Outcome) where
         by_kind (inl two) = inl (refused.0 ∙ two)
         by_kind (inr eight) = inr (inr (inr (inl (refused.0 ∙ eight))))
 
-    audit_code : (game : GameFile) (log : LoggedGame) → StoppedSo game log (code_of outcome) → IsEarlyCode (code_of outcome)
-    audit_code game log (inl unsound) = inr (inr (inr (inr (inl unsound.0))))
-    audit_code game log (inr seven) = inr (inr (inl seven))
+    audit_code : (IsRight : Type 0) → StoppedSo IsRight (code_of outcome) → IsEarlyCode (code_of outcome)
+    audit_code IsRight (inl unsound) = inr (inr (inr (inr (inl unsound.0))))
+    audit_code IsRight (inr seven) = inr (inr (inl seven))
 
     -- the code is one of the last step, or of a file or an audit
     pub codes : (steps : Steps) → EndsWithin Own steps → (files : FilesState) → Runs steps files files' outcome → Own (code_of outcome) ⊎ IsEarlyCode (code_of outcome)
     codes (Reads file next) own files (inl read) = codes (next read.0) (own read.0) (with_name files file.name) read.2
     codes (Reads file next) own files (inr stop) = inr (file_code_at files file.kind file.name (stopped files files' file.kind file.name stop.0 outcome stop.1 stop.2))
-    codes (Audits game log IsDue next) own files (inl run) = codes next own files run.1
-    codes (Audits game log IsDue next) own files (inr stop) = inr (audit_code game log (audit_stopped game log IsDue outcome stop.0))
+    codes (Judges IsRight IsDue next) own files (inl run) = codes next own files run.1
+    codes (Judges IsRight IsDue next) own files (inr stop) = inr (audit_code IsRight (audit_stopped IsRight IsDue outcome stop.0))
     codes (Hears name replies allows) own files run = heard_code (heard_so replies allows files files' name outcome run.0)
       where
         heard_code : HeardSo files files' allows name outcome → Own (code_of outcome) ⊎ IsEarlyCode (code_of outcome)
@@ -368,10 +368,10 @@ module _ (files' : FilesState) (outcome : Outcome) where
       ends_at files kind name (inr (inl memory)) (inr same) = inr (inr (inl (same ∙ memory.0)))
       ends_at files kind name (inr (inr refused)) (inr same) = inr (inr (inr (same ∙ refused.0)))
 
-      ends_at_audit : (game : GameFile) (log : LoggedGame) → StoppedSo game log (code_of outcome) → (code ≡ 4) ⊎ (code ≡ code_of outcome) → EndsAtAudit code
-      ends_at_audit game log stop (inl four) = inl four
-      ends_at_audit game log (inl unsound) (inr same) = inr (inr (same ∙ unsound.0))
-      ends_at_audit game log (inr seven) (inr same) = inr (inl (same ∙ seven))
+      ends_at_audit : (IsRight : Type 0) → StoppedSo IsRight (code_of outcome) → (code ≡ 4) ⊎ (code ≡ code_of outcome) → EndsAtAudit code
+      ends_at_audit IsRight stop (inl four) = inl four
+      ends_at_audit IsRight (inl unsound) (inr same) = inr (inr (same ∙ unsound.0))
+      ends_at_audit IsRight (inr seven) (inr same) = inr (inl (same ∙ seven))
 
       not_code : (due : ℕ) → (code_of outcome ≡ due → ⊥) → 4 ≢ due → (code ≡ 4) ⊎ (code ≡ code_of outcome) → code ≢ due
       not_code due not not_four (inl four) is = not_four (sym four ∙ is)
@@ -381,8 +381,8 @@ module _ (files' : FilesState) (outcome : Outcome) where
       selects (Reads file next) own files (inl read) = inr (read.0, read.1, selects (next read.0) (own read.0) (with_name files file.name) read.2)
       selects (Reads file next) own files (inr stop) =
           inl (stop.3, ends_at files file.kind file.name (stopped files files' file.kind file.name stop.0 outcome stop.1 stop.2) known)
-      selects (Audits game log IsDue next) own files (inl run) = inr (run.0, selects next own files run.1)
-      selects (Audits game log IsDue next) own files (inr stop) = inl (stop.1.0, ends_at_audit game log (audit_stopped game log IsDue outcome stop.0) known)
+      selects (Judges IsRight IsDue next) own files (inl run) = inr (run.0, selects next own files run.1)
+      selects (Judges IsRight IsDue next) own files (inr stop) = inl (stop.1.0, ends_at_audit IsRight (audit_stopped IsRight IsDue outcome stop.0) known)
       selects (Hears name replies allows) own files run =
           let none = heard_code (heard_so replies allows files files' name outcome run.0) in (
             run.1,

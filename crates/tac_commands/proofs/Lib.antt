@@ -10,6 +10,7 @@ pub mod WrittenLogs
 pub mod CodedOutcomes
 pub mod Endings
 pub mod ReadFiles
+pub mod VouchedLogs
 pub mod RanScripts
 pub mod SteppedScripts
 pub mod PromptSteps

@@ -1,4 +1,4 @@
--- How a file that is too long is read, and a script or a log that is not.
+-- How a file that is too long is read, and a script, a log or bytes that are not.
 use Rattle.std.proofs.Common.{◌≡◌, ℕ, suc, ◌<◌, ◌≤◌, List, length, true, false, ap, ◌∙◌, arith}
 use Rattle.std.specs.Prelude.{nat_lt, replicate, Result, Ok, Err, Some, None}
 use Rattle.std.proofs.lemmas.Bool.Decides.{nat_tests}
@@ -15,8 +15,8 @@ use Rattle.script_run.specs.ScriptLines.{BadLine}
 use Rattle.script_run.specs.HotelScripts.{script_of}
 use Rattle.script_run.specs.GameScripts.{game_script}
 use Rattle.tac_commands.specs.declared.file_kinds.FileKind.{FileKind}
-use Rattle.tac_commands.specs.declared.file_kinds.FileKind.TheVariants.{Game, HotelScript, GameScript, Account, Log}
-use Rattle.tac_commands.specs.{most_bytes, lines_or_fault, script_in, read_as, logged_or_fault, Content, HasFault}
+use Rattle.tac_commands.specs.declared.file_kinds.FileKind.TheVariants.{Game, HotelScript, GameScript, Account, Log, Bytes}
+use Rattle.tac_commands.specs.{bytes_in, most_bytes, lines_or_fault, script_in, read_as, logged_or_fault, Content, HasFault}
 
 long_game : (bytes : List ℕ) → 1048576 < length bytes → game_of bytes ≡ Err TooLong
 unfolding game_of
@@ -30,6 +30,9 @@ long_log : (bytes : List ℕ) → 67108864 < length bytes → logged_or_fault (l
 unfolding log_of
 long_log bytes long = let test : nat_lt 67108864 (length bytes) ≡ true = grind (arith, nat_tests) in rw test
 
+long_bytes : (bytes : List ℕ) → 67108863 < length bytes → bytes_in bytes ≡ Err TooLong
+long_bytes bytes long = let test : nat_lt 67108863 (length bytes) ≡ true = grind (arith, nat_tests) in rw test
+
 long_script : {A : Type 0} (bytes : List ℕ) (read : Result A BadLine) → 67108864 < length bytes → script_in bytes read ≡ Err TooLong
 long_script bytes read long = let test : nat_lt 67108864 (length bytes) ≡ true = grind (arith, nat_tests) in rw test
 
@@ -39,6 +42,7 @@ long_file HotelScript bytes long = long_script bytes (script_of bytes) long
 long_file GameScript bytes long = long_script bytes (game_script bytes) long
 long_file Account bytes long = long_account bytes long
 long_file Log bytes long = long_log bytes long
+long_file Bytes bytes long = long_bytes bytes long
 
 -- some bytes are too many
 longer : (n : ℕ) (zeros : List ℕ) → length zeros ≡ suc n → (bytes : List ℕ) × (n < length bytes)
@@ -52,7 +56,7 @@ pub has_long_fault : (content : Content) (kind : FileKind) (name : List ℕ) →
 has_long_fault None kind name long = let some = some_long (most_bytes kind) in (some.0, tt, long_file kind some.0 some.1)
 has_long_fault (Some files) kind name long = (long.0, long.1, long_file kind long.0 long.2)
 
--- ---- scripts and logs
+-- ---- scripts, logs and bytes
 
 short_script : {A : Type 0} (bytes : List ℕ) (read : Result A BadLine) → length bytes ≤ 67108864 → script_in bytes read ≡ lines_or_fault read
 short_script bytes read short = let test : nat_lt 67108864 (length bytes) ≡ false = grind (arith, nat_tests) in rw test
@@ -62,6 +66,9 @@ good_hotel bytes lines short good = short_script bytes (script_of bytes) short �
 
 pub bad_hotel : (bytes : List ℕ) (line reason : ℕ) → length bytes ≤ 67108864 → script_of bytes ≡ Err (line, reason) → read_as HotelScript bytes ≡ Err (Line line reason)
 bad_hotel bytes line reason short bad = short_script bytes (script_of bytes) short ∙ ap lines_or_fault bad
+
+pub good_bytes : (bytes : List ℕ) → length bytes ≤ 67108863 → read_as Bytes bytes ≡ Ok bytes
+good_bytes bytes short = let test : nat_lt 67108863 (length bytes) ≡ false = grind (arith, nat_tests) in rw test
 
 pub bad_log : (bytes : List ℕ) (line : ℕ) → log_of bytes ≡ Err (logs.Line line) → read_as Log bytes ≡ Err (Line line 1)
 bad_log bytes line bad = ap logged_or_fault bad

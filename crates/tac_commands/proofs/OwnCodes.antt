@@ -5,13 +5,13 @@ use Rattle.game_text.specs.Games.{GameFile}
 use Rattle.log_text.specs.LoggedGames.{LoggedGame}
 use Rattle.script_run.specs.declared.game.lines.GameLine.{GameLine as ScriptLine}
 use Rattle.tac_commands.specs.declared.refusals.Refusal.TheVariants.{LinkFault, Memory}
-use Rattle.tac_commands.specs.{WritesDue, WritesInParts, WritesOrStops, IsServiceEnd, table_steps, batch_steps, steps_of, BatchCommand, Hotel, Show, Upgrade, Make, Solve, Worth, Play, Step, Trial, Audit, Table, Command, Batch, Serve, Value, Outcome, Done, Lapsed, Stopped, Refused, code_of}
-use Rattle.tac_commands.specs.Steps.{Steps, Reads, Audits, Hears, EndsWith}
+use Rattle.tac_commands.specs.{WritesDue, WritesInParts, WritesOrStops, IsServiceEnd, table_steps, batch_steps, steps_of, BatchCommand, Hotel, Show, Upgrade, Make, Solve, Worth, Play, Step, Trial, Audit, Vouch, Table, Command, Batch, Serve, Value, Outcome, Done, Lapsed, Stopped, Refused, code_of}
+use Rattle.tac_commands.specs.Steps.{Steps, Reads, Judges, Hears, EndsWith}
 
 -- the codes of what the last step allows, whatever the files hold
 abbrev pub EndsWithin : (ℕ → Type 0) → Steps → Type 0
 EndsWithin Own (Reads file next) = (value : Value file.kind) → EndsWithin Own (next value)
-EndsWithin Own (Audits game log IsDue next) = EndsWithin Own next
+EndsWithin Own (Judges IsRight IsDue next) = EndsWithin Own next
 EndsWithin Own (Hears name replies allows) = (lines : List ScriptLine) (outcome : Outcome) → allows lines outcome → Own (code_of outcome)
 EndsWithin Own (EndsWith allows) = (outcome : Outcome) → allows outcome → Own (code_of outcome)
 
@@ -49,6 +49,7 @@ batch_code (Play name script) = λ game lines outcome allowed. in_parts _ _ outc
 batch_code (Step name script) = λ game lines outcome allowed. or_stops _ _ outcome allowed.0
 batch_code (Trial seed count) = λ outcome allowed. writes _ outcome allowed
 batch_code (Audit name log_name) = λ game log outcome allowed. writes _ outcome allowed
+batch_code (Vouch name log_name asked_name said_name form) = λ game log asked said outcome allowed. writes _ outcome allowed
 batch_code (Table pairs) = table_code pairs []
 
 -- for any command

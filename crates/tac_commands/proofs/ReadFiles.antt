@@ -11,7 +11,7 @@ use Rattle.tac_commands.specs.declared.file_kinds.FileKind.{FileKind}
 use Rattle.tac_commands.specs.declared.refusals.Refusal.{Refusal}
 use Rattle.tac_commands.specs.{Value, Content, IsFileRead, IsNotRead, HasFault, IsGiven, IsHeard, IsUnheard, Outcome}
 use Rattle.tac_commands.specs.Runs.{Runs, with_name}
-use Rattle.tac_commands.specs.Steps.{NamedFile, Steps, Reads, Audits, Hears, EndsWith}
+use Rattle.tac_commands.specs.Steps.{NamedFile, Steps, Reads, Judges, Hears, EndsWith}
 use Rattle.tac_commands.specs.Ends.{Ends, EndsSteps}
 use Rattle.tac_commands.proofs.Endings.{weaker}
 
@@ -37,8 +37,8 @@ module _ (last : FilesState) (outcome : Outcome) where
     still_not_read files files' file.kind file.name stop.0 same quiet stop.2,
     stop.3 ∙ ap (λ names. known_then names (file.name ∷ [])) selected,
   )
-  runs_from (Audits game log IsDue next) files files' same selected quiet (inl run) = inl (run.0, runs_from next files files' same selected quiet run.1)
-  runs_from (Audits game log IsDue next) files files' same selected quiet (inr stop) = inr (stop.0, (stop.1.0 ∙ selected, stop.1.1 ∙ quiet))
+  runs_from (Judges IsRight IsDue next) files files' same selected quiet (inl run) = inl (run.0, runs_from next files files' same selected quiet run.1)
+  runs_from (Judges IsRight IsDue next) files files' same selected quiet (inr stop) = inr (stop.0, (stop.1.0 ∙ selected, stop.1.1 ∙ quiet))
   runs_from (Hears name replies allows) files files' same selected quiet run =
       (still_heard run.0, run.1 ∙ ap (λ names. known_then names (name ∷ [])) selected)
     where

@@ -7,6 +7,7 @@ use Rattle.tac_io.specs.States.{FilesState, SinkState}
 use Rattle.tac_io.specs.Known.{known_then}
 use Rattle.game_text.specs.Games.{GameFile}
 use Rattle.log_text.specs.LoggedGames.{LoggedGame}
+use Rattle.log_text.specs.SoundLog.{IsSound}
 use Rattle.tourney.specs.StandingsTexts.{IsPrinted}
 use Rattle.tourney.specs.Tallies.{Kept, AreStandingsOf}
 use Rattle.tac_commands.specs.declared.file_kinds.FileKind.TheVariants.{Game, Log}
@@ -17,14 +18,14 @@ use Rattle.tac_commands.specs.declared.ends.End.{End}
 use Rattle.tac_commands.specs.{WritesDue, table_steps, in_pairs, IsFileRead, IsNotRead, unsound_text, Outcome, Unsound, Refused, EndsAtPair, TableGoesOn, IsAdded, outcome_of}
 use Rattle.tac_commands.specs.Ends.{Ends, EndsSteps}
 use Rattle.tac_commands.specs.Runs.{Runs, StopsAt, with_name}
-use Rattle.tac_commands.specs.Steps.{Steps, Reads, Audits, file}
+use Rattle.tac_commands.specs.Steps.{Steps, Reads, Judges, file}
 use Rattle.tac_commands.proofs.Endings.{weaker}
 use Rattle.tac_commands.proofs.Pairs.{named_at, none_left}
 use Rattle.tac_commands.proofs.ReadFiles.{runs_from, runs_on}
 
 -- what a table does at a pair once it has the game
 abbrev after_game : List (GameFile × LoggedGame) → List (List ℕ × List ℕ) → List ℕ → GameFile → Steps
-after_game played later log_name game = Reads (file Log log_name) (λ log. Audits game log (λ text. text ≡ unsound_text (length played)) (table_steps (played ++ (game, log) ∷ []) later))
+after_game played later log_name game = Reads (file Log log_name) (λ log. Judges (IsSound game log) (λ text. text ≡ unsound_text (length played)) (table_steps (played ++ (game, log) ∷ []) later))
 
 module _ (files between files' : FilesState) (game_name log_name : List ℕ) (pair : ℕ) (game : GameFile) (is_game : IsFileRead files.content Game game_name game)
     (same : between.content ≡ files.content) (selected : between.names ≡ known_then files.names (game_name ∷ [])) (quiet : between.faults ≡ files.faults)
@@ -39,13 +40,13 @@ module _ (files between files' : FilesState) (game_name log_name : List ℕ) (pa
 
   -- the audit of a log ended the table
   pub not_added : (log : LoggedGame) (fault : TableFault) → IsFileRead between.content Log log_name log → files'.faults ≡ between.faults →
-      StopsAt game log (λ text. text ≡ unsound_text pair) (outcome_of fault) → EndsAtPair files files' pair game_name log_name fault
+      StopsAt (IsSound game log) (λ text. text ≡ unsound_text pair) (outcome_of fault) → EndsAtPair files files' pair game_name log_name fault
   not_added log fault is_log also_quiet stops = λ played later is.
       goes played later (outcome_of fault)
-      (inl (log, is_log, inr (subst (λ (n : ℕ). StopsAt game log (λ text. text ≡ unsound_text n) (outcome_of fault)) (sym is) stops, (also_selected, also_quiet))))
+      (inl (log, is_log, inr (subst (λ (n : ℕ). StopsAt (IsSound game log) (λ text. text ≡ unsound_text n) (outcome_of fault)) (sym is) stops, (also_selected, also_quiet))))
 
   pub fault_of : {A : Type 0} (log : LoggedGame) (result : Result A TableFault) → IsFileRead between.content Log log_name log → files'.faults ≡ between.faults →
-      IfErr result (λ fault. StopsAt game log (λ text. text ≡ unsound_text pair) (outcome_of fault)) → IfErr result (EndsAtPair files files' pair game_name log_name)
+      IfErr result (λ fault. StopsAt (IsSound game log) (λ text. text ≡ unsound_text pair) (outcome_of fault)) → IfErr result (EndsAtPair files files' pair game_name log_name)
   fault_of log (Ok after) is_log also_quiet stops = tt
   fault_of log (Err fault) is_log also_quiet stops = not_added log fault is_log also_quiet stops
 

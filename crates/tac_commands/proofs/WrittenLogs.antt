@@ -59,7 +59,7 @@ written (Unread text) due = absurd due
 written (Refused Memory) due = inr refl
 written (Refused refusal) due = absurd due
 
-stopped : (game : GameFile) (log : LoggedGame) (outcome : Outcome) → IsSound game log → StopsAt game log (IsFlawText game log) outcome → SaysSound outcome
+stopped : (game : GameFile) (log : LoggedGame) (outcome : Outcome) → IsSound game log → StopsAt (IsSound game log) (IsFlawText game log) outcome → SaysSound outcome
 stopped game log (Done text) sound stops = absurd stops
 stopped game log (Lapsed text) sound stops = absurd stops
 stopped game log (Unsound text) sound stops = absurd (stops.0 sound)

@@ -20,19 +20,27 @@ use Rattle.script_run.specs.OneThreadRun.{replies}
 use Rattle.script_run.specs.QuietGames.{IsSummary}
 use Rattle.line_protocol.specs.Heads as heads
 use Rattle.log_text.specs.LoggedGames.{LoggedGame}
+use Rattle.log_text.specs.SoundLog.{IsSound}
 use Rattle.log_audit.specs.declared.findings.Flaw.{Flaw}
 use Rattle.log_audit.specs.Flaws.{IsFirstFlaw}
+use Rattle.agent_gate.specs.Dialects.{Dialect}
+use Rattle.link_audit.specs.declared.vouching.Difference.{Difference}
+use Rattle.link_audit.specs.declared.vouching.Vouching.{Vouching}
+use Rattle.link_audit.specs.Links.{IsVouched}
+use Rattle.link_audit.specs.Vouchings.{IsYes}
 use Rattle.tourney.specs.StandingsTexts.{IsPrinted}
-use Rattle.tac_commands.specs.declared.file_kinds.FileKind.TheVariants.{Game, HotelScript, GameScript, Account, Log}
+use Rattle.tac_commands.specs.declared.file_kinds.FileKind.TheVariants.{Game, HotelScript, GameScript, Account, Log, Bytes}
 use Rattle.tac_commands.specs.declared.refusals.Refusal.TheVariants.{Usage, LinkFault, Memory}
 use Rattle.tac_commands.specs.Cash.{IsCashOfPosts}
-use Rattle.tac_commands.specs.Commands.{BatchCommand, Hotel, Show, Upgrade, Make, Solve, Worth, Play, Step, Trial, Audit, Table, Command, Batch, Serve}
+use Rattle.tac_commands.specs.Commands.{BatchCommand, Hotel, Show, Upgrade, Make, Solve, Worth, Play, Step, Trial, Audit, Vouch, Table, Command, Batch, Serve}
 use Rattle.tac_commands.specs.FlawTexts.{flaw_text, unsound_text}
 use Rattle.tac_commands.specs.Outcomes.{Outcome, Done, Lapsed, Unsound, Stopped, Unwritten, Unread, Refused}
 use Rattle.tac_commands.specs.Runs.{AreUnasked, Runs}
+use Rattle.tac_commands.specs.Services.{dialect_in}
 use Rattle.tac_commands.specs.SoundTexts.{log_of_game, EndsInSoundLog}
-use Rattle.tac_commands.specs.Steps.{Steps, Reads, Audits, Hears, EndsWith, file}
+use Rattle.tac_commands.specs.Steps.{Steps, Reads, Judges, Hears, EndsWith, file}
 use Rattle.tac_commands.specs.Trials.{trial_text}
+use Rattle.tac_commands.specs.VouchingTexts.{difference_text, vouching_text}
 
 -- the text that is due is written, or memory was refused
 abbrev pub WritesDue : (List ℕ → Type 0) → Outcome → Type 0
@@ -100,7 +108,27 @@ step_steps game script = Hears script (replies game) (StepAllows game)
 
 -- a log is judged by its game: it is sound, or its first flaw is reported
 abbrev pub audit_steps : GameFile → LoggedGame → Steps
-audit_steps game log = Audits game log (IsFlawText game log) (EndsWith (WritesDue (λ text. text ≡ codes "sound\n")))
+audit_steps game log = Judges (IsSound game log) (IsFlawText game log) (EndsWith (WritesDue (λ text. text ≡ codes "sound\n")))
+
+-- a text of a link that the log is right about, as that of one of its agents
+abbrev pub IsVouchedText : GameFile → Dialect → LoggedGame → List ℕ → List ℕ → List ℕ → Type 0
+IsVouchedText game dialect log asked said text =
+    (agent : ℕ) × IsVouched game dialect log agent asked said × ((vouching : Vouching) × IsYes agent vouching × (text ≡ vouching_text vouching))
+
+-- a log is judged by the bytes that a link asked and was said: it is right about them, or a difference is reported
+abbrev pub link_steps : GameFile → Dialect → LoggedGame → List ℕ → List ℕ → Steps
+link_steps game dialect log asked said =
+    Judges ((agent : ℕ) × IsVouched game dialect log agent asked said) (λ text. (difference : Difference) × (text ≡ difference_text difference))
+    (EndsWith (WritesDue (IsVouchedText game dialect log asked said)))
+
+-- the two files of a link are read, and the log is judged by them
+abbrev pub link_file_steps : GameFile → Dialect → LoggedGame → List ℕ → List ℕ → Steps
+link_file_steps game dialect log asked_name said_name =
+    Reads (file Bytes asked_name) (λ asked. Reads (file Bytes said_name) (λ said. link_steps game dialect log asked said))
+
+-- a log is judged by its game, and by the files of a link if it is sound
+abbrev pub vouch_steps : GameFile → Dialect → List ℕ → List ℕ → LoggedGame → Steps
+vouch_steps game dialect asked_name said_name log = Judges (IsSound game log) (IsFlawText game log) (link_file_steps game dialect log asked_name said_name)
 
 -- Pairs of a game and its log are read and audited in turn, after those of the games that were played before them, and then the standings of
 -- all are written. The first log that is not sound is reported by the number of pairs before it.
@@ -108,7 +136,7 @@ abbrev pub table_steps : List (GameFile × LoggedGame) → List (List ℕ × Lis
 table_steps played [] = EndsWith (WritesDue (IsPrinted played []))
 table_steps played (pair ∷ pairs) =
     Reads (file Game pair.0) (λ game. Reads (file Log pair.1) (λ log.
-    Audits game log (λ text. text ≡ unsound_text (length played)) (table_steps (played ++ (game, log) ∷ []) pairs)))
+    Judges (IsSound game log) (λ text. text ≡ unsound_text (length played)) (table_steps (played ++ (game, log) ∷ []) pairs)))
 
 -- What a command that needs no links does.
 abbrev pub batch_steps : BatchCommand → Steps
@@ -132,6 +160,9 @@ batch_steps (Step name script) = Reads (file Game name) (λ game. step_steps gam
 batch_steps (Trial seed count) = EndsWith (WritesDue (IsTrial seed count))
 -- whether the log of a game is sound
 batch_steps (Audit name log_name) = Reads (file Game name) (λ game. Reads (file Log log_name) (audit_steps game))
+-- whether the log of a game is sound, and right about a link
+batch_steps (Vouch name log_name asked_name said_name form) =
+    Reads (file Game name) (λ game. Reads (file Log log_name) (vouch_steps game (dialect_in form) asked_name said_name))
 -- the standings of the teams of several games whose logs are sound
 batch_steps (Table pairs) = table_steps [] pairs
 

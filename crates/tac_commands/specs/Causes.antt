@@ -4,7 +4,6 @@ use Rattle.std.specs.Prelude.{◌≡◌, ℕ, ◌-◌, ◌^◌, ◌<◌, ◌⊎�
 use Rattle.tac_io.specs.Counts.{Rose}
 use Rattle.tac_io.specs.States.{FilesState, SinkState, LinksState, TickerState}
 use Rattle.game_text.specs.declared.fault.GameFault.{GameFault}
-use Rattle.log_text.specs.SoundLog.{IsSound}
 use Rattle.script_run.specs.declared.game.lines.GameLine.{GameLine as ScriptLine}
 use Rattle.tac_commands.specs.declared.file_kinds.FileKind.TheVariants.{GameScript}
 use Rattle.tac_commands.specs.Allowed.{steps_of}
@@ -12,7 +11,7 @@ use Rattle.tac_commands.specs.Commands.{Command}
 use Rattle.tac_commands.specs.FileKinds.{Value, read_as, refused_code}
 use Rattle.tac_commands.specs.Files.{Content}
 use Rattle.tac_commands.specs.Outsides.{Outside}
-use Rattle.tac_commands.specs.Steps.{NamedFile, Steps, Reads, Audits, Hears, EndsWith, file}
+use Rattle.tac_commands.specs.Steps.{NamedFile, Steps, Reads, Judges, Hears, EndsWith, file}
 
 -- no call failed: the count is as before, and below its last value
 pub record IsQuiet (before now : ℕ) : Type 0 where
@@ -52,26 +51,26 @@ pub record HasBad (content : Content) (file : NamedFile) : Type 0 where
   pub fault : GameFault
   pub bad : read_as file.kind bytes ≡ Err fault
 
--- a file that is read is refused with this code: those before it are good, and the logs that are audited before it are sound
+-- a file that is read is refused with this code: those before it are good, and the logs that are judged before it are right
 abbrev pub HasRefused : Content → ℕ → Steps → Type 0
 HasRefused content code (Reads file next) =
     ((refused_code file.kind ≡ code) × HasBad content file)
     ⊎ ((value : Value file.kind) × Holds content file value × HasRefused content code (next value))
-HasRefused content code (Audits game log IsDue next) = IsSound game log × HasRefused content code next
+HasRefused content code (Judges IsRight IsDue next) = IsRight × HasRefused content code next
 HasRefused content code (Hears name replies allows) = (code ≡ 8) × HasBad content (file GameScript name)
 HasRefused content code (EndsWith allows) = ⊥
 
--- all files that are read are there and good; after a log that is not sound none is read
+-- all files that are read are there and good; after a log that is not right none is read
 abbrev pub AreGood : Content → Steps → Type 0
 AreGood content (Reads file next) = (value : Value file.kind) × Holds content file value × AreGood content (next value)
-AreGood content (Audits game log IsDue next) = IsSound game log → AreGood content next
+AreGood content (Judges IsRight IsDue next) = IsRight → AreGood content next
 AreGood content (Hears name replies allows) = (lines : List ScriptLine) × Holds content (file GameScript name) lines
 AreGood content (EndsWith allows) = ⊤
 
--- a log that is audited is not sound: the files read before it are good, and the logs audited before it are sound
+-- a log that is judged is not right, by its game or by a link: the files read before it are good, and the logs judged before it are right
 abbrev pub HasUnsound : Content → Steps → Type 0
 HasUnsound content (Reads file next) = (value : Value file.kind) × Holds content file value × HasUnsound content (next value)
-HasUnsound content (Audits game log IsDue next) = (IsSound game log → ⊥) ⊎ (IsSound game log × HasUnsound content next)
+HasUnsound content (Judges IsRight IsDue next) = (IsRight → ⊥) ⊎ (IsRight × HasUnsound content next)
 HasUnsound content (Hears name replies allows) = ⊥
 HasUnsound content (EndsWith allows) = ⊥
 
@@ -80,7 +79,7 @@ abbrev pub HasRefusedGame : Content → Option Command → Type 0
 HasRefusedGame content None = ⊥
 HasRefusedGame content (Some command) = HasRefused content 2 (steps_of command)
 
--- a script, an account or a log of the command is refused; the files that it reads before that one are not
+-- a script, an account, a log or a file of a link is refused; the files that it reads before that one are not
 abbrev pub HasRefusedText : Content → Option Command → Type 0
 HasRefusedText content None = ⊥
 HasRefusedText content (Some command) = HasRefused content 8 (steps_of command)
@@ -90,7 +89,7 @@ pub record GameRefusedExactly (command : Option Command) (files files' : FilesSt
   pub only : code ≡ 2 → IfSome files.content (λ _. HasRefusedGame files.content command)
   pub always : HasRefusedGame files.content command → IsQuiet files.faults files'.faults → (code ≡ 2) ⊎ (code ≡ 4) ⊎ (code ≡ 7)
 
--- 8 comes exactly if a script, an account or a log is read and refused
+-- 8 comes exactly if a script, an account, a log or a file of a link is read and refused
 pub record TextRefusedExactly (command : Option Command) (files files' : FilesState) (code : ℕ) : Type 0 where
   pub only : code ≡ 8 → IfSome files.content (λ _. HasRefusedText files.content command)
   pub always : HasRefusedText files.content command → IsQuiet files.faults files'.faults → (code ≡ 8) ⊎ (code ≡ 4) ⊎ (code ≡ 7)
@@ -100,17 +99,17 @@ abbrev pub HasGoodFiles : Content → Option Command → Type 0
 HasGoodFiles content None = ⊥
 HasGoodFiles content (Some command) = AreGood content (steps_of command)
 
--- a log that the command audits is not sound
+-- a log that the command judges is not right
 abbrev pub HasUnsoundLog : Content → Option Command → Type 0
 HasUnsoundLog content None = ⊥
 HasUnsoundLog content (Some command) = HasUnsound content (steps_of command)
 
--- 9 comes exactly if the files up to a log were read and accepted, memory sufficed and the log is not sound
+-- 9 comes exactly if the files up to a log, or to those of a link, were read and accepted, memory sufficed and the log is not right
 pub record UnsoundExactly (command : Option Command) (files files' : FilesState) (code : ℕ) : Type 0 where
   pub only : code ≡ 9 → IfSome files.content (λ _. HasUnsoundLog files.content command)
   pub always : HasUnsoundLog files.content command → IsQuiet files.faults files'.faults → (code ≡ 9) ⊎ (code ≡ 4) ⊎ (code ≡ 7)
 
--- the code is 0, 7 or 9, and it is 9 exactly if a log that the command audits is not sound, unless memory was refused
+-- the code is 0, 7 or 9, and it is 9 exactly if a log that the command judges is not right, unless memory was refused
 pub record IsGoodEnd (content : Content) (command : Option Command) (code : ℕ) : Type 0 where
   pub one_of : (code ≡ 0) ⊎ (code ≡ 7) ⊎ (code ≡ 9)
   pub only : code ≡ 9 → HasUnsoundLog content command

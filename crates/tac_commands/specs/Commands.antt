@@ -3,6 +3,8 @@ use Rattle.std.specs.Prelude.{ℕ, ◌+◌, ◌%◌, ◌^◌, ◌==◌, ◌&&◌
 use Rattle.std.specs.Str.{bytes_eq}
 use Rattle.tac_base.specs.declared.limits.TheConstants.{FILE_NAMES, MADE_REQUESTS}
 use Rattle.tac_base.specs.Numerals.{below, numeral}
+use Rattle.tac_commands.specs.declared.services.Form.{Form}
+use Rattle.tac_commands.specs.declared.services.Form.TheVariants.{Lines, Json}
 use Rattle.tac_commands.specs.declared.services.Service.{Service as ServiceAsked}
 use Rattle.tac_commands.specs.declared.words.BatchCommand.{BatchCommand as BatchAsked}
 use Rattle.tac_commands.specs.declared.words.BatchCommand.TheVariants as batch
@@ -20,6 +22,7 @@ pub data BatchCommand : Type 0 where
   Step : (game : List ℕ) → (script : List ℕ) → BatchCommand
   Trial : (seed : ℕ) → (count : ℕ) → BatchCommand
   Audit : (game : List ℕ) → (log : List ℕ) → BatchCommand
+  Vouch : (game : List ℕ) → (log : List ℕ) → (asked : List ℕ) → (said : List ℕ) → (form : Form) → BatchCommand
   Table : (pairs : List (List ℕ × List ℕ)) → BatchCommand
 
 -- a command of the list
@@ -54,10 +57,16 @@ batch_with_two word first second =
     else if bytes_eq word (codes "trial") then trial_of (below (2 ^ 64) (numeral 20 first)) (below (MADE_REQUESTS + 1) (numeral 5 second))
     else None
 
+-- the audit of a log by a link, in a form of lines, is a command of four words after its own
+abbrev pub vouch_with : List ℕ → List ℕ → List ℕ → List ℕ → List ℕ → Form → Option BatchCommand
+vouch_with word game log asked said form = if bytes_eq word (codes "vouch") then Some (Vouch game log asked said form) else None
+
 -- a command by how many words come after its own
 abbrev pub batch_by_count : List ℕ → List (List ℕ) → Option BatchCommand
 batch_by_count word (argument ∷ []) = batch_with word argument
 batch_by_count word (first ∷ second ∷ []) = batch_with_two word first second
+batch_by_count word (game ∷ log ∷ asked ∷ said ∷ []) = vouch_with word game log asked said Lines
+batch_by_count word (game ∷ log ∷ asked ∷ said ∷ form ∷ []) = if bytes_eq form (codes "json") then vouch_with word game log asked said Json else None
 batch_by_count word words = None
 
 -- words in pairs; a single one at the end is dropped
@@ -101,4 +110,5 @@ seen_batch (batch.Play game script) = Play game.now script.now
 seen_batch (batch.Step game script) = Step game.now script.now
 seen_batch (batch.Trial seed count) = Trial seed count
 seen_batch (batch.Audit game log) = Audit game.now log.now
+seen_batch (batch.Vouch game log asked said form) = Vouch game.now log.now asked.now said.now form
 seen_batch (batch.Table names) = Table (in_pairs (bytes_of_words names.now))

@@ -1,6 +1,6 @@
 -- The kinds of files that commands read: how long such a file may be, what it holds, and what is written if it is refused.
-use Rattle.std.specs.Prelude.{ℕ, List, length, nat_lt, if◌then◌else◌, Result, Ok, Err}
-use Rattle.tac_base.specs.declared.limits.TheConstants.{GAME_BYTES, TEXT_BYTES}
+use Rattle.std.specs.Prelude.{ℕ, ◌-◌, List, length, nat_lt, if◌then◌else◌, Result, Ok, Err}
+use Rattle.tac_base.specs.declared.limits.TheConstants.{GAME_BYTES, LINK_BYTES, TEXT_BYTES}
 use Rattle.game_text.specs.declared.fault.GameFault.{GameFault}
 use Rattle.game_text.specs.declared.fault.GameFault.TheVariants.{Line, TooLong}
 use Rattle.game_text.specs.Games.{GameFile, game_of}
@@ -17,20 +17,22 @@ use Rattle.script_run.specs.GameScripts.{game_script}
 use Rattle.tac_commands.specs.declared.refusals.Refusal.{Refusal}
 use Rattle.tac_commands.specs.declared.refusals.Refusal.TheVariants.{GameLine, GameTooLong, TextLine, TextTooLong}
 use Rattle.tac_commands.specs.declared.file_kinds.FileKind.{FileKind}
-use Rattle.tac_commands.specs.declared.file_kinds.FileKind.TheVariants.{Game, HotelScript, GameScript, Account, Log}
+use Rattle.tac_commands.specs.declared.file_kinds.FileKind.TheVariants.{Game, HotelScript, GameScript, Account, Log, Bytes}
 
 -- the most bytes of such a file
 abbrev pub most_bytes : FileKind → ℕ
 most_bytes Game = GAME_BYTES
+most_bytes Bytes = LINK_BYTES - 1
 most_bytes kind = TEXT_BYTES
 
--- what such a file holds: a game, the lines of a script, the last line first, an account, or the log of a game
+-- what such a file holds: a game, the lines of a script, the last line first, an account, the log of a game, or bytes
 abbrev pub Value : FileKind → Type 0
 Value Game = GameFile
 Value HotelScript = List HotelLine
 Value GameScript = List ScriptLine
 Value Account = AccountFile
 Value Log = LoggedGame
+Value Bytes = List ℕ
 
 -- the lines of a script, or its first bad line with the first reason
 abbrev pub lines_or_fault : {A : Type 0} → Result A BadLine → Result A GameFault
@@ -51,6 +53,10 @@ abbrev pub logged_or_fault : Result LoggedGame LogFault → Result LoggedGame Ga
 logged_or_fault (Ok log) = Ok log
 logged_or_fault (Err fault) = Err (log_as_game_fault fault)
 
+-- any bytes, if they are not too many
+abbrev pub bytes_in : List ℕ → Result (List ℕ) GameFault
+bytes_in bytes = if nat_lt (LINK_BYTES - 1) (length bytes) then Err TooLong else Ok bytes
+
 -- what the bytes of such a file hold; or that they are too many, or the first bad line with the first reason
 abbrev pub read_as : (kind : FileKind) → List ℕ → Result (Value kind) GameFault
 read_as Game bytes = game_of bytes
@@ -58,6 +64,7 @@ read_as HotelScript bytes = script_in bytes (script_of bytes)
 read_as GameScript bytes = script_in bytes (game_script bytes)
 read_as Account bytes = account_of bytes
 read_as Log bytes = logged_or_fault (log_of bytes)
+read_as Bytes bytes = bytes_in bytes
 
 -- what is written if a game file has this fault
 abbrev pub game_refusal : GameFault → Refusal

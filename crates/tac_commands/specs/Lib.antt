@@ -6,6 +6,7 @@ pub mod Services
 pub mod Commands
 pub mod Words
 pub mod Outcomes
+pub mod VouchingTexts
 pub mod Steps
 pub mod Files
 pub mod HeardFiles
@@ -23,9 +24,9 @@ pub mod Selected
 pub mod Prompt
 pub use Rattle.tac_commands.specs.FlawTexts.{unsound_text}
 pub use Rattle.tac_commands.specs.Codes.{code_number}
-pub use Rattle.tac_commands.specs.FileKinds.{Value, lines_or_fault, logged_or_fault, most_bytes, read_as, refusal_of, refused_code, script_in}
-pub use Rattle.tac_commands.specs.Services.{service_of}
-pub use Rattle.tac_commands.specs.Commands.{Audit, Batch, BatchCommand, Command, Hotel, Make, Play, Serve, Show, Solve, Step, Table, Trial, Upgrade, Worth, batch_of, in_pairs, seen_batch, seen_service, service_or_batch}
+pub use Rattle.tac_commands.specs.FileKinds.{Value, bytes_in, lines_or_fault, logged_or_fault, most_bytes, read_as, refusal_of, refused_code, script_in}
+pub use Rattle.tac_commands.specs.Services.{dialect_in, service_of}
+pub use Rattle.tac_commands.specs.Commands.{Audit, Batch, BatchCommand, Command, Hotel, Make, Play, Serve, Show, Solve, Step, Table, Trial, Upgrade, Vouch, Worth, batch_of, in_pairs, seen_batch, seen_service, service_or_batch}
 pub use Rattle.tac_commands.specs.Words.{IsShortBatch, IsWithinBatch}
 pub use Rattle.tac_commands.specs.Outcomes.{Done, Lapsed, Outcome, Refused, Stopped, Unread, Unsound, Unwritten, code_of, refusal_end}
 pub use Rattle.tac_commands.specs.Steps.{Reads, file}
@@ -33,7 +34,7 @@ pub use Rattle.tac_commands.specs.Files.{Content, HasFault, IsFileRead, IsNotRea
 pub use Rattle.tac_commands.specs.HeardFiles.{IsScriptOutcome, IsGiven, IsHeard, IsUnheard}
 pub use Rattle.tac_commands.specs.Outsides.{outside_of}
 pub use Rattle.tac_commands.specs.SoundTexts.{EndsInSoundLog, log_of_game}
-pub use Rattle.tac_commands.specs.Allowed.{Allows, IsFlawText, IsPlayText, IsServiceEnd, StepAllows, WritesDue, WritesInParts, WritesOrStops, audit_steps, batch_steps, play_steps, step_steps, steps_of, table_steps}
+pub use Rattle.tac_commands.specs.Allowed.{Allows, IsFlawText, IsPlayText, IsServiceEnd, StepAllows, WritesDue, WritesInParts, WritesOrStops, audit_steps, batch_steps, link_file_steps, link_steps, play_steps, step_steps, steps_of, table_steps, vouch_steps}
 pub use Rattle.tac_commands.specs.TableRuns.{EndsAtPair, HasAdded, IsAdded, TableGoesOn, outcome_of}
 pub use Rattle.tac_commands.specs.Reporting.{IsCutShort, Reports}
 pub use Rattle.tac_commands.specs.Ends.{EndsBatch, EndsSteps, EndsUnasked, Finishes, script_end, step_end}

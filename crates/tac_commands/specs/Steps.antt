@@ -1,7 +1,5 @@
 -- What a command does with its files, step by step.
 use Rattle.std.specs.Prelude.{ℕ, List}
-use Rattle.game_text.specs.Games.{GameFile}
-use Rattle.log_text.specs.LoggedGames.{LoggedGame}
 use Rattle.script_run.specs.declared.game.lines.GameLine.{GameLine as ScriptLine}
 use Rattle.tac_commands.specs.declared.file_kinds.FileKind.{FileKind}
 use Rattle.tac_commands.specs.FileKinds.{Value}
@@ -15,11 +13,11 @@ pub record NamedFile : Type 0 where
 abbrev pub file : FileKind → List ℕ → NamedFile
 file kind name = record { kind = kind; name = name }
 
--- A command reads a file, and goes on with its value; or it audits a log by its game, and goes on if the log is sound, while an unsound one
--- is reported by a text of which this holds; or it hears a game script line by line, writes the replies to its lines, which are a text of them, and
+-- A command reads a file, and goes on with its value; or it judges a log, by its game or by a link, and goes on if it is right, while one that
+-- is not is reported by a text of which this holds; or it hears a game script line by line, writes the replies to its lines, which are a text of them, and
 -- ends after them with an outcome of which this holds; or it ends with an outcome of which this holds.
 pub data Steps : Type 1 where
   Reads : (file : NamedFile) → (Value file.kind → Steps) → Steps
-  Audits : (game : GameFile) → (log : LoggedGame) → (List ℕ → Type 0) → Steps → Steps
+  Judges : (IsRight : Type 0) → (List ℕ → Type 0) → Steps → Steps
   Hears : (name : List ℕ) → (List ScriptLine → List ℕ) → (List ScriptLine → Outcome → Type 0) → Steps
   EndsWith : (Outcome → Type 0) → Steps

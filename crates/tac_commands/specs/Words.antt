@@ -16,6 +16,8 @@ IsShortBatch (batch.Play game script) = (length game.now ≤ NAME_BYTES) × (len
 IsShortBatch (batch.Step game script) = (length game.now ≤ NAME_BYTES) × (length script.now ≤ NAME_BYTES)
 IsShortBatch (batch.Trial seed count) = ⊤
 IsShortBatch (batch.Audit game log) = (length game.now ≤ NAME_BYTES) × (length log.now ≤ NAME_BYTES)
+IsShortBatch (batch.Vouch game log asked said form) =
+    (length game.now ≤ NAME_BYTES) × (length log.now ≤ NAME_BYTES) × (length asked.now ≤ NAME_BYTES) × (length said.now ≤ NAME_BYTES)
 IsShortBatch (batch.Table names) = All (λ name. string_len name ≤ NAME_BYTES) names.now
 
 -- a made script and a table are within their limits of requests and names

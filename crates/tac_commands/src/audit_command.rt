@@ -4,7 +4,9 @@ ghost use Rattle.tac_base.specs.declared.limits.TheConstants.{NAME_BYTES};
 ghost use Rattle.tac_commands.specs.{audit_steps, EndsBatch, EndsSteps, EndsUnasked, Reads, file};
 ghost use Rattle.tac_commands.specs.Commands as commands;
 ghost use Rattle.tac_commands.specs.declared.file_kinds.FileKind.TheVariants.{Log as LogKind};
+ghost use Rattle.tac_commands.specs.Ends.{Ends};
 ghost use Rattle.tac_commands.specs.FlawTexts as texts;
+ghost use Rattle.tac_commands.specs.Outcomes as outcomes;
 ghost use Rattle.tac_io.specs.States.{MaySelect};
 
 use crate::ends::End;
@@ -37,6 +39,16 @@ fn flaw_text(flaw: Flaw) -> Text
     }
 }
 
+/// Writes the flaw of a log.
+pub(crate) fn write_flaw<K: Sink>(flaw: Flaw, out: &mut K) -> End
+    ensures { Ends (λ outcome. outcome ≡ outcomes.Unsound (texts.flaw_text flaw)) (K.state out.old) (K.state out.new) result }
+{
+    match write_all(out, flaw_text(flaw).as_slice()) {
+        Ok(()) => End::Unsound,
+        Err(_) => End::WriteFault,
+    }
+}
+
 /// Judges a log by its game, and writes what was found.
 fn judge<K: Sink>(alloc: Global, game: &Game, log: &Log, out: &mut K) -> End
     ensures { EndsUnasked (audit_steps game.now log.now) (K.state out.old) (K.state out.new) result }
@@ -49,10 +61,7 @@ fn judge<K: Sink>(alloc: Global, game: &Game, log: &Log, out: &mut K) -> End
             Ok(()) => End::Done,
             Err(_) => End::WriteFault,
         },
-        Finding::Unsound(flaw) => match write_all(out, flaw_text(flaw).as_slice()) {
-            Ok(()) => End::Unsound,
-            Err(_) => End::WriteFault,
-        },
+        Finding::Unsound(flaw) => write_flaw(flaw, out),
     }
 }
 

@@ -16,6 +16,7 @@ use crate::script_commands::{hotel_by_file, play_files};
 use crate::step_command::step_files;
 use crate::table_command::table_files;
 use crate::trial_command::trial;
+use crate::vouch_command::vouch_files;
 use crate::words::BatchCommand;
 use crate::worth_command::worth_file;
 use allocator::{print_solved, solve};
@@ -127,6 +128,13 @@ pub(crate) fn run_batch<R: Threads + Sync, F: Files, K: Sink>(
         BatchCommand::Step { game, script } => step_files(rt, alloc, game, script, files, out),
         BatchCommand::Trial { seed, count } => trial(rt, alloc, seed, count, out),
         BatchCommand::Audit { game, log } => audit_files(alloc, game, log, files, out),
+        BatchCommand::Vouch {
+            game,
+            log,
+            asked,
+            said,
+            form,
+        } => vouch_files(alloc, game, log, asked, said, form, files, out),
         BatchCommand::Table { names } => table_files(alloc, names, files, out),
     }
 }

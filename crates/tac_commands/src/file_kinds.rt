@@ -4,7 +4,7 @@ ghost use Rattle.tac_commands.specs.FileKinds as kinds;
 
 use crate::refusals::Refusal;
 use game_text::GameFault;
-use tac_base::limits::{GAME_BYTES, TEXT_BYTES};
+use tac_base::limits::{GAME_BYTES, LINK_BYTES, TEXT_BYTES};
 
 /// What a file that a command reads holds.
 #[derive(Clone, Copy, Debug, PartialEq, Eq)]
@@ -19,6 +19,8 @@ pub enum FileKind {
     Account,
     /// The log of a game.
     Log,
+    /// What a link asked, or what it was said: any bytes.
+    Bytes,
 }
 
 impl FileKind {
@@ -30,6 +32,7 @@ impl FileKind {
             FileKind::Game => GAME_BYTES as usize,
             FileKind::HotelScript | FileKind::GameScript | FileKind::Account | FileKind::Log =>
                 TEXT_BYTES as usize,
+            FileKind::Bytes => LINK_BYTES as usize - 1,
         }
     }
 

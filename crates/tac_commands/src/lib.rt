@@ -16,6 +16,7 @@ mod services;
 mod step_command;
 mod table_command;
 mod trial_command;
+mod vouch_command;
 mod words;
 mod worth_command;
 mod written_logs;

@@ -6,7 +6,7 @@ use tac_base::{Text, print_numeral};
 
 /// A line without numbers.
 pub(crate) fn plain(line: &[u8]) -> Text
-    requires { length line.now ≤ 16 }
+    requires { length line.now ≤ 18 }
     ensures { result ≡ line.now }
 {
     let mut text = Text::new();

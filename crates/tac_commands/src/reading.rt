@@ -1,9 +1,11 @@
 // The files that commands read.
-ghost use Rattle.std.specs.Prelude.{◌≡◌, ◌≤◌, ◌⊎◌, [], ◌∷◌, length, Ok, Err, IfOk, IfErr, OnOk};
+ghost use Rattle.std.specs.Prelude.{◌≡◌, ◌<◌, ◌≤◌, ◌⊎◌, [], ◌∷◌, length, Ok, Err, IfOk, IfErr, OnOk};
+ghost use Rattle.tac_base.specs.declared.limits.TheConstants.{LINK_BYTES};
 ghost use Rattle.tac_io.specs.Reading.{IsFile};
 ghost use Rattle.tac_io.specs.States.{MaySelect};
 ghost use Rattle.tac_io.specs.Known.{IsAtEnd, known_then};
 ghost use Rattle.game_text.specs.declared.fault.GameFault.{GameFault};
+ghost use Rattle.tac_commands.specs.declared.file_kinds.FileKind.TheVariants.{Bytes};
 ghost use Rattle.tac_commands.specs.declared.refusals.Refusal.TheVariants.{Memory};
 ghost use Rattle.tac_commands.specs.{most_bytes, read_as, refusal_of, IsNotRead, IsFileRead};
 
@@ -35,6 +37,26 @@ pub(crate) fn read_bytes<F: Files>(
         Err(FileFault::Failed) => Err(Refusal::ReadFault),
         Err(FileFault::TooLong) => Err(kind.refusal(GameFault::TooLong)),
         Err(FileFault::Memory) => Err(Refusal::Memory),
+    }
+}
+
+/// The bytes of the file of that name, whatever they are, or what is written in their place. The file is selected once.
+pub(crate) fn read_link<F: Files>(
+    alloc: Global,
+    files: &mut F,
+    name: &str,
+) -> Result<Vec<u8>, Refusal>
+    requires { MaySelect (F.state files.old) name.now }
+    ensures value { IfOk result (λ bytes. IsFileRead (F.state files.old).content Bytes name.now bytes.items) }
+    ensures short { IfOk result (λ bytes. length bytes.items < LINK_BYTES) }
+    ensures quiet { OnOk result ((F.state files.new).faults ≡ (F.state files.old).faults) }
+    ensures unread { IfErr result (IsNotRead (F.state files.old) (F.state files.new) Bytes name.now) }
+    ensures names { (F.state files.new).names ≡ known_then (F.state files.old).names (name.now ∷ []) }
+    ensures content { (F.state files.new).content ≡ (F.state files.old).content }
+{
+    match read_bytes(alloc, files, name, FileKind::Bytes) {
+        Ok(bytes) => Ok(bytes),
+        Err(refusal) => Err(refusal),
     }
 }
 

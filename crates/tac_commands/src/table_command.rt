@@ -47,7 +47,7 @@ fn add_sound(
     ensures sound { OnOk result (IsSound game.now log.now) }
     ensures added { IfOk result (λ after. HasAdded standings after game.now log.now) }
     ensures games { IfOk result (λ after. after.games ≡ standings.games + 1) }
-    ensures fault { IfErr result (λ fault. StopsAt game.now log.now (λ text. text ≡ texts.unsound_text pair) (outcome_of fault)) }
+    ensures fault { IfErr result (λ fault. StopsAt (IsSound game.now log.now) (λ text. text ≡ texts.unsound_text pair) (outcome_of fault)) }
 {
     match audit_log(alloc, game, log) {
         Ok(Finding::Sound) => match standings.add(game, log) {

@@ -6,6 +6,7 @@ ghost use Rattle.tac_commands.specs.Commands as commands;
 ghost use Rattle.tac_commands.specs.Services.{bytes_of_words};
 ghost use Rattle.tac_commands.specs.{batch_of, seen_batch, IsShortBatch, IsWithinBatch};
 
+use crate::services::Form;
 use tac_base::limits::{FILE_NAMES, MADE_REQUESTS};
 use tac_base::read_numeral;
 
@@ -13,27 +14,61 @@ use tac_base::read_numeral;
 #[derive(Clone, Copy)]
 pub(crate) enum BatchCommand<'a> {
     /// One hotel, run by a script.
-    Hotel { script: &'a str },
+    Hotel {
+        script: &'a str,
+    },
     /// The canonical text of a game.
-    Show { game: &'a str },
+    Show {
+        game: &'a str,
+    },
     /// The canonical text of the same game in version 2.
-    Upgrade { game: &'a str },
+    Upgrade {
+        game: &'a str,
+    },
     /// The game made from a seed.
-    Make { seed: u64 },
+    Make {
+        seed: u64,
+    },
     /// A best allocation of an account.
-    Solve { account: &'a str },
+    Solve {
+        account: &'a str,
+    },
     /// What one unit more and one unit less of each good of an account would change.
-    Worth { account: &'a str },
+    Worth {
+        account: &'a str,
+    },
     /// A game, played by a script.
-    Play { game: &'a str, script: &'a str },
+    Play {
+        game: &'a str,
+        script: &'a str,
+    },
     /// A game, played line by line as a script is read.
-    Step { game: &'a str, script: &'a str },
+    Step {
+        game: &'a str,
+        script: &'a str,
+    },
     /// The made game, played by the made script of this many requests, 0 to 50,000.
-    Trial { seed: u64, count: u32 },
+    Trial {
+        seed: u64,
+        count: u32,
+    },
     /// The log of a game, judged by the game.
-    Audit { game: &'a str, log: &'a str },
+    Audit {
+        game: &'a str,
+        log: &'a str,
+    },
+    /// The log of a game, judged by the game, and then by what a link asked and what it was said, in a form of lines.
+    Vouch {
+        game: &'a str,
+        log: &'a str,
+        asked: &'a str,
+        said: &'a str,
+        form: Form,
+    },
     /// The standings over several games: for each of 1 to 64 games the name of its file and that of its log.
-    Table { names: &'a [String] },
+    Table {
+        names: &'a [String],
+    },
 }
 
 /// The command of a word and one more.
@@ -123,6 +158,34 @@ fn batch_with_two<'a>(word: &str, first: &'a str, second: &'a str) -> Option<Bat
     }
 }
 
+/// The audit of a log by a link, in a form of lines, if the word asks for it.
+fn vouch_with<'a>(
+    word: &str,
+    game: &'a str,
+    log: &'a str,
+    asked: &'a str,
+    said: &'a str,
+    form: Form,
+) -> Option<BatchCommand<'a>>
+    ensures command { MatchOption result (commands.vouch_with word.now game.now log.now asked.now said.now form ≡ None)
+        (λ command. commands.vouch_with word.now game.now log.now asked.now said.now form ≡ Some (seen_batch command)) }
+    ensures within { IfSome result IsWithinBatch }
+    ensures short { (length game.now ≤ NAME_BYTES) × (length log.now ≤ NAME_BYTES) × (length asked.now ≤ NAME_BYTES) × (length said.now ≤ NAME_BYTES)
+        → IfSome result IsShortBatch }
+{
+    if word == "vouch" {
+        Some(BatchCommand::Vouch {
+            game,
+            log,
+            asked,
+            said,
+            form,
+        })
+    } else {
+        None
+    }
+}
+
 /// The table of the games and logs of these names, in turn.
 fn table_of(names: &[String]) -> Option<BatchCommand<'_>>
     ensures command { MatchOption result (commands.table_of (bytes_of_words names.now) ≡ None)
@@ -147,6 +210,28 @@ fn batch_by_count<'a>(word: &str, others: &'a [String]) -> Option<BatchCommand<'
     match others {
         [argument] => batch_with(word, argument.as_str()),
         [first, second] => batch_with_two(word, first.as_str(), second.as_str()),
+        [game, log, asked, said] => vouch_with(
+            word,
+            game.as_str(),
+            log.as_str(),
+            asked.as_str(),
+            said.as_str(),
+            Form::Lines,
+        ),
+        [game, log, asked, said, form] => {
+            if form.as_str() == "json" {
+                vouch_with(
+                    word,
+                    game.as_str(),
+                    log.as_str(),
+                    asked.as_str(),
+                    said.as_str(),
+                    Form::Json,
+                )
+            } else {
+                None
+            }
+        }
         _ => None,
     }
 }

@@ -1,5 +1,5 @@
 -- What `serve` leaves: the game that was played, its log, the links and the ticker.
-use Rattle.std.specs.Prelude.{◌≡◌, ℕ, ◌<◌, ◌⊎◌, List, [], Result, Ok, Err, Some, None, MatchOption}
+use Rattle.std.specs.Prelude.{◌≡◌, ℕ, ◌<◌, ◌⊎◌, List, [], Ok, Err, Some, None, MatchOption}
 use Rattle.std.specs.Global.{Vec}
 use Rattle.std.specs.Option.{option_map}
 use Rattle.tac_io.specs.Counts.{Rose}
@@ -7,15 +7,7 @@ use Rattle.tac_io.specs.Reading.{IsFile}
 use Rattle.tac_io.specs.States.{LinkState, FilesState}
 use Rattle.game_text.specs.declared.fault.GameFault.{GameFault}
 use Rattle.game_text.specs.Games.{GameFile, game_of}
-use Rattle.line_protocol.specs.declared.asking.Request.{Request}
-use Rattle.line_protocol.specs.declared.asking.RequestFault.{RequestFault}
-use Rattle.line_protocol.specs.declared.asking.RequestFault.TheVariants as request_faults
-use Rattle.line_protocol.specs.declared.saying.Said.{Said}
-use Rattle.line_protocol.specs.Requests.{request_of}
-use Rattle.line_protocol.specs.Replies.{said_text}
 use Rattle.line_protocol.specs.Heads.{head_of}
-use Rattle.json_dialect.specs.JsonRequests.{asks_json}
-use Rattle.json_dialect.specs.JsonReplies.{json_text}
 use Rattle.clock_events.specs.Clocking.{WaitsForAll}
 use Rattle.score_sheet.specs.Sheets.{Scored}
 use Rattle.game_log.specs.LogText.{play_part}
@@ -27,12 +19,10 @@ use Rattle.tacd.specs.declared.answer.Answer.{Answer}
 use Rattle.tacd.specs.declared.answer.Played.{Played}
 use Rattle.tac_commands.specs.declared.refusals.Refusal.{Refusal}
 use Rattle.tac_commands.specs.declared.refusals.Refusal.TheVariants.{ReadFault, LinkFault, Memory}
-use Rattle.tac_commands.specs.declared.services.Form.{Form}
-use Rattle.tac_commands.specs.declared.services.Form.TheVariants.{Lines, Json}
 use Rattle.tac_commands.specs.FileKinds.{game_refusal}
 use Rattle.tac_commands.specs.Outcomes.{Outcome, Done, Lapsed, Stopped, Refused}
 use Rattle.tac_commands.specs.Outsides.{Outside}
-use Rattle.tac_commands.specs.Services.{Service}
+use Rattle.tac_commands.specs.Services.{Service, dialect_in}
 use Rattle.tac_commands.specs.Reporting.{Reports}
 use Rattle.tacd.specs.SoundLogs.{ReportsSoundly}
 
@@ -66,21 +56,9 @@ PlayedAllows game played (Lapsed text) = IsLogOf game played text × (0 < missed
 PlayedAllows game played (Stopped text Memory) = text ≡ play_part (head_of played.head) played.closed
 PlayedAllows game played outcome = ⊥
 
--- ---- the form of lines
-
--- what a request line of a link may be read as; one of JSON also as a line for which there was no memory, whatever it says
-abbrev pub answers_by : Form → List ℕ → Result Request RequestFault → Type 0
-answers_by Lines line answer = answer ≡ request_of line
-answers_by Json line answer = (answer ≡ asks_json line) ⊎ (answer ≡ Err request_faults.Memory)
-
--- what a link is sent for a reply
-abbrev pub texts_by : Form → Said → List ℕ
-texts_by Lines said = said_text said
-texts_by Json said = json_text said
-
 -- the game as the service hosts it
 abbrev pub hosted_by : Service → GameFile → HostedGame
-hosted_by service game = record { game = game; dialect = record { may_answer = answers_by service.form; text = texts_by service.form }; port = service.port }
+hosted_by service game = record { game = game; dialect = dialect_in service.form; port = service.port }
 
 -- ---- the links and the ticker
 

@@ -31,6 +31,8 @@ mod top;
 #[cfg(test)]
 mod trial_tests;
 #[cfg(test)]
+mod vouch_tests;
+#[cfg(test)]
 mod write_tests;
 
 ghost use Rattle.std.specs.Prelude.{◌≡◌};

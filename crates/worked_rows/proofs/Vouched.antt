@@ -1,6 +1,6 @@
 -- The definitions on small links: each lemma compares what they say with what was worked out by hand.
 use Rattle.std.proofs.Common.{◌≡◌, ◌≢◌, ℕ, ◌+◌, ◌<◌, List, [], ◌∷◌, ◌++◌, Bool, true, false, length, map, None, Some, Ok, Err, refl, sym, ap, ◌∙◌, arith, inl, inr, pos}
-use Rattle.std.specs.Prelude.{◌⊎◌, Result, codes, neg_ℤ, replicate}
+use Rattle.std.specs.Prelude.{Result, codes, neg_ℤ, replicate}
 use Rattle.std.specs.Fmt.{digits}
 use Rattle.std.specs.List.{AllZip, list_any}
 use mathlib.Core.Option.{some, none}
@@ -26,9 +26,8 @@ use Rattle.line_protocol.specs.declared.asking.Request.{Request}
 use Rattle.line_protocol.specs.declared.asking.Request.TheVariants as requests
 use Rattle.line_protocol.specs.declared.asking.RequestFault.{RequestFault}
 use Rattle.line_protocol.specs.declared.asking.RequestFault.TheVariants.{Memory}
-use Rattle.line_protocol.specs.Heads.{Head, Play, Serve}
 use Rattle.line_protocol.specs.Requests.{request_of}
-use Rattle.line_protocol.specs.Replies.{said_text}
+use Rattle.line_protocol.specs.Heads.{Head, Play, Serve}
 use Rattle.log_text.specs.LoggedGames.{LoggedGame}
 use Rattle.log_text.specs.SoundLog.{gives_seat}
 use Rattle.agent_gate.specs.Dialects.{Dialect}
@@ -36,8 +35,8 @@ use Rattle.agent_gate.specs.Items.{Asks, IsItem}
 use Rattle.agent_gate.specs.Turns.{Turn, Called, CashRead, boards_shown}
 use Rattle.agent_gate.specs.Welcome.{welcome_lines, welcome_text}
 use Rattle.agent_gate.proofs.LawfulTurns.{none_lawful, lawful_more}
-use Rattle.json_dialect.specs.JsonRequests.{asks_json}
-use Rattle.json_dialect.specs.JsonReplies.{json_text}
+use Rattle.tac_commands.specs.declared.services.Form.TheVariants.{Lines, Json}
+use Rattle.tac_commands.specs.Services.{dialect_in}
 use Rattle.link_audit.specs.Links.{IsVouched, MayAsk, closed_in, logged_ends, logged_verdicts, whole_lines}
 
 -- ---- parts
@@ -52,7 +51,7 @@ heads_say_what_became_of_links = (refl, refl, refl, refl)
 
 -- a JSON line may have been answered for want of memory; where its reply did not come, it was not
 abbrev json : Dialect
-json = record { may_answer = λ line answer. (answer ≡ asks_json line) ⊎ (answer ≡ Err Memory); text = json_text }
+json = dialect_in Json
 
 memory_is_told_by_its_reply_alone : IsItem json.may_answer (gots.Line, codes "{\"do\":\"cash\"}") (Asks (Err Memory)) × (IsItem (MayAsk json.may_answer) (gots.Line, codes "{\"do\":\"cash\"}") (Asks (Err Memory)) → ⊥)
 memory_is_told_by_its_reply_alone = (inr refl, λ asked. asked.1 refl)
@@ -60,7 +59,7 @@ memory_is_told_by_its_reply_alone = (inr refl, λ asked. asked.1 refl)
 -- ---- a link of agent 2, which bought two seats and read its cash, and whose last reply did not come
 
 abbrev words : Dialect
-words = record { may_answer = λ line answer. answer ≡ request_of line; text = said_text }
+words = dialect_in Lines
 
 abbrev bid_entry : Entry
 bid_entry = record {

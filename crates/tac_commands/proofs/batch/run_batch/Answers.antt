@@ -36,6 +36,9 @@ returns-in-Trial-clause-ends g c =
 pub returns-in-Audit-clause-ends : goal.returns-in-Audit-clause-ends
 returns-in-Audit-clause-ends g c = rw c.in-Audit.is c.audit_files.ensures
 
+pub returns-in-Vouch-clause-ends : goal.returns-in-Vouch-clause-ends
+returns-in-Vouch-clause-ends g c = rw c.in-Vouch.is c.vouch_files.ensures
+
 pub returns-in-Table-clause-ends : goal.returns-in-Table-clause-ends
 returns-in-Table-clause-ends g c = rw c.in-Table.is c.table_files.ensures
 
@@ -68,6 +71,9 @@ returns-in-Trial-clause-prompt g c = rw c.in-Trial.is tt
 
 pub returns-in-Audit-clause-prompt : goal.returns-in-Audit-clause-prompt
 returns-in-Audit-clause-prompt g c = rw c.in-Audit.is tt
+
+pub returns-in-Vouch-clause-prompt : goal.returns-in-Vouch-clause-prompt
+returns-in-Vouch-clause-prompt g c = rw c.in-Vouch.is tt
 
 pub returns-in-Table-clause-prompt : goal.returns-in-Table-clause-prompt
 returns-in-Table-clause-prompt g c = rw c.in-Table.is tt

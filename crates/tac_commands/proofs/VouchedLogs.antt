@@ -1,0 +1,56 @@
+-- How a command ends that judged a log by a link.
+use Rattle.std.proofs.Common.{◌≡◌, ℕ, List, refl, sym, subst, inl, inr}
+use Rattle.std.specs.Prelude.{◌↔◌}
+use Rattle.tac_io.specs.States.{FilesState, SinkState}
+use Rattle.game_text.specs.Games.{GameFile}
+use Rattle.log_text.specs.LoggedGames.{LoggedGame}
+use Rattle.log_text.specs.SoundLog.{IsSound}
+use Rattle.log_audit.specs.declared.findings.Flaw.{Flaw}
+use Rattle.log_audit.specs.declared.findings.Finding.TheVariants as findings
+use Rattle.log_audit.specs.Flaws.{IsFound}
+use Rattle.agent_gate.specs.Dialects.{Dialect}
+use Rattle.link_audit.specs.declared.vouching.Vouching.{Vouching}
+use Rattle.link_audit.specs.declared.vouching.Vouching.TheVariants.{Whole, Cut, Not}
+use Rattle.link_audit.specs.Links.{IsVouched}
+use Rattle.link_audit.specs.Vouchings.{IsYes}
+use Rattle.tac_commands.specs.declared.ends.End.{End}
+use Rattle.tac_commands.specs.{IsFlawText, Outcome, Unsound, EndsSteps, link_steps}
+use Rattle.tac_commands.specs.Ends.{Ends}
+use Rattle.tac_commands.specs.FlawTexts.{flaw_text}
+use Rattle.tac_commands.specs.Runs.{Runs}
+use Rattle.tac_commands.specs.Steps.{Steps, Judges}
+use Rattle.tac_commands.specs.VouchingTexts.{vouching_outcome}
+use Rattle.tac_commands.proofs.Endings.{weaker}
+
+-- a run ends with one outcome
+pub ends_so : (due : Outcome) (steps : Steps) (files files' : FilesState) (sink sink' : SinkState) (end : End) → Runs steps files files' due →
+    Ends (λ outcome. outcome ≡ due) sink sink' end → EndsSteps steps files files' sink sink' end
+ends_so due steps files files' sink sink' end run ended =
+    weaker (λ outcome. outcome ≡ due) (Runs steps files files') sink sink' end (λ outcome is. subst (Runs steps files files') (sym is) run) (inl ended)
+
+module _ (game : GameFile) (log : LoggedGame) where
+  -- a log is sound, and its command goes on
+  pub goes_on : (IsDue : List ℕ → Type 0) (next : Steps) (files files' : FilesState) (sink sink' : SinkState) (end : End) → IsSound game log →
+      EndsSteps next files files' sink sink' end → EndsSteps (Judges (IsSound game log) IsDue next) files files' sink sink' end
+  goes_on IsDue next files files' sink sink' end sound ended =
+      weaker (Runs next files files') (Runs (Judges (IsSound game log) IsDue next) files files') sink sink' end (λ outcome run. inl (sound, run)) ended
+
+  -- or its flaw is reported
+  pub flaw_ends : (next : Steps) (flaw : Flaw) (files : FilesState) (sink sink' : SinkState) (end : End) → (findings.Unsound flaw ≡ findings.Sound) ↔ IsSound game log → IsFound game log (findings.Unsound flaw) →
+      Ends (λ outcome. outcome ≡ Unsound (flaw_text flaw)) sink sink' end → EndsSteps (Judges (IsSound game log) (IsFlawText game log) next) files files sink sink' end
+  flaw_ends next flaw files sink sink' end judged found ended =
+      ends_so (Unsound (flaw_text flaw)) (Judges (IsSound game log) (IsFlawText game log) next) files files sink sink' end
+      (inr ((λ sound. absurd (let is : findings.Unsound flaw ≡ findings.Sound = judged.1 sound in cc), record { flaw = flaw; first = found; due = refl }), (refl, refl))) ended
+
+  module _ (dialect : Dialect) (asked said : List ℕ) (files : FilesState) where
+    runs_so : (vouching : Vouching) → ((agent : ℕ) → IsYes agent vouching ↔ IsVouched game dialect log agent asked said) →
+        Runs (link_steps game dialect log asked said) files files (vouching_outcome vouching)
+    runs_so (Whole agent lines) exact = inl ((agent, (exact agent).0 refl), ((agent, (exact agent).0 refl, (Whole agent lines, refl, refl)), (refl, refl)))
+    runs_so (Cut agent lines after) exact = inl ((agent, (exact agent).0 refl), ((agent, (exact agent).0 refl, (Cut agent lines after, refl, refl)), (refl, refl)))
+    runs_so (Not difference) exact = inr (((λ vouched. (exact vouched.0).1 vouched.1), (difference, refl)), (refl, refl))
+
+    -- what was found of a link is written
+    pub vouching_ends : (vouching : Vouching) (sink sink' : SinkState) (end : End) → ((agent : ℕ) → IsYes agent vouching ↔ IsVouched game dialect log agent asked said) →
+        Ends (λ outcome. outcome ≡ vouching_outcome vouching) sink sink' end → EndsSteps (link_steps game dialect log asked said) files files sink sink' end
+    vouching_ends vouching sink sink' end exact ended =
+        ends_so (vouching_outcome vouching) (link_steps game dialect log asked said) files files sink sink' end (runs_so vouching exact) ended

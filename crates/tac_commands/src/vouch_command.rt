@@ -1,0 +1,272 @@
+// The command that judges the log of a game by the game, and then by one link.
+ghost use Rattle.std.specs.Prelude.{◌≡◌, ◌+◌, ◌<◌, ◌≤◌, [], ◌∷◌, length, IfSome};
+ghost use Rattle.tac_base.specs.declared.limits.TheConstants.{FILE_NAMES, LINK_BYTES, NAME_BYTES};
+ghost use Rattle.tac_io.specs.States.{MaySelect};
+ghost use Rattle.log_text.specs.SoundLog.{IsSound};
+ghost use Rattle.tac_commands.specs.{dialect_in, link_file_steps, link_steps, vouch_steps, EndsBatch, EndsSteps, EndsUnasked, Reads, file};
+ghost use Rattle.tac_commands.specs.Commands as commands;
+ghost use Rattle.tac_commands.specs.declared.file_kinds.FileKind.TheVariants.{Bytes, Log as LogKind};
+ghost use Rattle.tac_commands.specs.Ends.{Ends};
+ghost use Rattle.tac_commands.specs.VouchingTexts as texts;
+
+use crate::audit_command::write_flaw;
+use crate::ends::End;
+use crate::numbered_lines::{counted, numbered, plain};
+use crate::reading::{read_link, read_value};
+use crate::refusals::Refusal;
+use crate::services::Form;
+use agent_gate::LineDialect;
+use game_text::Game;
+use json_dialect::JsonDialect;
+use link_audit::{Difference, KnownDialect, Vouching, vouch};
+use log_audit::{Finding, audit_log};
+use log_reader::Log;
+use std::alloc::Global;
+use tac_base::{Agent, Text, print_numeral};
+use tac_io::{Files, Sink, write_all};
+
+/// The line that is written of the first difference between a log and a link.
+fn difference_text(difference: Difference) -> Text
+    ensures { result ≡ texts.difference_text difference }
+{
+    match difference {
+        Difference::Seat => plain(b"unvouched seat\n"),
+        Difference::Welcome => plain(b"unvouched welcome\n"),
+        Difference::Line(line) => counted(b"unvouched line", line),
+        Difference::Entry { good, position } => {
+            numbered(b"unvouched entry", u32::from(good.get()), position)
+        }
+        Difference::Cash(position) => counted(b"unvouched cash", position),
+    }
+}
+
+/// The line of a link that is vouched for, all of so many lines.
+fn whole_text(agent: Agent, lines: u32) -> Text
+    ensures { result ≡ texts.whole_text agent lines }
+{
+    let mut text = Text::new();
+    text.push_bytes(b"vouched ");
+    print_numeral(u64::from(agent.get()), &mut text);
+    text.push_bytes(b" whole ");
+    print_numeral(u64::from(lines), &mut text);
+    text.push(b'\n');
+    text
+}
+
+/// The line of a link that was cut after so many replies, with the number of the agent's entries after them.
+fn cut_text(agent: Agent, lines: u32, after: u32) -> Text
+    ensures { result ≡ texts.cut_text agent lines after }
+{
+    let mut text = Text::new();
+    text.push_bytes(b"vouched ");
+    print_numeral(u64::from(agent.get()), &mut text);
+    text.push_bytes(b" cut ");
+    print_numeral(u64::from(lines), &mut text);
+    text.push(b' ');
+    print_numeral(u64::from(after), &mut text);
+    text.push(b'\n');
+    text
+}
+
+/// Writes what was found of a link.
+fn write_vouching<K: Sink>(vouching: Vouching, out: &mut K) -> End
+    ensures { Ends (λ outcome. outcome ≡ texts.vouching_outcome vouching) (K.state out.old) (K.state out.new) result }
+{
+    match vouching {
+        Vouching::Whole { agent, lines } => {
+            match write_all(out, whole_text(agent, lines).as_slice()) {
+                Ok(()) => End::Done,
+                Err(_) => End::WriteFault,
+            }
+        }
+        Vouching::Cut {
+            agent,
+            lines,
+            after,
+        } => {
+            match write_all(out, cut_text(agent, lines, after).as_slice()) {
+                Ok(()) => End::Done,
+                Err(_) => End::WriteFault,
+            }
+        }
+        Vouching::Not(difference) => {
+            match write_all(out, difference_text(difference).as_slice()) {
+                Ok(()) => End::Unsound,
+                Err(_) => End::WriteFault,
+            }
+        }
+    }
+}
+
+/// Judges a sound log by what a link asked and what it was said, and writes what was found.
+fn judge_link<D: KnownDialect, K: Sink>(
+    alloc: Global,
+    game: &Game,
+    log: &Log,
+    dialect: &D,
+    asked: &[u8],
+    said: &[u8],
+    out: &mut K,
+) -> End
+    requires sound { IsSound game.now log.now }
+    requires short { length asked.now < LINK_BYTES }
+    ensures { EndsUnasked (link_steps game.now (D.form dialect.now) log.now asked.now said.now) (K.state out.old) (K.state out.new) result }
+{
+    match vouch(alloc, game, log, dialect, asked, said) {
+        Ok(vouching) => write_vouching(vouching, out),
+        Err(_) => End::Refused(Refusal::Memory),
+    }
+}
+
+/// Judges a sound log by what a link asked and the file of what it was said.
+fn judge_said<D: KnownDialect, F: Files, K: Sink>(
+    alloc: Global,
+    game: &Game,
+    log: &Log,
+    dialect: &D,
+    asked: &[u8],
+    said: &str,
+    files: &mut F,
+    out: &mut K,
+) -> End
+    requires sound { IsSound game.now log.now }
+    requires short { length asked.now < LINK_BYTES }
+    requires name { MaySelect (F.state files.old) said.now }
+    ensures { EndsSteps (Reads (file Bytes said.now) (λ said. link_steps game.now (D.form dialect.now) log.now asked.now said))
+        (F.state files.old) (F.state files.new) (K.state out.old) (K.state out.new) result }
+{
+    match read_link(alloc, files, said) {
+        Ok(said) => judge_link(alloc, game, log, dialect, asked, said.as_slice(), out),
+        Err(refusal) => End::Refused(refusal),
+    }
+}
+
+/// Judges a sound log by the two files of a link.
+fn judge_files<D: KnownDialect, F: Files, K: Sink>(
+    alloc: Global,
+    game: &Game,
+    log: &Log,
+    dialect: &D,
+    asked: &str,
+    said: &str,
+    files: &mut F,
+    out: &mut K,
+) -> End
+    requires sound { IsSound game.now log.now }
+    requires names { IfSome (F.state files.old).names (λ names. (length names + 1 < FILE_NAMES) × (length asked.now ≤ NAME_BYTES) × (length said.now ≤ NAME_BYTES)) }
+    ensures { EndsSteps (link_file_steps game.now (D.form dialect.now) log.now asked.now said.now)
+        (F.state files.old) (F.state files.new) (K.state out.old) (K.state out.new) result }
+{
+    match read_link(alloc, files, asked) {
+        Ok(asked) => judge_said(
+            alloc,
+            game,
+            log,
+            dialect,
+            asked.as_slice(),
+            said,
+            files,
+            out,
+        ),
+        Err(refusal) => End::Refused(refusal),
+    }
+}
+
+/// Judges a sound log by the two files of a link that speaks lines of this form.
+fn judge_form<F: Files, K: Sink>(
+    alloc: Global,
+    game: &Game,
+    log: &Log,
+    asked: &str,
+    said: &str,
+    form: Form,
+    files: &mut F,
+    out: &mut K,
+) -> End
+    requires sound { IsSound game.now log.now }
+    requires names { IfSome (F.state files.old).names (λ names. (length names + 1 < FILE_NAMES) × (length asked.now ≤ NAME_BYTES) × (length said.now ≤ NAME_BYTES)) }
+    ensures { EndsSteps (link_file_steps game.now (dialect_in form) log.now asked.now said.now)
+        (F.state files.old) (F.state files.new) (K.state out.old) (K.state out.new) result }
+{
+    match form {
+        Form::Lines => judge_files(alloc, game, log, &LineDialect, asked, said, files, out),
+        Form::Json => {
+            judge_files(
+                alloc,
+                game,
+                log,
+                &JsonDialect::new(alloc),
+                asked,
+                said,
+                files,
+                out,
+            )
+        }
+    }
+}
+
+/// Judges a log by its game, and by the two files of a link if it is sound.
+fn vouch_log<F: Files, K: Sink>(
+    alloc: Global,
+    game: &Game,
+    log: &Log,
+    asked: &str,
+    said: &str,
+    form: Form,
+    files: &mut F,
+    out: &mut K,
+) -> End
+    requires { IfSome (F.state files.old).names (λ names. (length names + 1 < FILE_NAMES) × (length asked.now ≤ NAME_BYTES) × (length said.now ≤ NAME_BYTES)) }
+    ensures { EndsSteps (vouch_steps game.now (dialect_in form) asked.now said.now log.now)
+        (F.state files.old) (F.state files.new) (K.state out.old) (K.state out.new) result }
+{
+    match audit_log(alloc, game, log) {
+        Ok(Finding::Sound) => judge_form(alloc, game, log, asked, said, form, files, out),
+        Ok(Finding::Unsound(flaw)) => write_flaw(flaw, out),
+        Err(_) => End::Refused(Refusal::Memory),
+    }
+}
+
+/// Judges the log of that name by a game, and by the two files of a link.
+fn vouch_by_file<F: Files, K: Sink>(
+    alloc: Global,
+    game: &Game,
+    log: &str,
+    asked: &str,
+    said: &str,
+    form: Form,
+    files: &mut F,
+    out: &mut K,
+) -> End
+    requires { IfSome (F.state files.old).names (λ names. (length names + 2 < FILE_NAMES) × (length log.now ≤ NAME_BYTES) × (length asked.now ≤ NAME_BYTES)
+        × (length said.now ≤ NAME_BYTES)) }
+    ensures { EndsSteps (Reads (file LogKind log.now) (vouch_steps game.now (dialect_in form) asked.now said.now))
+        (F.state files.old) (F.state files.new) (K.state out.old) (K.state out.new) result }
+{
+    match read_value::<Log, F>(alloc, files, log) {
+        Ok(log) => vouch_log(alloc, game, &log, asked, said, form, files, out),
+        Err(refusal) => End::Refused(refusal),
+    }
+}
+
+/// Judges the log of the second file by the game of the first, and then by the link of the last two: these are read only if the log is sound.
+pub(crate) fn vouch_files<F: Files, K: Sink>(
+    alloc: Global,
+    game: &str,
+    log: &str,
+    asked: &str,
+    said: &str,
+    form: Form,
+    files: &mut F,
+    out: &mut K,
+) -> End
+    requires { IfSome (F.state files.old).names (λ names. (names ≡ []) × (length game.now ≤ NAME_BYTES) × (length log.now ≤ NAME_BYTES)
+        × (length asked.now ≤ NAME_BYTES) × (length said.now ≤ NAME_BYTES)) }
+    ensures { EndsBatch (commands.Vouch game.now log.now asked.now said.now form)
+        (F.state files.old) (F.state files.new) (K.state out.old) (K.state out.new) result }
+{
+    match read_value::<Game, F>(alloc, files, game) {
+        Ok(game) => vouch_by_file(alloc, &game, log, asked, said, form, files, out),
+        Err(refusal) => End::Refused(refusal),
+    }
+}
