@@ -47,7 +47,7 @@ const WRITES: &[(&str, usize, u64)] = &[
     ("hotel hotel", 1, 41),
     ("show game", 100, 9),
     ("solve account", 20, 9),
-    ("play game script", 1_000_000, 9),
+    ("play game script", 200, 9),
     ("step game script", 1_000, 9),
 ];
 
