@@ -1,4 +1,5 @@
-"""The plain reading of one link: records that are right, and the same with one thing changed."""
+"""The plain reading of one link, and `tac vouch`, which says the same of each record here: records
+that are right, and the same with one thing changed."""
 
 import contextlib
 import importlib
@@ -108,12 +109,28 @@ class Record(unittest.TestCase):
         self.count = len(self.asked) - HELLO
 
     def judge(self, asked: Optional[Sequence[str]] = None, said: Optional[Sequence[str]] = None,
-              log: str = "", form: str = "words") -> str:
-        """What is said of the record, or of one with other lines, by the log or another one."""
-        boards = reading.Boards(read_game(self.played.game), read_log(log or self.played.log))
-        found: str = reading.vouching(boards, text_of(self.asked if asked is None else asked),
-                                      text_of(self.said if said is None else said), form)
+              log: str = "", form: str = "words", proved: bool = True) -> str:
+        """What is said of the record, or of one with other lines, by the log or another one; the
+        program says the same, unless it is not to be asked."""
+        texts = [self.played.game.encode(), (log or self.played.log).encode(),
+                 text_of(self.asked if asked is None else asked),
+                 text_of(self.said if said is None else said)]
+        boards = reading.Boards(read_game(self.played.game), read_log(texts[1]))
+        found: str = reading.vouching(boards, texts[2], texts[3], form)
+        if proved:
+            self.assertEqual(self.proved(texts, form), found)
         return found
+
+    @staticmethod
+    def proved(texts: Sequence[bytes], form: str) -> str:
+        """What `tac vouch` writes of the texts of a game file, a log, and a record."""
+        with tempfile.TemporaryDirectory() as place:
+            files = [Path(place) / str(number) for number in range(len(texts))]
+            for file, text in zip(files, texts):
+                file.write_bytes(text)
+            words = [*files, "json"] if form == "json" else files
+            allowed = (program.OK, program.UNSOUND)
+            return program.run("vouch", *words, allowed=allowed).rstrip("\n")
 
     def left_by(self, number: int) -> Optional[Tuple[int, int]]:
         """The good, 28 for cash, and the position that the line of a number left in the log, by its
@@ -241,9 +258,9 @@ class OneAgent(Record):
     def test_a_log_that_seats_somebody_else(self) -> None:
         for other in ("lost", "seated 3"):
             log = self.played.log.replace("link 2 seated 2", f"link 2 {other}")
-            self.assertEqual(self.judge(log=log), "unvouched seat")
+            self.assertEqual(self.judge(log=log, proved=False), "unvouched seat")
         log = re.sub("serve\n(link .*\n|end .*\n|missed .*\n)*", "play\n", self.played.log)
-        self.assertEqual(self.judge(log=log), "unvouched seat")
+        self.assertEqual(self.judge(log=log, proved=False), "unvouched seat")
 
 
 @needs_program
@@ -361,8 +378,9 @@ class Limits(Record):
 
     def test_lines_that_are_used_up(self) -> None:
         with mock.patch.object(reading, "MOST_LINES", 1000):
-            self.assertEqual(self.judge(), "unvouched line 1001")
-            self.assertEqual(self.judge(said=self.said[:WELCOME + 990]), "unvouched entry 9 1000")
+            self.assertEqual(self.judge(proved=False), "unvouched line 1001")
+            self.assertEqual(self.judge(said=self.said[:WELCOME + 990], proved=False),
+                             "unvouched entry 9 1000")
 
 
 @needs_program
