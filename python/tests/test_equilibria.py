@@ -2,6 +2,7 @@ import math
 import random
 import unittest
 from typing import List, Sequence
+from unittest import mock
 
 from geesefuton.experiments.equilibria import (RESAMPLES, Mixture, SymmetricGame, counts_of,
                                                distance, equilibria, find, gains, mean_game,
@@ -129,6 +130,17 @@ class Deals(unittest.TestCase):
         self.assertEqual((found.others, found.resamples), (0, RESAMPLES))
         self.assertEqual(found.shares, [(1.0, 1.0), (0.0, 0.0)])
         self.assertTrue(found.are_known)
+
+    def test_shares_are_without_a_twentieth_at_each_end(self) -> None:
+        samples = scattered([[1, 2], [2, 1]], 1.0, 4, 2)
+        for resamples, ends in ((40, (0.02, 0.37)), (10, (0.0, 0.09)), (1, (0.0, 0.0))):
+            places = [place / 100 for place in range(resamples)]
+            random.Random(1).shuffle(places)
+            each = [[(place, 1.0 - place)] for place in places]
+            with mock.patch("geesefuton.experiments.equilibria.equilibria",
+                            side_effect=[[(0.5, 0.5)], *each]):
+                found = find(2, samples, resamples)
+            self.assertEqual(found.shares[0], ends)
 
     def test_a_single_deal_tells_nothing(self) -> None:
         found = find(2, scattered([[4000, 4000], [2000, 2000]], 300.0, 1, 1))
