@@ -1,8 +1,10 @@
 """Processes and folders that are gone once the script that made them has ended, however it ends;
 signals; and output that tells closed pipes and full disks."""
 
+import contextlib
 import errno
 import os
+import random
 import signal
 import socket
 import subprocess
@@ -60,11 +62,13 @@ def stop_on_signals() -> None:
 
 
 def free_port() -> int:
-    """A port on which no program listens now."""
-    with socket.socket() as probe:
-        probe.bind(("127.0.0.1", 0))
-        port: int = probe.getsockname()[1]
-        return port
+    """A port on which no program listens now, outside of the range that systems give to links."""
+    drawn = random.SystemRandom()
+    while True:
+        port = drawn.randrange(20_000, 32_768)
+        with socket.socket() as probe, contextlib.suppress(OSError):
+            probe.bind(("", port))
+            return port
 
 
 class Children:

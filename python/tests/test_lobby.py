@@ -441,7 +441,8 @@ class TheEnd(Case):
         self.assertEqual((host.status, taken.exists()), (6, False))
 
     def test_a_port_that_is_taken_is_tried_five_times(self) -> None:
-        with mock.patch.dict(os.environ, {"TAC": fake_program(self.folder, "exit 5\n")}), \
+        script = f'[ "$1" = serve ] && exit 5\nexec {os.environ["TAC"]} "$@"\n'
+        with mock.patch.dict(os.environ, {"TAC": fake_program(self.folder, script)}), \
                 mock.patch("geesefuton.hosting.server.free_port", side_effect=free_port) as ports:
             host = Host(self.folder, pace=5, start=0)
             host.end()
