@@ -40,6 +40,7 @@ class Module:
         self.definitions: Dict[str, Definition] = {}
         self.renamed: List[str] = []
         self.parameters: Dict[str, List[str]] = {}
+        self._targets: Dict[str, List[Target]] = {}
         with open(file, encoding="utf-8") as source:
             lines = source.read().split("\n")
         self.about = " ".join(line[2:].strip() for line in leading_comment(lines))
@@ -109,6 +110,11 @@ class Module:
 
     def targets(self, name: str) -> List[Target]:
         """What the words and operators of a definition stand for, each once, in order."""
+        if name not in self._targets:
+            self._targets[name] = self._found_targets(name)
+        return self._targets[name]
+
+    def _found_targets(self, name: str) -> List[Target]:
         text = "\n".join(self.definitions[name].lines + self.parameters.get(name, []))
         words = WORD.findall(text) + [
             sign for sign in self.operators if f" {sign} " in text.replace("\n", " ")

@@ -444,6 +444,7 @@ class Lemmas:
 
     def __init__(self) -> None:
         self.modules: Dict[str, Optional[Module]] = {}
+        self.met: Dict[str, Optional[Tuple[str, int, Set[Target], str]]] = {}
 
     def module(self, place: str) -> Optional[Module]:
         """The module of CRATE/FILE in `proofs/`; None if there is no such file."""
@@ -459,6 +460,12 @@ class Lemmas:
 
         None if there is no such lemma.
         """
+        if lemma not in self.met:
+            self.met[lemma] = self._read(definitions, lemma)
+        return self.met[lemma]
+
+    def _read(self, definitions: Definitions,
+              lemma: str) -> Optional[Tuple[str, int, Set[Target], str]]:
         place, name = lemma.split(":")
         module = self.module(place)
         if module is None or name not in module.definitions:
