@@ -381,10 +381,10 @@ BESIDE: List[Tuple[str, str, List[str]]] = [
 STEP_TRUTHS = """\
 The command `step` plays by the same definitions as `play`, over the lines that came; its promise by
 half sentences comes first. That a reply is written before the next read is said where a read
-failed: the replies to all lines that came were taken whole, and only then is the failure told. Any read may
-fail, and a write after it, so no body can keep to that which holds replies back. Where nothing
-failed it is said where it is known how much of the script came: of what one read gave, some may be
-unanswered. Of the system's own files that is not known, as of all their bytes."""
+failed: the replies to all lines that came were taken whole, and only then is the failure told. Any
+read may fail, and a write after it, so no body can keep to that which holds replies back. Where
+nothing failed it is said where it is known how much of the script came: of what one read gave, some
+may be unanswered. Of the system's own files that is not known, as of all their bytes."""
 
 # What `tac step` promises, half sentence by half sentence.
 STEP_SENTENCES: List[Tuple[str, List[str]]] = [

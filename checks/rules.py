@@ -16,7 +16,7 @@ from definitions import CRATES, ROOT, line_of
 
 
 class Rule(NamedTuple):
-    """A rule of a heading of GAME.md, with its places; `words` are the other pages that state it."""
+    """A rule of a heading of GAME.md, with its places; `words` are other pages that state it."""
 
     heading: str
     rule: str

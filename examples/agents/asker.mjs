@@ -3,8 +3,9 @@
 //
 //     node examples/agents/asker.mjs HOST PORT WORD [--pause SECONDS]
 //
-// It buys the trip of its first client: both seats at once, and a room for each night, for which it bids again when the quote has reached
-// its bid. When the game is over it prints what it holds, and ends. It needs Node 18 or later, and nothing else.
+// It buys the trip of its first client: both seats at once, and a room for each night, for which it
+// bids again when the quote has reached its bid. When the game is over it prints what it holds, and
+// ends. It needs Node 18 or later, and nothing else.
 import fs from "node:fs";
 import net from "node:net";
 import path from "node:path";
@@ -103,7 +104,8 @@ class Link {
     this.socket.write(bytes);
   }
 
-  // Takes a seat by its word, and waits until the game begins. Admission is in lines of words for every agent.
+  // Takes a seat by its word, and waits until the game begins. Admission is in lines of words for
+  // every agent.
   async greet(word) {
     this.send(`hello ${word}`);
     const first = await this.line();
@@ -113,12 +115,14 @@ class Link {
     await this.line(); // the tickets that it has at first
     this.clients = [];
     for (let number = 0; number < 8; number += 1) {
-      const [arrive, depart, premium, ...values] = (await this.line()).split(" ").slice(3).map(Number);
+      const words = (await this.line()).split(" ").slice(3);
+      const [arrive, depart, premium, ...values] = words.map(Number);
       this.clients.push({ arrive, depart, premium, values });
     }
   }
 
-  // Sends a request, and returns its reply. If the server had no memory to read the line, nothing was asked, and it is sent again.
+  // Sends a request, and returns its reply. If the server had no memory to read the line, nothing
+  // was asked, and it is sent again.
   async ask(request) {
     for (;;) {
       this.send(JSON.stringify(request));
@@ -141,7 +145,8 @@ function trip({ arrive, depart, premium }) {
   return { seats: [arrive - 1, depart + 2], rooms };
 }
 
-// Bids for the rooms whose quote has reached the standing bid. `standing` has the dollars of the standing bids.
+// Bids for the rooms whose quote has reached the standing bid. `standing` has the dollars of the
+// standing bids.
 async function bidForRooms(link, rooms, standing) {
   for (const room of rooms) {
     const { quote, open } = await link.ask({ do: "quote", auction: room });
@@ -155,8 +160,12 @@ async function bidForRooms(link, rooms, standing) {
 }
 
 async function main() {
-  const options = { pause: { type: "string", default: "2" }, seed: { type: "string" }, help: { type: "boolean", short: "h" } };
-  const { values, positionals } = parseArgs({ allowPositionals: true, options }); // it draws nothing, so any seed does
+  const options = {
+    pause: { type: "string", default: "2" },
+    seed: { type: "string" }, // it draws nothing, so any seed does
+    help: { type: "boolean", short: "h" },
+  };
+  const { values, positionals } = parseArgs({ allowPositionals: true, options });
   if (values.help) {
     console.log("usage: node asker.mjs HOST PORT WORD [--pause SECONDS]");
     return;
@@ -172,10 +181,12 @@ async function main() {
     await bidForRooms(link, rooms, standing);
     await sleep(1000 * Number(values.pause));
   }
+  const goods = [...seats, ...rooms];
   const held = [];
-  for (const auction of [...seats, ...rooms]) held.push((await link.ask({ do: "own", auction })).own);
+  for (const auction of goods) held.push((await link.ask({ do: "own", auction })).own);
   const { cash } = await link.ask({ do: "cash" });
-  console.log(`agent ${link.agent} holds ${held.join(" ")} of the goods ${[...seats, ...rooms].join(" ")}, cash ${cash}`);
+  const what = `${held.join(" ")} of the goods ${goods.join(" ")}`;
+  console.log(`agent ${link.agent} holds ${what}, cash ${cash}`);
   await link.ask({ do: "quit" });
   link.socket.end();
 }

@@ -30,8 +30,8 @@ class Answers(unittest.TestCase):
     def test_too_low_for_a_hotel(self) -> None:
         bid = Request("bid", 8, ((2, 100),))
         self.assertEqual(refusal("@3 no belowquote 3 101 2", bid),
-                         "Too low: a new bid has to offer 3 rooms at 101 dollars or more, since you "
-                         "would win 3 now; yours offers only 2 at that price.")
+                         "Too low: a new bid has to offer 3 rooms at 101 dollars or more, since "
+                         "you would win 3 now; yours offers only 2 at that price.")
         self.assertEqual(refusal("@3 no belowquote 1 101 0", bid),
                          "Too low: a new bid has to offer 1 room at 101 dollars or more; yours "
                          "offers none at that price.")

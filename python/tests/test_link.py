@@ -525,7 +525,8 @@ class Arguments(unittest.TestCase):
                 link.arguments("what")
 
         setting("SHADE=1.0", "MARGINS=(30, 0)", "UNITS=-3")
-        self.assertEqual([names[name] for name in ("SHADE", "MARGINS", "UNITS")], [1.0, (30, 0), -3])
+        self.assertEqual([names[name] for name in ("SHADE", "MARGINS", "UNITS")],
+                         [1.0, (30, 0), -3])
         setting("SHADE=2")
         self.assertEqual(names["SHADE"], 2)
         for text, why in (("SHAED=1", "names no number SHAED in capitals"), ("play=1", "no number"),
@@ -540,9 +541,10 @@ class Arguments(unittest.TestCase):
 
     def test_numbers_of_the_examples_that_only_a_class_or_a_function_reads_can_be_set(self) -> None:
         """A name counts where it is read while the agent plays, and not only where it is loaded."""
-        for name, numbers in (("planner", ["MOST_FOR_A_SEAT", "MOST_FOR_A_ROOM"]),
-                              ("trader", ["MOST_FOR_A_ROOM", "MARGIN", "MOST_ROUNDS"]),
-                              ("baseline", ["SHADE", "AHEAD", "PATIENCE", "LEAST_GAIN", "MARGINS"])):
+        for name, numbers in (
+                ("planner", ["MOST_FOR_A_SEAT", "MOST_FOR_A_ROOM"]),
+                ("trader", ["MOST_FOR_A_ROOM", "MARGIN", "MOST_ROUNDS"]),
+                ("baseline", ["SHADE", "AHEAD", "PATIENCE", "LEAST_GAIN", "MARGINS"])):
             tree = ast.parse((TOP / "examples" / "agents" / f"{name}.py").read_text())
             read = {each.id for function in ast.walk(tree) if isinstance(function, ast.FunctionDef)
                     for each in ast.walk(function) if isinstance(each, ast.Name)}

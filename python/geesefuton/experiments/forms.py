@@ -92,8 +92,8 @@ def _below_pairs(pairs: Sequence[Difference], summary: Summary) -> List[str]:
 
 def as_text(summary: Summary) -> str:
     """The summary in lines for a reader."""
-    lines = [f"{count_text(summary.games, 'game')} of {count_text(summary.deals, 'deal')}; dollars with "
-             "95 % intervals by deals (Student's t)", *_kinds(summary), ""]
+    lines = [f"{count_text(summary.games, 'game')} of {count_text(summary.deals, 'deal')}; dollars "
+             "with 95 % intervals by deals (Student's t)", *_kinds(summary), ""]
     rows = [["agent", "mean", "of seats that played", "luck", f"mean {ADJUSTED}",
              "did not play"]]
     rows += [[standing.agent, _marked(standing), number_text(standing.played),
