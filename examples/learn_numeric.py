@@ -15,7 +15,10 @@ import sys
 
 from step import Environment  # noqa: F401  # first: it finds the package
 
-import numpy as np
+try:
+    import numpy as np
+except ImportError as fault:
+    sys.exit(f"learn_numeric.py: it needs numpy: {fault}")
 
 from geesefuton import program
 from geesefuton.arguments import whole
@@ -88,8 +91,8 @@ def main():
     error = statistics.stdev(gains) / len(gains) ** 0.5
     print(f"levels by phase: flights {best[:, 0]}, hotel nights {best[:, 1]}, tickets {best[:, 2]}")
     print(f"{len(gains)} games that it has not seen: {statistics.mean(mine):.0f} dollars a game, "
-          f"the planner in its seat {statistics.mean(theirs):.0f}: {statistics.mean(gains):.0f} more, "
-          f"with a standard error of {error:.0f} by pairs")
+          f"the planner in its seat {statistics.mean(theirs):.0f}: {statistics.mean(gains):.0f} "
+          f"more, with a standard error of {error:.0f} by pairs")
     return 0
 
 

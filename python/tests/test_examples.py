@@ -6,7 +6,7 @@ import unittest
 from typing import List
 from unittest import mock
 
-from tests.helpers import TOP, needs_program, variables
+from tests.helpers import TOP, needs_program, python, variables
 from tests.test_link import WELCOME, Server
 
 
@@ -56,6 +56,17 @@ class Examples(unittest.TestCase):
         self.assertEqual(first, again)
         self.assertNotEqual(first[0], other[0])
         self.assertRegex(first[-1], "^2 games that it has not seen: -?[0-9]+ dollars a game more")
+
+
+class WithoutNumpy(unittest.TestCase):
+    def test_the_learner_in_numbers_tells_in_a_line_that_it_needs_it(self) -> None:
+        # An entry of None in sys.modules stands for a module that is not there.
+        code = ("import runpy, sys; sys.modules['numpy'] = None; sys.path.insert(0, sys.argv[1]); "
+                "runpy.run_path(sys.argv[1] + '/learn_numeric.py', run_name='__main__')")
+        done = subprocess.run(python(code, TOP / "examples"), stdin=subprocess.DEVNULL, text=True,
+                              capture_output=True, timeout=60, env=variables(), check=False)
+        self.assertEqual((done.returncode, done.stdout, done.stderr.count("\n")), (1, "", 1))
+        self.assertTrue(done.stderr.startswith("learn_numeric.py: it needs numpy"), done.stderr)
 
 
 @unittest.skipUnless(importlib.util.find_spec("numpy"), "numpy is not installed")
