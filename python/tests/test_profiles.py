@@ -4,6 +4,7 @@ import functools
 import json
 import os
 import pickle
+import signal
 import subprocess
 import tempfile
 import unittest
@@ -15,7 +16,7 @@ from geesefuton.experiments import equilibria, profiles
 from geesefuton.experiments.match import Result
 from geesefuton.experiments.results import Outcome
 from geesefuton.experiments.runs import read_scores
-from geesefuton.processes import Output
+from geesefuton.processes import Output, Stopped
 from tests.helpers import SERVED_GAME, TOP, fake_program, refusal
 
 # A stand-in for the process of a game of two strategies, whose words begin with `dove` and `hawk`:
@@ -78,7 +79,8 @@ class Commands(unittest.TestCase):
             patch(mock.patch("geesefuton.experiments.profiles.Output", lambda target: Output(
                 out if target == 1 else target, "standard output" if target == 1 else "")))
             for module in ("experiments.profiles", "experiments.tournament", "processes"):
-                patch(mock.patch(f"geesefuton.{module}.tell", lambda text: told.append(text + "\n")))
+                patch(mock.patch(f"geesefuton.{module}.tell",
+                                 lambda text: told.append(text + "\n")))
             got = profiles.main()
         self.assertEqual(got, status, "".join(told))
         printed = self.place / "printed"
@@ -150,6 +152,12 @@ class Commands(unittest.TestCase):
         self.assertIn("3 deals of 4 profiles", joined)
         self.assertEqual(self.run_profiles("--resume")[0], joined)
         self.assertEqual(len(self.begun()), len(before) + 2)
+
+    def test_a_signal_stops_it_under_its_own_name(self) -> None:
+        with mock.patch("geesefuton.experiments.tournament.Tournament.play",
+                        side_effect=Stopped(signal.SIGTERM)):
+            text, told = self.run_profiles(status=128 + signal.SIGTERM)
+        self.assertEqual((text, told), ("", "profiles: stopped\n"))
 
     def test_parts_are_joined_by_the_same_command(self) -> None:
         for part in ("1/5", "2/5", "4/5", "5/5"):  # one of them does not run

@@ -212,7 +212,8 @@ def _main() -> int:
         failed += _write(folder, payoffs)
         out = Output(1)
         out.write(_text_of(payoffs, rows))
-        failed += [f"what was found was not written to {out.name}: {out.fault}"] if out.fault else []
+        if out.fault:
+            failed.append(f"what was found was not written to {out.name}: {out.fault}")
     for text in failed:
         tell(f"profiles: {text}")
     return status or (1 if failed else 0)

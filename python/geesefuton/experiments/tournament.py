@@ -276,7 +276,8 @@ def _join(names: Sequence[Path], are_pools: bool, summaries: Sequence[Path],
     for name in names:
         source, lines = read_source(name)
         if source and "players" in read_settings(source.rows[0].settings):
-            source, lines = None, [*lines, f"{name}: it has the games of profiles: see that command"]
+            source = None
+            lines.append(f"{name}: it has the games of profiles: see that command")
         sources += [source] if source else []
         told += lines
     rows, refused = (pooled if are_pools else joined)(sources)
@@ -326,7 +327,7 @@ def _play_to_output(parser: Parser, plan: Plan) -> int:
         _open_folder(parser, plan.keep)
     writer = OrderedRows(Output(1), plan.keep or Path())
     tournament = Tournament(plan, writer)
-    status = _play(tournament, writer)
+    status = _play(parser, tournament, writer)
     report = tournament.report
     summary = summarize(report.all_rows(), report.lost, plan.detect)
     for text in _write_summary(summary, plan.summaries):
@@ -365,7 +366,7 @@ def play_in_folder(parser: Parser, plan: Plan, elsewhere: AbstractSet[Tuple[str,
     writer = AppendedRows(folder.out)
     tournament = Tournament(plan, writer, folder.finished | elsewhere, folder.number,
                             [folder.lock])
-    status = _play(tournament, writer)
+    status = _play(parser, tournament, writer)
     report = tournament.report
     status = status or (1 if report.lost else 0)
     scored = sum(bool(rows) for rows in report.rows.values())
@@ -377,7 +378,7 @@ def play_in_folder(parser: Parser, plan: Plan, elsewhere: AbstractSet[Tuple[str,
     return status, folder.rows + report.all_rows(), report.lost
 
 
-def _play(tournament: Tournament, writer: AppendedRows) -> int:
+def _play(parser: Parser, tournament: Tournament, writer: AppendedRows) -> int:
     """Plays, and returns the status of a signal that stopped it, or 0."""
     status = 0
     with Children() as children:
@@ -385,7 +386,7 @@ def _play(tournament: Tournament, writer: AppendedRows) -> int:
             tournament.play(children)
         except Stopped as stopped:
             status = stopped.status
-            tell("tournament: stopped")
+            tell(f"{parser.prog}: stopped")
     lost = writer.rescue()
     if lost:
         tournament.report.lose(lost)
