@@ -96,6 +96,16 @@ class Commands(test_relay.Case):
                               (before, self.connect(b"", banned), kept)], [True, True, False])
             self.console.obey(f"allow {banned}")
 
+    def test_an_address_is_the_same_however_it_is_written(self) -> None:
+        for link, written, plain in ((0, "2001:DB8:0::7", "2001:db8::7"),
+                                     (1, "::FFFF:10.0.0.9", "10.0.0.9")):
+            self.relay.links[link].source = plain
+            self.assertEqual(self.console.obey(f"ban {written}"),
+                             f"no link from {plain} is taken; 1 ended")
+            self.assertTrue(self.has_ended(self.agents[link]))
+            self.assertEqual(self.console.obey(f"allow {written}"),
+                             f"links from {plain} are taken again")
+
     def test_a_ban_of_another_address_ends_nobody(self) -> None:
         self.relay.links[1].source = "10.0.0.9"
         self.connect(b"hel")  # a link that has no seat yet
@@ -128,7 +138,10 @@ class Commands(test_relay.Case):
                            ("end seat4", "no link has a seat that is called seat4"),
                            ("word seat1 seat2", "seat2 is the word of another seat"),
                            ("word 1 R", "R is no seat word: 1 to 16 of a to z and 0 to 9 are due"),
-                           ("allow 10.0.0.1", "10.0.0.1 is not banned; banned are: none")):
+                           ("allow 10.0.0.1", "10.0.0.1 is not banned; banned are: none"),
+                           ("ban seat1", "seat1 is no address; `who` tells those of the agents"),
+                           ("allow 10.0.0", "10.0.0 is no address; `who` tells those of the "
+                            "agents")):
             with self.assertRaisesRegex(NotDone, "^" + told.replace("|", ".") + "$"):
                 self.console.obey(line)
 

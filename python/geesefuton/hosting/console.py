@@ -5,6 +5,7 @@ from __future__ import annotations
 import time
 from typing import Callable, Dict, NamedTuple, Optional
 
+from geesefuton.hosting.addresses import plain_address
 from geesefuton.hosting.control import Control, Phase
 from geesefuton.hosting.links import OuterLink
 from geesefuton.hosting.relay import Relay
@@ -109,14 +110,16 @@ class Console:
         self._relay.fail(link)
         return f"the link of {word} is ended"
 
-    def _ban(self, address: str) -> str:
+    def _ban(self, text: str) -> str:
+        address = _address(text)
         self._relay.banned.add(address)
         links = [link for link in self._relay.links.values() if link.source == address]
         for link in links:
             self._relay.fail(link)
         return f"no link from {address} is taken; {len(links)} ended"
 
-    def _allow(self, address: str) -> str:
+    def _allow(self, text: str) -> str:
+        address = _address(text)
         if address not in self._relay.banned:
             banned = " ".join(sorted(self._relay.banned)) or "none"
             raise NotDone(f"{address} is not banned; banned are: {banned}")
@@ -146,6 +149,18 @@ class Console:
 
     def _link(self, seat: Seat) -> Optional[OuterLink]:
         return None if seat.holder is None else self._relay.links.get(seat.holder)
+
+
+def _address(text: str) -> str:
+    """The address that a word of the host is.
+
+    Raises:
+        NotDone: It is none.
+    """
+    try:
+        return plain_address(text)
+    except ValueError:
+        raise NotDone(f"{text} is no address; `who` tells those of the agents") from None
 
 
 def _usage(name: str, known: Command) -> str:

@@ -33,6 +33,7 @@ from pathlib import Path
 from typing import Any, BinaryIO, Callable, Deque, Dict, List, Optional, Tuple
 
 from geesefuton.arguments import Parser, seconds, whole
+from geesefuton.hosting.addresses import listen
 from geesefuton.hosting.journal import JournalError, JournalReader
 from geesefuton.hosting.nights import Nights
 from geesefuton.hosting.projection import Projection, View, project
@@ -199,13 +200,6 @@ def _has_seats() -> bool:
     return find_spec("geesefuton.playing") is not None
 
 
-def _listen(port: int) -> socket.socket:
-    """A listening socket on every address of the machine."""
-    both = socket.has_dualstack_ipv6()
-    return socket.create_server(("", port), family=socket.AF_INET6 if both else socket.AF_INET,
-                                dualstack_ipv6=both, backlog=128)
-
-
 def _watch_standard_input(cut: Callable[[], None]) -> None:
     """Calls `cut` at the end of standard input, if that is a pipe: whoever started the page closes
     it once nothing more comes."""
@@ -227,7 +221,7 @@ async def _run(given: argparse.Namespace, journal: BinaryIO, player: Player) -> 
     begins = None if given.start is None else time.monotonic() + given.start
     live = Live(journal, View(given.late, given.names), player, viewers, faults,
                 _joining(given.agents), begins)
-    with contextlib.closing(_listen(given.port)) as listener:
+    with contextlib.closing(listen(given.port)) as listener:
         serving = asyncio.ensure_future(viewers.accept(listener))
         if given.until_over:
             _watch_standard_input(live.cut)

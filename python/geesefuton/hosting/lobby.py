@@ -16,6 +16,7 @@ from typing import Callable, List, Optional, Tuple
 
 from geesefuton import program
 from geesefuton.hosting import events, log_files
+from geesefuton.hosting.addresses import listen
 from geesefuton.hosting.control import STOPPED, Control, Phase
 from geesefuton.hosting.events import Event
 from geesefuton.hosting.hosted_game import LOOK, HostedGame, Serving
@@ -236,11 +237,8 @@ def _check_pages(settings: LobbySettings) -> None:
 
 
 def _listen(port: int) -> socket.socket:
-    """A listening socket on every address of the machine."""
-    both = socket.has_dualstack_ipv6()
     try:
-        return socket.create_server(("", port), family=socket.AF_INET6 if both else socket.AF_INET,
-                                    dualstack_ipv6=both, backlog=128)
+        return listen(port)
     except OSError as fault:
         raise LobbyError(f"port {port}: {why(fault)}") from None
 

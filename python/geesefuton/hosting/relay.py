@@ -17,12 +17,13 @@ import time
 from typing import Any, Callable, Dict, Optional, Sequence, Set
 
 from geesefuton.hosting import events
+from geesefuton.hosting.addresses import plain_address
 from geesefuton.hosting.events import End, Event
 from geesefuton.hosting.journal import Journal
 from geesefuton.hosting.links import OuterLink
 from geesefuton.hosting.seats import Action, Give, Over, Refuse, Seat, Seats, State
 from geesefuton.hosting.sessions import ADMISSION, Session
-from geesefuton.records.dialects import MOST_LINE, is_bye, is_refusal
+from geesefuton.records.dialects import MOST_LINE, is_bye
 
 MOST_SAID = 65536  # bytes of an agent's lines that are kept; it is not read while there are more
 MOST_HELD = 65536  # bytes for an agent that does not read; nothing is asked for it beyond these
@@ -149,7 +150,7 @@ class Relay:
             self.forget(self._listener)
             self._deaf_until = time.monotonic() + 0.5
             return None
-        source = str(where[0]).removeprefix("::ffff:")
+        source = plain_address(where[0])
         if source in self.banned:
             return link.close()
         strangers = [other for other in self.links.values() if other.is_stranger()]
@@ -461,10 +462,7 @@ class Relay:
     def _reply(self, session: Session, line: bytes) -> None:
         if self.journal:
             self.journal.reply(session.seat.number, line)
-        session.answered += not is_bye(line)
-        session.refused += is_refusal(line)
-        link = session.asked.popleft()
-        link.owed -= 1
+        link = session.answer(line)
         if is_bye(line):
             self._do(session.seat, session.seat.leave())
         if link.is_open:

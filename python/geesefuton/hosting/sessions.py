@@ -9,6 +9,7 @@ from typing import Deque, List
 from geesefuton.hosting.events import End
 from geesefuton.hosting.links import OuterLink
 from geesefuton.hosting.seats import Seat
+from geesefuton.records.dialects import is_bye, is_refusal
 
 ADMISSION = 10  # lines of a welcome
 
@@ -37,6 +38,14 @@ class Session:
         """The lines that are whole now, without their ends."""
         *lines, self._tail = (self._tail + data).split(b"\n")
         return lines
+
+    def answer(self, line: bytes) -> OuterLink:
+        """Counts a reply, and gives the link whose line it answers."""
+        self.answered += not is_bye(line)
+        self.refused += is_refusal(line)
+        link = self.asked.popleft()
+        link.owed -= 1
+        return link
 
     def reason(self, reason: End) -> End:
         """The reason of its end, in view of what was answered."""

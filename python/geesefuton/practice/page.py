@@ -12,13 +12,13 @@ import asyncio
 import contextlib
 import json
 import os
-import socket
 import sys
 import time
 from pathlib import Path
 from typing import Any, Dict, List, Optional, Sequence
 
 from geesefuton.arguments import Parser, whole
+from geesefuton.hosting.addresses import listen
 from geesefuton.hosting.journal import JournalError
 from geesefuton.hosting.live import NICE, Live
 from geesefuton.hosting.projection import View
@@ -135,17 +135,11 @@ async def _end(tasks: "Sequence[asyncio.Future[None]]") -> None:
             raise told
 
 
-def _listen(port: int) -> socket.socket:
-    both = socket.has_dualstack_ipv6()
-    return socket.create_server(("", port), family=socket.AF_INET6 if both else socket.AF_INET,
-                                dualstack_ipv6=both, backlog=128)
-
-
 async def _run(given: argparse.Namespace, player: Player) -> None:
     faults = Faults(tell)
     screens = Screens(b"", faults)
     page = RoomPage(given.board, screens, player, given.late, faults)
-    with contextlib.closing(_listen(given.port)) as listener:
+    with contextlib.closing(listen(given.port)) as listener:
         await asyncio.gather(screens.accept(listener), page.follow())
 
 

@@ -26,6 +26,7 @@ from typing import List, Optional
 from geesefuton import program
 from geesefuton.arguments import Parser, seconds, whole
 from geesefuton.experiments.entrants import Entrant, EntrantError, read_entrants
+from geesefuton.hosting.addresses import listen
 from geesefuton.hosting.lobby import LobbyError
 from geesefuton.practice.board import Board
 from geesefuton.practice.folder import Folder, FolderError, write_whole
@@ -88,7 +89,7 @@ def _check_port(page: Optional[int]) -> None:
     if page is None:
         return
     try:
-        socket.create_server(("", page)).close()
+        listen(page).close()
     except OSError as fault:
         raise LobbyError(f"port {page}: {why(fault)}") from None
 
