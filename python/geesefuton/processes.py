@@ -61,6 +61,35 @@ def stop_on_signals() -> None:
             signal.signal(number, stop)
 
 
+def give_way(by: int) -> None:
+    """Lets other processes go first, as far as the system has means for it.
+
+    This process leaves a class of real time, in which it would have its turn before all others, and
+    its priority is lowered. Some systems share the processors out by sessions; there a session that
+    it leads gets a lower priority, too, than that of the process that started it.
+
+    Args:
+        by: By how much the priority is lower, from 1 to 19.
+    """
+    with contextlib.suppress(AttributeError, OSError):
+        if os.sched_getscheduler(0) in (os.SCHED_FIFO, os.SCHED_RR):
+            os.sched_setscheduler(0, os.SCHED_OTHER, os.sched_param(0))
+    os.nice(by)
+    if os.getsid(0) == os.getpid():  # otherwise the session is that of a terminal
+        with contextlib.suppress(OSError):
+            above = max(map(_priority_of_session, (os.getpid(), os.getppid())))
+            Path("/proc/self/autogroup").write_text(str(min(19, above + by)), encoding="ascii")
+
+
+def _priority_of_session(process: int) -> int:
+    """How nice the session of a process is, -20 to 19.
+
+    Raises:
+        OSError: The process has ended, or the system does not share by sessions.
+    """
+    return int(Path(f"/proc/{process}/autogroup").read_text(encoding="ascii").split()[-1])
+
+
 def free_port() -> int:
     """A port on which no program listens now, outside of the range that systems give to links."""
     drawn = random.SystemRandom()

@@ -1,6 +1,7 @@
 import contextlib
 import os
 import resource
+import shutil
 import signal
 import socket
 import subprocess
@@ -9,7 +10,7 @@ import time
 import unittest
 from concurrent.futures import ThreadPoolExecutor
 from pathlib import Path
-from typing import List
+from typing import Any, List
 from unittest import mock
 
 from geesefuton.processes import Children, Output, Stopped, free_port, why
@@ -252,6 +253,37 @@ class Outputs(unittest.TestCase):
         self.assertTrue(Output(writing).write("x" * 500_000))
         os.close(writing)
         self.assertEqual(child.communicate(timeout=200)[0], b"500000\n")
+
+
+class GivingWay(unittest.TestCase):
+    CODE = ("import os, sys; from geesefuton.processes import give_way; give_way(3); "
+            "print(os.getpriority(os.PRIO_PROCESS, 0), os.sched_getscheduler(0)); "
+            "sys.stdout.write(open('/proc/self/autogroup').read())")
+
+    def told(self, *before: str, **how: Any) -> List[str]:
+        """The priority and the class of a process that gave way, and how nice its session is."""
+        done = subprocess.run([*before, *python(self.CODE)], stdin=subprocess.DEVNULL, text=True,
+                              env=variables(), timeout=MOST, capture_output=True, **how)
+        return (done.stdout or done.stderr).split()[:2] + done.stdout.split()[-1:]
+
+    @unittest.skipUnless(os.path.exists("/proc/self/autogroup"), "there are no shares of sessions")
+    def test_a_process_and_the_session_that_it_leads_get_a_lower_priority(self) -> None:
+        own, session = os.getpriority(os.PRIO_PROCESS, 0), self.session()
+        due = [str(min(19, own + 3)), str(os.SCHED_OTHER), str(min(19, session + 3))]
+        self.assertEqual(self.told(start_new_session=True, check=True), due)
+        self.assertEqual(self.told(check=True)[2], str(session))  # it leads none
+
+    @unittest.skipUnless(shutil.which("chrt"), "there is no chrt")
+    @unittest.skipUnless(os.path.exists("/proc/self/autogroup"), "there are no shares of sessions")
+    def test_a_process_of_real_time_becomes_a_common_one(self) -> None:
+        told = self.told("chrt", "-r", "1", start_new_session=True, check=False)
+        if len(told) < 3:
+            self.skipTest(f"no process may be one of real time: {' '.join(told)}")
+        self.assertEqual(told[1], str(os.SCHED_OTHER))
+
+    @staticmethod
+    def session() -> int:
+        return int(Path("/proc/self/autogroup").read_text().split()[-1])
 
 
 class Commands(unittest.TestCase):

@@ -38,6 +38,7 @@ from geesefuton.records.rules import clock_ticks
 
 VERSION = 1
 SYNC = 1.0  # seconds between two requests to put what was written onto the disk
+_quoted = json.JSONEncoder().encode  # `json.dumps` of a text, in half the time
 NO_DISK = (errno.EINVAL, errno.ENOTSUP)  # what `fsync` says of a pipe or the like
 
 
@@ -90,12 +91,12 @@ class Journal:
 
     def request(self, agent: int, line: bytes) -> None:
         """An agent's line that is about to be passed on."""
-        text = json.dumps(line[:MOST_LINE + 1].decode("latin-1"))
+        text = _quoted(line[:MOST_LINE + 1].decode("latin-1"))
         self._held.append(f'{{"a":{agent},"q":{text}}}')
 
     def reply(self, agent: int, line: bytes) -> None:
         """A reply that came for an agent. It may be passed on after the next `flush`."""
-        text = json.dumps(line.decode("latin-1"))
+        text = _quoted(line.decode("latin-1"))
         self._held.append(f'{{"a":{agent},"r":{text},"t":{self.now()}}}')
 
     def tell(self, **what: Any) -> None:

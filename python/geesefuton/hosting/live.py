@@ -39,7 +39,7 @@ from geesefuton.hosting.nights import Nights
 from geesefuton.hosting.projection import Projection, View, project
 from geesefuton.hosting.recovery import Player, RecoveryError
 from geesefuton.hosting.viewers import Faults, Viewers
-from geesefuton.processes import Children, command, tell, why
+from geesefuton.processes import Children, command, give_way, tell, why
 from geesefuton.records.games import TICKS
 from geesefuton.records.logs import LogError
 
@@ -277,7 +277,7 @@ def _arguments() -> argparse.Namespace:
 
 def _main() -> int:
     given = _arguments()
-    os.nice(NICE)
+    give_way(NICE)
     try:
         with given.journal.open("rb") as journal, Children() as children:
             player = Player(children.folder("live"))

@@ -11,7 +11,6 @@ import argparse
 import asyncio
 import contextlib
 import json
-import os
 import sys
 import time
 from pathlib import Path
@@ -24,7 +23,7 @@ from geesefuton.hosting.live import NICE, Live
 from geesefuton.hosting.projection import View
 from geesefuton.hosting.recovery import Player
 from geesefuton.hosting.viewers import Faults, Viewers
-from geesefuton.processes import Children, command, tell, why
+from geesefuton.processes import Children, command, give_way, tell, why
 from geesefuton.records.games import TICKS
 
 LOOK = 0.25  # seconds between two looks at what the room shows
@@ -149,7 +148,7 @@ def _main() -> int:
     parser.add_argument("port", type=whole(1, 65535))
     parser.add_argument("--late", type=whole(0, TICKS), default=6)
     given = parser.parse_args()
-    os.nice(NICE)
+    give_way(NICE)
     with Children() as children:
         asyncio.run(_run(given, Player(children.folder("page"))))
     return 0
