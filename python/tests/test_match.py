@@ -12,8 +12,8 @@ from unittest import mock
 
 from geesefuton.experiments import match
 from geesefuton.experiments.entrants import Entrant
-from geesefuton.experiments.match import (Exit, Job, Match, Message, Note, Result, outcome_of,
-                                          repeated)
+from geesefuton.experiments.match import Exit, Match, outcome_of, repeated
+from geesefuton.experiments.messages import Job, Message, Note, Result
 from geesefuton.experiments.results import Kind, Outcome
 from geesefuton.hosting import events
 from geesefuton.hosting.events import End

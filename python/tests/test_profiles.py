@@ -13,7 +13,7 @@ from typing import Dict, List, Set, Tuple
 from unittest import mock
 
 from geesefuton.experiments import equilibria, profiles
-from geesefuton.experiments.match import Result
+from geesefuton.experiments.messages import Result
 from geesefuton.experiments.results import Outcome
 from geesefuton.experiments.runs import read_scores
 from geesefuton.processes import Output, Stopped

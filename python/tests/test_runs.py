@@ -13,7 +13,7 @@ from typing import Any, Dict, List, Set, Tuple
 from unittest import mock
 
 from geesefuton.experiments.deals import Rule
-from geesefuton.experiments.match import Result
+from geesefuton.experiments.messages import Result
 from geesefuton.experiments.plan import Plan
 from geesefuton.experiments.provenance import Agent
 from geesefuton.experiments.results import HEAD, Outcome, Row, text_of

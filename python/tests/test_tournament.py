@@ -17,7 +17,7 @@ from geesefuton.experiments.deals import Deal, Rule, Table
 from geesefuton.experiments.entrants import Entrant
 from geesefuton.experiments.forms import as_text
 from geesefuton.experiments.luck import worths_of
-from geesefuton.experiments.match import Note, Result
+from geesefuton.experiments.messages import Note, Result
 from geesefuton.experiments.plan import MARGIN, Plan, make_parser, read_plan
 from geesefuton.experiments.results import HEAD, Kind, Outcome, Row, read_rows, text_of
 from geesefuton.experiments.summary import summarize
@@ -36,7 +36,7 @@ WORKER = """
 import os, sys, time
 from multiprocessing.connection import Connection
 from geesefuton.hosting import events
-from geesefuton.experiments.match import Note, Result
+from geesefuton.experiments.messages import Note, Result
 from geesefuton.experiments.results import Kind, Outcome
 parent = Connection(int(sys.argv[1]))
 job = parent.recv()

@@ -11,7 +11,7 @@ from geesefuton.arguments import Parser, seconds, whole
 from geesefuton.experiments.deals import DealError, Rule, Table, read_rooms, seated, tables
 from geesefuton.experiments.entrants import Entrant, EntrantError, read_entrants
 from geesefuton.experiments.forms import FORMS
-from geesefuton.experiments.match import PATIENCE
+from geesefuton.experiments.messages import PATIENCE
 from geesefuton.experiments.provenance import (SHORT, Agent, agent_of, digest_of, names_text,
                                                package_digest)
 from geesefuton.experiments.turns import MOST_TURNS

@@ -47,7 +47,7 @@ from geesefuton.experiments.deals import DealError, Table, name_of_deal, tables
 from geesefuton.experiments.entrants import PACKAGE, Entrant, seat_words
 from geesefuton.experiments.forms import FORMS, as_text
 from geesefuton.experiments.joining import joined, pooled, read_source
-from geesefuton.experiments.match import PROGRAM, Job, Note, Result
+from geesefuton.experiments.messages import PROGRAM, Job, Note, Result
 from geesefuton.experiments.plan import Plan, make_parser, read_plan
 from geesefuton.experiments.provenance import SHORT, read_settings, settings_text
 from geesefuton.experiments.results import Row
