@@ -13,7 +13,7 @@ from geesefuton.hosting.lobby import Lobby
 from geesefuton.hosting.page_process import PageProcess, SeatsProcess
 from geesefuton.hosting.settings import LobbySettings
 from geesefuton.processes import free_port
-from tests.test_lobby import GAME, WORDS, Agent, Case, Host
+from tests.lobbies import GAME, WORDS, Agent, Case, Host
 
 NEVER = float("inf")
 

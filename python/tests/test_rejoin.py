@@ -6,7 +6,7 @@ from unittest import mock
 
 from geesefuton.hosting.events import End
 from geesefuton.link import Link, LinkError, Unanswered
-from tests.test_lobby import MOST, Case, Host
+from tests.lobbies import MOST, Case, Host
 
 
 class Rejoining(Case):

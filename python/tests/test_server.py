@@ -18,7 +18,7 @@ from geesefuton.hosting.listeners import listens
 from geesefuton.hosting.server import TRIES, fault_of_head, first_line
 from geesefuton.processes import free_port
 from tests.helpers import TOP, fake_program, python
-from tests.test_lobby import GAME, MOST, WORDS, Case, Host
+from tests.lobbies import GAME, MOST, WORDS, Case, Host
 
 
 class Strangers(Case):

@@ -1,9 +1,7 @@
-import csv
-import io
+"""The games of a tournament, with a stand-in for their processes."""
+
 import json
 import os
-import re
-import subprocess
 import tempfile
 import time
 import unittest
@@ -18,17 +16,15 @@ from geesefuton.experiments.entrants import Entrant
 from geesefuton.experiments.forms import as_text
 from geesefuton.experiments.luck import worths_of
 from geesefuton.experiments.messages import Note, Result
-from geesefuton.experiments.plan import MARGIN, Plan, make_parser, read_plan
-from geesefuton.experiments.results import HEAD, Kind, Outcome, Row, read_rows, text_of
+from geesefuton.experiments.plan import MARGIN, Plan
+from geesefuton.experiments.results import Kind, Outcome, Row, read_rows
 from geesefuton.experiments.summary import summarize
 from geesefuton.experiments.tournament import Running, Tournament
 from geesefuton.experiments.writers import OrderedRows, free_name
 from geesefuton.hosting import events
 from geesefuton.processes import Children, Output, Stopped
 from geesefuton.program import ProgramError
-from geesefuton.records.tables import csv_of
-from tests.helpers import (PACKAGE, SERVED_GAME, TOP, fake_program, needs_program, needs_step,
-                           refusal, run, served_game)
+from tests.helpers import SERVED_GAME, fake_program, served_game
 
 # A stand-in for the process of a game: seat s of game D.R scores 1000 D + 100 R + s. What FAULT
 # says of the game GAME happens to it.
@@ -325,273 +321,6 @@ class Playing(unittest.TestCase):
                 made.play(children)
         self.assertEqual(len(self.rows()), 16)
         self.assertEqual(self.rows(), made.report.all_rows())
-
-
-class Commands(unittest.TestCase):
-    """Words that are refused, with a stand-in for the program."""
-
-    def setUp(self) -> None:
-        folder = tempfile.TemporaryDirectory()
-        self.addCleanup(folder.cleanup)
-        self.place = Path(folder.name)
-        tac = fake_program(self.place, f"cat '{SERVED_GAME}'")
-        patch = mock.patch.dict(os.environ, {"TAC": tac})
-        patch.start()
-        self.addCleanup(patch.stop)
-
-    def refused(self, told: str, *words: object, status: int = 2) -> None:
-        got, text = refusal("experiments.tournament", *words)
-        self.assertEqual(got, status, text)
-        self.assertEqual(text.count("\n"), 1, text)
-        self.assertRegex(text, "^tournament: ")
-        self.assertIn(told, text)
-
-    def test_agents(self) -> None:
-        self.refused("there is no file none.py", "none.py")
-        self.refused("no closing quotation", "sh 'x")
-        self.refused("not an empty word", "")
-
-    def test_numbers(self) -> None:
-        for words in (["--games", "0"], ["--games", "x"], ["--at-once", "0"], ["--pace", "60001"],
-                      ["--seed", "-1"], ["--seed", "18446744073709551616"], ["--games", "1.5"],
-                      ["--seed", "18446744073709551615"]):
-            self.refused("18446744073709551615" if "--seed" in words else "a number", *words, "sh")
-        self.refused("seeds are at most", "--seed", "18446744073709551613", "sh")  # of four deals
-        for words in (["--start", "x"], ["--after", "-1"], ["--start", "nan"],
-                      ["--patience", "x"]):
-            self.refused("a number of seconds is due", *words)
-
-    def test_turns(self) -> None:
-        for turns in ("0", "1001", "x"):
-            self.refused("a number", "--turns", turns, "sh")
-        self.refused("--pace is for games by the clock", "--turns", "5", "--pace", "100", "sh")
-        self.refused("--patience is for games in turns", "--patience", "3", "sh")
-
-    def test_deals(self) -> None:
-        self.refused("rooms are", "--rooms", "0..3")
-        self.refused("/nowhere/my.game: No such file", "--game", "/nowhere/my.game")
-        self.refused("line 3: a line `tac` is due", "--game", TOP / "README.md")
-        self.refused("for made games", "--game", SERVED_GAME, "--live")
-        self.refused("for made games", "--game", SERVED_GAME, "--rooms", "4")
-
-    def test_words_are_not_abbreviated(self) -> None:
-        self.refused("unrecognized arguments: --gam", "--gam", "4")
-        self.refused("unrecognized arguments: --sum", "--sum", "x.txt")
-
-    def test_no_program(self) -> None:
-        with mock.patch.dict(os.environ, {"TAC": "/nowhere/tac"}):
-            self.refused("there is no program /nowhere/tac", "sh")
-
-    def test_a_folder_with_earlier_games_is_never_written_over(self) -> None:
-        for name in ("3.0.log", "3.0.game", "2.1.events"):
-            folder = self.place / name
-            folder.mkdir()
-            (folder / "notes.txt").write_text("mine")
-            tournament._open_folder(make_parser(""), folder)  # other files are no games
-            (folder / name).write_text("kept")
-            self.refused(f"it has files of earlier games, such as {name}", "--keep", folder, "sh")
-            self.assertEqual((folder / name).read_text(), "kept")
-        tournament._open_folder(make_parser(""), self.place / "a" / "b")
-        self.assertEqual(list((self.place / "a" / "b").iterdir()), [])
-
-    def test_a_folder_that_cannot_be_made(self) -> None:
-        self.refused("Not a directory", "--keep", SERVED_GAME / "x", "sh")
-        self.refused("File exists", "--keep", SERVED_GAME, "sh")
-
-    def test_summaries(self) -> None:
-        self.refused("the name ends with", "--summary", "x.html", "sh")
-
-    def test_a_plan(self) -> None:
-        parser = make_parser("")
-        with mock.patch("geesefuton.experiments.plan.tell") as tell:
-            plan = read_plan(parser, parser.parse_args(["sh", "cat", "--games", "3"]))
-            self.assertEqual((plan.games, plan.rotations), (4, 2))
-            self.assertIn("4 games are played", tell.call_args[0][0])
-            for words, games, rotations in ((["sh", "cat", "ls"], 4, 1),
-                                            (["sh", "cat", "--no-swap"], 4, 1),
-                                            (["sh", "cat", "ls", "--swap"], 6, 3),
-                                            (["sh", "cat"], 4, 2), (["sh"], 4, 1)):
-                plan = read_plan(parser, parser.parse_args(words))
-                self.assertEqual((plan.games, plan.rotations), (games, rotations), words)
-        plan = read_plan(parser, parser.parse_args(
-            ["sh", "--rooms", "3..6", "--live", "--json", "--seed", "9", "--start", "3",
-             "--after", "4", "--pace", "60", "--at-once", "5"]))
-        self.assertEqual(plan.rule, Rule(9, None, (3, 6), True))
-        self.assertEqual((plan.form, plan.start, plan.linger, plan.pace, plan.at_once),
-                         ("json", 3.0, 4.0, 60, 5))
-        self.assertEqual(plan.turns, 0)
-        plan = read_plan(parser, parser.parse_args(["sh", "--seed", "18446744073709551612"]))
-        self.assertEqual((plan.rule.seed, plan.games), (2 ** 64 - 4, 4))
-        plan = read_plan(parser, parser.parse_args(
-            ["sh", "--game", str(SERVED_GAME), "--keep", "x", "--summary", "a.csv", "--summary",
-             "b.txt", "--start", "0", "--games", "1"]))
-        self.assertEqual((plan.rule, plan.keep, plan.summaries, plan.start, plan.games),
-                         (Rule(1, SERVED_GAME), Path("x"), [Path("a.csv"), Path("b.txt")], 0.0, 1))
-        plan = read_plan(parser, parser.parse_args(
-            ["sh", "cat", "--seed", str(2 ** 64 - 2), "--games", "4"]))  # two deals
-        self.assertEqual((plan.rule.seed, plan.games), (2 ** 64 - 2, 4))
-        plan = read_plan(parser, parser.parse_args(["sh", "--turns", "20"]))
-        self.assertEqual((plan.turns, plan.patience, plan.linger), (20, 30.0, 30.0))
-        plan = read_plan(parser, parser.parse_args(
-            ["sh", "--turns", "20", "--patience", "3", "--after", "0"]))
-        self.assertEqual((plan.patience, plan.linger), (3.0, 0.0))
-        plan = read_plan(parser, parser.parse_args([]))
-        self.assertEqual((plan.pace, plan.linger), (100, 5.0))
-        self.assertEqual((plan.games, plan.rotations, plan.at_once, plan.turns, plan.form,
-                          plan.start, plan.keep, plan.summaries),
-                         (4, 1, 2, 0, "words", 20.0, None, []))
-        self.assertEqual(plan.rule, Rule(1, None, None, False))
-        self.assertEqual([entrant.name for entrant in plan.entrants],
-                         ["planner", "trader", "watcher"])
-
-    def test_the_help(self) -> None:
-        done = run("experiments.tournament", "--help")
-        self.assertEqual(done.returncode, 0)
-        for option in ("--swap", "--rooms", "--live", "--game ", "--keep", "--summary", "--join",
-                       "--turns", "--patience"):
-            self.assertIn(option, done.stdout)
-        with open("/dev/full", "wb") as full:
-            done = run("experiments.tournament", "--help", stdout=full)
-        self.assertEqual(done.stderr, "tournament: standard output: No space left on device\n")
-
-
-class Joining(unittest.TestCase):
-    def setUp(self) -> None:
-        folder = tempfile.TemporaryDirectory()
-        self.addCleanup(folder.cleanup)
-        self.place = Path(folder.name)
-        self.rows = [Row(str(deal), 0, seat, "ab"[seat], 100 * deal + seat, Outcome.PLAYED, deal)
-                     for deal in range(4) for seat in range(2)]
-        for number, part in enumerate((self.rows[:4], self.rows[4:])):
-            (self.place / f"{number}.csv").write_text(csv_of([HEAD]) + text_of(part))
-
-    def files(self) -> List[Path]:
-        return [self.place / "0.csv", self.place / "1.csv"]
-
-    def test_several_tournaments_are_summarized_as_one(self) -> None:
-        done = run("experiments.tournament", "--summary", self.place / "s.json", "--summary",
-                   self.place / "s.csv", "--summary", self.place / "s.txt", "--join", *self.files())
-        self.assertEqual((done.returncode, done.stderr), (0, ""))
-        summary = summarize(self.rows)
-        self.assertEqual(done.stdout, as_text(summary))
-        self.assertEqual((self.place / "s.txt").read_text(), done.stdout)
-        self.assertEqual(json.loads((self.place / "s.json").read_text())["deals"], 4)
-        self.assertEqual(len(list(csv.reader(io.StringIO((self.place / "s.csv").read_text())))), 4)
-
-    def test_what_fails_is_told(self) -> None:
-        self.assertEqual(refusal("experiments.tournament", "--join", self.place / "none.csv"),
-                         (1, f"tournament: {self.place / 'none.csv'}: No such file or directory\n"))
-        status, text = refusal("experiments.tournament", "--join", TOP / "README.md")
-        self.assertEqual(status, 1)
-        self.assertIn("is not the head of a tournament's CSV", text)
-        done = run("experiments.tournament", "--summary", "/nowhere/s.txt", "--join", *self.files())
-        self.assertEqual((done.returncode, done.stderr),
-                         (1, "tournament: the summary was not written to /nowhere/s.txt: No such "
-                             "file or directory\n"))
-        with open("/dev/full", "wb") as full:
-            done = run("experiments.tournament", "--join", *self.files(), stdout=full)
-        self.assertEqual(done.returncode, 1)
-        self.assertIn("standard output: No space left on device", done.stderr)
-
-
-# An agent that buys the trip of its first client, and one that fails in each of several ways.
-BUYER = """
-import sys, time
-from geesefuton.link import Link, inbound, outbound, room
-link = Link.greet(sys.argv[1], int(sys.argv[2]), sys.argv[3])
-client = link.clients[0]
-link.bid(inbound(client.arrive), (1, 600))
-link.bid(outbound(client.depart), (1, 600))
-for night in client.nights():
-    link.bid(room(0, night), (1, 200))
-while not link.quote(0).closed:
-    time.sleep(0.05)
-link.quit()
-"""
-FAILING = """
-import os, socket, sys, time
-from geesefuton.link import Link
-word = sys.argv[3]
-if word == "failing":
-    sys.exit(0)
-if word == "failingb":
-    raise ValueError("before the game")
-if word == "failingc":
-    link = socket.create_connection((sys.argv[1], int(sys.argv[2])))
-    link.sendall(b"HELLO failingc\\n")
-    time.sleep(60)
-link = Link.greet(sys.argv[1], int(sys.argv[2]), word)
-link.bid(0, (1, 600))
-if word == "failingd":
-    os.abort()
-time.sleep(60)
-"""
-# An agent that buys a seat at once, and one that does the same but fails where the seat was dear.
-SEAT_BUYER = """
-import sys
-from geesefuton.link import Link, inbound
-link = Link.greet(sys.argv[1], int(sys.argv[2]), sys.argv[3])
-link.bid(inbound(link.clients[0].arrive), (1, 600))
-if sys.argv[0].endswith("quits.py") and link.cash() < -{dear}:
-    sys.exit(1)
-while not link.quote(0).closed:
-    pass
-link.quit()
-"""
-
-
-@needs_step
-class InTurns(unittest.TestCase):
-    def test_an_agent_gains_nothing_by_failing_where_it_does_badly(self) -> None:
-        with tempfile.TemporaryDirectory() as folder:
-            for name in ("plays.py", "quits.py"):
-                (Path(folder) / name).write_text(SEAT_BUYER.replace("{dear}", "325"))
-            done = run("experiments.tournament", "plays.py", "quits.py", "--games", "4", "--turns",
-                       "2", "--summary", "s.json", cwd=folder)
-            self.assertEqual(done.returncode, 0, done.stderr)
-            value = json.loads((Path(folder) / "s.json").read_text())
-        by_name = {agent["agent"]: agent for agent in value["agents"]}
-        self.assertGreater(by_name["quits"]["ends"]["crashed"], 0)
-        self.assertGreater(by_name["quits"]["ends"]["played"], 0)
-        self.assertEqual(by_name["quits"]["score"], by_name["plays"]["score"])
-        self.assertGreater(by_name["quits"]["played"]["mean"], by_name["plays"]["played"]["mean"])
-        self.assertEqual(value["differences"][0]["score"], {"mean": 0.0, "half": 0.0, "deals": 2})
-
-
-@needs_program
-class Real(unittest.TestCase):
-    def test_a_game_with_agents_that_fail(self) -> None:
-        with tempfile.TemporaryDirectory() as folder:
-            place = Path(folder)
-            (place / "buyer.py").write_text(BUYER)
-            (place / "failing.py").write_text(FAILING)
-            # The first five seats of seed 1 are those of the failing agent but one.
-            agents = ["failing.py", "failing.py", "failing.py", "failing.py", "failing.py",
-                      "buyer.py", "buyer.py", "buyer.py"]
-            done = run("experiments.tournament", *agents, "--games", "1", "--pace", "25", "--start",
-                       "4", "--after", "0.5", "--keep", "kept", "--summary", "s.json", cwd=folder)
-            self.assertEqual(done.returncode, 0, done.stderr)
-            rows = read_rows(done.stdout, "scores")
-            ends = sorted(row.end.value for row in rows if row.agent == "failing")
-            self.assertEqual(ends, ["absent", "crashed", "crashed", "hung", "refused"], done.stderr)
-            for row in rows:
-                if row.agent == "buyer":
-                    self.assertIs(row.end, Outcome.PLAYED)
-                    self.assertNotEqual(row.score, 0)
-            value = json.loads((place / "s.json").read_text())
-            self.assertEqual(value["agents"][0]["agent"], "buyer")
-            self.assertEqual(value["agents"][1]["ends"], {"played": 0, "absent": 1, "crashed": 2,
-                                                          "hung": 1, "refused": 1})
-            self.assertTrue((place / "kept" / "1.0.log").read_text().startswith("taclog 1\n"))
-            self.assertTrue(re.search("failing at seat [0-7] .failingb. counts as crashed: ended "
-                                      "with status 1; it printed last: ValueError: before the game",
-                                      done.stderr))
-
-    def test_it_runs_from_a_clone(self) -> None:
-        done = subprocess.run([str(TOP / "tools" / "tournament"), "--help"], check=False,
-                              stdout=subprocess.PIPE, timeout=200)
-        self.assertEqual(done.returncode, 0)
-        self.assertTrue(PACKAGE.is_dir())
 
 
 if __name__ == "__main__":

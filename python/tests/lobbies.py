@@ -1,0 +1,117 @@
+"""Lobbies in threads, and links to them, before a server that answers by no rules."""
+
+import os
+import socket
+import struct
+import tempfile
+import threading
+import time
+import unittest
+from pathlib import Path
+from typing import Any, Dict, List, Optional, Type
+from unittest import mock
+
+from geesefuton.hosting import events
+from geesefuton.hosting.events import End, Event
+from geesefuton.hosting.lobby import Lobby
+from geesefuton.hosting.settings import LobbySettings
+
+HERE = Path(__file__).resolve().parent
+TOP = HERE.parents[1]
+GAME = TOP / "examples" / "first.game"
+WORDS = [f"seat{number}" for number in range(8)]
+MOST = 200.0  # seconds that anything may take, on a machine that is busy with other work
+
+
+class Agent:
+    """A link to the lobby."""
+
+    def __init__(self, port: int, word: Optional[str] = None, first: Optional[bytes] = None):
+        self.socket = socket.create_connection(("localhost", port))
+        self.socket.settimeout(MOST)
+        self.lines = self.socket.makefile("rb")
+        self.send(first if first is not None else f"hello {word}\n".encode())
+
+    def send(self, data: bytes) -> None:
+        self.socket.sendall(data)
+
+    def line(self) -> str:
+        return self.lines.readline().decode("ascii").rstrip("\n")
+
+    def welcome(self) -> List[str]:
+        return [self.line() for _ in range(10)]
+
+    def ask(self, line: str) -> str:
+        self.send(line.encode() + b"\n")
+        return self.line()
+
+    def close(self) -> None:
+        self.lines.close()
+        self.socket.close()
+
+    def reset(self) -> None:
+        self.socket.setsockopt(socket.SOL_SOCKET, socket.SO_LINGER, struct.pack("ii", 1, 0))
+        self.close()
+
+    def quit(self) -> None:
+        assert self.ask("quit") == "bye"
+        self.close()
+
+
+class Host:
+    """A lobby in a thread."""
+
+    def __init__(self, folder: Path, **more: Any) -> None:
+        settings: Dict[str, Any] = {"port": 0, "pace": 20, "log": folder / "my.log",
+                                    "journal": folder / "my.journal", "linger": 0.3,
+                                    "start": 0.5, "patience": 30, "silence": 0.4, **more}
+        self.lobby = Lobby(LobbySettings(game=GAME, **settings))
+        self.port, self.told = self.lobby.port, list[Event]()
+        self.status: Optional[int] = None
+        self.thread = threading.Thread(target=self.run, daemon=True)
+        self.thread.start()
+
+    def run(self) -> None:
+        self.status = self.lobby.run(self.told.append)
+
+    def of(self, kind: Type[Event]) -> List[Any]:
+        return [event for event in self.told if isinstance(event, kind)]
+
+    def wait(self, kind: Type[Event], count: int = 1) -> List[Any]:
+        deadline = time.monotonic() + MOST
+        while len(self.of(kind)) < count:
+            assert time.monotonic() < deadline, (kind, self.told)
+            time.sleep(0.005)
+        return self.of(kind)
+
+    def hurry(self) -> None:
+        """Lets the ticks that are left pass."""
+        self.lobby.settings.pace = 1
+
+    def end(self) -> Dict[str, End]:
+        self.thread.join(MOST)
+        assert not self.thread.is_alive(), self.told
+        return {event.word: event.reason for event in self.of(events.Ended)}
+
+
+class Case(unittest.TestCase):
+    def setUp(self) -> None:
+        place = tempfile.TemporaryDirectory()
+        self.addCleanup(place.cleanup)
+        self.folder = Path(place.name)
+        change = mock.patch.dict(os.environ, {"TAC": str(HERE / "fake_tac.py")})
+        change.start()
+        self.addCleanup(change.stop)
+        ending = mock.patch("geesefuton.hosting.lobby.ENDING", 0.1)  # some keep their links
+        ending.start()
+        self.addCleanup(ending.stop)
+
+    def agents(self, host: Host, *words: str) -> List[Agent]:
+        agents = [Agent(host.port, word) for word in words]
+        self.addCleanup(lambda: [agent.close() for agent in agents])
+        host.wait(events.Arrived, len(words))
+        return agents
+
+    def asked(self) -> List[str]:
+        """What the server was asked, by its log."""
+        return (self.folder / "my.log").read_text("latin-1").split("\n")[1:-2]

@@ -1,0 +1,114 @@
+"""Tournaments by the program, with agents that fail in every way."""
+
+import json
+import re
+import subprocess
+import tempfile
+import unittest
+from pathlib import Path
+
+from geesefuton.experiments.results import Outcome, read_rows
+from tests.helpers import PACKAGE, TOP, needs_program, needs_step, run
+
+# An agent that buys the trip of its first client, and one that fails in each of several ways.
+BUYER = """
+import sys, time
+from geesefuton.link import Link, inbound, outbound, room
+link = Link.greet(sys.argv[1], int(sys.argv[2]), sys.argv[3])
+client = link.clients[0]
+link.bid(inbound(client.arrive), (1, 600))
+link.bid(outbound(client.depart), (1, 600))
+for night in client.nights():
+    link.bid(room(0, night), (1, 200))
+while not link.quote(0).closed:
+    time.sleep(0.05)
+link.quit()
+"""
+FAILING = """
+import os, socket, sys, time
+from geesefuton.link import Link
+word = sys.argv[3]
+if word == "failing":
+    sys.exit(0)
+if word == "failingb":
+    raise ValueError("before the game")
+if word == "failingc":
+    link = socket.create_connection((sys.argv[1], int(sys.argv[2])))
+    link.sendall(b"HELLO failingc\\n")
+    time.sleep(60)
+link = Link.greet(sys.argv[1], int(sys.argv[2]), word)
+link.bid(0, (1, 600))
+if word == "failingd":
+    os.abort()
+time.sleep(60)
+"""
+# An agent that buys a seat at once, and one that does the same but fails where the seat was dear.
+SEAT_BUYER = """
+import sys
+from geesefuton.link import Link, inbound
+link = Link.greet(sys.argv[1], int(sys.argv[2]), sys.argv[3])
+link.bid(inbound(link.clients[0].arrive), (1, 600))
+if sys.argv[0].endswith("quits.py") and link.cash() < -{dear}:
+    sys.exit(1)
+while not link.quote(0).closed:
+    pass
+link.quit()
+"""
+
+
+@needs_step
+class InTurns(unittest.TestCase):
+    def test_an_agent_gains_nothing_by_failing_where_it_does_badly(self) -> None:
+        with tempfile.TemporaryDirectory() as folder:
+            for name in ("plays.py", "quits.py"):
+                (Path(folder) / name).write_text(SEAT_BUYER.replace("{dear}", "325"))
+            done = run("experiments.tournament", "plays.py", "quits.py", "--games", "4", "--turns",
+                       "2", "--summary", "s.json", cwd=folder)
+            self.assertEqual(done.returncode, 0, done.stderr)
+            value = json.loads((Path(folder) / "s.json").read_text())
+        by_name = {agent["agent"]: agent for agent in value["agents"]}
+        self.assertGreater(by_name["quits"]["ends"]["crashed"], 0)
+        self.assertGreater(by_name["quits"]["ends"]["played"], 0)
+        self.assertEqual(by_name["quits"]["score"], by_name["plays"]["score"])
+        self.assertGreater(by_name["quits"]["played"]["mean"], by_name["plays"]["played"]["mean"])
+        self.assertEqual(value["differences"][0]["score"], {"mean": 0.0, "half": 0.0, "deals": 2})
+
+
+@needs_program
+class Real(unittest.TestCase):
+    def test_a_game_with_agents_that_fail(self) -> None:
+        with tempfile.TemporaryDirectory() as folder:
+            place = Path(folder)
+            (place / "buyer.py").write_text(BUYER)
+            (place / "failing.py").write_text(FAILING)
+            # The first five seats of seed 1 are those of the failing agent but one.
+            agents = ["failing.py", "failing.py", "failing.py", "failing.py", "failing.py",
+                      "buyer.py", "buyer.py", "buyer.py"]
+            done = run("experiments.tournament", *agents, "--games", "1", "--pace", "25", "--start",
+                       "4", "--after", "0.5", "--keep", "kept", "--summary", "s.json", cwd=folder)
+            self.assertEqual(done.returncode, 0, done.stderr)
+            rows = read_rows(done.stdout, "scores")
+            ends = sorted(row.end.value for row in rows if row.agent == "failing")
+            self.assertEqual(ends, ["absent", "crashed", "crashed", "hung", "refused"], done.stderr)
+            for row in rows:
+                if row.agent == "buyer":
+                    self.assertIs(row.end, Outcome.PLAYED)
+                    self.assertNotEqual(row.score, 0)
+            value = json.loads((place / "s.json").read_text())
+            self.assertEqual(value["agents"][0]["agent"], "buyer")
+            self.assertEqual(value["agents"][1]["ends"], {"played": 0, "absent": 1, "crashed": 2,
+                                                          "hung": 1, "refused": 1})
+            self.assertTrue((place / "kept" / "1.0.log").read_text().startswith("taclog 1\n"))
+            self.assertTrue(re.search("failing at seat [0-7] .failingb. counts as crashed: ended "
+                                      "with status 1; it printed last: ValueError: before the game",
+                                      done.stderr))
+
+    def test_it_runs_from_a_clone(self) -> None:
+        done = subprocess.run([str(TOP / "tools" / "tournament"), "--help"], check=False,
+                              stdout=subprocess.PIPE, timeout=200)
+        self.assertEqual(done.returncode, 0)
+        self.assertTrue(PACKAGE.is_dir())
+
+
+if __name__ == "__main__":
+    unittest.main()
