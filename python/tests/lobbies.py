@@ -102,9 +102,11 @@ class Case(unittest.TestCase):
         change = mock.patch.dict(os.environ, {"TAC": str(HERE / "fake_tac.py")})
         change.start()
         self.addCleanup(change.stop)
-        ending = mock.patch("geesefuton.hosting.lobby.ENDING", 0.1)  # some keep their links
-        ending.start()
-        self.addCleanup(ending.stop)
+        # Some agents keep their links; and what a test asks for is looked at soon.
+        for name, value in (("lobby.ENDING", 0.1), ("hosted_game.LOOK", 0.05)):
+            waiting = mock.patch(f"geesefuton.hosting.{name}", value)
+            waiting.start()
+            self.addCleanup(waiting.stop)
 
     def agents(self, host: Host, *words: str) -> List[Agent]:
         agents = [Agent(host.port, word) for word in words]

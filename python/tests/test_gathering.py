@@ -82,7 +82,7 @@ class Beginning(Case):
 
 class Hosting(Case):
     def test_seats_are_taken_by_the_hosts_words_and_told_by_those_of_the_game(self) -> None:
-        host = Host(self.folder, start=None, pace=5, linger=0.1, keys={"red7k": 3, "blue2": 0},
+        host = Host(self.folder, start=None, pace=1000, keys={"red7k": 3, "blue2": 0},
                     orders=io.StringIO())
         other = Agent(host.port, "seat3")
         self.addCleanup(other.close)
@@ -93,6 +93,7 @@ class Hosting(Case):
         self.assertEqual([agent.welcome()[0] for agent in agents], ["welcome 3", "welcome 0"])
         for agent in agents:
             agent.quit()
+        host.hurry()
         host.end()
         for file in ("my.journal", "my.log"):
             self.assertNotIn("red7k", (self.folder / file).read_text())
