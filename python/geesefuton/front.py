@@ -1,7 +1,6 @@
 """The command `geesefuton`: every program of the package under one word.
 
-`geesefuton WORD --help` describes one of those below. `geesefuton tac` passes its words to the
-proved program, and ends as that does.
+`geesefuton WORD --help` describes one of those below, but for `tac`, which ends as it does alone.
 """
 
 import importlib
@@ -35,6 +34,8 @@ PROGRAMS: Dict[str, Program] = {
                     "a practice room: game after game, with standings"),
     "live": Program("geesefuton.hosting.live", "shows a hosted game on a page"),
     "recover": Program("geesefuton.hosting.recover_command", "makes a log of a lobby's journal"),
+    "vouch": Program("geesefuton.hosting.vouch_command",
+                     "says whether a log is right about links"),
     "seat": Program("geesefuton.playing.seat_command", "lets a person play a seat in a browser"),
     "report": Program("geesefuton.experiments.report_command",
                       "makes a page of a game, or of the games of a tournament"),

@@ -20,7 +20,7 @@ from typing import Iterator, List, Optional, Sequence, Set, Tuple, Union
 __all__ = [
     "INPUT", "LEAST_LIBRARY", "MEANINGS", "OK", "CLOCK", "UNSOUND", "ProgramError", "audit",
     "ended", "examples", "find", "find_runnable", "library", "make", "nameless_file", "play", "run",
-    "served_words", "show", "solve", "table", "top", "upgrade", "why_not_run", "worth",
+    "served_words", "show", "solve", "table", "top", "upgrade", "vouch", "why_not_run", "worth",
 ]
 
 Word = Union[str, int, "os.PathLike[str]"]
@@ -39,7 +39,7 @@ MEANINGS = {
     6: "a tick lapsed; the scores stand",
     7: "memory was refused",
     8: "a script, an account or a log is refused",
-    9: "the log is not sound",
+    9: "the log is not sound, or not right about a link",
 }
 
 _starting = threading.Lock()  # held while a process is started
@@ -255,6 +255,25 @@ def audit(game: Word, log: Union[Word, bytes]) -> str:
     `unsound score 0`."""
     given, file = (log, INPUT) if isinstance(log, bytes) else (b"", log)
     return run("audit", game, file, given=given, allowed=(OK, UNSOUND)).rstrip("\n")
+
+
+def vouch(game: Word, log: Union[Word, bytes], asked: Word, said: Word, form: str = "words",
+          timeout: Optional[float] = None) -> str:
+    """What is said of a log by the bytes of one link: `vouched A whole N`, `vouched A cut N M`, the
+    log's first flaw, or the first difference, such as `unvouched line 3`.
+
+    Args:
+        game: The game file.
+        log: The log, a file or its bytes.
+        asked: The file of what the link asked.
+        said: The file of what it was sent.
+        form: How its lines are written, `words` or `json`.
+        timeout: The seconds that it may take; None for no limit.
+    """
+    given, file = (log, INPUT) if isinstance(log, bytes) else (b"", log)
+    more: List[Word] = ["json"] if form == "json" else []
+    return run("vouch", game, file, asked, said, *more, given=given, allowed=(OK, UNSOUND),
+               timeout=timeout).rstrip("\n")
 
 
 def table(pairs: Sequence[Tuple[Word, Word]]) -> str:

@@ -109,6 +109,7 @@ class Finished:
     at: float
     status: int  # the exit status that `Lobby.run` gives
     log: Optional[str]  # the file that has the log
+    vouched: Tuple[str, ...] = ()  # what `tac vouch` says of each seat's link; none if not asked
 
 
 @dataclass(frozen=True)

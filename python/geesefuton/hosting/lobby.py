@@ -20,7 +20,8 @@ from geesefuton.hosting.addresses import listen
 from geesefuton.hosting.control import STOPPED, Control, Phase
 from geesefuton.hosting.events import Event
 from geesefuton.hosting.hosted_game import LOOK, HostedGame, Serving
-from geesefuton.hosting.journal import Journal
+from geesefuton.hosting.journal import Journal, JournalError
+from geesefuton.hosting.link_audit import audit_journal, is_vouched
 from geesefuton.hosting.page_process import PageProcess, SeatsProcess
 from geesefuton.hosting.relay import Relay
 from geesefuton.hosting.seats import State
@@ -29,6 +30,8 @@ from geesefuton.hosting.settings import LobbySettings
 from geesefuton.processes import Children, why
 
 FULL = 4  # the exit status if the output takes no more
+SERVED = b"taclog 1\nserve\n"  # the first lines of the log of a served game
+VOUCHING = 30.0  # seconds that may be taken to compare the log with the links
 ENDING = 1.0  # seconds that links have to end after the server
 SHOWING = 60.0  # seconds that the page has to show the last scores
 TELLING = 5.0  # seconds that the page for playing by hand has to show the last results
@@ -83,7 +86,8 @@ class Lobby:
 
         Returns:
             The server's exit status, 128 plus the number of a signal that ended it; 130 if the game
-            was interrupted, 4 if the log's output took no more.
+            was interrupted, 9 if the log is not right about each link of the lobby, 4 if the log's
+            output took no more.
 
         Raises:
             LobbyError: The journal cannot be made.
@@ -200,15 +204,20 @@ class Lobby:
         return STOPPED
 
     def _finish(self, game: HostedGame, status: int) -> int:
-        """Writes the log, and tells the end."""
+        """Writes the log, looks whether it is right about the links, and tells the end."""
         given, journal = self.settings, game.relay.journal
-        has_begun = game.relay.started is not None
-        if status not in (program.OK, program.CLOCK) and has_begun and given.journal:
+        has_begun, is_served = game.relay.started is not None, status in (program.OK, program.CLOCK)
+        if not is_served and has_begun and given.journal:
             game.warn("the server failed; this makes a log of the journal: "
                       f"{recovery_line(given.journal)}")
         beside = given.journal.with_suffix(".log") if given.journal else None
         kept = log_files.keep(b"".join(game.log), given.log, beside)
-        if kept.fault is not None and status in (program.OK, program.CLOCK):
+        vouched = _vouching(game) if is_served and given.vouches else ()
+        if not all(map(is_vouched, vouched)):
+            status = program.UNSOUND
+            game.warn("the log is not right about each link of the lobby to the server, so it may "
+                      "not be what was played: keep its files, and do not count its scores")
+        if kept.fault is not None and is_served:
             status = FULL
             where = f"the log is in {kept.file}" if kept.file else "the log is lost"
             if not kept.file and journal and given.journal:
@@ -216,8 +225,24 @@ class Lobby:
                 where += f", and this makes {made}: {recovery_line(given.journal)}"
             game.warn(f"the output of the log took no more ({kept.fault}): {where}")
         file = str(kept.file) if kept.file else None
-        game.emit(events.Finished(time.time(), status, file))
+        game.emit(events.Finished(time.time(), status, file, vouched))
         return status
+
+
+def _vouching(game: HostedGame) -> Tuple[str, ...]:
+    """What `tac vouch` says of the log by the lobby's link of each seat; nothing if the game was
+    not served, the journal is not whole, or the program cannot tell, which is told."""
+    journal, log = game.relay.journal, b"".join(game.log)
+    if journal is None or not journal.is_whole or not log.startswith(SERVED):
+        return ()
+    file = game.folder / "played.game"
+    try:
+        file.write_text(game.text, encoding="ascii")
+        return audit_journal(journal.file, file, log, game.folder, VOUCHING)
+    except (JournalError, OSError, program.ProgramError) as fault:
+        told = why(fault) if isinstance(fault, OSError) else str(fault)
+        game.warn(f"whether the log is right about the lobby's links is not known: {told}")
+    return ()
 
 
 def _check_pages(settings: LobbySettings) -> None:

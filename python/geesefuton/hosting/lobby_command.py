@@ -7,12 +7,14 @@ is missing when the game begins may come late. A while after the last tick the l
 that are left, so that the log is written whatever an agent does.
 
 The lobby writes all that happens into a journal at once: however the game ends, `recover` makes a
-log of it. The log is written to standard output, and to a file beside the journal.
+log of it. The log is written to standard output, and to a file beside the journal. Then `tac vouch`
+compares it with what the lobby passed on for each seat, by the journal: `vouched 8 of 8`.
 
 The lobby reads commands from standard input: an empty line begins the game without those who are
 missing, and after the last tick ends it without those who have not left; `without WORD` does not
 wait for that one any longer. Lines that begin with `!` report errors. The exit status is that
-of the server, and 4 if standard output took no more.
+of the server, 9 if the log is not right about what was passed on for each seat, and 4 if standard
+output took no more.
 """
 
 from __future__ import annotations
@@ -172,7 +174,7 @@ def _main() -> int:
         linger=given.after, patience=given.patience, silence=given.silence,
         journal=given.journal, page=given.page, late=given.late, names=given.names,
         stays=given.page is not None and bool(sys.stdin and sys.stdin.isatty()),
-        by_hand=given.by_hand, advice=not given.no_advice, orders=sys.stdin)
+        by_hand=given.by_hand, advice=not given.no_advice, orders=sys.stdin, vouches=True)
     try:
         lobby = Lobby(settings)
         teller = Teller(lobby.words)

@@ -36,6 +36,7 @@ class LobbySettings:
         by_hand: The port of a page by which persons play seats; None for no such page.
         advice: Whether that page may ask the solver.
         orders: The host's commands.
+        vouches: Whether the log is compared with the lobby's links after the game.
     """
 
     game: Path
@@ -57,6 +58,7 @@ class LobbySettings:
     by_hand: Optional[int] = None
     advice: bool = True
     orders: Optional[TextIO] = None
+    vouches: bool = False
 
     def longest_silence(self) -> float:
         """How many seconds an agent may say nothing and keep its seat from another link: agents

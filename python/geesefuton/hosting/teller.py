@@ -11,6 +11,7 @@ from geesefuton import program
 from geesefuton.hosting import events
 from geesefuton.hosting.control import STOPPED
 from geesefuton.hosting.events import End, Event
+from geesefuton.hosting.link_audit import summary
 from geesefuton.hosting.refusals import AGAIN, Refusals
 from geesefuton.processes import tell
 from geesefuton.records.games import TICKS
@@ -99,8 +100,9 @@ class Teller:
                 return []  # it was told as a warning
             meaning = program.MEANINGS.get(event.status, "")
             more = f": {meaning}" if meaning else ""
+            vouched = f"; {summary(self._words, event.vouched)}" if event.vouched else ""
             log = f"; the log is in {event.log}" if event.log else ""
-            return [f"the game is over, exit status {event.status}{more}{log}"]
+            return [f"the game is over, exit status {event.status}{more}{vouched}{log}"]
         return [event.text]
 
     def _refused(self, at: float, source: str, text: str) -> List[str]:

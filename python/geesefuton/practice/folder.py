@@ -40,6 +40,8 @@ class Finished:
         scores: The scores of the eight seats, in dollars; none if the game was lost.
         fault: Why it was lost; "" if it was not.
         files: The SHA-256 of its game file and of its log.
+        vouched: What `tac vouch` says of the log by the lobby's link of each seat; none if that is
+            not known.
     """
 
     number: int
@@ -51,6 +53,7 @@ class Finished:
     scores: Tuple[int, ...]
     fault: str
     files: Dict[str, str]
+    vouched: Tuple[str, ...] = ()
 
 
 def write_whole(file: Path, data: bytes) -> None:
@@ -160,7 +163,8 @@ class Folder:
         for file in sorted(self.path.glob("[0-9]*.json")):
             try:
                 what = self._read(file)
-                what.update(players=tuple(what["players"]), scores=tuple(what["scores"]))
+                for name in ("players", "scores", "vouched"):
+                    what[name] = tuple(what.get(name, ()))
                 game = Finished(**what)
                 if len(game.players) != SEATS or len(game.scores) not in (0, SEATS):
                     raise ValueError

@@ -11,13 +11,14 @@ from __future__ import annotations
 import io
 import time
 from dataclasses import dataclass
-from typing import Callable, Dict, List, Optional, Sequence, TextIO
+from typing import Callable, Dict, List, Optional, Sequence, TextIO, Tuple
 
 from geesefuton import program
 from geesefuton.experiments.entrants import Entrant
 from geesefuton.hosting import events
 from geesefuton.hosting.control import STOPPED, Phase
 from geesefuton.hosting.events import Event
+from geesefuton.hosting.link_audit import summary
 from geesefuton.hosting.lobby import Lobby, LobbyError, recovery_line
 from geesefuton.hosting.relay import OWN
 from geesefuton.hosting.settings import LobbySettings
@@ -60,7 +61,7 @@ class RoomSettings:
 
 
 class _Guests:
-    """Who has which seat of a game, and for whom it counts."""
+    """Who has which seat of a game, for whom it counts, and whether the log is right about it."""
 
     def __init__(self, words: Sequence[str], house: HouseServer) -> None:
         self._words, self._house = words, house
@@ -68,6 +69,7 @@ class _Guests:
         self.players: Dict[int, str] = {}  # for whom each seat counts, once the game has begun
         self.began: Optional[float] = None
         self.first: Optional[float] = None  # when the first guest came, while there is one
+        self.vouched: Tuple[str, ...] = ()  # what is said of each seat's link once it is over
 
     def take(self, event: Event) -> None:
         """Takes an event of the lobby."""
@@ -82,6 +84,8 @@ class _Guests:
         elif isinstance(event, events.Began):
             self.began = event.at
             self.players = {seat: self._player(seat) for seat in event.seats}
+        elif isinstance(event, events.Finished):
+            self.vouched = event.vouched
 
     def _player(self, seat: int) -> str:
         return self._house.name_at(seat) if self._sources[seat] == OWN else self._words[seat]
@@ -174,7 +178,8 @@ class Room:
         self._lobby = Lobby(LobbySettings(
             game=file, port=self._given.port, pace=self._given.pace, log=log,
             wait=self._given.wait, keys=keys, linger=self._given.after,
-            journal=self._folder.file(number, "journal"), orders=self._given.orders), house)
+            journal=self._folder.file(number, "journal"), orders=self._given.orders,
+            vouches=True), house)
         house.port = self._lobby.port
         guests = _Guests(words, house)
         status = self._host(number, guests, words)
@@ -237,13 +242,15 @@ class Room:
     def _finished(self, number: int, seed: int, guests: _Guests, status: int, game: str,
                   log: bytes) -> Finished:
         """What a game came to, by its audited log."""
-        fault, scores = "", list[int]()
+        fault, scores, words = "", list[int](), self._words(number)
         try:
             said = program.audit(self._folder.file(number, "game"), log)
-            if status not in (program.OK, program.CLOCK):
-                fault = f"exit status {status}"
-            elif said != "sound":
+            if said != "sound" and status in (program.OK, program.CLOCK, program.UNSOUND):
                 fault = f"the audit says `{said}`"
+            elif status == program.UNSOUND:
+                fault = f"its log is not right about each link: {summary(words, guests.vouched)}"
+            elif status not in (program.OK, program.CLOCK):
+                fault = f"exit status {status}"
             else:
                 scores = [score.score for score in read_scores(log)]
         except (LogError, program.ProgramError) as failed:
@@ -253,7 +260,8 @@ class Room:
         players = tuple(guests.players.get(seat, "") for seat in range(SEATS))
         return Finished(number, seed, self._given.pace, guests.began or 0.0, time.time(), players,
                         tuple(scores), fault,
-                        {"game": digest_of(game.encode("ascii")), "log": digest_of(log)})
+                        {"game": digest_of(game.encode("ascii")), "log": digest_of(log)},
+                        guests.vouched)
 
     def _keep(self, game: Finished, log: bytes) -> None:
         """Keeps a game, and tries so again and again while the disk takes no more."""

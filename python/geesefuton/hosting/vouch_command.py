@@ -1,0 +1,244 @@
+"""The command `vouch`: whether a log is right about links, by what was asked and said on them.
+
+    vouch GAME LOG --journal J              the lobby's link of each seat
+    vouch GAME LOG mine                     an agent's own records (AGENT_RECORD=mine)
+    vouch GAME LOG mine --published FOLDER  the same where the agent reconnected
+
+It prints a line for each, and last how many are vouched for, such as `vouched: 8 of 8`. The exit
+status is 0 only if all of them are. The log is audited first.
+
+MINE is a folder of records, or the stem of one, such as mine/red7k of mine/red7k.asked and
+mine/red7k.said. A single record of a seat is given to `tac vouch`. Several are the pieces of a
+session in which the agent reconnected: then the bytes of the one link that the lobby kept for the
+seat are given to `tac vouch`, and compared with the pieces line by line. The host publishes these
+bytes with --publish FOLDER, for each seat a file WORD.asked and WORD.said; with its game file and
+the log they have nothing that is not known after the game.
+
+A folder may have records of several seats. Of several games it may not: name the records of one.
+"""
+
+from __future__ import annotations
+
+import argparse
+import sys
+from pathlib import Path
+from typing import Dict, List, NamedTuple, Optional, Sequence
+
+from geesefuton import program
+from geesefuton.arguments import Parser
+from geesefuton.hosting.journal import JournalError, read_journal
+from geesefuton.hosting.link_audit import audit_link, is_vouched
+from geesefuton.hosting.pieces import (ASKED, SAID, Piece, RecordError, first_difference,
+                                       read_piece, stems_of)
+from geesefuton.hosting.server_links import LinkBytes, server_links
+from geesefuton.processes import Children, Output, command, tell
+from geesefuton.records.games import Game, read_game, welcome
+
+PIECES = "{} has {} records, none of which is the whole session: --published FOLDER or --journal " \
+         "J is due"
+
+
+class VouchError(Exception):
+    """Files by which nothing can be judged."""
+
+
+def _arguments() -> argparse.Namespace:
+    parser = Parser("vouch", __doc__)
+    add = parser.add_argument
+    add("game", type=Path, metavar="GAME")
+    add("log", type=Path, metavar="LOG")
+    add("mine", type=Path, nargs="*", metavar="MINE",
+        help="a folder of records, or the stem of one")
+    add("--journal", type=Path, metavar="J", help="the lobby's journal of this game")
+    add("--published", type=Path, metavar="FOLDER",
+        help="what the host published of the lobby's links")
+    add("--publish", type=Path, metavar="FOLDER",
+        help="write the bytes of the lobby's links into this new folder")
+    add("--json", action="store_true",
+        help="agents spoke JSON objects in place of words; a journal has that itself")
+    add("--seat", metavar="WORD",
+        help="the records are of the seat with this word in the game file, where the host gave the "
+             "agent another one")
+    given = parser.parse_intermixed_args()
+    if given.journal and given.published:
+        parser.error("--journal has what --published has: name one of them")
+    if given.publish and not given.journal:
+        parser.error("--publish needs --journal")
+    if not (given.mine or given.journal or given.published):
+        parser.error("MINE, --journal or --published is due")
+    if given.seat is not None and not given.mine:
+        parser.error("--seat needs MINE")
+    return given
+
+
+class _Judge:
+    """Judges links by a game and its log.
+
+    Args:
+        given: The command line.
+        folder: Where files may be made.
+
+    Raises:
+        OSError: The game file or the log cannot be read.
+        VouchError: The log is not sound.
+        program.ProgramError: One of them is refused.
+
+    Attributes:
+        text: The canonical text of the game file, and `game` what it says.
+        form: How lines are written, `words` or `json`.
+        hint: What the user may have forgotten; "" for nothing.
+    """
+
+    def __init__(self, given: argparse.Namespace, folder: Path) -> None:
+        self._given, self._folder = given, folder
+        for file in (given.game, given.log):
+            file.open("rb").close()  # the program does not tell which file is missing
+        self.text = program.show(given.game)
+        self.game: Game = read_game(self.text)
+        self.form, self.hint = "json" if given.json else "words", ""
+        audit = program.audit(given.game, given.log)
+        if audit != "sound":
+            raise VouchError(f"{given.log}: the audit says `{audit}`")
+
+    def audit(self, link: LinkBytes) -> str:
+        """What `tac vouch` says of a link."""
+        said = audit_link(link, self._given.game, self._given.log, self.form, self._folder)
+        if self.form == "words" and not is_vouched(said) and b"\n{" in link.asked:
+            self.hint = "lines look like JSON objects: --json may be due"
+        return said
+
+    def links(self) -> List[LinkBytes]:
+        """The bytes of the lobby's link of each seat, by the journal or as they were published;
+        none if neither is given.
+
+        Raises:
+            JournalError: The journal is none.
+            OSError: A file cannot be read.
+            RecordError: A file is empty.
+            VouchError: The journal is of another game, or its game had not begun.
+        """
+        journal, published = self._given.journal, self._given.published
+        if published:
+            return [read_piece(published / word).link for word in self.game.words]
+        if not journal:
+            return []
+        reader = read_journal(journal)
+        if reader.text != self.text:
+            raise VouchError(f"{journal} is the journal of another game than {self._given.game}")
+        if not reader.has_begun:
+            raise VouchError(f"{journal}: the game had not begun")
+        self.form = reader.form
+        return server_links(journal)
+
+    def of_pieces(self, word: str, pieces: List[Piece], link: Optional[LinkBytes]) -> str:
+        """What is said of the records of a seat."""
+        if len(pieces) == 1:
+            return self.audit(pieces[0].link)
+        if link is None:
+            return "unvouched seat"
+        said = self.audit(link)
+        if not is_vouched(said):
+            return f"the seat's link: {said}"
+        difference = first_difference(pieces, link, welcome(self.text, self.game.words.index(word)))
+        if difference is not None:
+            return f"unvouched: {difference.where}: {difference.what}"
+        return f"{said}, {len(pieces)} records"
+
+
+class _Found(NamedTuple):
+    """What is said of a link, and how that is called."""
+
+    name: str
+    said: str
+
+
+class _Judged(NamedTuple):
+    """What is said of each link, and what the user may have forgotten."""
+
+    links: List[_Found]
+    hint: str
+
+
+def _read_pieces(given: argparse.Namespace) -> Dict[str, List[Piece]]:
+    """The records by the words of their seats, in their order."""
+    found: Dict[str, List[Piece]] = {}
+    for mine in given.mine:
+        for stem in stems_of(mine):
+            piece = read_piece(stem)
+            piece = piece if given.seat is None else piece.named(given.seat)
+            found.setdefault(piece.word, []).append(piece)
+    return found
+
+
+def _judge(given: argparse.Namespace, folder: Path) -> _Judged:
+    """What is said of each link.
+
+    Raises:
+        JournalError, OSError, RecordError, VouchError, program.ProgramError: A file is not there or
+            not right.
+    """
+    pieces = _read_pieces(given)
+    judge = _Judge(given, folder)
+    words, links = judge.game.words, judge.links()
+    if given.seat is not None and given.seat not in words:
+        raise VouchError(f"{given.game} has no seat {given.seat}")
+    if given.publish:
+        _publish(given.publish, words, links)
+    if not given.mine:
+        found = [_Found(word, judge.audit(link)) for word, link in zip(words, links)]
+        return _Judged(found, judge.hint)
+    for word, own in pieces.items():
+        if len(own) > 1 and word in words and not links:
+            raise VouchError(PIECES.format(word, len(own)))
+    known = dict(zip(words, links))
+    found = [_Found(word if len(own) > 1 and word else own[0].name,
+                    judge.of_pieces(word, own, known.get(word))) for word, own in pieces.items()]
+    return _Judged(found, judge.hint)
+
+
+def _publish(folder: Path, words: Sequence[str], links: List[LinkBytes]) -> None:
+    """Writes the bytes of the lobby's links into a new folder.
+
+    Raises:
+        OSError: The disk takes no more, for instance.
+        VouchError: The folder has files.
+    """
+    folder.mkdir(parents=True, exist_ok=True)
+    if any(folder.iterdir()):
+        raise VouchError(f"{folder} has files: name a new folder")
+    for word, link in zip(words, links):
+        for suffix, data in zip((ASKED, SAID), link):
+            file = Output(folder / f"{word}{suffix}")
+            file.write(data)
+            file.close()
+            if file.fault is not None:
+                raise VouchError(f"{file.name}: {file.fault}")
+
+
+def _main() -> int:
+    given = _arguments()
+    try:
+        with Children() as children:
+            found, hint = _judge(given, children.folder("vouch"))
+    except (JournalError, RecordError, VouchError) as fault:
+        where = f"{given.journal}: " if isinstance(fault, JournalError) else ""
+        tell(f"vouch: {where}{fault}")
+        return 1
+    count = sum(is_vouched(each.said) for each in found)
+    lines = [*(f"{each.name}: {each.said}" for each in found), f"vouched: {count} of {len(found)}"]
+    output = Output(1)
+    if not output.write("".join(f"{line}\n" for line in lines)):
+        tell(f"vouch: {output.name}: {output.fault}")
+        return 1
+    if hint:
+        tell(f"vouch: {hint}")
+    return 0 if count == len(found) else 1
+
+
+def main() -> int:
+    """The command `vouch`."""
+    return command("vouch", _main)
+
+
+if __name__ == "__main__":
+    sys.exit(main())
