@@ -9,6 +9,8 @@ many seconds `serve` takes until it listens, and FAKE_HEAD stands at the head of
 there is a file FAKE_STRANGER, the first link is a stranger's, which says what is in the file; the
 file is removed then, if its name does not end with `stays`. FAKE_SLOW is how many seconds each line
 waits for its answer, and a line that begins with FAKE_HANG has none.
+
+`audit` calls each log sound, and `vouch` vouches for each link of a seat.
 """
 
 import os
@@ -98,6 +100,18 @@ def serve(game: str, port: int) -> int:
     return status
 
 
+def vouch(game: str, asked: str, said: str) -> int:
+    """Vouches for a link."""
+    words = next(line.split()[1:] for line in open(game, encoding="ascii")
+                 if line.startswith("words "))
+    lines, replies = (open(file, "rb").read().split(b"\n")[:-1] for file in (asked, said))
+    seat = words.index(lines[0].decode().split()[1])
+    is_whole = len(replies) - 10 == len(lines) - 1
+    print(f"vouched {seat} whole {len(lines) - 1}" if is_whole else
+          f"vouched {seat} cut {len(replies) - 10} 0")
+    return 0
+
+
 def stranger(port: int) -> socket.socket:
     """A link that comes before all others, if there is a file FAKE_STRANGER."""
     file = os.environ.get("FAKE_STRANGER", "")
@@ -132,6 +146,11 @@ if __name__ == "__main__":
         sys.exit(0)
     if sys.argv[1] == "step":
         sys.exit(step(sys.argv[3]))
+    if sys.argv[1] == "audit":
+        print("sound")
+        sys.exit(0)
+    if sys.argv[1] == "vouch":
+        sys.exit(vouch(sys.argv[2], *sys.argv[4:6]))
     if sys.argv[1] != "serve":
         print("usage")
         sys.exit(1)

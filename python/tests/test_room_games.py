@@ -154,6 +154,22 @@ class Rooms(Case):
         self.assertIn("game 2 is lost: exit status 7", self.told)
         self.assertEqual(self.told[-1], "game 4 is kept; nobody has a score")
 
+    def test_what_is_said_of_links_is_kept_and_a_game_that_is_not_vouched_for_is_lost(self) -> None:
+        said = tuple(f"vouched {seat} whole 3" for seat in range(8))
+        other = (*said[:7], "unvouched line 4")
+        self.play(*(whole(came(0), events.Began(60.0, (0,)), status=status,
+                          *[events.Finished(70.0, status, None, each)])
+                    for status, each in ((0, said), (9, other), (0, ()))))
+        games = self.kept.finished
+        self.assertEqual([game.vouched for game in games], [said, other, ()])
+        self.assertEqual([game.scores for game in games], [SCORES, (), SCORES])
+        fault = "its log is not right about each link: vouched 7 of 8 (seat7: unvouched line 4)"
+        self.assertEqual([game.fault for game in games], ["", fault, ""])
+        self.assertIn(f"game 2 is lost: {fault}", self.told)
+        self.assertTrue(self.lobbies.made[0].settings.vouches)
+        self.kept.close()
+        self.assertEqual(self.folder().finished, games)
+
     def test_a_game_in_which_ticks_lapsed_counts(self) -> None:
         self.play(whole(came(0), events.Began(60.0, (0,)), status=program.CLOCK))
         self.assertEqual((self.kept.finished[0].fault, self.kept.finished[0].scores), ("", SCORES))

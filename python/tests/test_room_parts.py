@@ -89,6 +89,16 @@ class Folders(Case):
         self.assertEqual([game.number for game in again.finished], [2, 9999, 10000])
         self.assertEqual(again.next_number(), (10001, []))
 
+    def test_manifests_of_earlier_versions_are_read(self) -> None:
+        folder = self.folder()
+        folder.keep(finished(1), b"")
+        folder.close()
+        manifest = self.path / "0001.json"
+        what = json.loads(manifest.read_text())
+        self.assertEqual(what.pop("vouched"), [])
+        manifest.write_text(json.dumps(what))
+        self.assertEqual(self.folder().finished, [finished(1)])
+
     def test_the_journal_of_a_finished_game_is_none_of_a_stopped_one(self) -> None:
         folder = self.folder()
         for number in (1, 2, 3):

@@ -86,6 +86,16 @@ class Texts(unittest.TestCase):
         self.assertEqual(texts_of(events.Finished(0.0, 137, "l")),
                          ["the game is over, exit status 137; the log is in l"])
 
+    def test_how_many_links_are_vouched_for(self) -> None:
+        said = [f"vouched {seat} whole 3" for seat in range(8)]
+        other = ["unvouched welcome", *said[1:7], "unvouched line 4"]
+        self.assertEqual(
+            texts_of(events.Finished(0.0, 0, "l", tuple(said)),
+                     events.Finished(0.0, 9, None, tuple(other))),
+            ["the game is over, exit status 0; vouched 8 of 8; the log is in l",
+             "the game is over, exit status 9: the log is not sound, or not right about a link; "
+             "vouched 6 of 8 (seat0: unvouched welcome; seat7: unvouched line 4)"])
+
     def test_refusals_are_told_once_in_ten_seconds_for_each_address(self) -> None:
         def refused(at: float, source: str = "h", answer: str = "taken") -> events.Refused:
             return events.Refused(at, source, answer, "hello seat1")

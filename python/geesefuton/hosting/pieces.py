@@ -116,11 +116,11 @@ def first_difference(pieces: Sequence[Piece], link: LinkBytes, welcome: bytes
                                            _lines_of(piece.link.said)[:WELCOME])):
             return Difference(f"{piece.name}, welcome", "it is not that of this seat in this game")
         own = _Session(piece.link)
-        matches = [_match(own, whole, start) for start in sorted(reached)]
-        if all(match.fault for match in matches):
-            furthest = max(matches, key=lambda match: match.count)
+        matches = {start: _match(own, whole, start) for start in reached}
+        if all(match.fault for match in matches.values()):
+            furthest = matches[max(matches, key=lambda start: start + matches[start].count)]
             return Difference(f"{piece.name}, line {furthest.count + 1}", furthest.fault)
-        reached = {end for match in matches if not match.fault for end in match.ends}
+        reached = {end for match in matches.values() for end in match.ends}
     last = max(reached)
     if len(whole.lines) in reached:
         return None
