@@ -13,7 +13,7 @@ import threading
 import time
 import unittest
 from pathlib import Path
-from typing import List, NamedTuple, Optional, Sequence, Tuple
+from typing import Any, List, Optional, Sequence, Tuple
 from unittest import mock
 
 from geesefuton import program
@@ -27,6 +27,11 @@ from tests.helpers import TOP, needs_program
 
 with mock.patch.object(sys, "path", [str(TOP / "checks"), *sys.path]):
     reading = importlib.import_module("vouching")
+    records = importlib.import_module("made_records")
+
+play, text_of = records.play, records.text_of
+without, doubled, swapped, changed = (records.without, records.doubled, records.swapped,
+                                      records.changed)
 
 HELLO = 1  # lines before those of the session
 WELCOME = 10
@@ -38,69 +43,10 @@ ASKED_GOODS = (0, 4, 8, 15, 20)  # of agents in a served game
 SELLING = "5 bid 16 ((-1 50) (-1 40))"
 
 
-class Played(NamedTuple):
-    """A game by a script, whose log has the head of a served one.
-
-    Attributes:
-        game: The text of the game file.
-        log: The text of the log.
-        asked: The lines of each agent, the greeting first.
-        said: The lines that each was sent.
-    """
-
-    game: str
-    log: str
-    asked: List[List[str]]
-    said: List[List[str]]
-
-
-def play(folder: Path, script: Sequence[str], live: bool = True) -> Played:
-    """Plays a script in the made game 42, with 3 rooms a night. Lines of agents end up in their
-    records, also those that the script has no form for."""
-    game = read_game(program.make(42)).with_rooms([3] * 8, live)
-    (folder / "game").write_text(game.text())
-    (folder / "script").write_text("".join(f"{line}\n" for line in script))
-    text = program.play(folder / "game", folder / "script")
-    replies, log = text[:text.index("taclog")].splitlines(), text[text.index("taclog"):]
-    head = [f"link {seat} seated {seat}" for seat in range(8)]
-    head += [f"end {seat} end" for seat in range(8)] + ["missed 0"]
-    log = log.replace("\nplay\n", "\n" + "\n".join(["serve", *head]) + "\n", 1)
-    assert program.audit(folder / "game", log.encode()) == "sound"
-    asked = [[f"hello {word}"] for word in game.words]
-    said = [[f"welcome {seat}", *re.findall(f"(?m)^(?:endow|client) {seat} .*$", game.text())]
-            for seat in range(8)]
-    for line in script:
-        if line != "tick":
-            asked[int(line[0])].append(line[2:])
-    for line in replies:
-        said[int(line[0])].append(line[2:])
-    return Played(game.text(), log, asked, said)
-
-
-def text_of(lines: Sequence[str]) -> bytes:
-    return "".join(f"{line}\n" for line in lines).encode("latin-1")
-
-
-def without(lines: List[str], place: int) -> List[str]:
-    return lines[:place] + lines[place + 1:]
-
-
-def doubled(lines: List[str], place: int) -> List[str]:
-    return lines[:place + 1] + lines[place:]
-
-
-def swapped(lines: List[str], place: int) -> List[str]:
-    return [*lines[:place], lines[place + 1], lines[place], *lines[place + 2:]]
-
-
-def changed(lines: List[str], place: int, line: str) -> List[str]:
-    return [*lines[:place], line, *lines[place + 1:]]
-
-
 class Record(unittest.TestCase):
     """A played game, and what is said of an agent's record of it."""
 
-    played: Played
+    played: Any
     agent = 2
 
     def setUp(self) -> None:
