@@ -24,10 +24,11 @@ import time
 from pathlib import Path
 from typing import Iterator, List, NamedTuple, Sequence, Tuple
 
+from running import Parser, ProgramError, Word, command, file_of, run, whole
+
 sys.path.insert(0, str(Path(__file__).resolve().parent.parent / "checks"))
 
 from made_records import served, text_of  # noqa: E402
-from running import Parser, ProgramError, Word, command, file_of, run, whole  # noqa: E402
 
 from geesefuton.records.games import FLIGHTS, HOTELS, TICKETS, read_game, welcome  # noqa: E402
 

@@ -88,15 +88,17 @@ class Run(NamedTuple):
         return f"{self.number.name} after {self.moment:g} s"
 
 
-def scripts(hanger: str, browser: str) -> Iterator[Script]:
+def scripts(hanger: str, browser: str, record: str) -> Iterator[Script]:
     """Each script; the lobby comes three times, waiting for its agents, running a game, and showing
     one on a page.
 
     Args:
         hanger: The file of an agent that hangs.
         browser: The file of the browser.
+        record: The stem of an agent's record of its link.
     """
-    journal = str(TOP / "python" / "tests" / "data" / "lobby.journal")
+    data = TOP / "python" / "tests" / "data"
+    journal = str(data / "lobby.journal")
     game = str(TOP / "examples" / "first.game")
     planner = "examples/agents/planner.py"
     lobby = ["tools/lobby", game, "PORT", "100", "--after", "1"]
@@ -113,6 +115,8 @@ def scripts(hanger: str, browser: str) -> Iterator[Script]:
     yield Script("lobby, page", [*lobby, "--start", "0.1", "--page", "PAGE"])
     yield Script("live page", ["tools/live", journal, "PORT", "--until-over"])
     yield Script("recovery", ["tools/recover", journal])
+    yield Script("vouching", ["tools/vouch", str(data / "served.game"), str(data / "served.log"),
+                              record])
     yield Script("room", ["tools/room", "--port", "PORT", "--page", "PAGE", "--pace", "50",
                           "--wait", "0.3", "--after", "1", "--games", "1"],
                  [planner, "localhost", "PORT", "seat0", "--pause", "0.05", "--again"])
@@ -196,7 +200,10 @@ def main() -> int:
         hanger, browser = folder / "hanger.py", folder / "browser.py"
         hanger.write_text(HANGER)
         browser.write_text(BROWSER)
-        runs = [Run(script, number, moment) for script in scripts(str(hanger), str(browser))
+        for side, line in (("asked", "hello twotrips\n"), ("said", "welcome 0\n")):
+            (folder / f"twotrips.{side}").write_text(line)
+        tried_scripts = scripts(str(hanger), str(browser), str(folder / "twotrips"))
+        runs = [Run(script, number, moment) for script in tried_scripts
                 for number in ENDS for moment in (MOMENTS if number else (0.0,))
                 if script.name.startswith(given.only or "")]
         bad = 0

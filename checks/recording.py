@@ -113,6 +113,8 @@ class Relay:
                 await target.writer.drain()
         except OSError:
             target.reset()
+        except RuntimeError:
+            pass  # its side was ended, so nothing more is sent
 
     async def reach(self) -> Streams:
         """A connection to the server.

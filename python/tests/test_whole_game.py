@@ -92,13 +92,14 @@ class WholeGame(unittest.TestCase):
         self.folder = Path(place.name)
         self.game, self.log = self.folder / "my.game", self.folder / "my.log"
         self.game.write_text(read_game(program.make(7)).named(WORDS).text())
-        self.journal = self.folder / "my.journal"
+        self.journal, self.mine = self.folder / "my.journal", self.folder / "mine"
+        self.told = self.folder / "told"
         self.port, self.page = free_port(), free_port()
 
     def test_a_game_from_its_first_link_to_its_report(self) -> None:
         agents = [Agent(word, self.port) for word in WORDS[:6]]
         agents[2].gap = 25
-        with mock.patch.dict("os.environ", {"AGENT_RECORD": str(self.folder)}):
+        with mock.patch.dict("os.environ", {"AGENT_RECORD": str(self.mine)}):
             states = self.host(agents)
         log = read_log(self.log.read_bytes())
         self.assertEqual(program.audit(self.game, self.log), "sound")
@@ -107,6 +108,7 @@ class WholeGame(unittest.TestCase):
         self.assertEqual(agents[2].wishes[0], agents[2].wishes[1])
         self.check_journal(agents)
         self.check_links(log)
+        self.check_vouching()
         self.check_states(states, log)
         self.check_recovery()
         self.check_report(log)
@@ -115,10 +117,10 @@ class WholeGame(unittest.TestCase):
         """Plays the game, and gives the states that its page showed."""
         words = [self.game, self.port, PACE, "--page", self.page, "--journal", self.journal,
                  "--after", 5]
-        with self.log.open("wb") as log:
+        with self.log.open("wb") as log, self.told.open("wb") as told:
             lobby = subprocess.Popen(
                 [sys.executable, str(TOP / "tools/lobby"), *map(str, words)],
-                stdin=subprocess.PIPE, stdout=log, stderr=subprocess.DEVNULL)
+                stdin=subprocess.PIPE, stdout=log, stderr=told)
         with contextlib.ExitStack() as stack:
             stack.callback(lobby.wait)
             stack.callback(lobby.kill)
@@ -197,14 +199,28 @@ class WholeGame(unittest.TestCase):
                           for seat, link in enumerate(links)])
         self.assertEqual([link.asked.count(bytes([10])) for link in links[6:]], [1, 1])
         for seat in (0, 1, 3, 4, 5):
-            kept = [(self.folder / f"{WORDS[seat]}.{side}").read_bytes()
+            kept = [(self.mine / f"{WORDS[seat]}.{side}").read_bytes()
                     for side in ("asked", "said")]
             self.assertEqual(kept, list(links[seat]))
         # Together the two links of the agent that reconnected are that of the lobby.
-        pieces = [[(self.folder / f"{WORDS[2]}{number}.{side}").read_bytes()
+        pieces = [[(self.mine / f"{WORDS[2]}{number}.{side}").read_bytes()
                    for number in ("", ".2")] for side in ("asked", "said")]
         for (first, second), whole, rest in zip(pieces, links[2], (1, 10)):
             self.assertEqual(first + b"".join(second.splitlines(True)[rest:]), whole)
+
+    def check_vouching(self) -> None:
+        """Whether the lobby has said that it is vouched for, and the command says so too: of its
+        links, and of the agents' records, two of which are joined."""
+        self.assertRegex(self.told.read_text().splitlines()[-1], "; vouched 8 of 8$")
+        published = self.folder / "published"
+        told = self.run_tool("vouch", self.game, self.log, "--journal", self.journal, "--publish",
+                             published).splitlines()
+        self.assertEqual(told[-1], "vouched: 8 of 8")
+        lines = [f"{line}, 2 records" if line.startswith(f"{WORDS[2]}: ") else line
+                 for line in told[:6]]
+        for words in (["--journal", self.journal], ["--published", published]):
+            mine = self.run_tool("vouch", self.game, self.log, self.mine, *words).splitlines()
+            self.assertEqual((sorted(mine[:-1]), mine[-1]), (sorted(lines), "vouched: 6 of 6"))
 
     def check_states(self, states: List[Dict[str, Any]], log: Log) -> None:
         phases = [state["phase"] for state in states]
