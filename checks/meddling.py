@@ -157,8 +157,9 @@ class MeddledGame:
         agents = [asyncio.ensure_future(self.agent(outer, word, random.Random(self.dice.random())))
                   for word in self.game.words]
         await asyncio.wait_for(asyncio.gather(*agents), MOST)
-        status = await asyncio.get_running_loop().run_in_executor(None, server.wait, MOST)
+        await asyncio.get_running_loop().run_in_executor(None, server.wait, MOST)
         await relay.close()
+        status = children.end(server)
         if status not in (program.OK, program.CLOCK):
             raise program.ended("serve", status, "")
         return relay
