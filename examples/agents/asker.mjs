@@ -1,35 +1,19 @@
 #!/usr/bin/env node
 // An agent that speaks JSON, for a server that was started by `tac serve GAME PORT PACE json`:
 //
-//     node examples/agents/asker.mjs HOST PORT WORD [--pause SECONDS]
+//     node examples/agents/asker.mjs HOST PORT WORD [--pause SECONDS] [--again]
 //
 // It buys the trip of its first client: both seats at once, and a room for each night, for which it
 // bids again when the quote has reached its bid. When the game is over it prints what it holds, and
-// ends. It needs Node 18 or later, and nothing else.
+// ends. It needs Node 18 or later, and `../starters/starter.mjs`, whose link connects again.
 import fs from "node:fs";
-import net from "node:net";
 import path from "node:path";
-import readline from "node:readline";
 import { setTimeout as sleep } from "node:timers/promises";
-import { parseArgs } from "node:util";
+import { Link, plan, run } from "../starters/starter.mjs";
 
 const MOST_FOR_A_SEAT = 600; // dollars
 const MOST_FOR_A_ROOM = 300; // dollars
 const SIDES = ["asked", "said"]; // of a link
-
-// A connection to the server, which may still be starting: it retries for two minutes.
-async function connect(host, port) {
-  for (let tries = 1; ; tries += 1) {
-    const socket = net.connect(port, host);
-    try {
-      await new Promise((done, failed) => socket.once("connect", done).once("error", failed));
-      return socket.setNoDelay(true);
-    } catch (error) {
-      if (error.code !== "ECONNREFUSED" || tries === 600) throw error;
-      await sleep(200);
-    }
-  }
-}
 
 // What is kept of a link if the variable AGENT_RECORD names a folder: the bytes that were sent and
 // those that came, in the files WORD.asked and WORD.said, or WORD.2.asked and WORD.2.said where one
@@ -79,119 +63,86 @@ class LinkRecord {
   }
 }
 
-// A seated link: one reply line for each request line.
-class Link {
-  constructor(socket) {
-    const lines = readline.createInterface({ input: socket });
-    this.socket = socket;
+// A link whose requests and replies are JSON objects, and whose bytes are kept.
+class JsonLink extends Link {
+  constructor(host, port, word) {
+    super(host, port, word);
     this.record = new LinkRecord(process.env.AGENT_RECORD);
-    socket.on("data", (bytes) => this.record.keep("said", bytes));
-    this.lines = lines[Symbol.asyncIterator]();
-    socket.on("error", () => {}); // then the link closes
-    socket.on("close", () => lines.close());
-  }
-
-  // The next line that the server sends.
-  async line() {
-    const { value, done } = await this.lines.next();
-    if (done) throw new Error("the link was closed");
-    return value;
+    this.socket.on("data", (text) => this.record.keep("said", Buffer.from(text, "latin1")));
   }
 
   send(line) {
-    const bytes = Buffer.from(`${line}\n`);
-    this.record.keep("asked", bytes);
-    this.socket.write(bytes);
+    this.record.keep("asked", Buffer.from(`${line}\n`, "latin1"));
+    super.send(line);
   }
 
-  // Takes a seat by its word, and waits until the game begins. Admission is in lines of words for
-  // every agent.
-  async greet(word) {
-    this.send(`hello ${word}`);
-    const first = await this.line();
-    if (!first.startsWith("welcome ")) throw new Error(first);
-    this.record.seat(word);
-    this.agent = Number(first.split(" ")[1]);
-    await this.line(); // the tickets that it has at first
-    this.clients = [];
-    for (let number = 0; number < 8; number += 1) {
-      const words = (await this.line()).split(" ").slice(3);
-      const [arrive, depart, premium, ...values] = words.map(Number);
-      this.clients.push({ arrive, depart, premium, values });
-    }
+  // Admission is in lines of words for every agent.
+  async greet(within) {
+    await super.greet(within);
+    this.record.seat(this.word);
   }
 
-  // Sends a request, and returns its reply. If the server had no memory to read the line, nothing
-  // was asked, and it is sent again.
+  // Sends a request, and gives its reply. If the server had no memory to read the line, nothing was
+  // asked, and it is sent again.
   async ask(request) {
     for (;;) {
-      this.send(JSON.stringify(request));
-      const reply = JSON.parse(await this.line());
+      const reply = JSON.parse(await this.exchange(JSON.stringify(request)));
       if (reply.no !== "memory") return reply;
     }
   }
 
-  // Bids for one unit, which replaces the earlier bid there.
-  bid(auction, price) {
-    return this.ask({ do: "bid", auction, points: [[1, price]] });
+  bid(auction, units, price) {
+    return this.ask({ do: "bid", auction, points: [[units, price]] });
   }
-}
 
-// The goods of a client's trip: the inbound and the outbound seat, and the rooms.
-function trip({ arrive, depart, premium }) {
-  const hotel = premium > 100 ? 12 : 8;
-  const rooms = [];
-  for (let night = arrive; night < depart; night += 1) rooms.push(hotel + night - 1);
-  return { seats: [arrive - 1, depart + 2], rooms };
+  async own(auction) {
+    const { own, points } = await this.ask({ do: "own", auction });
+    return { held: own, points };
+  }
+
+  async quote(auction) {
+    const { quote, open } = await this.ask({ do: "quote", auction });
+    return { ask: quote[1], isClosed: !open };
+  }
+
+  async cash() { return (await this.ask({ do: "cash" })).cash; }
+
+  async quit() {
+    await this.ask({ do: "quit" });
+    this.close();
+  }
 }
 
 // Bids for the rooms whose quote has reached the standing bid. `standing` has the dollars of the
 // standing bids.
-async function bidForRooms(link, rooms, standing) {
-  for (const room of rooms) {
-    const { quote, open } = await link.ask({ do: "quote", auction: room });
-    const before = standing.get(room) ?? 0;
-    const price = Math.min(quote[1] + 50, MOST_FOR_A_ROOM);
-    if (open && before <= quote[1] && before < price) {
-      await link.bid(room, price);
+async function bidForRooms(link, standing) {
+  for (const [room, before] of standing) {
+    const { ask, isClosed } = await link.quote(room);
+    const price = Math.min(ask + 50, MOST_FOR_A_ROOM);
+    if (!isClosed && before <= ask && before < price) {
+      await link.bid(room, 1, price);
       standing.set(room, price);
     }
   }
 }
 
-async function main() {
-  const options = {
-    pause: { type: "string", default: "2" },
-    seed: { type: "string" }, // it draws nothing, so any seed does
-    help: { type: "boolean", short: "h" },
-  };
-  const { values, positionals } = parseArgs({ allowPositionals: true, options });
-  if (values.help) {
-    console.log("usage: node asker.mjs HOST PORT WORD [--pause SECONDS]");
-    return;
+// Plays a game to its end, from what the seat has.
+async function play(link, pause) {
+  const goods = [...plan(link.clients.slice(0, 1)).keys()], standing = new Map();
+  for (const good of goods) {
+    const { held, points } = await link.own(good);
+    if (good >= 8) standing.set(good, points.length ? points[0][1] : 0);
+    else if (!held) await link.bid(good, 1, MOST_FOR_A_SEAT);
   }
-  const [host, port, word] = positionals;
-  if (!word) throw new Error("usage: node asker.mjs HOST PORT WORD [--pause SECONDS]");
-  const link = new Link(await connect(host, Number(port)));
-  await link.greet(word);
-  const { seats, rooms } = trip(link.clients[0]);
-  for (const seat of seats) await link.bid(seat, MOST_FOR_A_SEAT);
-  const standing = new Map();
-  while ((await link.ask({ do: "quote", auction: 0 })).open) {
-    await bidForRooms(link, rooms, standing);
-    await sleep(1000 * Number(values.pause));
+  while (!(await link.quote(0)).isClosed) {
+    await bidForRooms(link, standing);
+    await sleep(1000 * pause);
   }
-  const goods = [...seats, ...rooms];
   const held = [];
-  for (const auction of goods) held.push((await link.ask({ do: "own", auction })).own);
-  const { cash } = await link.ask({ do: "cash" });
-  const what = `${held.join(" ")} of the goods ${goods.join(" ")}`;
-  console.log(`agent ${link.agent} holds ${what}, cash ${cash}`);
-  await link.ask({ do: "quit" });
-  link.socket.end();
+  for (const good of goods) held.push((await link.own(good)).held);
+  const cash = await link.cash();
+  console.log(`agent ${link.agent} holds ${held.join(" ")} of the goods ${goods.join(" ")}, `
+    + `cash ${cash}`);
 }
 
-main().catch((error) => {
-  console.error(`asker.mjs: ${error.message}`);
-  process.exit(1);
-});
+await run(play, JsonLink);

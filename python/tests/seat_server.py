@@ -11,6 +11,9 @@ WELCOME = ["welcome 3", "endow 3 0 1 1 2 2 0 2 2 2 0 1 1",
              for number in range(8))]
 
 
+HANG = "hang"
+
+
 class SeatServer:
     """Answers the lines of an agent, by no rules: a bid stands, and is admitted unless `refusals`
     says otherwise.
@@ -20,7 +23,8 @@ class SeatServer:
         closed: The auctions that are closed.
         units: What the agent has of each good.
         standing: The points that stand, by auction.
-        refusals: Replies to the next lines that begin so; "" ends the link.
+        refusals: Replies to the next lines that begin so; "" ends the link, and `HANG` is silence
+            until the agent ends it.
         heard: What was asked.
     """
 
@@ -50,8 +54,10 @@ class SeatServer:
             for line in lines:
                 text = line.decode().rstrip("\n")
                 self.heard.append(text)
-                answer = self._answer(text)
-                if not answer:
+                answer = self.answer(text)
+                if answer == HANG:
+                    lines.read()
+                if answer in ("", HANG):
                     return
                 try:
                     lines.write(f"{answer}\n".encode())
@@ -59,7 +65,8 @@ class SeatServer:
                 except OSError:
                     return
 
-    def _answer(self, line: str) -> str:
+    def answer(self, line: str) -> str:
+        """The reply to a line."""
         for begin in list(self.refusals):
             if line.startswith(begin):
                 return self.refusals.pop(begin)

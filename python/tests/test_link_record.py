@@ -131,13 +131,16 @@ class Failing(Records):
 
 
 # The first client comes on day 1 and leaves on day 5, in the cheap hotel.
-ASKED = [*(f'{{"do":"bid","auction":{good},"points":[[1,600]]}}' for good in (0, 7)),
-         '{"do":"quote","auction":0}',
-         *(f'{{"do":"own","auction":{good}}}' for good in (0, 7, 8, 9, 10, 11)),
-         '{"do":"cash"}', '{"do":"quit"}']
-ANSWERS = ['{"at":0,"taken":[1,0]}'] * 2 + ['{"at":9,"quote":[0,300],"open":false}',
-                                            *['{"at":9,"own":0,"points":[]}'] * 6,
-                                            '{"at":3,"cash":-7}', '{"bye":true}']
+GOODS = (0, 7, 8, 9, 10, 11)
+ASKED = [line for good in GOODS for line in
+         [f'{{"do":"own","auction":{good}}}',
+          *[f'{{"do":"bid","auction":{good},"points":[[1,600]]}}'] * (good < 8)]]
+ASKED += ['{"do":"quote","auction":0}', *(f'{{"do":"own","auction":{good}}}' for good in GOODS),
+          '{"do":"cash"}', '{"do":"quit"}']
+NOTHING = '{"at":9,"own":0,"points":[]}'
+ANSWERS = [NOTHING, '{"at":0,"taken":[1,0]}'] * 2 + [
+    *[NOTHING] * 4, '{"at":9,"quote":[0,300],"open":false}', *[NOTHING] * 6,
+    '{"at":3,"cash":-7}', '{"bye":true}']
 
 
 @unittest.skipUnless(shutil.which("node"), "there is no Node")
