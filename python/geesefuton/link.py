@@ -182,7 +182,8 @@ class Link:
             try:
                 self.stream = socket.create_connection(self.address, min(left, TRY))
                 self.lines = self.stream.makefile("rb")
-                self._take_welcome(min(left, TRY))
+                # Without clients it was lost before its game, which may begin at any time.
+                self._take_welcome(min(left, TRY) if self.clients else None)
                 return
             except ConnectionRefusedError as refused:
                 raise LinkError(_no_link(*self.address, refused)) from None

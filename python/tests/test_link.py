@@ -10,6 +10,7 @@ import subprocess
 import sys
 import tempfile
 import threading
+import time
 import types
 import unittest
 from pathlib import Path
@@ -297,6 +298,25 @@ class Lost(unittest.TestCase):
     def test_a_link_that_ends_before_its_game_is_connected_again(self) -> None:
         with self.seated([WELCOME[:1]], [WELCOME, ["@0 cash 5"]]) as (agent, _):
             self.assertEqual(agent.cash(), 5)
+        self.assertEqual(len(self.told), 1)
+
+    def test_one_that_is_back_before_its_game_waits_for_it_as_long_as_it_takes(self) -> None:
+        with socket.create_server(("127.0.0.1", 0)) as listener, \
+                mock.patch.object(link, "TRY", 0.05):
+            def serve() -> None:
+                for number in range(2):
+                    stream = listener.accept()[0]
+                    with stream, stream.makefile("rb") as lines:
+                        lines.readline()
+                        if number:
+                            time.sleep(0.4)
+                            stream.sendall("".join(f"{line}\n" for line in WELCOME).encode())
+                            lines.readline()
+            thread = threading.Thread(target=serve)
+            thread.start()
+            with Link.greet("127.0.0.1", listener.getsockname()[1], "red") as agent:
+                self.assertEqual(agent.agent, 3)
+            thread.join()
         self.assertEqual(len(self.told), 1)
 
     def test_what_cannot_be_mended_is_told(self) -> None:

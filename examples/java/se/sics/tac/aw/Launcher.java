@@ -6,6 +6,7 @@ import java.io.IOException;
 import java.io.Reader;
 import java.io.UncheckedIOException;
 import java.util.Arrays;
+import java.util.List;
 import java.util.Properties;
 import se.sics.tac.util.ArgEnumerator;
 
@@ -74,15 +75,12 @@ final class Launcher {
   private void play(AgentImpl impl, String host, int port, String word, int pace)
       throws IOException, InterruptedException {
     Link link = Link.connect(host, port);
-    String welcome = link.greet(word);
-    if (!welcome.startsWith("welcome ")) {
-      throw new IOException(word + ": " + welcome);
-    }
+    List<String> welcome = link.greet(word);
     GameClock clock = new GameClock(pace);
-    int[] tickets = numbers(link.line(), 2); // after `endow A`
+    int[] tickets = numbers(welcome.get(1), 2); // after `endow A`
     int[][] clients = new int[TACAgent.CLIENTS][];
     for (int client = 0; client < clients.length; client++) {
-      clients[client] = numbers(link.line(), 3); // after `client A K`
+      clients[client] = numbers(welcome.get(2 + client), 3); // after `client A K`
     }
     impl.agent.begin(link, clock, tickets, clients);
     new GameLoop(impl, link, clock, args.hasArgument("probe")).play();

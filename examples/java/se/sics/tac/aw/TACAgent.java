@@ -178,8 +178,10 @@ public class TACAgent extends Auctions {
     } else if (spent(auction, FOR_THE_END)) {
       fail(bid, NOT_SUPPORTED);
     } else if (!points.isEmpty()) {
-      String[] reply = call(auction, "bid " + auction + " " + Point.text(points)).split(" ");
-      if (reply[1].equals("taken")) {
+      String[] reply = bidding(bid, points);
+      if (reply == null) {
+        later(() -> impl.bidUpdated(bid)); // it was admitted, and its link was lost
+      } else if (reply[1].equals("taken")) {
         admit(bid, points, reply);
       } else {
         refuse(bid, reply[0].equals("no") ? reply[1] : reply[2]);
@@ -231,6 +233,46 @@ public class TACAgent extends Auctions {
         later(() -> impl.bidUpdated(bid));
       }
     }
+  }
+
+  /**
+   * Bids, and returns the reply. If the link is lost, what the agent has tells whether the bid was
+   * admitted: then null is returned, and otherwise it bids again.
+   */
+  private String[] bidding(Bid bid, List<Point> points) {
+    int auction = bid.getAuction();
+    while (true) {
+      try {
+        return call(auction, "bid " + auction + " " + Point.text(points)).split(" ");
+      } catch (Link.Unanswered lost) {
+        if (isFound(bid)) {
+          return null;
+        }
+      }
+    }
+  }
+
+  /** Reads whether a bid was admitted, which was not answered: then something else stands or is
+   * owned there than before. */
+  private boolean isFound(Bid bid) {
+    int auction = bid.getAuction();
+    String[] reply = call(auction, "own " + auction).split(" ", 4);
+    Bid earlier = getBid(auction);
+    String stood = Point.text(earlier == null ? List.of() : earlier.standing);
+    if (!reply[1].equals("own")
+        || Integer.parseInt(reply[2]) == own[auction] && reply[3].equals(stood)) {
+      return false;
+    }
+    if (earlier != null) {
+      earlier.state = Bid.REPLACED;
+    }
+    seen[auction] = position(reply) + 1;
+    own[auction] = Integer.parseInt(reply[2]);
+    bids[auction] = bid;
+    bid.line = link.sent();
+    bid.standing = Point.read(reply[3]);
+    bid.state = bid.standing.isEmpty() ? Bid.TRANSACTED : Bid.VALID;
+    return true;
   }
 
   private void admit(Bid bid, List<Point> points, String[] reply) {
@@ -351,7 +393,7 @@ public class TACAgent extends Auctions {
     // A published price never falls, so from 1 on the bid below is refused; at 0 it would replace
     // the standing one.
     if ((tie || !stood || asks) && price >= 1 && !spent(auction, FOR_BIDS)) {
-      String[] reply = call(auction, "bid " + auction + " ((1 1))").split(" ");
+      String[] reply = refusedBid(auction);
       int need = reply[2].equals("belowquote") ? Integer.parseInt(reply[3]) : 0;
       if (need > 1) {
         count = need;
@@ -360,6 +402,17 @@ public class TACAgent extends Auctions {
       }
     }
     quotes[auction] = quotes[auction].counting(bid, count);
+  }
+
+  /** Makes the bid that is sure to be refused, again if its link was lost, and returns the reply. */
+  private String[] refusedBid(int auction) {
+    while (true) {
+      try {
+        return call(auction, "bid " + auction + " ((1 1))").split(" ");
+      } catch (Link.Unanswered lost) {
+        // nothing was admitted
+      }
+    }
   }
 
   /** The agent's net dollars. */
