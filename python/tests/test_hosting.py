@@ -314,6 +314,7 @@ class Pages(Case):
                          ["--late", "0", "--until-over", "--agents", "0", "--names"])
         self.assertEqual(page_words(self.settings(start=20.0), Path("j"))[-2:], ["--start", "20.0"])
         self.assertEqual(page_words(self.settings(stays=True), Path("j"))[-1], "--stay")
+        self.assertEqual(page_words(self.settings(form="json"), Path("j"))[-1], "--json")
 
     def test_the_words_of_the_page_for_playing_by_hand(self) -> None:
         settings = self.settings(by_hand=7090)

@@ -2,6 +2,7 @@
 
 import asyncio
 import json
+import re
 import tempfile
 import unittest
 from pathlib import Path
@@ -86,7 +87,8 @@ class Pages(unittest.TestCase):
         file = self.place / (journal or "")
         (self.place / "board").write_text(json.dumps({
             "journal": journal and str(file), "names": names,
-            "room": {"phase": "room", "begins": begins, **room}}))
+            "room": {"phase": "room", "begins": begins, "port": 7000, "address": "10.0.0.1",
+                     **room}}))
 
     def run_it(self, until: float, *steps: Step) -> None:
         """Runs the page for some seconds, in which the steps happen at their times."""
@@ -110,7 +112,21 @@ class Pages(unittest.TestCase):
         self.assertEqual([(state["left"], state["game"]) for _, state, _ in self.shown],
                          [(None, 1), (2, 1), (1, 1), (0, 1)])
         self.assertEqual({shown for *_, shown in self.shown}, {ROOM})
+        self.assertEqual({state["starters"] for _, state, _ in self.shown}, {True})
         self.assertTrue(2.0 <= self.shown[1][0] <= 2.3)
+
+    def test_starters_are_handed_out_with_the_port_of_the_room_in_them(self) -> None:
+        self.board(port=7000)
+        found: List[List[str]] = []
+
+        def look() -> None:
+            assert self.screens.handouts is not None
+            given = self.screens.handouts.answer("/starter.py", "10.0.0.1:7080")
+            assert given is not None
+            found.append(re.findall("(?m)^(?:PORT|AGAIN) = ([a-zA-Z0-9]+)", given.body.decode()))
+
+        self.run_it(5.0, (1.0, look), (2.0, lambda: self.board(port=7011)), (4.0, look))
+        self.assertEqual(found, [["7000", "True"], ["7011", "True"]])
 
     def test_a_game_is_shown_until_its_scores_have_stayed(self) -> None:
         self.board()

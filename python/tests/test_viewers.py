@@ -10,6 +10,7 @@ import unittest
 from typing import Any, Dict, List, Tuple
 from unittest import mock
 
+from geesefuton.hosting.handouts import Handouts
 from geesefuton.hosting.viewers import (FIRST, MOST_EACH, MOST_REFUSED, MOST_VIEWERS, SELDOM,
                                         Faults, Viewers, most_viewers)
 
@@ -84,6 +85,18 @@ class Answering(Case):
             self.assertEqual(self.get(path, how)[0], "HTTP/1.1 404 Not Found", (path, how))
         self.assertEqual(self.run_it(lambda port: self.ask(port, b"GET\r\n\r\n"))[0],
                          "HTTP/1.1 404 Not Found")
+
+    def test_what_is_handed_out_has_the_name_that_the_viewer_calls_the_host_by(self) -> None:
+        self.viewers.handouts = Handouts(7000)
+        for head, name in (("Host: 10.0.0.7:80", "10.0.0.7"), ("hOST:10.0.0.8 ", "10.0.0.8"),
+                           ("Accept: x", "localhost")):
+            status, heads, body = self.run_it(lambda port, head=head: self.ask(
+                port, f"GET /starter.py?a HTTP/1.1\r\n{head}\r\n\r\n".encode()))
+            self.assertEqual((status, heads["Content-Type"]),
+                             ("HTTP/1.1 200 OK", "text/plain; charset=utf-8"))
+            self.assertIn(f'HOST = "{name}"', body.decode())
+        self.assertEqual([self.get(path)[0] for path in ("/join", "/starters", "/live.py")],
+                         ["HTTP/1.1 200 OK", *["HTTP/1.1 404 Not Found"] * 2])
 
     def test_a_head_with_many_cookies_is_answered(self) -> None:
         for size, due in ((9, "HTTP/1.1 200 OK"), (60, "HTTP/1.1 200 OK"), (300, "")):

@@ -34,6 +34,7 @@ from typing import Any, BinaryIO, Callable, Deque, Dict, List, Optional, Tuple
 
 from geesefuton.arguments import Parser, seconds, whole
 from geesefuton.hosting.addresses import listen
+from geesefuton.hosting.handouts import Handouts
 from geesefuton.hosting.journal import JournalError, JournalReader
 from geesefuton.hosting.nights import Nights
 from geesefuton.hosting.projection import Projection, View, project
@@ -219,8 +220,11 @@ async def _run(given: argparse.Namespace, journal: BinaryIO, player: Player) -> 
     faults = Faults(tell)
     viewers = Viewers((Path(__file__).resolve().parent / "live.html").read_bytes(), faults)
     begins = None if given.start is None else time.monotonic() + given.start
-    live = Live(journal, View(given.late, given.names), player, viewers, faults,
-                _joining(given.agents), begins)
+    joining = _joining(given.agents)
+    if joining and not given.json:
+        viewers.handouts = Handouts(joining["port"], joining.get("address", ""))
+        joining["starters"] = viewers.handouts.are_there
+    live = Live(journal, View(given.late, given.names), player, viewers, faults, joining, begins)
     with contextlib.closing(listen(given.port)) as listener:
         serving = asyncio.ensure_future(viewers.accept(listener))
         if given.until_over:
@@ -265,6 +269,8 @@ def _arguments() -> argparse.Namespace:
         help="call agents by their seat words, which are passwords")
     add("--agents", type=whole(1, 65535), metavar="PORT",
         help="the port for agents, which the page shows before the game")
+    add("--json", action="store_true",
+        help="agents speak JSON objects: the page hands out no starters, which speak words")
     add("--start", type=seconds, metavar="SECONDS",
         help="the time until the game begins by itself, which the page counts down")
     add("--until-over", action="store_true",

@@ -101,7 +101,7 @@ def page_words(settings: LobbySettings, journal: Path) -> List[str]:
     return [sys.executable, "-m", "geesefuton.hosting.live", str(journal), str(settings.page),
             "--late", str(settings.late), "--until-over", "--agents", str(settings.port)] \
         + (["--start", str(settings.start)] if settings.start is not None else []) \
-        + ["--names"] * settings.names + ["--stay"] * settings.stays
+        + ["--json"] * (settings.form == "json") + ["--names"] * settings.names + ["--stay"] * settings.stays
 
 
 def seats_words(settings: LobbySettings, words: List[str], port: int) -> List[str]:

@@ -15,6 +15,7 @@ import time
 from dataclasses import dataclass
 from typing import Callable, Dict, List, Optional
 
+from geesefuton.hosting.handouts import Handouts
 from geesefuton.processes import why
 
 MOST_VIEWERS = 200
@@ -34,6 +35,7 @@ HEAD = (
     "Content-Security-Policy: default-src 'none'; style-src 'unsafe-inline'; "
     "script-src 'unsafe-inline'; connect-src 'self'; img-src data:; frame-ancestors 'none'\r\n"
     "Connection: close\r\n")
+NOT_FOUND = "404 Not Found", "text/plain", b"the page is at /\n"
 
 
 class Faults:
@@ -89,10 +91,14 @@ class Viewers:
     Args:
         page: The page, which may be replaced.
         faults: Is told what fails.
+
+    Attributes:
+        handouts: What is handed out to those who write agents; None for nothing.
     """
 
     def __init__(self, page: bytes, faults: Faults) -> None:
         self.page, self._faults, self._most = page, faults, most_viewers()
+        self.handouts: Optional[Handouts] = None
         self._state, self._number, self._is_final = b"{}", 0, False
         self._changed = asyncio.Condition()
         self._links: List[_Link] = []  # the eldest first
@@ -152,9 +158,9 @@ class Viewers:
         writer: Optional[asyncio.StreamWriter] = None
         try:
             reader, writer = await asyncio.open_connection(sock=link.socket, limit=MOST_HEAD)
-            words = await _request(reader)
+            head = await _request(reader)
             link.has_asked = True
-            await self._answer(words, writer, link.is_refused)
+            await self._answer(head, writer, link.is_refused)
         except (asyncio.TimeoutError, asyncio.IncompleteReadError, asyncio.LimitOverrunError,
                 asyncio.CancelledError, OSError):
             pass  # a viewer that is gone or takes nothing, or the page is stopped
@@ -164,8 +170,9 @@ class Viewers:
             elif writer is not None:
                 writer.close()
 
-    async def _answer(self, words: List[bytes], writer: asyncio.StreamWriter,
+    async def _answer(self, head: List[bytes], writer: asyncio.StreamWriter,
                       is_refused: bool) -> None:
+        words = head[0].split(b" ")
         path = words[1].split(b"?")[0] if len(words) > 1 else b""
         if is_refused:
             await _send(writer, f"503 Service Unavailable\r\nRefresh: {REFRESH}", "text/plain",
@@ -176,8 +183,14 @@ class Viewers:
             await _send(writer, "200 OK", "application/json", self._state)
         elif words[0] == b"GET" and path == b"/events":
             await self._stream(writer)
+        elif words[0] == b"GET" and self.handouts:
+            given = self.handouts.answer(path.decode("latin-1"), _host(head))
+            if given is None:
+                await _send(writer, *NOT_FOUND)
+            else:
+                await _send(writer, "200 OK", given.kind, given.body)
         else:
-            await _send(writer, "404 Not Found", "text/plain", b"the page is at /\n")
+            await _send(writer, *NOT_FOUND)
 
     async def _stream(self, writer: asyncio.StreamWriter) -> None:
         """Sends the states, and in between that the page goes on."""
@@ -203,10 +216,19 @@ class Viewers:
 
 
 async def _request(reader: asyncio.StreamReader) -> List[bytes]:
-    """The words of a request's first line, once its head is there."""
+    """The lines of a request's head, once it is there."""
     head = await asyncio.wait_for(reader.readexactly(1), FIRST)
     head += await asyncio.wait_for(reader.readuntil(b"\r\n\r\n"), STALLED)
-    return head.split(b"\r\n")[0].split(b" ")
+    return head.split(b"\r\n")
+
+
+def _host(head: List[bytes]) -> str:
+    """How the viewer calls the host, by the head of its request; "" if it does not say."""
+    for line in head[1:]:
+        name, _, value = line.partition(b":")
+        if name.lower() == b"host":
+            return value.strip().decode("latin-1")
+    return ""
 
 
 async def _send(writer: asyncio.StreamWriter, status: str, kind: str, body: bytes) -> None:

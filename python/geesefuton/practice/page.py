@@ -18,6 +18,7 @@ from typing import Any, Dict, List, Optional, Sequence
 
 from geesefuton.arguments import Parser, whole
 from geesefuton.hosting.addresses import listen
+from geesefuton.hosting.handouts import Handouts
 from geesefuton.hosting.journal import JournalError
 from geesefuton.hosting.live import NICE, Live
 from geesefuton.hosting.projection import View
@@ -88,8 +89,13 @@ class RoomPage:
     async def _show_room(self, what: Dict[str, Any]) -> None:
         """Shows the room, with the seconds until its game begins."""
         room, begins = what["room"], what["room"]["begins"]
+        handouts = self._screens.handouts
+        if handouts is None or handouts.port != room["port"]:
+            handouts = Handouts(room["port"], room["address"], again=True)
+            self._screens.handouts = handouts
         left = None if begins is None else max(0, round(begins - time.time()))
-        text = json.dumps({**room, "left": left}).encode("ascii")
+        starters = handouts.are_there
+        text = json.dumps({**room, "left": left, "starters": starters}).encode("ascii")
         if text != self._shown:
             self._shown, self._screens.page = text, self._room
             await self._screens.show(text, False)
