@@ -2,16 +2,15 @@
 """Plays a game of eight seats by hand: headless Chromium opens the eight pages that `tools/lobby
 --by-hand` offers, and only what a person sees there is tapped.
 
-    checks/by_hand.py
+    checks/by_hand.py [--pace 3000]
 
 Each seat buys its flights, bids for rooms, offers a ticket and takes it back, asks the solver, and
 is refused once. In the end the log has to be sound, with bids of all eight agents that were
-admitted. It takes some four minutes. It ends with 0 if all that was seen, with 1 if not, and is
+admitted, and `tac vouch` has to find in it the whole of each seat's link, whose bytes the journal
+has. It takes some four minutes. It ends with 0 if all that was seen, with 1 if not, and is
 skipped, with 0, if there is no Chromium or no program.
 """
 
-import json
-import os
 import re
 import shutil
 import subprocess
@@ -19,138 +18,41 @@ import sys
 import tempfile
 import time
 from pathlib import Path
-from typing import Any, Dict, List, Optional
+from typing import Dict, List
 
+from browser import Browser, BrowserError, Tab
 from trying import TOP, Parser, ProgramError
 
 from geesefuton import program
+from geesefuton.arguments import whole
+from geesefuton.hosting.server_links import server_links
 from geesefuton.processes import Children, command, free_port
-from geesefuton.records.games import SEATS
+from geesefuton.records.games import SEATS, TICKS
 from geesefuton.records.logs import Log, read_log
 from geesefuton.records.replies import Taken
 
-PACE = 3000  # milliseconds
-LIMIT = 400.0  # seconds that all of it may take
+LIMIT = 600.0  # seconds that all of it may take besides its ticks, on a busy machine
 DUE = ("a ticket is offered", "an offer is taken back", "the solver is asked",
        "a refusal says why", "the score is shown")  # what each seat has to see
-# The middle of the first element of some kind that is seen and has a text; null if there is none.
-FIND = """(() => {
-  const found = [...document.querySelectorAll(%s)].find(each => !each.disabled
-    && each.offsetParent && new RegExp(%s).test(each.getAttribute("aria-label")
-    || each.innerText));
-  if (!found) return null;
-  found.scrollIntoView({ block: "center" });
-  const box = found.getBoundingClientRect(), x = box.x + box.width / 2, y = box.y + box.height / 2;
-  const top = document.elementFromPoint(x, y);
-  return top && (found.contains(top) || top.contains(found)) ? [x, y] : null;
-})()"""
 
 
 class ByHandError(Exception):
     """The game could not be played by hand."""
 
 
-class Browser:
-    """Headless Chromium, told by the DevTools protocol what to do, over two pipes."""
-
-    def __init__(self, children: Children) -> None:
-        here, theirs = os.pipe(), os.pipe()
-        file = shutil.which("chromium")
-        assert file is not None
-        # The protocol is spoken over the descriptors 3 and 4.
-        words = ["sh", "-c", 'exec "$0" "$@" 3<&%d 4>&%d' % (here[0], theirs[1]), file,
-                 "--headless", "--no-sandbox", "--disable-gpu", "--remote-debugging-pipe",
-                 f"--user-data-dir={children.folder('browser')}", "about:blank"]
-        self._process = children.start(words, pass_fds=(here[0], theirs[1]),
-                                       stdin=subprocess.DEVNULL, stdout=subprocess.DEVNULL,
-                                       stderr=subprocess.DEVNULL)
-        os.close(here[0])
-        os.close(theirs[1])
-        self._to, self._from, self._rest, self._number = here[1], theirs[0], b"", 0
-
-    def call(self, method: str, session: Optional[str] = None, **words: Any) -> Dict[str, Any]:
-        """Calls a method, and gives its result. Events in between are skipped."""
-        self._number += 1
-        message: Dict[str, Any] = {"id": self._number, "method": method, "params": words}
-        if session is not None:
-            message["sessionId"] = session
-        os.write(self._to, json.dumps(message).encode() + b"\0")
-        while True:
-            answer = self._next()
-            if answer.get("id") == self._number:
-                if "error" in answer:
-                    raise ByHandError(f"{method}: {answer['error'].get('message')}")
-                result: Dict[str, Any] = answer["result"]
-                return result
-
-    def _next(self) -> Dict[str, Any]:
-        while b"\0" not in self._rest:
-            piece = os.read(self._from, 1 << 16)
-            if not piece:
-                raise ByHandError("Chromium has ended")
-            self._rest += piece
-        text, _, self._rest = self._rest.partition(b"\0")
-        message: Dict[str, Any] = json.loads(text)
-        return message
-
-
-class Tab:
-    """A page that a person looks at.
-
-    Args:
-        browser: Where it is opened.
-        address: Its address.
-        width, height: The size of the screen, in CSS pixels.
-    """
-
-    def __init__(self, browser: Browser, address: str, width: int = 390, height: int = 844) -> None:
-        self._browser = browser
-        # A context has links of its own, as a browser on another machine would.
-        context = browser.call("Target.createBrowserContext")["browserContextId"]
-        target = browser.call("Target.createTarget", url="about:blank", newWindow=True,
-                              browserContextId=context)["targetId"]
-        self._session: str = browser.call("Target.attachToTarget", targetId=target,
-                                          flatten=True)["sessionId"]
-        self.call("Emulation.setDeviceMetricsOverride", width=width, height=height,
-                  deviceScaleFactor=1, mobile=width < 600)
-        self.call("Page.navigate", url=address)
-
-    def call(self, method: str, **words: Any) -> Dict[str, Any]:
-        """Calls a method of this page."""
-        return self._browser.call(method, self._session, **words)
-
-    def value(self, code: str) -> Any:
-        """The value of an expression in the page."""
-        told = self.call("Runtime.evaluate", expression=code, returnByValue=True)
-        return told["result"].get("value")
-
-    def sees(self, pattern: str) -> bool:
-        """Whether a text is on the page."""
-        return re.search(pattern, self.value("document.body.innerText") or "") is not None
-
-    def tap(self, kind: str, pattern: str) -> bool:
-        """Taps what is seen and has a text; whether there was such a thing."""
-        place = self.value(FIND % (json.dumps(kind), json.dumps(pattern)))
-        if place is None:
-            return False
-        for event in ("mousePressed", "mouseReleased"):
-            self.call("Input.dispatchMouseEvent", type=event, x=place[0], y=place[1],
-                      button="left", clickCount=1)
-        return True
-
-    def bid(self, tile: str, button: str, sell: bool = False) -> bool:
-        """Bids by two taps, or three to sell; whether the panel could be used so."""
-        if not self.tap("button.tile", tile):
-            return False
-        if sell:
-            self.tap("label", "Sell")
-        has_tapped = self.tap("dialog button", button)
-        until = time.monotonic() + 3
-        while self.value("document.querySelector('dialog').open") and time.monotonic() < until:
-            if self.value("document.getElementById('refused').textContent"):
-                break
-            time.sleep(0.05)
-        return has_tapped
+def bid(tab: Tab, tile: str, button: str, sell: bool = False) -> bool:
+    """Bids by two taps, or three to sell; whether the panel could be used so."""
+    if not tab.tap("button.tile", tile):
+        return False
+    if sell:
+        tab.tap("label", "Sell")
+    has_tapped = tab.tap("dialog button", button)
+    until = time.monotonic() + 3
+    while tab.value("document.querySelector('dialog').open") and time.monotonic() < until:
+        if tab.value("document.getElementById('refused').textContent"):
+            break
+        time.sleep(0.05)
+    return has_tapped
 
 
 class Player:
@@ -170,19 +72,19 @@ class Player:
         step, self._step = self._step, self._step + 1
         first, other = 1 + self._number % 4, 1 + (self._number + 1) % 4
         if step == 0:
-            self._note("a ticket is offered", self.tab.bid(f"Museum, night {first}", "sell", True))
+            self._note("a ticket is offered", bid(self.tab, f"Museum, night {first}", "sell", True))
         elif step == 1:
             self.tab.tap("button.tile", f"Museum, night {first}")
             self._note("an offer is taken back", self.tab.tap("dialog button", "Withdraw"))
         elif step == 2:
             self._note("the solver is asked", self.tab.tap("button", "Best plan"))
         elif step in (3, 4, 5):
-            self.tab.bid(f"(Shanties|Towers), night {other}", "Bid to buy")
+            bid(self.tab, f"(Shanties|Towers), night {other}", "Bid to buy")
         elif step == 6:
             self._refused(other)
         else:
             wants = r"Flights .*: price .*you have (\d) of (?!\1)[1-8] wanted"
-            self.tab.bid(wants, "Buy") or self.tab.bid("Towers, night .* wanted$", "Bid to buy")
+            bid(self.tab, wants, "Buy") or bid(self.tab, "Towers, night .* wanted$", "Bid to buy")
 
     def _refused(self, night: int) -> None:
         """A bid for 17 units, which is more than the buttons allow."""
@@ -212,19 +114,19 @@ def addresses(lobby: "subprocess.Popen[bytes]") -> List[str]:
     return [f"http://127.0.0.1{address}" for address in found]
 
 
-def play(children: Children, folder: Path) -> List[Player]:
+def play(children: Children, folder: Path, pace: int) -> List[Player]:
     """Plays a game in a folder: `by_hand.game` gives `by_hand.log`."""
     game, port = folder / "by_hand.game", free_port()
     game.write_text(program.make(42))
     with (folder / "by_hand.log").open("wb") as log:
         lobby = children.start([sys.executable, str(TOP / "tools" / "lobby"), str(game), str(port),
-                                str(PACE), "--journal", str(folder / "by_hand.journal"),
+                                str(pace), "--journal", str(folder / "by_hand.journal"),
                                 "--by-hand", str(free_port())],
                                stdin=subprocess.DEVNULL, stdout=log, stderr=subprocess.PIPE)
     browser = Browser(children)
     players = [Player(Tab(browser, address), number)
                for number, address in enumerate(addresses(lobby))]
-    until = time.monotonic() + LIMIT
+    until = time.monotonic() + LIMIT + TICKS * pace / 1000
     while lobby.poll() is None and time.monotonic() < until:
         for player in players:
             if player.tab.sees("[0-9] of 54"):
@@ -249,8 +151,24 @@ def faults_of(players: List[Player], log: Log) -> List[str]:
     return faults
 
 
+def link_faults(folder: Path) -> List[str]:
+    """What `tac vouch` says of the seats' links if it does not vouch for the whole of them."""
+    faults = []
+    for number, link in enumerate(server_links(folder / "by_hand.journal")):
+        for side, data in (("asked", link.asked), ("said", link.said)):
+            (folder / side).write_bytes(data)
+        verdict = program.run("vouch", *(folder / name for name in (
+            "by_hand.game", "by_hand.log", "asked", "said")), allowed=(program.OK, program.UNSOUND))
+        if not verdict.startswith(f"vouched {number} whole "):
+            faults.append(f"seat{number}: {verdict.strip()}")
+    return faults
+
+
 def _main() -> int:
-    Parser("checks/by_hand.py", __doc__ or "").parse_args()
+    parser = Parser("checks/by_hand.py", __doc__ or "")
+    parser.add_argument("--pace", type=whole(1000, 60000), default=3000, metavar="MILLISECONDS",
+                        help="from tick to tick; 3000")
+    given = parser.parse_args()
     try:
         program.find()
     except ProgramError as fault:
@@ -262,17 +180,17 @@ def _main() -> int:
     with tempfile.TemporaryDirectory() as name, Children() as children:
         folder = Path(name)
         try:
-            players = play(children, folder)
+            players = play(children, folder, given.pace)
             text = (folder / "by_hand.log").read_bytes()
             verdict = program.audit(folder / "by_hand.game", text)
             faults = [] if verdict == "sound" else [verdict]
-            faults += faults_of(players, read_log(text))
-        except ByHandError as fault:
+            faults += faults_of(players, read_log(text)) + link_faults(folder)
+        except (BrowserError, ByHandError) as fault:
             faults = [str(fault)]
     for each in faults:
         print(f"by_hand.py: {each}")
     print(f"by_hand.py: {len(faults)} faults" if faults else "by_hand.py: eight seats were played "
-          "by hand, and the log is sound")
+          "by hand, and the log is sound and has the whole of their links")
     return 1 if faults else 0
 
 

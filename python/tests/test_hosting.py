@@ -299,12 +299,12 @@ class Pages(Case):
     def settings(self, **more: Any) -> LobbySettings:
         return LobbySettings(GAME, 0, 5, None, page=8000, **more)
 
-    def page(self, poll: Optional[int] = None) -> PageProcess:
+    def page(self, poll: Optional[int] = None, **more: Any) -> PageProcess:
         """A page whose process has ended with a status, or runs."""
         self.children = mock.Mock()
         self.children.start.return_value = mock.Mock(
             poll=mock.Mock(return_value=poll), returncode=poll)
-        return PageProcess(self.children, self.settings(), Path("my.journal"))
+        return PageProcess(self.children, self.settings(**more), Path("my.journal"))
 
     def test_its_words(self) -> None:
         self.assertEqual(page_words(self.settings(), Path("my.journal")), [
@@ -384,6 +384,17 @@ class Pages(Case):
         page = self.page(1)
         self.assertRegex(page.fault(), "page has ended, exit status 1; the game goes")
         self.assertEqual(page.fault(), "")  # it is told once
+
+    def test_one_that_ran_for_a_while_is_started_again(self) -> None:
+        page = self.page(1, start=20.0)
+        with mock.patch("geesefuton.hosting.page_process.STEADY", 0.0):
+            for _ in range(2):
+                self.assertRegex(page.fault(), "page had ended, exit status 1, and is started agai")
+        self.assertIn("the game goes on without it", page.fault())
+        words = [call.args[0] for call in self.children.start.call_args_list]
+        self.assertEqual(len(words), 3)
+        self.assertEqual(words[0], [*words[1], "--start", "20.0"])
+        self.assertEqual(words[1], words[2])
 
     def test_without_a_journal_of_the_hosts_it_has_one_that_goes_away(self) -> None:
         for page, given, due in ((None, None, None), (None, "my.journal", "my.journal"),

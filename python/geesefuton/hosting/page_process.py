@@ -1,4 +1,4 @@
-"""The process of the live page that the lobby starts.
+"""The process of the live page that the lobby starts, again if it has ended.
 
 It has a pipe for its standard input, and knows by the end of that pipe that the game is over, also
 if its journal has no end, as on a full disk.
@@ -10,14 +10,16 @@ import os
 import subprocess
 import sys
 import time
+from dataclasses import replace
 from pathlib import Path
-from typing import List
+from typing import List, Sequence
 
 from geesefuton.hosting.control import Control
 from geesefuton.hosting.settings import LobbySettings
 from geesefuton.processes import Children
 
 LOOK = 0.1  # seconds between two looks at whether the page has ended
+STEADY = 5.0  # seconds that a process has to have run to be started again
 
 
 class SideProcess:
@@ -28,22 +30,34 @@ class SideProcess:
         name: What it is called in messages.
         words: The words that start it.
         output: Where its standard output goes.
+        again: The words that start it again once it has ended; none if it is not.
     """
 
-    def __init__(self, children: Children, name: str, words: List[str], output: int) -> None:
+    def __init__(self, children: Children, name: str, words: List[str], output: int,
+                 again: Sequence[str] = ()) -> None:
+        self._children, self._name, self._output, self._again = children, name, output, again
+        self._is_told = False
+        self._start(words)
+
+    def _start(self, words: List[str]) -> None:
         path = [str(Path(__file__).resolve().parents[2]), os.environ.get("PYTHONPATH", "")]
-        self._process = children.start(
-            words, stdin=subprocess.PIPE, stdout=output,
+        self._process = self._children.start(
+            words, stdin=subprocess.PIPE, stdout=self._output,
             env={**os.environ, "PYTHONPATH": os.pathsep.join(filter(None, path))})
-        self._children, self._name, self._is_told = children, name, False
+        self._began = time.monotonic()
 
     def fault(self) -> str:
-        """What the host is to be told of a process that has ended, once; else ""."""
+        """What the host is to be told of a process that has ended, once; else "". One that ran for
+        a while is started again, if it can be."""
         if self._is_told or self._process.poll() is None:
             return ""
+        status = self._process.returncode
+        if self._again and time.monotonic() - self._began >= STEADY:
+            self.end()
+            self._start([*self._again])
+            return f"{self._name} had ended, exit status {status}, and is started again"
         self._is_told = True
-        return (f"{self._name} has ended, exit status {self._process.returncode}; "
-                "the game goes on without it")
+        return f"{self._name} has ended, exit status {status}; the game goes on without it"
 
     def is_running(self) -> bool:
         """Whether the process has not ended."""
@@ -77,7 +91,10 @@ class PageProcess(SideProcess):
     """
 
     def __init__(self, children: Children, settings: LobbySettings, journal: Path) -> None:
-        super().__init__(children, "the page", page_words(settings, journal), subprocess.DEVNULL)
+        # Once it was started again, how long the game still waits is not known.
+        again = page_words(replace(settings, start=None), journal)
+        super().__init__(children, "the page", page_words(settings, journal), subprocess.DEVNULL,
+                         again)
 
 
 class SeatsProcess(SideProcess):
