@@ -85,7 +85,8 @@ def lay_out(place: Path, version: str, epoch: int, files: Dict[str, Tuple[bytes,
         file.chmod(0o755 if can_run else 0o644)
 
     for name, (data, can_run) in files.items():
-        if name.startswith("geesefuton/examples/") and not name.endswith(RUN):
+        if name.startswith("geesefuton/examples/") and not name.endswith(RUN) \
+                and not name.startswith("geesefuton/examples/starters/"):
             put(DOCUMENTS / name.removeprefix("geesefuton/"), data)
         else:
             put(INSTALLED / name, data, can_run)

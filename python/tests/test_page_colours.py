@@ -1,0 +1,61 @@
+"""The colours of the pages: texts, edges of what can be used, and bars stand out enough."""
+
+import re
+import unittest
+from typing import Dict, List
+
+from tests.helpers import PACKAGE
+
+PAGES = ("hosting/live.html", "hosting/join.html", "playing/seat.html", "practice/room.html")
+TEXTS = ("ink", "soft", "faint", "accent", "good", "warn", "c0", "c1", "c2", "c3")
+SHAPES = ("edge", "bar", "minus")
+
+
+def lightness(colour: str) -> float:
+    """The relative lightness of a colour such as `#fff`."""
+    digits = colour[1:] if len(colour) == 7 else "".join(2 * digit for digit in colour[1:])
+    parts = [int(digits[place:place + 2], 16) / 255 for place in (0, 2, 4)]
+    parts = [part / 12.92 if part <= 0.04045 else ((part + 0.055) / 1.055) ** 2.4 for part in parts]
+    return 0.2126 * parts[0] + 0.7152 * parts[1] + 0.0722 * parts[2]
+
+
+def contrast(one: str, other: str) -> float:
+    """The ratio of two colours, 1 to 21."""
+    first, second = sorted((lightness(one), lightness(other)), reverse=True)
+    return (first + 0.05) / (second + 0.05)
+
+
+def themes_of(page: str) -> List[Dict[str, str]]:
+    """The colours of each theme of a page."""
+    style = (PACKAGE / "geesefuton" / page).read_text(encoding="utf-8")
+    found = [dict(re.findall(r"--(\w+): (#[0-9a-f]+)", block))
+             for block in re.findall(r":root[^{]*\{([^}]*)\}", style)]
+    return [colours for colours in found if colours]
+
+
+class Colours(unittest.TestCase):
+    def check(self, names: "tuple[str, ...]", least: float) -> None:
+        for page in PAGES:
+            for colours in themes_of(page):
+                for name in names:
+                    for ground in ("paper", "card"):
+                        if name in colours:
+                            with self.subTest(page=page, name=name, ground=ground):
+                                ratio = contrast(colours[name], colours[ground])
+                                self.assertGreaterEqual(ratio, least)
+
+    def test_each_page_has_a_light_theme_and_twice_the_same_dark_one(self) -> None:
+        for page in PAGES:
+            light, dark, again = themes_of(page)
+            self.assertEqual(dark, again)
+            self.assertEqual(light.keys(), dark.keys())
+
+    def test_texts(self) -> None:
+        self.check(TEXTS, 4.5)
+
+    def test_edges_and_bars(self) -> None:
+        self.check(SHAPES, 3.0)
+
+
+if __name__ == "__main__":
+    unittest.main()
