@@ -2,6 +2,7 @@
 """Measures what the lobby adds to a request and its reply, and what it costs.
 
     taskset -c 2 bench/lobby_cost.py --hosts-on 3
+    bench/lobby_cost.py --by-hand
 
 One agent asks a quote every millisecond, or eight agents every two, in lock step with their
 replies: of the server itself, through the lobby with its journal, with the page, and with 50
@@ -9,19 +10,25 @@ viewers of the page and one that hangs. The ways are taken in turn. It writes fo
 microseconds of a request (median, 90th and 99th of 100), and the microseconds of a processor that
 the lobby spent for a request since the game began; at the end the size of the last journal. With
 --hosts-on the server, the lobby and its page have a processor of their own, which needs Linux.
+
+With --by-hand it measures two games of a tick each 2 seconds instead: one whose eight seats are
+played by hand, each with a page that is open and bids now and then, and one of eight agents that
+ask as often as a seat by hand does. For each it writes the requests, and what the lobby spent.
 """
 
 import contextlib
 import json
 import os
+import re
 import socket
 import statistics
 import subprocess
 import sys
 import threading
 import time
+import urllib.request
 from pathlib import Path
-from typing import Dict, List
+from typing import Any, Dict, List, NamedTuple
 
 TOP = Path(__file__).resolve().parent.parent
 sys.path.insert(0, str(TOP / "python"))
@@ -32,6 +39,8 @@ from geesefuton.processes import Children, command, free_port
 
 PACE = 2000  # milliseconds; a round ends long before the game does
 WAYS = ["server alone", "lobby", "lobby and page", "and 50 viewers"]
+PLAYED = 30.0  # seconds of a game by hand that are measured
+OFTEN = 28 / 0.5  # requests a second of a seat by hand, which looks at all quotes 4 times a tick
 PROBE = """
 import json, socket, sys, time
 port, word, count, gap = int(sys.argv[1]), sys.argv[2], int(sys.argv[3]), float(sys.argv[4])
@@ -156,6 +165,73 @@ def leave(port: int, word: str) -> socket.socket:
     return link
 
 
+class Spent(NamedTuple):
+    """What was asked in a part of a game, and the processor seconds that its lobby spent then."""
+
+    requests: int
+    processor: float
+
+
+def ask(address: str, what: str, **given: Any) -> Dict[str, Any]:
+    """What the page of a seat is answered."""
+    request = urllib.request.Request(address + what, json.dumps(given).encode(),
+                                     {"Content-Type": "application/json"})
+    with urllib.request.urlopen(request, timeout=60) as response:
+        told: Dict[str, Any] = json.load(response)
+        return told
+
+
+def play_by_hand(address: str) -> None:
+    """Somebody who has the page of a seat open, and bids now and then, until it is gone."""
+    with contextlib.suppress(OSError, ValueError):
+        page, version, bids = ask(address, "open", page="")["page"], -1, 0
+        while True:
+            state = ask(address, "state", page=page, after=version)
+            version = state["version"]
+            if state["phase"] == "running" and state["tick"] > bids:
+                bids = state["tick"] + 1
+                ask(address, "bid", page=page, good=bids % 8, points=[[1, 50]])
+
+
+def spent_in_a_game(is_by_hand: bool, folder: Path, before: List[str]) -> Spent:
+    """Measures a part of a game whose seats are played by hand, or by agents."""
+    game, port = folder / "game", free_port()
+    game.write_text(program.make(42))
+    journal = folder / f"{time.monotonic_ns()}.journal"
+    with Children() as children:
+        words = [sys.executable, str(TOP / "tools/lobby"), str(game), str(port), str(PACE),
+                 "--journal", str(journal), *["--by-hand", str(free_port())] * is_by_hand]
+        host = children.start([*before, *words], stdin=subprocess.DEVNULL,
+                              stdout=subprocess.DEVNULL, stderr=subprocess.PIPE)
+        assert host.stderr is not None
+        found: List[str] = []
+        while is_by_hand and len(found) < 8:
+            line = host.stderr.readline().decode()
+            found += re.findall(r"http://[^ ]*(:[0-9]+/[a-z0-9]+/)", line)
+        for place in found:
+            threading.Thread(target=play_by_hand, args=(f"http://127.0.0.1{place}",),
+                             daemon=True).start()
+        threading.Thread(target=host.stderr.read, daemon=True).start()
+        for number in range(0 if is_by_hand else 8):
+            children.start([sys.executable, "-c", PROBE, str(port), f"seat{number}", "1000000",
+                            str(1 / OFTEN)], stdout=subprocess.DEVNULL, stderr=subprocess.DEVNULL)
+        meter = Meter(host.pid)
+        meter.start()
+        meter.begin(journal)
+        first = journal.read_bytes().count(b'"q"')
+        time.sleep(PLAYED)
+        return Spent(journal.read_bytes().count(b'"q"') - first, meter.spent - meter.before)
+
+
+def measure_by_hand(folder: Path, before: List[str]) -> None:
+    """Writes what the lobby spends in a game by hand, and in one of agents."""
+    for is_by_hand in (True, False):
+        requests, processor = spent_in_a_game(is_by_hand, folder, before)
+        print(f"{'eight seats by hand' if is_by_hand else 'eight agents'}: {requests} requests in "
+              f"{PLAYED:g} s, {1e6 * processor / max(1, requests):.0f} microseconds of the lobby's "
+              f"processor for each, {100 * processor / PLAYED:.1f} % of a processor", flush=True)
+
+
 def main() -> int:
     parser = Parser("lobby_cost", __doc__)
     parser.add_argument("--rounds", type=whole(1), default=3, metavar="N", help="of each way; 3")
@@ -163,8 +239,14 @@ def main() -> int:
                         help="of each agent in a round; 5000")
     parser.add_argument("--hosts-on", type=whole(0, 4095), metavar="PROCESSOR",
                         help="where server, lobby and page run; by default on any")
+    parser.add_argument("--by-hand", action="store_true",
+                        help="measure a game by hand, and one of agents that ask as often")
     given = parser.parse_args()
     before = [] if given.hosts_on is None else ["taskset", "-c", str(given.hosts_on)]
+    if given.by_hand:
+        with Children() as children:
+            measure_by_hand(children.folder("lobby_cost"), before)
+        return 0
     size = 0.0
     with Children() as children:
         folder = children.folder("lobby_cost")

@@ -19,9 +19,11 @@ KEYS = {"Tab": (9, ""), "Enter": (13, "\r"), "Escape": (27, ""), "Space": (32, "
 SHIFT = 8  # as the protocol has it
 # The middle of the first element of some kind that is seen and has a text; null if there is none.
 FIND = """(() => {
-  const found = [...document.querySelectorAll(%s)].find(each => !each.disabled
-    && each.offsetParent && new RegExp(%s).test(each.getAttribute("aria-label")
-    || each.innerText));
+  const says = each => each.getAttribute("aria-label") || each.innerText;
+  const isUsable = each => !each.disabled && each.getAttribute("aria-disabled") !== "true"
+    && each.offsetParent;
+  const found = [...document.querySelectorAll(%s)].find(each => isUsable(each)
+    && new RegExp(%s).test(says(each)));
   if (!found) return null;
   found.scrollIntoView({ block: "center" });
   const box = found.getBoundingClientRect(), x = box.x + box.width / 2, y = box.y + box.height / 2;

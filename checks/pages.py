@@ -169,6 +169,7 @@ def play_by_keys(tab: Tab, server: SeatServer) -> None:
     keys.reach("^(Bid to b|B)uy 1$")
     keys.press("Enter")
     wait_for("why it is refused", lambda: tab.sees("Too low: a new bid has to offer 2 rooms at 78"))
+    wait_for("the button again", lambda: re.search("uy 2$", keys.focused()) is not None)
     keys.press("Escape")
     wait_for("the price again", lambda: "Shanties, night 1" in keys.focused())
     server.closed = [8]  # what has the focus closes

@@ -1,5 +1,6 @@
 """A stand-in for a game's server in tests of seats: one agent's auctions, over sockets."""
 
+import contextlib
 import socket
 import threading
 from typing import Dict, List
@@ -50,7 +51,7 @@ class SeatServer:
             threading.Thread(target=self._serve, args=(stream,), daemon=True).start()
 
     def _serve(self, stream: socket.socket) -> None:
-        with stream, stream.makefile("rwb") as lines:
+        with contextlib.suppress(OSError), stream, stream.makefile("rwb") as lines:
             for line in lines:
                 text = line.decode().rstrip("\n")
                 self.heard.append(text)
@@ -59,11 +60,8 @@ class SeatServer:
                     lines.read()
                 if answer in ("", HANG):
                     return
-                try:
-                    lines.write(f"{answer}\n".encode())
-                    lines.flush()
-                except OSError:
-                    return
+                lines.write(f"{answer}\n".encode())
+                lines.flush()
 
     def answer(self, line: str) -> str:
         """The reply to a line."""
