@@ -11,9 +11,10 @@ from functools import lru_cache
 from pathlib import Path
 from typing import Dict, List, Optional
 
-from tests.helpers import TOP, needs_program, variables
+from tests.helpers import TOP, variables
 from tests.seat_server import HANG, SeatServer
 from tests.test_link import WELCOME, Server
+from tests.test_link_record import ANSWERS, ASKED
 
 STARTERS = TOP / "examples" / "starters"
 GOODS = (0, 1, 2, 3, 7, 8, 9, 10, 11)  # of the trips of WELCOME, all in the cheap hotel
@@ -157,6 +158,22 @@ class InPython(Starters, unittest.TestCase):
 @unittest.skipUnless(shutil.which("node"), "there is no Node")
 class InJavaScript(Starters, unittest.TestCase):
     language = "JavaScript"
+
+
+@unittest.skipUnless(shutil.which("node"), "there is no Node")
+class InJson(unittest.TestCase):
+    def test_a_link_that_ends_is_back_and_begins_with_own(self) -> None:
+        lost = [WELCOME, [ANSWERS[0]]]  # it ends before the first bid is answered
+        server = Server(lost, [WELCOME, *([answer] for answer in ANSWERS)])
+        words = ["node", str(TOP / "examples/agents/asker.mjs"), "127.0.0.1", str(server.port)]
+        done = subprocess.run([*words, "red"], stdin=subprocess.DEVNULL, capture_output=True,
+                              text=True, timeout=60, check=False, env=variables())
+        server.join()
+        self.assertEqual(done.returncode, 0, done.stderr)
+        self.assertRegex(done.stderr,
+                         "^red: the link was closed; connected again after [0-9.]+ seconds\n$")
+        heard = [line.rstrip("\n") for line in server.heard]
+        self.assertEqual(heard, ["hello red", ASKED[0], "hello red", *ASKED])
 
 
 @unittest.skipUnless(shutil.which("javac") and shutil.which("java"), "there is no JDK")
