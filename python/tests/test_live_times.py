@@ -133,6 +133,12 @@ class Shown(Clock):
         made._shown = ""
         self.assertEqual(self.last(made)["elapsed"], 3750)
 
+    def test_the_clock_of_a_page_that_is_started_late_is_that_of_the_last_piece(self) -> None:
+        made = self.page('{"begin":[]}', '{"tick":0,"t":0}', '{"tick":1,"t":8000}')
+        made._read('{"tick":2,"t":16000}')
+        self.now += 0.5
+        self.assertEqual(self.last(made)["elapsed"], 16500)
+
     def test_a_journal_stops_only_in_a_game_that_goes_on(self) -> None:
         made = self.page()
         self.now += 1000  # agents are waited for

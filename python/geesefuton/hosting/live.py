@@ -98,12 +98,13 @@ class Live:
                 await self.show()
 
     def _read(self, text: str) -> None:
-        reader, had_begun = self._reader, self._reader.has_begun
+        reader = self._reader
         reader.read(text)
         self._heard = time.monotonic()
-        if reader.has_begun and not had_begun:
-            self._zero = self._heard - reader.time / 1000
         if reader.has_begun:
+            # A line is read at its time or later; a journal that is long already comes in pieces.
+            began = self._heard - reader.time / 1000
+            self._zero = began if self._zero is None else min(self._zero, began)
             self._nights = self._nights or Nights(reader)
             self._nights.follow(reader)
 
