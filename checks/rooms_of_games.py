@@ -60,12 +60,14 @@ class Trial:
         mark: The value of the variable MARK for its processes.
 
     Attributes:
+        kills: How often the room was killed.
         room: The room's folder.
         temporary: The folder for temporary files.
     """
 
     def __init__(self, folder: Path, pace: int, mark: str) -> None:
         self.room, self._pace, self._port = folder / "room", pace, free_port()
+        self.kills = 0
         self._files = {kind: folder / f"{kind}.py" for kind in ("stay", "crash", "hang")}
         for file in self._files.values():
             file.write_text(AGENT)
@@ -137,6 +139,7 @@ def play(trial: Trial, games: int, kills: int) -> List[str]:
         time.sleep(source.uniform(0.5, 3.0))
         if due and len(now) >= due[0]:
             del due[0]
+            trial.kills += 1
             room.kill()
             room.wait()
             room = trial.start(games - len(trial.manifests()))
@@ -196,7 +199,7 @@ def _main() -> int:
         faults += [f"there is left: {left}" for left in what_is_left(mark, trial.temporary)]
         for fault in faults:
             print(f"rooms_of_games.py: {fault}")
-        print(f"{len(trial.manifests())} games, {given.kills} times killed, {len(faults)} faults")
+        print(f"{len(trial.manifests())} games, {trial.kills} times killed, {len(faults)} faults")
     return 1 if faults else 0
 
 
