@@ -278,6 +278,7 @@ public final class Starter {
     String told = "";
     while (true) {
       IOException fault;
+      long begun = System.nanoTime();
       try {
         return new Link(host, port, word, lost == null ? 0 : TRY);
       } catch (Hopeless hopeless) {
@@ -290,6 +291,9 @@ public final class Starter {
         if (lost != null && again instanceof ConnectException) {
           throw new Over(lost.getMessage()); // the game has ended
         }
+      }
+      if (lost == null && System.nanoTime() - begun > TRY * 1e9) {
+        deadline = System.nanoTime() + Math.round(PATIENCE * 1e9); // it had waited for its game
       }
       if (System.nanoTime() > deadline) {
         throw fault;

@@ -176,9 +176,9 @@ export class Link {
 
 // Takes the seat, and waits until the game begins; after a lost link, until it is back.
 async function seat(LinkOf, host, port, word, lost) {
-  const deadline = now() + (lost ? BACK : PATIENCE);
+  let deadline = now() + (lost ? BACK : PATIENCE);
   for (let told = ""; ;) {
-    const link = new LinkOf(host, port, word);
+    const link = new LinkOf(host, port, word), begun = now();
     let Kind = Over, text;
     try {
       await link.greet(lost ? TRY : Infinity);
@@ -193,6 +193,8 @@ async function seat(LinkOf, host, port, word, lost) {
         if (!lost) Kind = Hopeless;
       }
     }
+    // After a link that had waited for its game the time counts anew.
+    if (!lost && now() - begun > TRY) deadline = now() + PATIENCE;
     if (now() > deadline) throw new Kind(text);
     if (!lost && text !== told) {
       console.error(`${text}; trying for ${PATIENCE} seconds`);

@@ -168,7 +168,7 @@ def seat(host, port, word, lost):
     """Takes the seat, and waits until the game begins; after a lost link, until it is back."""
     deadline, told = time.monotonic() + (BACK if lost else PATIENCE), ""
     while True:
-        kind = Over
+        kind, begun = Over, time.monotonic()
         try:
             return Link(host, port, word, TRY if lost else float("inf"))
         except Lost as again:
@@ -178,6 +178,8 @@ def seat(host, port, word, lost):
             if lost and isinstance(again, ConnectionRefusedError):
                 raise Over(str(lost)) from None  # the game has ended
             kind = Over if lost else Hopeless
+        if not lost and time.monotonic() - begun > TRY:
+            deadline = time.monotonic() + PATIENCE  # it had a link, and waited for its game
         if time.monotonic() > deadline:
             raise kind(fault)
         if not lost and fault != told:

@@ -179,6 +179,7 @@ class Link:
             left = deadline - time.monotonic()
             if left <= 0:
                 raise LinkError(f"{self.word}: no link within {within:g} seconds{fault}")
+            begun = time.monotonic()
             try:
                 self.stream = socket.create_connection(self.address, min(left, TRY))
                 self.lines = self.stream.makefile("rb")
@@ -194,6 +195,8 @@ class Link:
                 fault = f" ({refused})"
             except OSError as failed:
                 fault = f" ({failed.strerror or failed})"
+            if not self.clients and time.monotonic() - begun > TRY:
+                deadline = time.monotonic() + within  # it had waited for its game
             time.sleep(min(BETWEEN, left))
 
     def _recover(self, lost: _Lost) -> None:

@@ -1,15 +1,21 @@
 """The starters of one file, in three languages: each asks the same lines."""
 
 import contextlib
+import importlib
+import io
 import re
 import shutil
+import socket
 import subprocess
 import sys
 import tempfile
+import threading
+import time
 import unittest
 from functools import lru_cache
 from pathlib import Path
 from typing import Dict, List, Optional
+from unittest import mock
 
 from tests.helpers import TOP, variables
 from tests.seat_server import HANG, SeatServer
@@ -153,6 +159,30 @@ class Starters:
 
 class InPython(Starters, unittest.TestCase):
     language = "Python"
+
+    def test_a_link_that_waited_long_for_its_game_may_be_lost_and_waits_again(self) -> None:
+        with mock.patch.object(sys, "path", [str(STARTERS), *sys.path]):
+            starter = importlib.import_module("starter")
+        with socket.create_server(("127.0.0.1", 0)) as listener, \
+                mock.patch.multiple(starter, PATIENCE=0.3, TRY=0.05, BETWEEN=0.01):
+            def serve() -> None:
+                for number in range(3):
+                    stream = listener.accept()[0]
+                    with stream, stream.makefile("rwb") as lines:
+                        lines.readline()
+                        time.sleep(0.5)
+                        if number == 2:
+                            lines.write("".join(f"{line}\n" for line in WELCOME).encode())
+                            lines.flush()
+                            lines.readline()
+
+            thread = threading.Thread(target=serve)
+            thread.start()
+            with mock.patch.object(sys, "stderr", io.StringIO()):
+                link = starter.seat("127.0.0.1", listener.getsockname()[1], "red", None)
+            self.assertEqual((link.agent, len(link.clients)), (3, 8))
+            link.close()
+            thread.join()
 
 
 @unittest.skipUnless(shutil.which("node"), "there is no Node")

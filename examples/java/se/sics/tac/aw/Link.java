@@ -18,9 +18,9 @@ import java.util.List;
 import java.util.Map;
 
 /**
- * A link to the server. Any thread may ask; one request at a time is out. A link that is lost, since
- * it ends or a reply takes too long, is connected again, and the request repeated unless it is a
- * bid, which may have been admitted.
+ * A link to the server. Any thread may ask; one request at a time is out. A link that is lost,
+ * since it ends or a reply takes too long, is connected again, and the request repeated unless it
+ * is a bid, which may have been admitted.
  */
 final class Link {
   static final int MOST_LINES = 65536; // of a session
@@ -91,8 +91,8 @@ final class Link {
   }
 
   /**
-   * Takes the seat of a word, and returns the ten lines of the welcome. They may take long: the game
-   * begins when all are there.
+   * Takes the seat of a word, and returns the ten lines of the welcome. They may take long: the
+   * game begins when all are there.
    */
   synchronized List<String> greet(String seatWord) throws IOException {
     word = seatWord;
@@ -195,11 +195,13 @@ final class Link {
   private List<String> recover(Lost lost) throws IOException {
     long begun = System.nanoTime();
     String fault = "";
+    long since = begun;
     while (true) {
       close();
-      if (System.nanoTime() - begun > BACK * 1_000_000L) {
+      if (System.nanoTime() - since > BACK * 1_000_000L) {
         throw new IOException(word + ": no link within " + BACK / 1000 + " seconds" + fault);
       }
+      long tried = System.nanoTime();
       try {
         open();
         List<String> lines = welcome(isSeated ? TRY : 0);
@@ -216,6 +218,9 @@ final class Link {
         throw lost; // the server has ended
       } catch (IOException e) {
         fault = " (" + e.getMessage() + ")";
+      }
+      if (!isSeated && System.nanoTime() - tried > TRY * 1_000_000L) {
+        since = System.nanoTime(); // it had waited for its game
       }
       try {
         Thread.sleep(BETWEEN);
