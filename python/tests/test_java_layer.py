@@ -84,7 +84,7 @@ class Lost(unittest.TestCase):
 
     def test_a_reply_has_its_time_and_a_reading_is_repeated(self) -> None:
         game = Game("quote 20", HANG, False)
-        told = self.played(game, AGENT_LIMIT="0.5")
+        told = self.played(game, AGENT_LIMIT="3")
         at = game.heard.index("quote 20")
         self.assertEqual(game.heard[at + 1:at + 3], ["hello red", "quote 20"])
         self.assertEqual(len(told), 1)

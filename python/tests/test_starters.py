@@ -126,11 +126,11 @@ class Starters:
                 return taken.pop() if again and taken else answer(text)
 
             server.answer = answered  # type: ignore[method-assign]
-            done = self.run_agent(server.port, AGENT_LIMIT="0.5")
+            done = self.run_agent(server.port, AGENT_LIMIT="3")
         asked = FIRST[:FIRST.index("own 8") + 1]
         self.case().assertEqual(server.heard, ["hello red", *asked, "hello red", "hello red",
                                                *FIRST, *LAST])
-        self.case().assertRegex(done.stderr, "^red: no reply within 0.5 seconds; connected again "
+        self.case().assertRegex(done.stderr, "^red: no reply within 3 seconds; connected again "
                                 "after [0-9.]+ seconds\n$")
 
     def test_what_cannot_be_mended_ends_it_with_a_line(self) -> None:
