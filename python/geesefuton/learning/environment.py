@@ -30,6 +30,7 @@ script. A game is one process of `tac step`.
 from __future__ import annotations
 
 import copy
+from collections import abc
 from importlib import import_module
 from operator import index
 from pathlib import Path
@@ -116,6 +117,7 @@ class Environment(ParallelEnv):  # type: ignore[misc]
         self.possible_agents = list(self._seats)
         self._rooms, self._live, self._has_scores, self._rounds = rooms, live, scores, rounds
         self._next = 0  # the seed of the next game
+        self._last: Optional[Tuple[int, Game, str]] = None  # the last made game and its seed
         self._spaces: Values = {}
         self._market: Optional[Market] = None
         self.agents: List[str] = []
@@ -129,6 +131,8 @@ class Environment(ParallelEnv):  # type: ignore[misc]
         self._script = b""  # of a game that is no longer played
         self._boards: List[Tuple[int, int, bool]] = []
         self._books: Optional[Books] = None
+        self._held: List[Tuple[int, ...]] = []  # the holdings of each seat after so many moves
+        self._moves = -1
         self._clients: List[Tuple[Tuple[int, ...], ...]] = []
         self._players: Optional[Players] = None  # the rivals
         self._scorer: Optional[Scorer] = None
@@ -229,12 +233,14 @@ class Environment(ParallelEnv):  # type: ignore[misc]
 
     def _made(self, seed: int) -> Tuple[Game, str]:
         """The game of a seed, and its canonical text if that is at hand."""
-        text = program.make(seed)
-        game = read_game(text)
-        if self._rooms is None and not self._live:
-            return game, text
-        rooms = drawn_rooms(seed, *self._rooms) if self._rooms else [ROOMS] * len(HOTELS)
-        return game.with_rooms(rooms, self._live), ""
+        if self._last is None or self._last[0] != seed:
+            text = program.make(seed)
+            game = read_game(text, is_canonical=True)
+            if self._rooms is not None or self._live:
+                rooms = drawn_rooms(seed, *self._rooms) if self._rooms else [ROOMS] * len(HOTELS)
+                game, text = game.with_rooms(rooms, self._live), ""
+            self._last = seed, game, text
+        return self._last[1:]
 
     def step(self, actions: Actions) -> Step:
         """Asks the requests of the agents, and lets a tick pass after the last round.
@@ -276,7 +282,7 @@ class Environment(ParallelEnv):  # type: ignore[misc]
         """
         if self._market is None:
             raise ActionError("no game is played: reset it first")
-        if not isinstance(actions, Mapping):
+        if not isinstance(actions, abc.Mapping):
             raise ActionError(f"actions are a dictionary by agent, not {actions!r:.60}")
         asked: Dict[int, List[str]] = {}
         for agent, requests in actions.items():
@@ -338,11 +344,14 @@ class Environment(ParallelEnv):  # type: ignore[misc]
 
     def _observations(self, replies: Dict[int, List[str]]) -> Values:
         """What each agent sees."""
-        books = self._books
+        books, tick, round_, boards = self._books, self.tick, self.round, self._boards
         assert books is not None
-        return {agent: {"tick": self.tick, "round": self.round, "quotes": self._boards,
-                        "holdings": tuple(books.holdings[seat]), "cash": books.cash[seat],
-                        "clients": self._clients[seat], "replies": replies.get(seat, [])}
+        if self._moves != books.moves:
+            self._held, self._moves = list(map(tuple, books.holdings)), books.moves
+        held, cash, clients = self._held, books.cash, self._clients
+        return {agent: {"tick": tick, "round": round_, "quotes": boards, "holdings": held[seat],
+                        "cash": cash[seat], "clients": clients[seat],
+                        "replies": replies.get(seat, [])}
                 for agent, seat in self._seats.items()}
 
     def clone(self) -> "Environment":
@@ -353,7 +362,7 @@ class Environment(ParallelEnv):  # type: ignore[misc]
             OSError: There is no room for pipes.
         """
         other = object.__new__(type(self))
-        memory: Dict[int, Any] = {id(self): other}
+        memory: Dict[int, Any] = {id(self): other, id(self._last): self._last}
         if self._market is not None:
             copied = memory[id(self._market)] = self._market.copied()
             memory[id(self._market.books)] = copied.books

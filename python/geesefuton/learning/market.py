@@ -3,7 +3,7 @@
 from __future__ import annotations
 
 import copy
-from typing import List, Sequence, Tuple
+from typing import List, Optional, Sequence, Tuple
 
 from geesefuton import program
 from geesefuton.learning.stepping import Stepped
@@ -29,7 +29,6 @@ class Market:
     Attributes:
         game: The game.
         text: Its canonical text.
-        first: The seat that is asked first.
         books: What stands, is held and was paid.
         changes: How many bids and withdrawals were answered by an auction.
 
@@ -45,13 +44,20 @@ class Market:
     def __init__(self, game: Game, text: str = "") -> None:
         self.game, self.books = game, Books(game)
         self.text = text or game.text()
-        self.first = first_seat(self.text)
+        self._first: Optional[int] = None  # found when it is asked for
         self._process = Stepped(self.text.encode())
         self._script: List[bytes] = []
         self._waiting = b""  # ticks that the process was not told yet
         self.changes = 0
         self._lines = [0] * SEATS  # that each seat has asked
         self._bytes = len(TICK) * TICKS  # of the script
+
+    @property
+    def first(self) -> int:
+        """The seat that is asked first."""
+        if self._first is None:
+            self._first = first_seat(self.text)
+        return self._first
 
     @property
     def script(self) -> bytes:

@@ -252,7 +252,7 @@ def _kept(text: bytes) -> int:
 def _spawn(file: str, words: List[str], moves: "List[tuple[int, int, int]]") -> int:
     """Starts a process in a group of its own, which ctrl-C at a terminal does not reach."""
     try:
-        return os.posix_spawn(file, words, os.environ, file_actions=moves, setpgroup=0,
+        return os.posix_spawn(file, words, os.environb, file_actions=moves, setpgroup=0,
                               setsigdef=[signal.SIGPIPE])
     except OSError as fault:
         raise ProgramError(f"the file of tac cannot be run: {fault.strerror}") from None

@@ -51,12 +51,13 @@ class FlightBook:
 
     def update(self, tick: int) -> List[Side]:
         """The price of a tick comes, 1 to 53."""
-        return self.move(self._prices[tick])
-
-    def move(self, price: int) -> List[Side]:
-        """A price comes."""
-        self.price = price
+        self.price = self._prices[tick]
         return self._sell(list(self._bids)) if self._bids else []
+
+    def move(self, price: int) -> None:
+        """A price comes, and takes what stands at it or above."""
+        self.price = price
+        self._sell(list(self._bids))
 
     def _sell(self, agents: List[int]) -> List[Side]:
         trades = []
@@ -189,13 +190,14 @@ class Books:
         tick: How many ticks have passed, 0 to 54.
         holdings: For each seat its units of the 28 goods; below 0 it owes them.
         cash: For each seat what it earned less what it paid, in dollars.
+        moves: How many times units and cash of a seat have changed.
         boards: For each good its bid and its ask, and whether it is closed.
     """
 
     def __init__(self, game: Game) -> None:
         self.tick = 0
         self.holdings = [[0] * TICKETS.start + list(endow) for endow in game.endow]
-        self.cash = [0] * SEATS
+        self.cash, self.moves = [0] * SEATS, 0
         self._closing, self._drawn = game.closing, game.flights
         self._flights = [FlightBook(prices_of(flight)) for flight in game.flights]
         self._nights = [NightBook(rooms, game.live) for rooms in game.rooms]
@@ -263,11 +265,12 @@ class Books:
             self.boards = [*((bid, ask, True) for bid, ask, _ in self.boards[:TICKETS.start]),
                            *[(0, 0, True)] * len(TICKETS)]
             return
+        tick, boards = self.tick, self.boards
         for good, flight in enumerate(self._flights):
-            trades = flight.update(self.tick)
+            trades = flight.update(tick)
             if trades:
                 self._book(good, trades)
-            self.boards[good] = (0, flight.price, False)
+            boards[good] = (0, flight.price, False)
         if self.tick % MINUTE == 0 and self.tick <= MINUTE * len(HOTELS):
             closing = self._closing[self.tick // MINUTE - 1]
             self._book(closing, self._nights[closing - HOTELS.start].close())
@@ -289,6 +292,7 @@ class Books:
         other.tick, other._closing, other.boards = self.tick, self._closing, self.boards[:]
         other._drawn = self._drawn
         other.holdings, other.cash = [held[:] for held in self.holdings], self.cash[:]
+        other.moves = self.moves
         other._flights = [flight.copied() for flight in self._flights]
         other._nights = [night.copied() for night in self._nights]
         other._tickets = [tickets.copied() for tickets in self._tickets]
@@ -301,6 +305,7 @@ class Books:
                 else self._tickets[good - TICKETS.start])
 
     def _book(self, good: int, trades: List[Side]) -> None:
+        self.moves += len(trades)
         for agent, units, price in trades:
             self.holdings[agent][good] += units
             self.cash[agent] -= units * price

@@ -22,6 +22,11 @@ MOST_ROOMS = 64
 DRAWS = 53  # of a flight, one for each tick but the last
 MOST_BYTES = 1 << 20  # of a game file
 
+# The ranges of a line's numbers behind those that say whose it is.
+FARES = (range(250, 401), range(-10, 31), *[range(1 << 32)] * DRAWS)
+UNITS = (range(17),) * len(TICKETS)
+WISHES = (range(1, 5), range(2, 6), range(50, 151), *[range(201)] * 3)
+
 
 class Auction(NamedTuple):
     """One of the 28 auctions: its number, its group, its day or night, and its name."""
@@ -111,8 +116,7 @@ def _packages() -> Iterator[Package]:
 PACKAGES: Tuple[Package, ...] = tuple(_packages())  # all 392, without staying at home
 
 
-@dataclass(frozen=True)
-class Client:
+class Client(NamedTuple):
     """What a client wants: its days, its premium for Tampa Towers, and its values of the three
     ticket types, in dollars."""
 
@@ -216,8 +220,9 @@ def _line(*words: object) -> str:
 class _Lines:
     """The lines of a game file that count, with their numbers."""
 
-    def __init__(self, text: str) -> None:
+    def __init__(self, text: str, is_canonical: bool = False) -> None:
         lines = text.split("\n")
+        self.is_canonical = is_canonical
         self.last = len(lines)
         self.whole = lines[-1] == ""
         self.rest = [(number, line) for number, line in enumerate(lines[:-1], 1)
@@ -238,17 +243,17 @@ class _Lines:
             raise GameError(self.number, f"`{word}` has {count} words after it, not {len(words)}")
         return words
 
-    def numbers(self, word: str, ranges: Sequence[Tuple[int, int]]) -> List[int]:
+    def numbers(self, word: str, ranges: Sequence[range]) -> List[int]:
         """The numbers of the next line, each in its range."""
         words = self.take(word, len(ranges))
         try:
             numbers = list(map(int, words))
         except ValueError:
             numbers = []
-        if list(map(str, numbers)) == words and all([low <= number <= high for number, (low, high)
-                                                     in zip(numbers, ranges)]):
+        if self.is_canonical and numbers or (
+                list(map(str, numbers)) == words and all(map(range.__contains__, ranges, numbers))):
             return numbers
-        return [self._number(text, low, high) for text, (low, high) in zip(words, ranges)]
+        return [self._number(text, each[0], each[-1]) for text, each in zip(words, ranges)]
 
     def _number(self, text: str, low: int, high: int) -> int:
         plain = text[1:] if low < 0 and text.startswith("-") else text
@@ -271,15 +276,20 @@ def is_seat_word(word: str) -> bool:
     return 1 <= len(word) <= 16 and set(word) <= letters
 
 
-def read_game(text: str) -> Game:
+def read_game(text: str, is_canonical: bool = False) -> Game:
     """Reads the text of a game file, of version 1 or 2, in the form that `tac` accepts.
+
+    Args:
+        text: The text.
+        is_canonical: Whether `tac` wrote it. Then its numbers are not checked again, which is half
+            of the work.
 
     Raises:
         GameError: The text is no game file; the error names its first bad line.
     """
     if len(text) > MOST_BYTES:
         raise GameError(1, f"the text has more than {MOST_BYTES:,} bytes, so it is no game file")
-    lines = _Lines(text)
+    lines = _Lines(text, is_canonical)
     version = lines.take("tac", 1)[0]
     if version not in ("1", "2"):
         raise GameError(lines.number, f"version {version[:20]!r} is neither 1 nor 2")
@@ -289,17 +299,16 @@ def read_game(text: str) -> Game:
             raise GameError(lines.number, f"{word[:40]!r} is no seat word")
     lines.different(words)
     flights = [_read_flight(lines, good) for good in FLIGHTS]
-    closing = lines.numbers("close", [(8, 15)] * 8)
+    closing = lines.numbers("close", [HOTELS] * 8)
     lines.different(closing)
     rooms, live = [ROOMS] * 8, False
     if version == "2":
-        rooms = lines.numbers("rooms", [(1, MOST_ROOMS)] * 8)
+        rooms = lines.numbers("rooms", [range(1, MOST_ROOMS + 1)] * 8)
         quotes = lines.take("quotes", 1)[0]
         if quotes not in ("minute", "live"):
             raise GameError(lines.number, f"quotes are `minute` or `live`, not {quotes[:20]!r}")
         live = quotes == "live"
-    endow = [lines.numbers("endow", [(agent, agent)] + [(0, 16)] * 12)[1:]
-             for agent in range(SEATS)]
+    endow = [lines.numbers("endow", [_just(agent), *UNITS])[1:] for agent in range(SEATS)]
     clients = [[_read_client(lines, agent, number) for number in range(CLIENTS)]
                for agent in range(SEATS)]
     lines.take("end", 0)
@@ -311,18 +320,22 @@ def read_game(text: str) -> Game:
                 tuple(map(tuple, clients)), tuple(rooms), live, int(version))
 
 
+def _just(number: int) -> range:
+    """The range of a number alone."""
+    return range(number, number + 1)
+
+
 def _read_flight(lines: _Lines, good: int) -> Flight:
-    draws = [(0, 4294967295)] * DRAWS
-    _, first, bound, *rest = lines.numbers("flight", [(good, good), (250, 400), (-10, 30), *draws])
-    return Flight(first, bound, tuple(rest))
+    _, first, bound, *draws = lines.numbers("flight", [_just(good), *FARES])
+    return Flight(first, bound, tuple(draws))
 
 
 def _read_client(lines: _Lines, agent: int, number: int) -> Client:
-    ranges = [(agent, agent), (number, number), (1, 4), (2, 5), (50, 150)] + [(0, 200)] * 3
-    _, _, arrive, depart, premium, *values = lines.numbers("client", ranges)
+    _, _, arrive, depart, premium, first, second, third = lines.numbers(
+        "client", [_just(agent), _just(number), *WISHES])
     if depart <= arrive:
         raise GameError(lines.number, f"the departure {depart} is not after the arrival {arrive}")
-    return Client(arrive, depart, premium, (values[0], values[1], values[2]))
+    return Client(arrive, depart, premium, (first, second, third))
 
 
 def welcome(text: str, agent: int) -> bytes:
