@@ -5,7 +5,6 @@ from __future__ import annotations
 import importlib
 import random
 import sys
-from pathlib import Path
 from types import ModuleType
 from typing import Callable, Dict, List, Mapping, Optional, Protocol, Tuple, Union, cast
 
@@ -88,14 +87,16 @@ class Shipped:
     """Makes a shipped agent.
 
     Raises:
-        ValueError: No agent of this name is shipped, or the package stands in no clone.
+        ValueError: No agent of this name is shipped, or there is no folder of examples.
     """
 
     def __init__(self, name: str) -> None:
-        if name not in SHIPPED or program.top() is None:
-            where = "" if program.top() else ", with a clone alone"
-            raise ValueError(f"the agents {', '.join(SHIPPED)} are shipped{where}, not "
-                             f"{name!r:.60}")
+        if name not in SHIPPED:
+            raise ValueError(f"the agents {', '.join(SHIPPED)} are shipped, not {name!r:.60}")
+        try:
+            program.examples()
+        except program.ProgramError as fault:
+            raise ValueError(str(fault)) from None
         self.name = name
 
     def __call__(self, link: SeatLink) -> Acting:
@@ -106,7 +107,7 @@ class Shipped:
 
 def _module(name: str) -> ModuleType:
     """The module of a shipped agent."""
-    folder = str(Path(str(program.top()), "examples", "agents"))
+    folder = str(program.examples() / "agents")
     sys.path.insert(0, folder)  # one takes parts of another
     try:
         return importlib.import_module(name)
