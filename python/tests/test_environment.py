@@ -75,6 +75,14 @@ class Arguments(unittest.TestCase):
         self.assertRaises(FileNotFoundError, Environment, "there/is/none")
         self.assertRaises(GameError, Environment, TOP / "README.md")
 
+    def test_shipped_agents_need_no_clone_but_their_folder(self) -> None:
+        with mock.patch.object(program, "top", return_value=None):  # as in an unpacked archive
+            Environment(rivals={"seat1": "baseline"}).close()
+        missing = mock.Mock(side_effect=ProgramError("there is no folder of examples"))
+        with mock.patch.object(program, "examples", missing):
+            with self.assertRaisesRegex(ValueError, "no folder of examples"):
+                Environment(rivals={"seat1": "baseline"})
+
     def test_without_a_game_nobody_plays(self) -> None:
         environment = Environment()
         self.assertEqual((environment.agents, environment.num_agents, environment.max_num_agents),
@@ -349,6 +357,17 @@ class Games(unittest.TestCase):
             environment.reset(9)
             self.assertEqual(read_game(environment.game), read_game(program.make(9)).with_rooms(
                 [16] * 8, True))
+
+    def test_a_seed_that_comes_again_is_not_made_again(self) -> None:
+        with Environment() as environment, \
+                mock.patch.object(program, "make", side_effect=program.make) as made:
+            texts = []
+            for seed in (3, 3, 4, 3):
+                environment.reset(seed)
+                texts.append(environment.game)
+        self.assertEqual([call.args for call in made.call_args_list], [(3,), (4,), (3,)])
+        self.assertEqual(texts, [texts[0], texts[0], texts[2], texts[0]])
+        self.assertNotEqual(texts[0], texts[2])
 
     def test_a_file_is_played_each_time(self) -> None:
         with Environment(SERVED_GAME) as environment:
