@@ -342,7 +342,7 @@ What to look for, and what goes wrong:
   Of `HasNoGame` only the last line is needed: without a game there is no outcome `Done`.
 - **Look for** the same name on both sides: `played.closed` and `played.head` in `IsGameEnd`, in
   `IsLogOf` and in `missed_of`; `hosted_by` takes game, dialect and port from the same service. Of
-  `answers_by` both forms, and that words have one answer alone.
+  `dialect_in` both forms, and that words have one answer alone.
 - **The usual error**: `before` and `after` exchanged, `Done` without the `missed_of .. ≡ 0`, or a
   game that is not the file's.""",
 }

@@ -8,7 +8,7 @@ use Rattle.tac_io.specs.Taken.{TookPart}
 use Rattle.game_log.proofs.Writing.{then_some}
 use Rattle.tac_commands.specs.declared.refusals.Refusal.TheVariants.{ReadFault}
 use Rattle.tac_commands.specs.{Outcome, Done, Lapsed, Unsound, Stopped, Unwritten, Unread, Refused, code_of, refusal_end, IsCutShort, Reports}
-use Rattle.tac_commands.specs.Outcomes.{exit_text}
+use Rattle.tac_commands.specs.Codes.{exit_text}
 
 -- only the first bytes of the text that is due were written, whatever the outcome
 pub cut_part : (outcome : Outcome) (sink sink' : SinkState) → IsCutShort outcome sink sink' → TookPart sink sink' (exit_text outcome)

@@ -23,12 +23,12 @@ pub mod Causes
 pub mod Selected
 pub mod Prompt
 pub use Rattle.tac_commands.specs.FlawTexts.{unsound_text}
-pub use Rattle.tac_commands.specs.Codes.{code_number}
+pub use Rattle.tac_commands.specs.Codes.{code_number, code_of}
 pub use Rattle.tac_commands.specs.FileKinds.{Value, bytes_in, lines_or_fault, logged_or_fault, most_bytes, read_as, refusal_of, refused_code, script_in}
 pub use Rattle.tac_commands.specs.Services.{dialect_in, service_of}
 pub use Rattle.tac_commands.specs.Commands.{Audit, Batch, BatchCommand, Command, Hotel, Make, Play, Serve, Show, Solve, Step, Table, Trial, Upgrade, Vouch, Worth, batch_of, in_pairs, seen_batch, seen_service, service_or_batch}
 pub use Rattle.tac_commands.specs.Words.{IsShortBatch, IsWithinBatch}
-pub use Rattle.tac_commands.specs.Outcomes.{Done, Lapsed, Outcome, Refused, Stopped, Unread, Unsound, Unwritten, code_of, refusal_end}
+pub use Rattle.tac_commands.specs.Outcomes.{Done, Lapsed, Outcome, Refused, Stopped, Unread, Unsound, Unwritten, refusal_end}
 pub use Rattle.tac_commands.specs.Steps.{Reads, file}
 pub use Rattle.tac_commands.specs.Files.{Content, HasFault, IsFileRead, IsNotRead}
 pub use Rattle.tac_commands.specs.HeardFiles.{IsScriptOutcome, IsGiven, IsHeard, IsUnheard}

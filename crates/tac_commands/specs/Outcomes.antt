@@ -41,9 +41,3 @@ exit_of (Stopped text refusal) = ((refusal_end refusal).0, text ++ (refusal_end 
 exit_of (Unwritten text) = (4, text)
 exit_of (Unread replies) = ((refusal_end ReadFault).0, replies ++ (refusal_end ReadFault).1)
 exit_of (Refused refusal) = refusal_end refusal
-
-abbrev pub code_of : Outcome → ℕ
-code_of outcome = (exit_of outcome).0
-
-abbrev pub exit_text : Outcome → List ℕ
-exit_text outcome = (exit_of outcome).1

@@ -1,13 +1,10 @@
 -- Which words of a command line ask for the service of a game, and the forms of lines.
-use Rattle.std.specs.Prelude.{◌≡◌, ℕ, ◌⊎◌, ◌&&◌, nat_le, List, [], ◌∷◌, Option, Some, None, Result, Err, String, if◌then◌else◌, codes, map, string_bytes}
+use Rattle.std.specs.Prelude.{◌≡◌, ℕ, ◌⊎◌, ◌&&◌, nat_le, List, [], ◌∷◌, Option, Some, None, Err, String, if◌then◌else◌, codes, map, string_bytes}
 use Rattle.std.specs.Str.{bytes_eq}
 use Rattle.std.specs.declared.alloc.Global.{Global}
 use Rattle.tac_base.specs.declared.limits.TheConstants.{PACE, PORT}
 use Rattle.tac_base.specs.Numerals.{numeral}
-use Rattle.line_protocol.specs.declared.asking.Request.{Request}
-use Rattle.line_protocol.specs.declared.asking.RequestFault.{RequestFault}
 use Rattle.line_protocol.specs.declared.asking.RequestFault.TheVariants.{Memory}
-use Rattle.line_protocol.specs.declared.saying.Said.{Said}
 use Rattle.line_protocol.specs.Requests.{request_of}
 use Rattle.line_protocol.specs.Replies.{said_text}
 use Rattle.agent_gate.specs.Dialects.{Dialect}
@@ -47,15 +44,8 @@ service_of words = None
 
 -- ---- the form of lines
 
--- what a request line of a link may be read as; one of JSON also as a line for which there was no memory, whatever it says
-abbrev pub answers_by : Form → List ℕ → Result Request RequestFault → Type 0
-answers_by Lines line answer = answer ≡ request_of line
-answers_by Json line answer = (answer ≡ asks_json line) ⊎ (answer ≡ Err Memory)
-
--- what a link is sent for a reply
-abbrev pub texts_by : Form → Said → List ℕ
-texts_by Lines said = said_text said
-texts_by Json said = json_text said
-
+-- what a request line of a link may be read as, and what the link is sent for a reply; a line of JSON may also be read as one for which there
+-- was no memory, whatever it says
 abbrev pub dialect_in : Form → Dialect
-dialect_in form = record { may_answer = answers_by form; text = texts_by form }
+dialect_in Lines = record { may_answer = λ line answer. answer ≡ request_of line; text = said_text }
+dialect_in Json = record { may_answer = λ line answer. (answer ≡ asks_json line) ⊎ (answer ≡ Err Memory); text = json_text }

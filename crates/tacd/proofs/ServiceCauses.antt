@@ -9,7 +9,8 @@ use Rattle.tacd.specs.declared.answer.Answer.{Answer}
 use Rattle.tacd.specs.declared.answer.Played.{Played}
 use Rattle.tac_commands.specs.declared.file_kinds.FileKind.TheVariants.{Game}
 use Rattle.tac_commands.specs.declared.refusals.Refusal.TheVariants.{LinkFault, Memory}
-use Rattle.tac_commands.specs.Outcomes.{Outcome, Done, Lapsed, Unsound, Stopped, Unread, Unwritten, Refused, code_of}
+use Rattle.tac_commands.specs.Outcomes.{Outcome, Done, Lapsed, Unsound, Stopped, Unread, Unwritten, Refused}
+use Rattle.tac_commands.specs.Codes.{code_of}
 use Rattle.tac_commands.specs.Commands.{Serve}
 use Rattle.tac_commands.specs.Services.{Service}
 use Rattle.tac_commands.specs.Allowed.{Allows, IsServiceEnd}
