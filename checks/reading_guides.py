@@ -275,7 +275,7 @@ says for each verdict what became of it, and hands the seated ones to `IsSeated`
 session together (the chapter above). So read `Admission` first, then `IsSeated`, and `IsPlayedBy`
 last: its four fields are the whole rest of the headline.
 
-- **Look for** `take n verdicts` in `AreAdmitted`: the n-th link is judged by the seats that the
+- **Look for** `take n verdicts` in `TakesLinks`: the n-th link is judged by the seats that the
   earlier verdicts left. `AreAllTaken` has both directions: none is taken too many, and none is left
   out that could be taken. In `IsPlayedBy`: the agents with an end are exactly those with a seat,
   and the others made no call. The field `clock_transcript` says for the clock what `IsTranscript`
@@ -314,23 +314,24 @@ as one sentence:
 2. `ServeAllows`: either the file of that name holds a game, and `ServesGame` holds of it from the
    outside at the pace of the command line (`at_pace`); or the file was refused, and then nothing
    was asked of links and ticker. So with a log that was written there is a game.
-3. `ServesGame`: by whether `answer.played` is there. If it is, four things hold of the same
-   `played`: what became of each link (`IsGameEnd`), the 54 waits, the log (`PlayedAllows`), and
-   that the log is sound. If it is not, `HasNoGame`: the links failed, or memory was refused.
-4. `PlayedAllows`: `Done` with no lapsed tick, `Lapsed` with some, or a first part of the log alone
+3. `ServesGame`: by whether `answer.played` is there. If it is, three things hold of the same
+   `played`: what became of each link (`IsGameEnd`), the 54 waits, and the log (`PlayedAllows`). If
+   it is not, `HasNoGame`: the links failed, or memory was refused.
+4. `PlayedAllows`: `Done` with no missed tick, `Lapsed` with some, or a first part of the log alone
    where memory was refused. `IsLogOf`: the text is `log_text` of this head, these histories and a
-   sheet that is theirs.
+   sheet that is theirs, and that log is sound.
 
 The same game passes through all of it, and each record gets a part of it:
 
 - `answer.played`, the value that `tac` returns, has `closed`, the 29 histories, and `head`, the
-  head of the log. `ServesGame` calls it `played`, and hands it to the four.
+  head of the log. `ServesGame` calls it `played`, and hands it to the end and to the log.
 - `IsGameEnd` takes `closed`, `head` and the links that ended. By its field `head` this head has
-  verdicts, ends and the number of missed ticks; its field `played` is `IsPlayedOver` of a new
-  record, also called `played`: these verdicts and ends, and the same `closed`.
+  verdicts, ends and the number of missed ticks, which the waits and the log are held to; its field
+  `played` is `IsPlayedOver` of a new record, also called `played`: these verdicts and ends, and the
+  same `closed`.
 - `IsPlayedOver` hands that record on: to `AreAllTaken` its verdicts, to `IsPlayedBy` all of it, and
-  to `AreAdmitted` its verdicts and `IsSeated hosted played`, what has to hold of each link with a
-  seat. `AreAdmitted` adds the seats before that link, its agent, and the link before and after.
+  to `TakesLinks` its verdicts and `IsSeated hosted played`, what has to hold of each link with a
+  seat. `TakesLinks` adds the seats before that link, its agent, and the link before and after.
 - `IsSeated` uses `played.ends` for the cause of its session, and `played.closed` for its calls.
 - **The pace**: `at_pace` changes the outside before in one field: `paced` is PACE if it is known,
   and `None` otherwise. `WaitsForAll` says that `paced` stays as it was before, so it is PACE at the
@@ -340,11 +341,11 @@ What to look for, and what goes wrong:
 
 - **For code 0** `IsNoGameFile` is not needed, and may be skipped, since a refusal has another code.
   Of `HasNoGame` only the last line is needed: without a game there is no outcome `Done`.
-- **Look for** the same name on both sides: `played.closed` and `played.head` in `IsGameEnd`, in
-  `IsLogOf` and in `missed_of`; `hosted_by` takes game, dialect and port from the same service. Of
-  `dialect_in` both forms, and that words have one answer alone.
-- **The usual error**: `before` and `after` exchanged, `Done` without the `missed_of .. ≡ 0`, or a
-  game that is not the file's.""",
+- **Look for** the same name on both sides: `played.closed` and `played.head` in `IsGameEnd` and in
+  `IsLogOf`, and `end.missed` in the waits and in the log; dialect and port are of the same service,
+  and the game is that of its file. Of `dialect_in` both forms, and that words have one answer alone.
+- **The usual error**: `before` and `after` exchanged, `Done` without the `missed ≡ 0`, or a game
+  that is not the file's.""",
 }
 
 # For each cause of a session's end, by lemmas of worked_rows/Ends: sessions that end so, and those

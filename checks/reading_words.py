@@ -46,8 +46,8 @@ ALIKE = """\
   reply to a bid, and a verdict on a link.
 - **Closed.** `Closed` is a refusal, `is_closed` asks whether the auction ended, and `closed`, a
   `ClosedGame`, has the histories of a game of which all calls are over.
-- **Part.** `part` has a caller's entries of one history with their positions, `caller_parts` those
-  of all 28 auctions. `play_part` is the first part of a log, and `TookPart` is of a text."""
+- **Part.** `part` has a caller's entries of one history with their positions, `play_part` is the
+  first part of a log, and `TookPart` is of a text."""
 
 ROWLESS = """\
 No worked row leads to these definitions, so read them slowly; all others can be tried on numbers.
@@ -375,7 +375,7 @@ BESIDE: List[Tuple[str, str, List[str]]] = [
      ["json_dialect/JsonRequests.asks_json", "json_dialect/JsonReplies.json_text"]),
     ("That the log is sound, as `audit` has it",
      "The same log, judged by the definition of `audit`.",
-     ["tacd/SoundLogs.ReportsSoundly"]),
+     ["tacd/SoundLogs.IsSoundLog"]),
 ]
 
 STEP_TRUTHS = """\
@@ -419,7 +419,7 @@ SENTENCES: List[Tuple[str, List[str]]] = [
       "auction_rules/Legal.trades_by", "auction_rules/Refusals.refusal",
       "trade_ledger/CashHistory.IsLegalCash"]),
     ("(who has a seat: the links taken, and the verdict on each)",
-     ["game_run/Admission.AreAllTaken", "game_run/Admission.AreAdmitted",
+     ["game_run/Admission.AreAllTaken", "game_run/Admission.TakesLinks",
       "game_run/Admission.CameTo"]),
     ("in each, every agent's calls are those its link asked,",
      ["agent_gate/Served.EndsBy", "game_run/Outcomes.IsPlayedOver", "game_run/LinkRuns.IsSeated",

@@ -1,11 +1,14 @@
 -- What holds of each link in turn holds of each by its index, and the other way round.
-use Rattle.std.proofs.Common.{zero, suc, ◌≡◌, ℕ, List, [], ◌∷◌, fold, length, take, refl, ap, subst, Some}
+use Rattle.std.proofs.Common.{zero, suc, ◌≡◌, ℕ, List, [], ◌∷◌, fold, length, map, take, refl, ap, sym, ◌∙◌, subst, Some}
 use Rattle.std.specs.Prelude.{slice_get}
-use Rattle.game_text.specs.Games.{GameFile}
-use Rattle.tac_io.specs.States.{LinkState}
+use Rattle.std.proofs.lemmas.List.{length-map}
+use Rattle.tac_io.specs.Known.{known_then, then_known}
+use Rattle.tac_io.specs.States.{LinkState, LinksState}
 use Rattle.line_protocol.specs.declared.admission.Verdict.{Verdict}
 use Rattle.agent_gate.specs.Gates.{Seats, seats_after}
-use Rattle.game_run.specs.{free_seats, AreAdmitted, CameTo, HoldsInTurn}
+use Rattle.game_run.specs.Hosted.{HostedGame}
+use Rattle.game_run.specs.{free_seats, CameTo, HoldsInTurn, TakesLinks}
+use Rattle.game_run.proofs.KeptSeats.{get_map}
 
 module _ {A B : Type 0} (Holds : Seats → Verdict → A → B → Type 0) where
   -- the n-th holds by the seats after the first n verdicts
@@ -42,13 +45,22 @@ module _ {A B : Type 0} (Holds : Seats → Verdict → A → B → Type 0) where
 
 -- ---- admission
 
-module _ (game : GameFile) (Sits : Seats → ℕ → LinkState → LinkState → Type 0) (befores : List LinkState) (verdicts : List Verdict) (afters : List LinkState) where
-  pub admitted : HoldsInTurn (CameTo Sits) (free_seats game) befores verdicts afters → AreAdmitted game Sits befores verdicts afters
-  admitted all = let long = as_long (CameTo Sits) (free_seats game) befores verdicts afters all in record {
-    came = long.0;
-    left = long.1;
-    each = at_index (CameTo Sits) (free_seats game) befores verdicts afters all;
-  }
+module _ {L : Type 0} (state : L → LinkState) (hosted : HostedGame) (Sits : Seats → ℕ → LinkState → LinkState → Type 0) (verdicts : List Verdict) (links links' : LinksState L) (ended : List L) where
+  pub takes : (given : List L) → links.pending ≡ then_known given links'.pending → links'.ports ≡ known_then links.ports (hosted.port ∷ [])
+      → HoldsInTurn (CameTo Sits) (free_seats hosted.game) (map state given) verdicts (map state ended) → TakesLinks state hosted Sits verdicts links links' ended
+  takes given from ports all =
+      let seats = free_seats hosted.game in
+      let long = as_long (CameTo Sits) seats (map state given) verdicts (map state ended) all in
+      record {
+        given = given;
+        from = from;
+        came = sym (length-map given state) ∙ long.0;
+        left = sym (length-map ended state) ∙ long.1;
+        each = λ n before verdict after is_before is_verdict is_after.
+            at_index (CameTo Sits) seats (map state given) verdicts (map state ended) all n (state before) verdict (state after) (get_map state given n before is_before) is_verdict (get_map state ended n after is_after);
+        ports = ports;
+      }
 
-  pub admitted_in_turn : AreAdmitted game Sits befores verdicts afters → HoldsInTurn (CameTo Sits) (free_seats game) befores verdicts afters
-  admitted_in_turn all = in_turn (CameTo Sits) (free_seats game) befores verdicts afters all.came all.left all.each
+  pub taken_in_turn : (taken : TakesLinks state hosted Sits verdicts links links' ended)
+      → HoldsInTurn (λ seats verdict before after. CameTo Sits seats verdict (state before) (state after)) (free_seats hosted.game) taken.given verdicts ended
+  taken_in_turn taken = in_turn (λ seats verdict before after. CameTo Sits seats verdict (state before) (state after)) (free_seats hosted.game) taken.given verdicts ended taken.came taken.left taken.each

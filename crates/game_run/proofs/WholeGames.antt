@@ -28,7 +28,7 @@ use Rattle.game_run.specs.{free_seats, seats_given, CameTo, MayGoOn, IsGreeted, 
 use Rattle.agent_gate.specs.Transcript.{IsTranscript}
 use Rattle.game_run.specs.PlayedGame.{PlayedGame}
 use Rattle.game_run.proofs.Admitting.{follows}
-use Rattle.game_run.proofs.ByIndex.{admitted}
+use Rattle.game_run.proofs.ByIndex.{takes}
 use Rattle.game_run.proofs.FirstLines.{first_line, begins_with}
 use Rattle.game_run.proofs.LinksBack.{filled_alike}
 use Rattle.game_run.proofs.SameStart.{served_from}
@@ -79,15 +79,12 @@ module _ {L : Type 0} (state : L → LinkState) where
   not_played hosted links links' arrivals ended taken may back ports fault =
       let game = hosted.game in let agent_seats = map (λ o. option_map (λ l. link_of l) o) arrivals.lines.items in
       record {
-        given = taken.given;
-        from = taken.from;
         verdicts = arrivals.verdicts.items;
         more = may;
-        admitted = admitted game IsLeftUnplayed (map state taken.given) arrivals.verdicts.items (map state ended)
+        taken = takes state hosted IsLeftUnplayed arrivals.verdicts.items links links' ended taken.given taken.from ports
             (links_hold state (λ s agent b link. IsLeftUnplayed s agent b (state link)) (CameTo IsLeftUnplayed) (λ s agent b link h. h) (came_so IsLeftUnplayed) agent_seats (free_seats game) (map state taken.given) arrivals.verdicts.items arrivals.holders.items ended
             (follows (Keeps state (IsGreeted state) arrivals.lines.items) (Keeps state (λ s agent b link. IsLeftUnplayed s agent b (state link)) agent_seats) (λ s. Unit {0}) (λ s v x y u h. tt)
             (λ s v x holder u h. left_at arrivals.lines.items s v x holder h) (free_seats game) (map state taken.given) arrivals.verdicts.items arrivals.holders.items tt taken.kept.links) back);
-        ports = ports;
         fault = fault;
       }
 
@@ -141,17 +138,16 @@ module _ {L : Type 0} (state : L → LinkState) (hosted : HostedGame) (arrivals 
         absent_part agent (slice_index_or lines agent None) (slice_index_or agent_seats agent None)
         (sym (map_at (λ (ls : Option (Lines L)). is_some ls) lines agent None) ∙ (ap (λ l. slice_index_or l agent false) same ∙ free)) (through.each_agent agent lt)
 
-  pub was_played : (pending pending' : Option (List L)) (agent_seats : List (Option L)) (links : List L) → AreTaken state hosted.game pending pending' arrivals
-      → (MayGoOn arrivals.verdicts.items → IsAtEnd pending') → IsPlayedThrough state hosted.dialect hosted.game closed arrivals.lines.items agent_seats ends
-      → AreLinksOf agent_seats arrivals.holders.items links → IsPlayedOver state hosted pending pending' over links
-  was_played pending pending' agent_seats links taken no_fewer through back =
+  pub was_played : (before after : LinksState L) (agent_seats : List (Option L)) (links : List L) → AreTaken state hosted.game before.pending after.pending arrivals
+      → (MayGoOn arrivals.verdicts.items → IsAtEnd after.pending) → after.ports ≡ known_then before.ports (hosted.port ∷ [])
+      → IsPlayedThrough state hosted.dialect hosted.game closed arrivals.lines.items agent_seats ends
+      → AreLinksOf agent_seats arrivals.holders.items links → IsPlayedOver state hosted before after over links
+  was_played before after agent_seats links taken no_fewer ports through back =
       let lines = arrivals.lines.items in let kept = taken.kept in let verdicts = arrivals.verdicts.items in let holders = arrivals.holders.items in
       let Sits = λ (s : Seats) (agent : ℕ) (b : LinkState) (link : L). IsSeated hosted over s agent b (state link) in
       record {
-        given = taken.given;
-        from = taken.from;
         all = record { no_more = kept.no_more; no_fewer = no_fewer };
-        admitted = admitted hosted.game (IsSeated hosted over) (map state taken.given) verdicts (map state links)
+        taken = takes state hosted (IsSeated hosted over) verdicts before after links taken.given taken.from ports
             (links_hold state Sits (CameTo (IsSeated hosted over)) (λ s agent b link h. h) (came_so (IsSeated hosted over)) agent_seats (free_seats hosted.game) (map state taken.given) verdicts holders links
             (follows (Keeps state (IsGreeted state) lines) (Keeps state Sits agent_seats) (λ s. Unit {0}) (λ s v x y u h. tt)
             (λ s v x holder u h. runs_at lines agent_seats kept.wide through s v x holder h) (free_seats hosted.game) (map state taken.given) verdicts holders tt kept.links) back);

@@ -5,13 +5,14 @@ use Rattle.tac_base.specs.declared.limits.TheConstants.{AGENTS, LINKS, LINK_BYTE
 use Rattle.game_text.specs.Games.{GameFile}
 use Rattle.tac_io.specs.AllAnswers.{all_answers}
 use Rattle.tac_io.specs.LinkCalls.{GaveBytes, LastReadFails, LastWriteFails, NoReadFails, NoWriteFails, SendsNothing}
-use Rattle.tac_io.specs.States.{LinkState}
-use Rattle.tac_io.specs.Known.{known_then, IsAtEnd, TakesSome}
+use Rattle.tac_io.specs.States.{LinkState, LinksState}
+use Rattle.tac_io.specs.Known.{known_then, then_known, IsAtEnd, TakesSome}
 use Rattle.tac_io.specs.declared.line_got.LineGot.{LineGot}
 use Rattle.tac_io.specs.declared.line_got.LineGot.TheVariants as gots
 use Rattle.line_protocol.specs.declared.admission.Verdict.{Verdict}
 use Rattle.line_protocol.specs.declared.admission.Verdict.TheVariants.{Seated, Syntax, WrongWord, Taken, Lost}
 use Rattle.agent_gate.specs.Gates.{Seats, verdict_of, seats_after}
+use Rattle.game_run.specs.Hosted.{HostedGame}
 
 -- the seats of a game before any link came
 abbrev pub free_seats : GameFile → Seats
@@ -75,14 +76,6 @@ CameTo Sits seats verdict before after = HasFirstLine seats verdict before after
 
 -- ---- all links
 
--- Each link has a verdict, and came to what it says: the n-th one by the seats that are left after the first n verdicts.
-pub record AreAdmitted (game : GameFile) (Sits : Seats → ℕ → LinkState → LinkState → Type 0) (befores : List LinkState) (verdicts : List Verdict)
-    (afters : List LinkState) : Type 0 where
-  pub came : length befores ≡ length verdicts
-  pub left : length afters ≡ length verdicts
-  pub each : (n : ℕ) (before : LinkState) (verdict : Verdict) (after : LinkState) → slice_get befores n ≡ Some before → slice_get verdicts n ≡ Some verdict
-      → slice_get afters n ≡ Some after → CameTo Sits (seats_given game (take n verdicts)) verdict before after
-
 -- another link may be taken: fewer came than the limit, and fewer than eight have a seat
 abbrev pub MayGoOn : List Verdict → Type 0
 MayGoOn verdicts = (length verdicts < LINKS) × (count_by is_seated verdicts < AGENTS)
@@ -91,3 +84,15 @@ MayGoOn verdicts = (length verdicts < LINKS) × (count_by is_seated verdicts < A
 pub record AreAllTaken {A : Type 0} (verdicts : List Verdict) (pending : Option (List A)) : Type 0 where
   pub no_more : (n : ℕ) → n < length verdicts → MayGoOn (take n verdicts)
   pub no_fewer : MayGoOn verdicts → IsAtEnd pending
+
+module _ {L : Type 0} (state : L → LinkState) where
+  -- The links were asked to listen at the port, and those that were still to be given were taken, the first of them, in order. Each has a
+  -- verdict, and came to what it says: the n-th one by the seats that are left after the first n verdicts.
+  pub record TakesLinks (hosted : HostedGame) (Sits : Seats → ℕ → LinkState → LinkState → Type 0) (verdicts : List Verdict) (links links' : LinksState L) (ended : List L) : Type 0 where
+    pub given : List L
+    pub from : links.pending ≡ then_known given links'.pending
+    pub came : length given ≡ length verdicts
+    pub left : length ended ≡ length verdicts
+    pub each : (n : ℕ) (before : L) (verdict : Verdict) (after : L) → slice_get given n ≡ Some before → slice_get verdicts n ≡ Some verdict
+        → slice_get ended n ≡ Some after → CameTo Sits (seats_given hosted.game (take n verdicts)) verdict (state before) (state after)
+    pub ports : links'.ports ≡ known_then links.ports (hosted.port ∷ [])

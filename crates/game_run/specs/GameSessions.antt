@@ -5,6 +5,8 @@ use lib.ListN.{get_elem?}
 use Rattle.tac_base.specs.declared.limits.TheConstants.{AGENTS, CALLERS, LINK_BYTES}
 use Rattle.game_text.specs.Games.{GameFile}
 use Rattle.tac_base.specs.Goods.{agents}
+use Rattle.auction_rules.specs.History.{Entry}
+use Rattle.turn_lock.specs.Part.{part}
 use Rattle.auction_core.specs.ClosedGame.{ClosedGame, all_goods}
 use Rattle.auction_core.specs.Setups.{setup_of}
 use Rattle.tac_io.specs.AllAnswers.{all_answers}
@@ -26,6 +28,12 @@ use Rattle.tac_io.specs.States.{LinkState}
 use Rattle.tac_io.specs.declared.line_got.LineGot.{LineGot}
 use Rattle.game_run.specs.PlayedGame.{IsLegalGame, IsClockTranscript}
 use Rattle.agent_gate.specs.Dialects.{Dialect}
+
+-- ---- a caller's part
+
+-- the parts of a caller in all histories
+abbrev pub caller_parts : ClosedGame → ℕ → List (List (ℕ × Entry))
+caller_parts closed caller = map (λ auction. part (λ e. e.caller) auction.history caller) closed.auctions
 
 -- ---- before the game
 

@@ -3,7 +3,6 @@ use Rattle.std.specs.Prelude.{◌≡◌, ℕ, ◌<◌, List, [], false, All, fil
 use Rattle.game_text.specs.Games.{GameFile}
 use Rattle.tac_base.specs.Goods.{agents, clock}
 use Rattle.tac_base.specs.declared.limits.TheConstants.{AGENTS}
-use Rattle.auction_rules.specs.History.{Entry}
 use Rattle.auction_rules.specs.Legal.{Legal}
 use Rattle.turn_lock.specs.Part.{part}
 use Rattle.trade_ledger.specs.CashHistory.{IsLegalCash}
@@ -16,10 +15,6 @@ use Rattle.line_protocol.specs.declared.admission.Cause.{Cause}
 use Rattle.line_protocol.specs.declared.admission.Verdict.{Verdict}
 use Rattle.agent_gate.specs.Transcript.{IsTranscript}
 use Rattle.game_run.specs.Admission.{seats_given}
-
--- the parts of a caller in all histories
-abbrev pub caller_parts : ClosedGame → ℕ → List (List (ℕ × Entry))
-caller_parts closed caller = map (λ auction. part (λ e. e.caller) auction.history caller) closed.auctions
 
 -- The histories of the 28 auctions are legal by the rules of the game, and so is the cash history; it has exactly one post for each entry
 -- with trades, so a party's total is the sum of its dollars over all trades.
@@ -35,7 +30,7 @@ pub record IsLegalGame (game : GameFile) (closed : ClosedGame) : Type 0 where
 pub record IsClockTranscript (game : GameFile) (closed : ClosedGame) : Type 0 where
   pub turns : List ClockTurn
   pub asked : map call_made turns ≡ schedule game
-  pub calls : caller_parts closed clock ≡ map (λ good. clock_entries good turns) all_goods
+  pub calls : map (λ auction. part (λ e. e.caller) auction.history clock) closed.auctions ≡ map (λ good. clock_entries good turns) all_goods
   pub cash : part (λ e. e.caller) closed.cash clock ≡ clock_posts turns
 
 -- What a game over links came to: the verdict on each link, why the session of each seated agent ended, and the histories. A log's head

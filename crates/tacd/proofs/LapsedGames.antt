@@ -14,30 +14,29 @@ use Rattle.tac_commands.specs.declared.refusals.Refusal.TheVariants.{Memory}
 use Rattle.tac_commands.specs.Outcomes.{Outcome, Done, Lapsed, Unsound, Stopped, Unread, Unwritten, Refused}
 use Rattle.tac_commands.specs.Reporting.{Reports}
 use Rattle.game_run.specs.Outcomes.{missed_of}
-use Rattle.tacd.specs.Finishing.{LogAllows, lapsed_code}
-use Rattle.tacd.specs.Service.{IsLogOf, PlayedAllows}
+use Rattle.tacd.specs.Finishing.{IsLogText, LogAllows, WritesLog, lapsed_code}
 
 abbrev missed : Played → ℕ
 missed played = missed_of (head_of played.head)
 
 -- the game's log was not written whole: whether ticks lapsed or not
-cut_off : (game : GameFile) (played : Played) (text : List ℕ) (sink sink' : SinkState) (code count : ℕ) → IsLogOf game played text → missed played ≡ count →
-    (code == 4) ≡ true → TookPart sink sink' text → (o : Outcome) × PlayedAllows game played o × Reports o sink sink' code
+cut_off : (game : GameFile) (played : Played) (text : List ℕ) (sink sink' : SinkState) (code count : ℕ) → IsLogText game played text → missed played ≡ count →
+    (code == 4) ≡ true → TookPart sink sink' text → (o : Outcome) × WritesLog game played o × Reports o sink sink' code
 cut_off game played text sink sink' code zero log is four told =
     (Done text, (log, is), subst (λ b. MatchBool b (TookPart sink sink' text) ((code ≡ 0) × TookWhole sink sink' text)) (sym four) told)
 cut_off game played text sink sink' code (suc n) log is four told =
     (Lapsed text, (log, omega (arith, is)), subst (λ b. MatchBool b (TookPart sink sink' text) ((code ≡ 6) × TookWhole sink sink' text)) (sym four) told)
 
-kept_by : (b : Bool) (game : GameFile) (played : Played) (text : List ℕ) (sink sink' : SinkState) (code : ℕ) → IsLogOf game played text → (code ≡ 0 → missed played ≡ 0) →
+kept_by : (b : Bool) (game : GameFile) (played : Played) (text : List ℕ) (sink sink' : SinkState) (code : ℕ) → IsLogText game played text → (code ≡ 0 → missed played ≡ 0) →
     (code == 4) ≡ b → MatchBool b (TookPart sink sink' text) ((code ≡ 0) × TookWhole sink sink' text) →
-    (o : Outcome) × PlayedAllows game played o × Reports o sink sink' code
+    (o : Outcome) × WritesLog game played o × Reports o sink sink' code
 kept_by true game played text sink sink' code log none four told = cut_off game played text sink sink' code (missed played) log refl four told
 kept_by false game played text sink sink' code log none four told =
     (Done text, (log, none told.0), subst (λ b. MatchBool b (TookPart sink sink' text) ((code ≡ 0) × TookWhole sink sink' text)) (sym four) told)
 
 -- the code stays if it is not 0, or no tick lapsed
 kept : (game : GameFile) (played : Played) (sink sink' : SinkState) (code : ℕ) (outcome : Outcome) → LogAllows game played outcome → Reports outcome sink sink' code →
-    (code ≡ 0 → missed played ≡ 0) → (o : Outcome) × PlayedAllows game played o × Reports o sink sink' code
+    (code ≡ 0 → missed played ≡ 0) → (o : Outcome) × WritesLog game played o × Reports o sink sink' code
 kept game played sink sink' code (Done text) log told none = kept_by (code == 4) game played text sink sink' code log none refl told
 kept game played sink sink' code (Lapsed text) log told none = absurd log
 kept game played sink sink' code (Unsound text) log told none = absurd log
@@ -49,7 +48,7 @@ kept game played sink sink' code (Refused refusal) log told none = absurd log
 
 -- code 6 replaces 0 if a tick lapsed
 lapsed : (game : GameFile) (played : Played) (sink sink' : SinkState) (outcome : Outcome) → LogAllows game played outcome → Reports outcome sink sink' 0 →
-    0 < missed played → (o : Outcome) × PlayedAllows game played o × Reports o sink sink' 6
+    0 < missed played → (o : Outcome) × WritesLog game played o × Reports o sink sink' 6
 lapsed game played sink sink' (Done text) log told some = (Lapsed text, (log, some), (refl, told.1))
 lapsed game played sink sink' (Lapsed text) log told some = absurd log
 lapsed game played sink sink' (Unsound text) log told some = absurd log
@@ -61,7 +60,7 @@ lapsed game played sink sink' (Refused refusal) log told some = absurd log
 
 -- the code that is returned is 6 in place of 0 if a tick lapsed
 pub by_code : (game : GameFile) (played : Played) (sink sink' : SinkState) (count : ℕ) (code : Code) (outcome : Outcome) → LogAllows game played outcome →
-    Reports outcome sink sink' (code_number code) → missed played ≡ count → (o : Outcome) × PlayedAllows game played o × Reports o sink sink' (code_number (lapsed_code code count))
+    Reports outcome sink sink' (code_number code) → missed played ≡ count → (o : Outcome) × WritesLog game played o × Reports o sink sink' (code_number (lapsed_code code count))
 by_code game played sink sink' zero Success outcome log told is = kept game played sink sink' 0 outcome log told (λ none. is)
 by_code game played sink sink' (suc n) Success outcome log told is =
     let test : nat_lt 0 (suc n) ≡ true = grind (arith, nat_tests) in

@@ -24,7 +24,8 @@ use Rattle.tac_commands.specs.Outcomes.{Outcome}
 use Rattle.tac_commands.specs.Outsides.{Outside}
 use Rattle.tac_commands.specs.Services.{Service}
 use Rattle.tac_commands.specs.Cash.{IsCashOfPosts}
-use Rattle.tacd.specs.Service.{ServeAllows, at_pace, hosted_by}
+use Rattle.tacd.specs.Service.{ServeAllows, at_pace}
+use Rattle.tacd.specs.Finishing.{hosted_by}
 use Rattle.tacd.proofs.ServiceCauses.{IsServedOr}
 
 -- the order of the entries does not matter

@@ -19,9 +19,9 @@ use Rattle.tac_commands.specs.Outsides.{Outside}
 use Rattle.clock_events.specs.Clocking.{WaitsForAll}
 use Rattle.line_protocol.specs.Heads.{head_of}
 use Rattle.game_run.specs.Hosted.{HostedGame}
-use Rattle.game_run.specs.Outcomes.{IsGameEnd, missed_of}
-use Rattle.tacd.specs.Service.{HasNoGame, PlayedAllows, Serves, ServeAllows, at_pace, hosted_by}
-use Rattle.tacd.specs.SoundLogs.{ReportsSoundly}
+use Rattle.game_run.specs.Outcomes.{IsGameEnd}
+use Rattle.tacd.specs.Service.{HasNoGame, PlayedAllows, Serves, ServeAllows, at_pace}
+use Rattle.tacd.specs.Finishing.{hosted_by}
 use Rattle.tac_commands.proofs.CodedOutcomes.{IsCoded, coded, explained_only}
 use Rattle.tac_commands.proofs.FileCauses.{no_link_refusal}
 
@@ -75,9 +75,9 @@ module _ {L : Type 0} (state : L → LinkState) (hosted : HostedGame) (before af
   -- a game that was played
   module _ (ended : Vec L) (played : Played) where
     abbrev pub IsServed : Outcome → Type 0
-    IsServed outcome = IsGameEnd state hosted before.links after.links (record { closed = played.closed; head = played.head; links = ended })
-        × WaitsForAll before.ticker after.ticker (missed_of (head_of played.head))
-        × PlayedAllows hosted.game played outcome × ReportsSoundly hosted.game played outcome
+    IsServed outcome = (end : IsGameEnd state hosted before.links after.links (record { closed = played.closed; head = played.head; links = ended }))
+        × WaitsForAll before.ticker after.ticker end.missed
+        × PlayedAllows hosted.game played end.missed outcome
 
     ended_played : (outcome : Outcome) → IsServed outcome → IsServiceEnd outcome
     ended_played (Done text) plays = tt

@@ -37,8 +37,9 @@ use Rattle.game_run.specs.LinkRuns.{IsSeated}
 use Rattle.tac_io.specs.States.{LinkState, LinksState, TickWait, TickerState}
 use Rattle.game_run.specs.Hosted.{HostedGame}
 use Rattle.game_run.specs.Outcomes.{IsPlayedOver, IsGameEnd, missed_of}
-use Rattle.game_run.specs.PlayedGame.{PlayedGame, caller_parts, IsPlayedBy}
-use Rattle.game_run.proofs.ByIndex.{admitted_in_turn}
+use Rattle.game_run.specs.PlayedGame.{PlayedGame, IsPlayedBy}
+use Rattle.game_run.specs.GameSessions.{caller_parts}
+use Rattle.game_run.proofs.ByIndex.{taken_in_turn}
 use Rattle.game_run.proofs.KeptSeats.{seat_was_free}
 use Rattle.game_run.proofs.Transcripts.{scheduled_in}
 use Rattle.game_run.specs.declared.run.GameEnd.{GameEnd}
@@ -47,8 +48,9 @@ use Rattle.tac_commands.specs.Outcomes.{Outcome, Done, Lapsed, Unsound, Stopped,
 use Rattle.tac_commands.specs.SoundTexts.{log_of_game, EndsInSoundLog}
 use Rattle.tac_commands.proofs.SoundLogs.{text_is, ends_soundly}
 use Rattle.tacd.specs.declared.answer.Played.{Played}
+use Rattle.tac_commands.specs.declared.refusals.Refusal.TheVariants.{Memory}
+use Rattle.tacd.specs.Finishing.{IsLogText, WritesLog}
 use Rattle.tacd.specs.Service.{IsLogOf, PlayedAllows}
-use Rattle.tacd.specs.SoundLogs.{IsSoundLogOf, ReportsSoundly}
 use Rattle.tacd.proofs.SeatedOnce.{is_taken, taken_after, given_once, same_kept}
 
 -- ---- a caller without a part has no entry
@@ -135,8 +137,8 @@ few_missed ticker ticker' missed all =
     let lapses = all.lapses in
     omega (arith, many, few, lapses)
 
-module _ {L : Type 0} (state : L → LinkState) (hosted : HostedGame) (pending pending' : Option (List L)) (over : PlayedGame) (links : List L)
-    (played : IsPlayedOver state hosted pending pending' over links) where
+module _ {L : Type 0} (state : L → LinkState) (hosted : HostedGame) (before after : LinksState L) (over : PlayedGame) (links : List L)
+    (played : IsPlayedOver state hosted before after over links) where
   -- an agent's seat is taken if it was given
   seat_is : (agent : ℕ) → agent ≤ 7 → is_taken (seats_given hosted.game over.verdicts) agent ≡ nat_lt 0 (seatings over.verdicts agent)
   seat_is agent low =
@@ -145,8 +147,8 @@ module _ {L : Type 0} (state : L → LinkState) (hosted : HostedGame) (pending p
 
   once : (agent : ℕ) → agent ≤ 7 → seatings over.verdicts agent ≤ 1
   once agent low =
-      let given = given_once (CameTo (IsSeated hosted over)) (λ seats a before after sits. seat_was_free seats sits.line a sits.seat) (free_seats hosted.game) (map state played.given) over.verdicts (map state links)
-      agent (omega (arith, low)) (admitted_in_turn hosted.game (IsSeated hosted over) (map state played.given) over.verdicts (map state links) played.admitted) in
+      let given = given_once (λ seats verdict link link'. CameTo (IsSeated hosted over) seats verdict (state link) (state link')) (λ seats a link link' sits. seat_was_free seats sits.line a sits.seat)
+      (free_seats hosted.game) played.taken.given over.verdicts links agent (omega (arith, low)) (taken_in_turn state hosted (IsSeated hosted over) over.verdicts before after links played.taken) in
       omega (arith, given)
 
   each_end : map (λ (end : ℕ × Cause). end.0) over.ends ≡ sound.logged_seats over.verdicts
@@ -156,7 +158,7 @@ module _ {L : Type 0} (state : L → LinkState) (hosted : HostedGame) (pending p
 
   pub service : (missed : ℕ) (sheet : List Scored) → missed ≤ 54 → IsService (log_of_game (Serve over.verdicts over.ends missed) over.closed sheet) over.verdicts over.ends missed
   service missed sheet few = record {
-    few_links = few_links over.verdicts pending' 64 (λ lt. (played.all.no_more 64 lt).0) refl;
+    few_links = few_links over.verdicts after.pending 64 (λ lt. (played.all.no_more 64 lt).0) refl;
     seats_differ = once;
     each_end = each_end;
     few_missed = few;
@@ -173,24 +175,32 @@ module _ {L : Type 0} (state : L → LinkState) (hosted : HostedGame) (links lin
       let over : PlayedGame = record { verdicts = is.verdicts; ends = is.ends; closed = end.closed } in
       ends_soundly hosted.game (head_of end.head) end.closed sheet [] told (lawful hosted.game over is.played.lawful) scores
       (subst (λ (h : Head). IsSoundHead (log_of_game h end.closed sheet) h) (sym is.head)
-      (service state hosted links.pending links'.pending over end.links.items is.played is.missed sheet
+      (service state hosted links links' over end.links.items is.played is.missed sheet
       (subst (λ (h : Head). missed_of h ≤ 54) is.head (few_missed ticker ticker' (missed_of (head_of end.head)) waits))))
       shown due
 
+  -- the ticks that lapsed are those that the head counts
+  pub waits_for_missed : (played : Played) (ended : Vec L) (is : IsGameEnd state hosted links links' (record { closed = played.closed; head = played.head; links = ended }))
+      → WaitsForAll ticker ticker' (missed_of (head_of played.head)) → WaitsForAll ticker ticker' is.missed
+  waits_for_missed played ended is waits = subst (λ (n : ℕ). WaitsForAll ticker ticker' n) (ap missed_of is.head) waits
+
   module _ (played : Played) (ended : Vec L) (is : IsGameEnd state hosted links links' (record { closed = played.closed; head = played.head; links = ended }))
       (waits : WaitsForAll ticker ticker' (missed_of (head_of played.head))) (shown : IsShowable hosted.game (head_of played.head) played.closed) where
-    log_soundly : (told : List ℕ) → IsLogOf hosted.game played told → IsSoundLogOf hosted.game played told
-    log_soundly told log = (
-      log.sheet,
-      served_soundly (record { closed = played.closed; head = played.head; links = ended }) log.sheet told is waits shown log.scores (log.due ∙ text_is (head_of played.head) played.closed log.sheet),
-    )
+    log_soundly : (told : List ℕ) → IsLogText hosted.game played told → IsLogOf hosted.game played told
+    log_soundly told log = record {
+      sheet = log.sheet;
+      scores = log.scores;
+      due = log.due;
+      sound = served_soundly (record { closed = played.closed; head = played.head; links = ended }) log.sheet told is waits shown log.scores (log.due ∙ text_is (head_of played.head) played.closed log.sheet);
+    }
 
     -- the log of that game that is written is sound
-    pub reports_soundly : (outcome : Outcome) → PlayedAllows hosted.game played outcome → ReportsSoundly hosted.game played outcome
-    reports_soundly (Done told) allows = log_soundly told allows.0
-    reports_soundly (Lapsed told) allows = log_soundly told allows.0
-    reports_soundly (Unsound told) allows = tt
-    reports_soundly (Stopped told refusal) allows = tt
-    reports_soundly (Unwritten told) allows = tt
-    reports_soundly (Unread told) allows = tt
-    reports_soundly (Refused refusal) allows = tt
+    pub reports_soundly : (outcome : Outcome) → WritesLog hosted.game played outcome → PlayedAllows hosted.game played is.missed outcome
+    reports_soundly (Done told) allows = (log_soundly told allows.0, sym (ap missed_of is.head) ∙ allows.1)
+    reports_soundly (Lapsed told) allows = (log_soundly told allows.0, subst (λ (n : ℕ). 0 < n) (ap missed_of is.head) allows.1)
+    reports_soundly (Unsound told) allows = absurd allows
+    reports_soundly (Stopped told Memory) allows = allows
+    reports_soundly (Stopped told refusal) allows = absurd allows
+    reports_soundly (Unwritten told) allows = absurd allows
+    reports_soundly (Unread told) allows = absurd allows
+    reports_soundly (Refused refusal) allows = absurd allows

@@ -14,7 +14,7 @@ use Rattle.game_log.specs.LogText.{play_part}
 use Rattle.game_log.specs.SheetText.{log_text}
 use Rattle.game_log.specs.ScoredGames.{IsSheetOf}
 use Rattle.game_run.specs.Hosted.{HostedGame}
-use Rattle.game_run.specs.Outcomes.{IsGameEnd, IsNotPlayed, missed_of}
+use Rattle.game_run.specs.Outcomes.{IsGameEnd, IsNotPlayed}
 use Rattle.tacd.specs.declared.answer.Answer.{Answer}
 use Rattle.tacd.specs.declared.answer.Played.{Played}
 use Rattle.tac_commands.specs.declared.refusals.Refusal.{Refusal}
@@ -24,7 +24,7 @@ use Rattle.tac_commands.specs.Outcomes.{Outcome, Done, Lapsed, Stopped, Refused}
 use Rattle.tac_commands.specs.Outsides.{Outside}
 use Rattle.tac_commands.specs.Services.{Service, dialect_in}
 use Rattle.tac_commands.specs.Reporting.{Reports}
-use Rattle.tacd.specs.SoundLogs.{ReportsSoundly}
+use Rattle.tacd.specs.SoundLogs.{IsSoundLog}
 
 -- ---- the game file
 
@@ -41,24 +41,21 @@ IsNoGameFile files files' name refusal =
 
 -- ---- the text
 
--- the log of a game that was played, with some sheet of it: for each agent the greatest total utility over all feasible allocations, less
--- what it cost and the penalties
+-- The log of a game that was played, with some sheet of it: for each agent the greatest total utility over all feasible allocations, less
+-- what it cost and the penalties. That log is sound.
 pub record IsLogOf (game : GameFile) (played : Played) (text : List ℕ) : Type 0 where
   pub sheet : List Scored
   pub scores : IsSheetOf game played.closed sheet
   pub due : text ≡ log_text (head_of played.head) played.closed sheet
+  pub sound : IsSoundLog game played sheet text
 
 -- the log of the game that was played is written, with another code if ticks lapsed; or its first part alone, if memory was refused for
 -- its sheet
-abbrev pub PlayedAllows : GameFile → Played → Outcome → Type 0
-PlayedAllows game played (Done text) = IsLogOf game played text × (missed_of (head_of played.head) ≡ 0)
-PlayedAllows game played (Lapsed text) = IsLogOf game played text × (0 < missed_of (head_of played.head))
-PlayedAllows game played (Stopped text Memory) = text ≡ play_part (head_of played.head) played.closed
-PlayedAllows game played outcome = ⊥
-
--- the game as the service hosts it
-abbrev pub hosted_by : Service → GameFile → HostedGame
-hosted_by service game = record { game = game; dialect = dialect_in service.form; port = service.port }
+abbrev pub PlayedAllows : GameFile → Played → ℕ → Outcome → Type 0
+PlayedAllows game played missed (Done text) = IsLogOf game played text × (missed ≡ 0)
+PlayedAllows game played missed (Lapsed text) = IsLogOf game played text × (0 < missed)
+PlayedAllows game played missed (Stopped text Memory) = text ≡ play_part (head_of played.head) played.closed
+PlayedAllows game played missed outcome = ⊥
 
 -- ---- the links and the ticker
 
@@ -78,15 +75,15 @@ module _ {L : Type 0} (state : L → LinkState) where
   abbrev pub ServesGame : HostedGame → Outside L → Outside L → Answer L → Outcome → Type 0
   ServesGame hosted before after answer outcome = MatchOption answer.played
       (HasNoGame hosted before after answer.ended outcome)
-      (λ played. IsGameEnd state hosted before.links after.links (record { closed = played.closed; head = played.head; links = answer.ended })
-      × WaitsForAll before.ticker after.ticker (missed_of (head_of played.head))
-      × PlayedAllows hosted.game played outcome × ReportsSoundly hosted.game played outcome)
+      (λ played. (end : IsGameEnd state hosted before.links after.links (record { closed = played.closed; head = played.head; links = answer.ended }))
+      × WaitsForAll before.ticker after.ticker end.missed
+      × PlayedAllows hosted.game played end.missed outcome)
 
   -- the game of that file is served; or the game file is refused, and nothing was asked
   abbrev pub ServeAllows : Service → Outside L → Outside L → Answer L → Outcome → Type 0
   ServeAllows service before after answer outcome =
       ((game : GameFile) × IsGameFile before.files service.game game
-      × ServesGame (hosted_by service game) (at_pace service.pace before) after answer outcome
+      × ServesGame (record { game = game; dialect = dialect_in service.form; port = service.port }) (at_pace service.pace before) after answer outcome
       × (after.files.faults ≡ before.files.faults))
       ⊎ ((refusal : Refusal) × (outcome ≡ Refused refusal) × IsNoGameFile before.files after.files service.game refusal
       × (after.links ≡ before.links) × (after.ticker ≡ before.ticker) × (answer.ended.items ≡ []) × (answer.played ≡ None))

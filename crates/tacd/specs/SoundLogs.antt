@@ -1,18 +1,11 @@
 -- The log that a service writes is sound.
-use Rattle.std.specs.Prelude.{ℕ, ⊤, List, []}
+use Rattle.std.specs.Prelude.{ℕ, List, []}
 use Rattle.game_text.specs.Games.{GameFile}
 use Rattle.score_sheet.specs.Sheets.{Scored}
 use Rattle.line_protocol.specs.Heads.{head_of}
-use Rattle.tac_commands.specs.Outcomes.{Outcome, Done, Lapsed}
 use Rattle.tac_commands.specs.SoundTexts.{log_of_game, EndsInSoundLog}
 use Rattle.tacd.specs.declared.answer.Played.{Played}
 
--- the text is the log of the game that was played, with some sheet of it, and nothing else; that log is sound, and in its ranges
-abbrev pub IsSoundLogOf : GameFile → Played → List ℕ → Type 0
-IsSoundLogOf game played text = (sheet : List Scored) × EndsInSoundLog game (log_of_game (head_of played.head) played.closed sheet) [] text
-
--- so is the log that is written
-abbrev pub ReportsSoundly : GameFile → Played → Outcome → Type 0
-ReportsSoundly game played (Done text) = IsSoundLogOf game played text
-ReportsSoundly game played (Lapsed text) = IsSoundLogOf game played text
-ReportsSoundly game played outcome = ⊤
+-- the text is the log of the game that was played, with this sheet of it, and nothing else; that log is sound, and in its ranges
+abbrev pub IsSoundLog : GameFile → Played → List Scored → List ℕ → Type 0
+IsSoundLog game played sheet text = EndsInSoundLog game (log_of_game (head_of played.head) played.closed sheet) [] text

@@ -11,7 +11,7 @@ ghost use Rattle.tac_commands.specs.Outsides.{outside_of};
 ghost use Rattle.game_run.specs.Hosted.{hosted_game};
 ghost use Rattle.game_run.specs.Outcomes.{missed_of};
 ghost use Rattle.tac_io.specs.States.{FilesState, MaySelect};
-ghost use Rattle.tacd.specs.Service.{at_pace, PlayedAllows, Serves, ServesGame};
+ghost use Rattle.tacd.specs.Service.{at_pace, Serves, ServesGame};
 ghost use Rattle.line_protocol.specs.Heads.{head_of};
 ghost use Rattle.tac_io.specs.Written.{WritesPiece};
 
@@ -84,7 +84,7 @@ fn finish_played<R: Threads + Sync, K: Sink>(
     played: &Played,
     out: &mut K,
 ) -> Code
-    ensures { (outcome : Outcome) × PlayedAllows game.now played.now outcome × Reports outcome (K.state out.old) (K.state out.new) (code_number result) }
+    ensures { (outcome : Outcome) × finishing.WritesLog game.now played.now outcome × Reports outcome (K.state out.old) (K.state out.new) (code_number result) }
 {
     let end = write_log(rt, alloc, game, played, out);
     let code = finish(out, end);

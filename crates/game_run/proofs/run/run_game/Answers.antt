@@ -26,7 +26,6 @@ returns-clause-played g c = record {
   head = refl;
   played = was_played g.N.Link.Link.state (hosted_game c.args.game.now (g.D.Dialect.form c.args.dialect.now) c.args.port) c.admit.new.arrivals
       c.play_out-closed.result.closed c.play_out-closed.result.ends.items _ _ c.play_out-closed.result.links.items c.in_order.result.items c.admit.ensures.taken
-      (at_ok c.admit.result _ (sym c.is_err.ensures.value ∙ c.if-is_err.false) c.admit.ensures.no_fewer) c.play_out-closed.ensures.through c.in_order.ensures;
-  ports = c.admit.ensures.ports;
+      (at_ok c.admit.result _ (sym c.is_err.ensures.value ∙ c.if-is_err.false) c.admit.ensures.no_fewer) c.admit.ensures.ports c.play_out-closed.ensures.through c.in_order.ensures;
   no_fault = same_at_ok _ _ c.admit.result (sym c.is_err.ensures.value ∙ c.if-is_err.false) c.admit.ensures.cause;
 }
