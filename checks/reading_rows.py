@@ -348,7 +348,7 @@ ROWS = [
         ("After seven seats another link may be taken, and after eight none; after 63 links that "
          "were refused another one, and after 64 none")),
     Row(["worked_rows/CommandLines:one_tick_lapsed"],
-        ["clock_events/Clocking.WaitsForAll", "clock_events/Clocking.HasMissedCause"],
+        ["clock_events/Clocking.WaitsForAll"],
         ("The ticks 1 to 54 were waited for, tick 7 lapsed, and the count of faults rose from 0 to "
          "1: 1 tick was missed. The pace, 500, was set at each wait, and stays")),
     Row(["worked_rows/Sessions:clock_posts_what_was_traded"],

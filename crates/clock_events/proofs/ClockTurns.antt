@@ -1,17 +1,29 @@
 -- The clock's turns, one after another.
 use Rattle.std.proofs.Common.{ℕ, ◌<◌, List, [], ◌∷◌, ◌++◌, get_or, refl, sym, ap, ◌∙◌, append_assoc, append-nil, arith}
+use Rattle.std.specs.Prelude.{◌==◌, if◌then◌else◌, Option, Some, None, map}
 use Rattle.std.proofs.lemmas.List.{map-append}
 use Rattle.std.proofs.lemmas.List.Elements.{filter_map-append}
 use Rattle.std.proofs.lemmas.Grind.{flat_map-append}
 use Rattle.tac_base.specs.declared.calls.Call.{Call}
 use Rattle.tac_base.specs.declared.calls.Reply.{Reply}
+use Rattle.auction_rules.specs.History.{Entry}
 use Rattle.floor.specs.declared.desk.Desk.{Desk}
 use Rattle.floor.specs.Answers.{IsCallAnswered, IsStepTaken}
 use Rattle.floor.specs.Desks.{desk_cash, desk_entries, entries_at}
 use Rattle.floor.specs.Steps.{Step}
 use Rattle.floor.proofs.Rows.{row_more}
-use Rattle.clock_events.specs.ClockTurns.{ClockTurn, call_made, clock_entries, clock_entry, clock_post, clock_posts}
+use Rattle.trade_ledger.specs.declared.cash_calls.CashEntry.{CashEntry}
+use Rattle.trade_ledger.specs.Posts.{due_post}
+use Rattle.clock_events.specs.ClockTurns.{ClockTurn, call_made, clock_entries, clock_posts}
 use Rattle.clock_events.specs.MadeCalls.{MakesCalls}
+
+-- the entry of a turn, if it is of the good
+abbrev clock_entry : ℕ → ClockTurn → Option (ℕ × Entry)
+clock_entry good turn = if turn.good == good then Some (turn.position, turn.entry) else None
+
+-- the entry of a turn in the cash history: a post where its entry has a trade
+abbrev clock_post : ClockTurn → List (ℕ × CashEntry)
+clock_post turn = map (λ post. (turn.posted, post)) (due_post turn.good turn.position turn.entry)
 
 pub makes_none : (d : Desk) → MakesCalls [] d d
 makes_none d = record { turns = []; asked = refl; entries = λ good low. sym (append-nil (entries_at d good)); cash = sym (append-nil (desk_cash d)) }

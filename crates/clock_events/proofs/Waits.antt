@@ -1,5 +1,5 @@
 -- Waiting tick by tick.
-use Rattle.std.proofs.Common.{◌≡◌, ℕ, zero, suc, ◌+◌, ◌-◌, ◌≤◌, Bool, true, false, cond, List, [], ◌∷◌, ◌++◌, map, take, Option, refl, sym, ap, ◌∙◌, arith, subst, append_assoc, append-nil}
+use Rattle.std.proofs.Common.{◌≡◌, ℕ, zero, suc, ◌+◌, ◌-◌, ◌<◌, ◌≤◌, Bool, true, false, cond, List, [], ◌∷◌, ◌++◌, map, take, Option, refl, sym, ap, ◌∙◌, arith, subst, append_assoc, append-nil}
 use Rattle.std.specs.Prelude.{All, MatchBool, count_by}
 use Rattle.std.specs.Int.{from_bool}
 use Rattle.std.proofs.lemmas.List.{map-append}
@@ -12,7 +12,7 @@ use Rattle.tac_io.proofs.KnownPieces.{known_then-nothing, known_then-twice}
 use Rattle.floor.specs.Steps.{Step, WaitsNoted}
 use Rattle.game_text.specs.Games.{GameFile}
 use Rattle.game_text.specs.Schedule.{ticks}
-use Rattle.clock_events.specs.Clocking.{HasMissedCause, WaitsForAll}
+use Rattle.clock_events.specs.Clocking.{WaitsForAll}
 use Rattle.clock_events.specs.Steps.{steps_at, steps_over}
 use Rattle.clock_events.proofs.TickCalls.{next_tick}
 
@@ -22,6 +22,11 @@ rose_twice first before now one two = record {
   rises = let a = one.rises in let b = two.never_falls in omega (arith, a, b);
   stays = λ last. two.stays (one.stays last ∙ last) ∙ one.stays last;
 }
+
+-- some tick lapsed exactly if the count of faults rose
+pub record HasMissedCause (faults faults' missed : ℕ) : Type 0 where
+  pub rose : 0 < missed → Rose faults faults'
+  pub same : missed ≡ 0 → faults' ≡ faults
 
 missed_more : (first before now missed : ℕ) (lapsed : Bool) → HasMissedCause first before missed → MatchBool lapsed (Rose before now) (now ≡ before) → HasMissedCause first now (missed + from_bool lapsed)
 missed_more first before now zero true cause rose = record {
@@ -85,7 +90,8 @@ waits_for_all before after many missed so_far all = record {
   all_ticks = so_far.in_order ∙ ap (λ k. take k ticks) all;
   all_paced = so_far.all_paced;
   lapses = so_far.lapses;
-  cause = so_far.cause;
+  rose = so_far.cause.rose;
+  same = so_far.cause.same;
   paced = so_far.paced;
 }
 

@@ -1,5 +1,5 @@
 -- The clock's turns: each is a call that it made, with what it left in the auctions and in the cash history.
-use Rattle.std.specs.Prelude.{ℕ, ◌==◌, if◌then◌else◌, List, Option, Some, None, map}
+use Rattle.std.specs.Prelude.{ℕ, ◌==◌, if◌then◌else◌, List, Some, None, map}
 use Rattle.std.specs.List.{filter_map, flat_map}
 use Rattle.tac_base.specs.declared.calls.Call.{Call}
 use Rattle.auction_rules.specs.History.{Entry}
@@ -17,18 +17,10 @@ pub record ClockTurn : Type 0 where
 abbrev pub call_made : ClockTurn → ℕ × Call
 call_made turn = (turn.good, turn.entry.call)
 
--- the entry of a turn, if it is of the good
-abbrev pub clock_entry : ℕ → ClockTurn → Option (ℕ × Entry)
-clock_entry good turn = if turn.good == good then Some (turn.position, turn.entry) else None
-
 -- the entries at a good, in order, each with its position
 abbrev pub clock_entries : ℕ → List ClockTurn → List (ℕ × Entry)
-clock_entries good turns = filter_map (clock_entry good) turns
+clock_entries good turns = filter_map (λ turn. if turn.good == good then Some (turn.position, turn.entry) else None) turns
 
--- the entry of a turn in the cash history: a post where its entry has a trade
-abbrev pub clock_post : ClockTurn → List (ℕ × CashEntry)
-clock_post turn = map (λ post. (turn.posted, post)) (due_post turn.good turn.position turn.entry)
-
--- the entries in the cash history, in order, each with its position
+-- the entries in the cash history, in order, each with its position: a post where a turn's entry has a trade
 abbrev pub clock_posts : List ClockTurn → List (ℕ × CashEntry)
-clock_posts turns = flat_map clock_post turns
+clock_posts turns = flat_map (λ turn. map (λ post. (turn.posted, post)) (due_post turn.good turn.position turn.entry)) turns

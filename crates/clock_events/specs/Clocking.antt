@@ -6,17 +6,14 @@ use Rattle.tac_io.specs.States.{TickWait, TickerState}
 use Rattle.tac_io.specs.Known.{known_then}
 use Rattle.game_text.specs.Schedule.{ticks}
 
--- some tick lapsed exactly if the count of faults rose
-pub record HasMissedCause (faults faults' missed : ℕ) : Type 0 where
-  pub rose : 0 < missed → Rose faults faults'
-  pub same : missed ≡ 0 → faults' ≡ faults
-
--- the 54 ticks were waited for, in order, each at the pace that was set before the first wait, and this many of them lapsed
+-- the 54 ticks were waited for, in order, each at the pace that was set before the first wait, and this many of them lapsed: some
+-- did exactly if the count of faults rose
 pub record WaitsForAll (before after : TickerState) (missed : ℕ) : Type 0 where
   pub waits : List TickWait
   pub known : after.waited ≡ known_then before.waited waits
   pub all_ticks : map (λ wait. wait.tick) waits ≡ ticks
   pub all_paced : All (λ wait. wait.paced ≡ before.paced) waits
   pub lapses : count_by (λ wait. wait.lapsed) waits ≡ missed
-  pub cause : HasMissedCause before.faults after.faults missed
+  pub rose : 0 < missed → Rose before.faults after.faults
+  pub same : missed ≡ 0 → after.faults ≡ before.faults
   pub paced : after.paced ≡ before.paced

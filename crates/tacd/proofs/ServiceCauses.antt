@@ -100,8 +100,8 @@ module _ {L : Type 0} (state : L → LinkState) (hosted : HostedGame) (before af
     links_played (Refused refusal) plays = absurd plays.2
 
     clock_played : (outcome : Outcome) → IsServed outcome → IsTimed before.ticker.faults after.ticker.faults (code_of outcome)
-    clock_played (Done text) plays = inr (inl (omega arith, plays.1.cause.same plays.2.1))
-    clock_played (Lapsed text) plays = inl (refl, plays.1.cause.rose plays.2.1)
+    clock_played (Done text) plays = inr (inl (omega arith, plays.1.same plays.2.1))
+    clock_played (Lapsed text) plays = inl (refl, plays.1.rose plays.2.1)
     clock_played (Stopped text Memory) plays = inr (inr refl)
     clock_played (Stopped text refusal) plays = absurd plays.2
     clock_played (Unwritten text) plays = absurd plays.2

@@ -45,7 +45,8 @@ one_tick_lapsed = record {
   all_ticks = refl;
   all_paced = All-map (λ (w : TickWait). w.paced ≡ Some (Some 500)) wait ticks (λ k d inside. refl);
   lapses = refl;
-  cause = record { rose = λ lapsed. counts_rise_or_stay.0; same = λ none. omega (arith, none) };
+  rose = λ lapsed. counts_rise_or_stay.0;
+  same = λ none. omega (arith, none);
   paced = refl;
 }
 
