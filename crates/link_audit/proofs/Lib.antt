@@ -13,3 +13,7 @@ mod Welcomes
 mod Transcribed
 mod Prefixes
 mod Vouched
+pub mod OneLines
+mod Sent
+pub mod FarEnds
+pub mod FreshLinks

@@ -2,6 +2,7 @@
 use Rattle.std.specs.Prelude.{◌≡◌, ◌≢◌, ℕ, ◌==◌, ◌≤◌, if◌then◌else◌, List, [], ◌∷◌, ◌++◌, Result, Err, Some, true, length, map, slice_get, take}
 use Rattle.std.specs.List.{list_any}
 use Rattle.tac_base.specs.declared.limits.TheConstants.{LINK_BYTES, SESSION_LINES}
+use Rattle.text_forms.specs.Lines.{GoesOn}
 use Rattle.game_text.specs.Games.{GameFile}
 use Rattle.tac_io.specs.AllAnswers.{all_answers}
 use Rattle.tac_io.specs.States.{LinkState}
@@ -13,7 +14,9 @@ use Rattle.line_protocol.specs.declared.admission.Verdict.TheVariants.{Seated}
 use Rattle.line_protocol.specs.declared.asking.Request.{Request}
 use Rattle.line_protocol.specs.declared.asking.RequestFault.{RequestFault}
 use Rattle.line_protocol.specs.declared.asking.RequestFault.TheVariants.{Memory}
+use Rattle.line_protocol.specs.declared.saying.Said.{Said}
 use Rattle.line_protocol.specs.Heads.{Head, Play, Serve}
+use Rattle.line_protocol.specs.Replies.{IsOneLine}
 use Rattle.auction_core.specs.ClosedGame.{ClosedGame}
 use Rattle.log_text.specs.LoggedGames.{LoggedGame}
 use Rattle.log_text.specs.SoundLog.{auctions_in, gives_seat}
@@ -22,7 +25,7 @@ use Rattle.agent_gate.specs.Gates.{verdict_of}
 use Rattle.agent_gate.specs.Items.{AreItems}
 use Rattle.agent_gate.specs.Transcript.{IsTranscript}
 use Rattle.agent_gate.specs.Turns.{Turn, AreLawful, item_of, said_of}
-use Rattle.agent_gate.specs.Welcome.{welcome_lines}
+use Rattle.agent_gate.specs.Welcome.{welcome_lines, welcome_text}
 use Rattle.game_run.specs.Admission.{free_seats, seats_given}
 use Rattle.game_run.specs.Hosted.{HostedGame}
 use Rattle.game_run.specs.LinkRuns.{IsSeated}
@@ -54,6 +57,13 @@ played_in game log = record { verdicts = logged_verdicts log.head; ends = logged
 abbrev pub fresh_link : List ℕ → LinkState
 fresh_link bytes = record { taken = Some []; left = Some bytes; sent = Some []; reads = 0; writes = 0; read_failures = Some []; write_failures = Some [] }
 
+-- A link whose bytes are known, before and after: it had `asked` to give, and was sent `said` since.
+pub record HasBytes (before after : LinkState) (asked said : List ℕ) : Type 0 where
+  pub had : before.left ≡ Some asked
+  pub sent_at_first : List ℕ
+  pub sent_before : before.sent ≡ Some sent_at_first
+  pub sent_after : after.sent ≡ Some (sent_at_first ++ said)
+
 -- The log's head gives a link the agent's seat, and a link that had the bytes `asked` to give came to this by the log: it was sent exactly
 -- `said`, was served as the agent until its session ended for the cause that the head has, and its turns are the agent's part of the log.
 pub record IsLinkOfLog (hosted : HostedGame) (log : LoggedGame) (agent : ℕ) (asked said : List ℕ) : Type 0 where
@@ -73,9 +83,17 @@ whole_lines_after line (byte ∷ bytes) = if byte == 10 then line ∷ whole_line
 abbrev pub whole_lines : List ℕ → List (List ℕ)
 whole_lines bytes = whole_lines_after [] bytes
 
+-- each reply is one line
+abbrev pub HasLineReplies : Dialect → Type 0
+HasLineReplies dialect = (reply : Said) → IsOneLine (dialect.text reply)
+
 -- what a line may be read as, if memory to read it is not refused
 abbrev pub MayAsk : (List ℕ → Result Request RequestFault → Type 0) → List ℕ → Result Request RequestFault → Type 0
 MayAsk may_answer line answer = may_answer line answer × (answer ≢ Err Memory)
+
+-- what was said begins with the agent's welcome, whole
+abbrev pub HasWelcome : GameFile → ℕ → List ℕ → Type 0
+HasWelcome game agent said = GoesOn (welcome_text game agent) said
 
 -- A sound log is right about a link, as its far end saw it, which tried to send `asked` and got `said`. The first line asks for the agent's
 -- seat, which the log's head gives to a link. Of the lines behind it some first ones were answered, by turns that are lawful one after the

@@ -8,6 +8,7 @@ mod greeting;
 mod hearing;
 mod judging;
 mod known;
+mod laws;
 mod leftovers;
 mod lines;
 mod next;
@@ -21,4 +22,5 @@ mod vouching;
 
 pub use judging::vouch;
 pub use known::KnownDialect;
+pub use laws::{line_replies, vouched_link};
 pub use vouching::{Difference, Vouching};

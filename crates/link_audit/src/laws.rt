@@ -1,0 +1,25 @@
+// Laws of links and of what their far ends saw.
+ghost use Rattle.std.specs.Prelude.{ℕ, List};
+ghost use Rattle.game_text.specs.Games.{GameFile};
+ghost use Rattle.line_protocol.specs.declared.saying.Said.{Said};
+ghost use Rattle.line_protocol.specs.Replies.{IsOneLine, said_text};
+ghost use Rattle.json_dialect.specs.JsonReplies.{json_text};
+ghost use Rattle.log_text.specs.LoggedGames.{LoggedGame};
+ghost use Rattle.game_run.specs.Hosted.{hosted_game};
+ghost use Rattle.link_audit.specs.Links.{HasLineReplies, HasWelcome, IsLinkOfLog, IsVouched};
+
+use agent_gate::Dialect;
+
+/// The law of far ends, as this call's contract: a link of a log is vouched for by the bytes that it had to give and those that it was
+/// sent, if its welcome was sent whole, in each form of lines whose replies are one line each.
+pub fn vouched_link<D: Dialect>()
+    ensures { (game : GameFile) (port : ℕ) (dialect : D) (log : LoggedGame) (agent : ℕ) (asked said : List ℕ) →
+        HasLineReplies (D.form dialect) → IsLinkOfLog (hosted_game game (D.form dialect) port) log agent asked said → HasWelcome game agent said →
+        IsVouched game (D.form dialect) log agent asked said }
+{}
+
+/// The law of replies, as this call's contract: each is one line, in words and in JSON.
+pub fn line_replies()
+    ensures words { (reply : Said) → IsOneLine (said_text reply) }
+    ensures json { (reply : Said) → IsOneLine (json_text reply) }
+{}
