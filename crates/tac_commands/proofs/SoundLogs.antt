@@ -54,7 +54,7 @@ auctions_from game n (a ∷ auctions) is =
     let others : map (λ (x : AuctionHistory). x.setup) auctions ≡ map (λ (good : ℕ). setup_of good game) (range_with_len (n + 1) (length auctions)) = ap (drop 1) is in
     λ i. record { setup = sym first i; history = a.history } ∷ auctions_from game (n + 1) auctions others i
 
-auctions_again : (game : GameFile) (head : Head) (closed : ClosedGame) (sheet : List Scored) → map (λ (a : AuctionHistory). a.setup) closed.auctions ≡ map (λ (good : ℕ). setup_of good game) all_goods →
+pub auctions_again : (game : GameFile) (head : Head) (closed : ClosedGame) (sheet : List Scored) → map (λ (a : AuctionHistory). a.setup) closed.auctions ≡ map (λ (good : ℕ). setup_of good game) all_goods →
     auctions_in game (log_of_game head closed sheet) ≡ closed.auctions
 auctions_again game head closed sheet is =
     let count : length closed.auctions ≡ 28 = sym (length-map closed.auctions (λ (a : AuctionHistory). a.setup)) ∙ ap length is in

@@ -4,3 +4,4 @@ pub mod PostedCash
 pub mod WrittenLogs
 pub mod LapsedGames
 pub mod ServiceCauses
+pub mod ServedLinks

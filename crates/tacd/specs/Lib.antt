@@ -1,3 +1,4 @@
 pub mod SoundLogs
 pub mod Service
 pub mod Finishing
+pub mod ServedLinks

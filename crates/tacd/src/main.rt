@@ -7,6 +7,7 @@ mod audit_tests;
 mod host_files;
 #[cfg(test)]
 mod hotel_tests;
+mod laws;
 #[cfg(test)]
 mod play_tests;
 #[cfg(test)]

@@ -1,0 +1,82 @@
+-- The links of a served game, and what its log says of them.
+use Rattle.std.specs.Prelude.{◌≡◌, ℕ, ◌≤◌, ◌⊎◌, List, Ok, Some, length, slice_get}
+use Rattle.tac_base.specs.declared.limits.TheConstants.{TEXT_BYTES}
+use Rattle.tac_io.specs.States.{FilesState, LinkState, LinksState}
+use Rattle.tac_io.specs.Taken.{TookWhole}
+use Rattle.game_text.specs.Games.{GameFile}
+use Rattle.line_protocol.specs.declared.admission.Verdict.{Verdict}
+use Rattle.line_protocol.specs.declared.admission.Verdict.TheVariants.{Seated}
+use Rattle.log_text.specs.LoggedGames.{LoggedGame}
+use Rattle.log_text.specs.SoundLog.{IsSound}
+use Rattle.agent_gate.specs.Dialects.{Dialect}
+use Rattle.game_run.specs.declared.run.GameEnd.{GameEnd}
+use Rattle.game_run.specs.Hosted.{HostedGame}
+use Rattle.game_run.specs.Outcomes.{IsGameEnd}
+use Rattle.link_audit.specs.declared.vouching.Vouching.{Vouching}
+use Rattle.link_audit.specs.Links.{HasBytes, HasWelcome, IsVouched}
+use Rattle.link_audit.specs.Vouchings.{IsYes}
+use Rattle.tac_commands.specs.declared.file_kinds.FileKind.TheVariants.{Log}
+use Rattle.tac_commands.specs.declared.refusals.Refusal.TheVariants.{Memory}
+use Rattle.tac_commands.specs.Allowed.{link_steps}
+use Rattle.tac_commands.specs.FileKinds.{read_as}
+use Rattle.tac_commands.specs.Outcomes.{Outcome, Done, Refused}
+use Rattle.tac_commands.specs.Outsides.{Outside}
+use Rattle.tac_commands.specs.Runs.{Runs}
+use Rattle.tac_commands.specs.Services.{Service, dialect_in}
+use Rattle.tac_commands.specs.VouchingTexts.{vouching_text}
+use Rattle.tacd.specs.declared.answer.Answer.{Answer}
+use Rattle.tacd.specs.declared.answer.Played.{Played}
+use Rattle.tacd.specs.Service.{IsGameFile}
+use Rattle.tacd.specs.Finishing.{hosted_by}
+
+-- ---- the links
+
+-- the links of a game in the order in which they came: as they came, their verdicts, and as they were left
+pub record GameLinks (L : Type 0) : Type 0 where
+  pub given : List L
+  pub verdicts : List Verdict
+  pub ended : List L
+
+module _ {L : Type 0} (state : L → LinkState) where
+  -- one of the links has the agent's seat, and its bytes are known
+  pub record IsSeatedWith (links : GameLinks L) (agent : ℕ) (asked said : List ℕ) : Type 0 where
+    pub place : ℕ
+    pub listed : slice_get links.verdicts place ≡ Some (Seated agent)
+    pub before : L
+    pub came : slice_get links.given place ≡ Some before
+    pub after : L
+    pub left : slice_get links.ended place ≡ Some after
+    pub bytes : HasBytes (state before) (state after) asked said
+
+  -- the links of a game that was played
+  abbrev pub links_of : {hosted : HostedGame} {links links' : LinksState L} {end : GameEnd L} → IsGameEnd state hosted links links' end → GameLinks L
+  links_of {hosted} {links} {links'} {end} is = record { given = is.played.taken.given; verdicts = is.verdicts; ended = end.links.items }
+
+-- ---- what the log says of them
+
+-- a judgement by a link is a yes for the agent, or memory was refused
+abbrev pub SaysYes : ℕ → Outcome → Type 0
+SaysYes agent outcome = ((vouching : Vouching) × IsYes agent vouching × (outcome ≡ Done (vouching_text vouching))) ⊎ (outcome ≡ Refused Memory)
+
+-- A text is that of a sound log, and the log is vouched for by a link's bytes: as a file of its own it is read as that log, if it is no longer
+-- than a log may be, and a judgement by these bytes is a yes.
+pub record HasVouchedLog (game : GameFile) (dialect : Dialect) (text : List ℕ) (agent : ℕ) (asked said : List ℕ) : Type 0 where
+  pub log : LoggedGame
+  pub sound : IsSound game log
+  pub read : length text ≤ TEXT_BYTES → read_as Log text ≡ Ok log
+  pub vouched : IsVouched game dialect log agent asked said
+  pub judged : (files files' : FilesState) (outcome : Outcome) → Runs (link_steps game dialect log asked said) files files' outcome → SaysYes agent outcome
+
+module _ {L : Type 0} (state : L → LinkState) where
+  -- A service wrote the log of a game that was played, and the log is vouched for by the bytes of each link with a seat, where they are known
+  -- and its welcome was sent whole.
+  pub record IsVouchedService (service : Service) (before after : Outside L) (answer : Answer L) : Type 0 where
+    pub game : GameFile
+    pub file : IsGameFile before.files service.game game
+    pub text : List ℕ
+    pub written : TookWhole before.out after.out text
+    pub played : Played
+    pub kept : answer.played ≡ Some played
+    pub end : IsGameEnd state (hosted_by service game) before.links after.links (record { closed = played.closed; head = played.head; links = answer.ended })
+    pub vouched : (agent : ℕ) (asked said : List ℕ) → IsSeatedWith state (links_of state end) agent asked said → HasWelcome game agent said
+        → HasVouchedLog game (dialect_in service.form) text agent asked said
