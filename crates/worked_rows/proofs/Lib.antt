@@ -6,3 +6,4 @@ mod Sessions
 mod Ends
 mod CommandLines
 mod Vouched
+mod LoggedLinks

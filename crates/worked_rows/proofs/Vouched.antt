@@ -1,15 +1,17 @@
 -- The definitions on small links: each lemma compares what they say with what was worked out by hand.
-use Rattle.std.proofs.Common.{◌≡◌, ◌≢◌, ℕ, ◌+◌, ◌<◌, List, [], ◌∷◌, ◌++◌, Bool, true, false, length, map, None, Some, Ok, Err, refl, sym, ap, ◌∙◌, arith, inl, inr, pos}
-use Rattle.std.specs.Prelude.{Result, codes, neg_ℤ, replicate}
+use Rattle.std.proofs.Common.{◌≡◌, ℕ, List, [], ◌∷◌, ◌++◌, length, map, Err, refl, sym, ap, ◌∙◌, arith, inr, pos}
+use Rattle.std.specs.Prelude.{codes, neg_ℤ, replicate}
 use Rattle.std.specs.Fmt.{digits}
-use Rattle.std.specs.List.{AllZip, list_any}
+use Rattle.std.specs.List.{AllZip}
 use mathlib.Core.Option.{some, none}
 use lib.ListN.{get_elem?}
 use Rattle.tac_base.specs.Numerals.{numeral, signed_numeral}
+use Rattle.tac_base.specs.declared.calls.Board.{Board}
 use Rattle.tac_base.specs.declared.calls.Call.TheVariants as calls
 use Rattle.tac_base.specs.declared.calls.Reply.TheVariants as replies
 use Rattle.game_text.specs.QuietGames.{quiet_game}
 use Rattle.auction_rules.specs.History.{Entry}
+use Rattle.turn_lock.specs.Part.{part}
 use Rattle.turn_lock.specs.Notes.{AreNotes}
 use Rattle.auction_core.specs.Auctions.{AuctionHistory}
 use Rattle.auction_core.specs.ClosedGame.{all_goods}
@@ -22,18 +24,17 @@ use Rattle.tac_io.specs.declared.line_got.LineGot.{LineGot}
 use Rattle.tac_io.specs.declared.line_got.LineGot.TheVariants as gots
 use Rattle.line_protocol.specs.declared.admission.Cause.TheVariants as causes
 use Rattle.line_protocol.specs.declared.admission.Verdict.TheVariants.{Seated, Lost}
-use Rattle.line_protocol.specs.declared.asking.Request.{Request}
 use Rattle.line_protocol.specs.declared.asking.Request.TheVariants as requests
-use Rattle.line_protocol.specs.declared.asking.RequestFault.{RequestFault}
 use Rattle.line_protocol.specs.declared.asking.RequestFault.TheVariants.{Memory}
 use Rattle.line_protocol.specs.Requests.{request_of}
 use Rattle.line_protocol.specs.Heads.{Head, Play, Serve}
 use Rattle.log_text.specs.LoggedGames.{LoggedGame}
-use Rattle.log_text.specs.SoundLog.{gives_seat}
+use Rattle.log_text.specs.SoundLog.{auctions_in}
 use Rattle.agent_gate.specs.Dialects.{Dialect}
 use Rattle.agent_gate.specs.Items.{Asks, IsItem}
-use Rattle.agent_gate.specs.Turns.{Turn, Called, CashRead, boards_shown}
-use Rattle.agent_gate.specs.Welcome.{welcome_lines, welcome_text}
+use Rattle.agent_gate.specs.Transcript.{IsTranscript}
+use Rattle.agent_gate.specs.Turns.{Turn, Called, CashRead, AreLawful, boards_shown, cash_made, made_at}
+use Rattle.agent_gate.specs.Welcome.{welcome_text}
 use Rattle.agent_gate.proofs.LawfulTurns.{none_lawful, lawful_more}
 use Rattle.tac_commands.specs.declared.services.Form.TheVariants.{Lines, Json}
 use Rattle.tac_commands.specs.Services.{dialect_in}
@@ -50,7 +51,7 @@ heads_say_what_became_of_links : (logged_verdicts (Serve (Lost ∷ Seated 2 ∷ 
 heads_say_what_became_of_links = (refl, refl, refl, refl)
 
 -- a JSON line may have been answered for want of memory; where its reply did not come, it was not
-abbrev json : Dialect
+abbrev pub json : Dialect
 json = dialect_in Json
 
 memory_is_told_by_its_reply_alone : IsItem json.may_answer (gots.Line, codes "{\"do\":\"cash\"}") (Asks (Err Memory)) × (IsItem (MayAsk json.may_answer) (gots.Line, codes "{\"do\":\"cash\"}") (Asks (Err Memory)) → ⊥)
@@ -58,7 +59,7 @@ memory_is_told_by_its_reply_alone = (inr refl, λ asked. asked.1 refl)
 
 -- ---- a link of agent 2, which bought two seats and read its cash, and whose last reply did not come
 
-abbrev words : Dialect
+abbrev pub words : Dialect
 words = dialect_in Lines
 
 abbrev bid_entry : Entry
@@ -80,24 +81,40 @@ abbrev cash_entry : CashEntry
 cash_entry = record { caller = 2; call = cash_calls.Read 2; reply = cash_replies.Cash (neg_ℤ (pos 600)) }
 
 -- the log of a game in which nobody else called, with this head
-abbrev log : Head → LoggedGame
+abbrev pub log : Head → LoggedGame
 log head = record { head = head; histories = (bid_entry ∷ []) ∷ replicate 27 []; cash = post ∷ cash_entry ∷ []; scores = [] }
 
 abbrev served : LoggedGame
 served = log (Serve (Lost ∷ Seated 2 ∷ []) ((2, causes.End) ∷ []) 0)
 
-abbrev bought : Turn
+abbrev pub bought : Turn
 bought = Called (requests.Bid 0 (record { units = pos 2; price = 310 } ∷ [])) 0 0 bid_entry 0
 
-abbrev read : Turn
+abbrev pub read : Turn
 read = CashRead 1 (neg_ℤ (pos 600))
 
--- no board is shown by these turns
 zip_all : {A B : Type 0} (R : A → B → Type 0) (xs : List A) (ys : List B) → length xs ≡ length ys → ((x : A) (y : B) → R x y) → AllZip R xs ys
 zip_all R [] [] long each = tt
 zip_all R [] (y ∷ ys) long each = absurd (omega (arith, long))
 zip_all R (x ∷ xs) [] long each = absurd (omega (arith, long))
 zip_all R (x ∷ xs) (y ∷ ys) long each = (each x y, zip_all R xs ys (omega (arith, long)) each)
+
+-- turns that show no board are the agent's part of a log, if they made its entries
+pub transcribed : (logged : LoggedGame) (turns : List Turn) → length (auctions_in quiet_game logged) ≡ 28
+    → map (λ auction. part (λ e. e.caller) auction.history 2) (auctions_in quiet_game logged) ≡ map (λ good. made_at good turns) all_goods
+    → part (λ e. e.caller) logged.cash 2 ≡ cash_made 2 turns → ((good : ℕ) → boards_shown good turns ≡ []) → IsTranscript 2 (closed_in quiet_game logged) turns
+transcribed logged turns long calls cash quiet = record {
+  calls = calls;
+  cash = cash;
+  boards = zip_all (λ (auction : AuctionHistory) good. AreNotes (board_of auction) auction.history (length auction.history) (boards_shown good turns)) (auctions_in quiet_game logged) all_goods long
+      (λ auction good k note at. absurd (never k note (sym (ap (λ (notes : List (ℕ × Board)). get_elem? notes k) (quiet good)) ∙ at)));
+}
+  where
+    never : (k : ℕ) (note : ℕ × Board) → get_elem? {A = ℕ × Board} [] k ≡ some note → ⊥
+    never k note at = let none_is : none ≡ some note = at in cc
+
+pub lawful : AreLawful (bought ∷ read ∷ [])
+lawful = lawful_more (bought ∷ []) read (lawful_more [] bought none_lawful (refl, omega arith, omega arith, λ k d inside. absurd (omega (arith, inside))) refl) (omega arith) refl
 
 -- the last line and its reply are cut, and a line that was not read by the server comes behind
 abbrev asked : List ℕ
@@ -121,14 +138,9 @@ link_is_vouched_for = record {
   heard_items = (refl, tt);
   unheard_items = ((refl, λ is. absurd cc), tt);
   few = omega arith;
-  lawful = lawful_more (bought ∷ []) read (lawful_more [] bought none_lawful (refl, omega arith, omega arith, λ k d inside. absurd (omega (arith, inside))) refl) (omega arith) refl;
+  lawful = lawful;
   replies = refl;
-  transcript = record {
-    calls = refl;
-    cash = refl;
-    boards = zip_all (λ (auction : AuctionHistory) good. AreNotes (board_of auction) auction.history (length auction.history) (boards_shown good (bought ∷ read ∷ []))) (closed_in quiet_game served).auctions all_goods refl
-        (λ auction good k note at. absurd (let never : none ≡ some note = at in cc));
-  };
+  transcript = transcribed served (bought ∷ read ∷ []) refl refl refl (λ good. refl);
 }
 
 -- ---- links that are not vouched for, whatever the rest
