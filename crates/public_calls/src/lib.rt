@@ -5,7 +5,9 @@
 //! is generic or lends its answer, is made in a closure. Nothing here is run.
 #![tactic(auto)]
 
-ghost use Rattle.std.specs.Prelude.{◌≡◌, [], IfSome};
+ghost use Rattle.std.specs.Prelude.{◌≡◌, ◌<◌, [], IfSome, length};
+ghost use Rattle.tac_base.specs.declared.limits.TheConstants.{LINK_BYTES};
+ghost use Rattle.log_text.specs.SoundLog.{IsSound};
 
 use agent_gate::*;
 use allocator::*;
@@ -24,6 +26,7 @@ use good_worth::*;
 use hotel_book::*;
 use json_dialect::*;
 use line_protocol::*;
+use link_audit::*;
 use log_audit::*;
 use packages::*;
 use score_sheet::*;
@@ -412,4 +415,35 @@ pub fn audits_and_standings() {
         Post { position: u32 }, Unposted { good: Good, position: u32 }, Score { agent: Agent }, Head
     });
     shape!(struct TeamRow { team: u16, games: u8, total: i64, over: i64, under: u8, rank: u16 });
+}
+
+/// Of `link_audit`: the forms of lines in which it is known what a line asked.
+pub fn known_dialects<D: KnownDialect>() {
+    const _: fn() = known_dialects::<LineDialect>;
+    const _: fn() = known_dialects::<JsonDialect>;
+    call!(KnownDialect::asks(
+        dialect: &D, line: &[u8], heard: bool, reply: &[u8]
+    ) -> Result<Result<Request, RequestFault>, Memory>);
+}
+
+/// Of `link_audit`.
+pub fn audits_of_links<D: KnownDialect>(
+    alloc: Global,
+    game: &Game,
+    log: &Log,
+    dialect: &D,
+    asked: &[u8],
+    said: &[u8],
+) -> Result<Vouching, Memory>
+    requires sound { IsSound game.now log.now }
+    requires short { length asked.now < LINK_BYTES }
+{
+    shape!(enum Vouching {
+        Whole { agent: Agent, lines: u32 }, Cut { agent: Agent, lines: u32, after: u32 },
+        Not(difference: Difference)
+    });
+    shape!(enum Difference {
+        Seat, Welcome, Line(line: u32), Entry { good: Good, position: u32 }, Cash(position: u32)
+    });
+    vouch::<D>(alloc, game, log, dialect, asked, said)
 }
