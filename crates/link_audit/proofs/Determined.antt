@@ -17,9 +17,9 @@ use Rattle.log_text.specs.SoundLog.{logged_history}
 use Rattle.agent_gate.specs.Items.{Asks}
 use Rattle.agent_gate.specs.Turns.{Turn, Called, CallDenied, CashRead, CashDenied, Quoted, Refused, Skipped, Left, asked_call, reading}
 use Rattle.link_audit.specs.declared.places.Places.{Places}
-use Rattle.link_audit.specs.Ahead.{Subject, entry_caller, cash_caller, rest_of, HasNext, calls_left, cash_left, IsNote, IsWide, behind, called, after, ArePostedAt, ArePosted, IsPossible, IsEasier, IsTaken, IsStuck}
+use Rattle.link_audit.specs.Ahead.{Subject, entry_caller, cash_caller, rest_of, HasNext, calls_left, cash_left, IsNote, IsWide, behind, behind_call, behind_turn, ArePostedAt, ArePosted, IsPossible, IsEasier, IsTaken, IsStuck}
 use Rattle.link_audit.proofs.Rest.{same_position, same_entry}
-use Rattle.link_audit.proofs.Easier.{same_places, lower_raised}
+use Rattle.link_audit.proofs.Easier.{all_stay, same_places, lower_raised}
 
 module _ (s : Subject) (Fits : Said → Type 0) (from : Places) where
   -- ---- a call
@@ -37,7 +37,7 @@ module _ (s : Subject) (Fits : Said → Type 0) (from : Places) where
 
     -- the calls are used up
     module _ (full : slice_index from.made good ≡ AGENT_CALLS) where
-      denied : (other : Turn) → IsPossible (λ item. item ≡ Asks (Ok request)) Fits s from other → Fits said.Spent × (after from other ≡ from)
+      denied : (other : Turn) → IsPossible (λ item. item ≡ Asks (Ok request)) Fits s from other → Fits said.Spent × (behind_turn from other ≡ from)
       denied (Called r g position entry posted) p = absurd (
           let same : r ≡ request = (let is = p.asked in cc) in
           let here : g ≡ good = good_of r g entry.call p.allowed.0 same in
@@ -51,9 +51,6 @@ module _ (s : Subject) (Fits : Said → Type 0) (from : Places) where
       denied Skipped p = absurd (let is = p.asked in cc)
       denied Left p = absurd (no_call requests.Quit refl p.asked)
 
-      pub spent_stuck : (Fits said.Spent → ⊥) → IsStuck (λ item. item ≡ Asks (Ok request)) Fits s from
-      spent_stuck unfit other is = unfit (denied other is).0
-
       call_in : (call : Option (ℕ × Call)) → option_map (λ p. p.0) call ≡ Some good → (c : Call) × (call ≡ Some (good, c))
       call_in None is = absurd cc
       call_in (Some (g, c)) is = let same : g ≡ good = cc in (c, λ i. Some (same i, c))
@@ -65,6 +62,7 @@ module _ (s : Subject) (Fits : Said → Type 0) (from : Places) where
         stays = refl;
         to_is = refl;
         easiest = λ other is. subst (IsEasier from) (sym (denied other is).1) (same_places from);
+        stay = all_stay (λ item. item ≡ Asks (Ok request)) Fits s from (no_call requests.Quit refl);
       }
 
     -- calls are left
@@ -77,7 +75,7 @@ module _ (s : Subject) (Fits : Said → Type 0) (from : Places) where
         pub fits : Fits (said.At position entry.reply)
         pub posted : ℕ
         pub at : ArePostedAt s.agent s.log.cash from.cash (due_post good position entry) posted
-        pub after_is : after from other ≡ called from good position (behind from.cash (due_post good position entry) posted)
+        pub after_is : behind_turn from other ≡ behind_call from good position (behind from.cash (due_post good position entry) posted)
 
       made_next : (position : ℕ) (entry : Entry) → HasNext entry_caller s.agent (slice_index from.next good) (logged_history s.log good) position entry
           → (other : Turn) → IsPossible (λ item. item ≡ Asks (Ok request)) Fits s from other → IsNextCall position entry other
@@ -97,7 +95,7 @@ module _ (s : Subject) (Fits : Said → Type 0) (from : Places) where
             fits = subst Fits (λ i. said.At (there i) (alike i).reply) is.fits;
             posted = posted;
             at = subst (λ (w : ℕ × ℕ × Entry). ArePostedAt s.agent s.log.cash from.cash (due_post w.0 w.1 w.2) posted) (λ i. (here i, there i, alike i)) is.next.1;
-            after_is = λ i. called from (here i) (there i) (behind from.cash (due_post (here i) (there i) (alike i)) posted);
+            after_is = λ i. behind_call from (here i) (there i) (behind from.cash (due_post (here i) (there i) (alike i)) posted);
           }
       made_next position entry next (CallDenied r g) is =
           let same : r ≡ request = (let asked = is.asked in cc) in
@@ -159,17 +157,18 @@ module _ (s : Subject) (Fits : Said → Type 0) (from : Places) where
 
         pub call_taken : slice_index from.made good < AGENT_CALLS → slice_index from.seen good ≤ position → option_map (λ p. p.1) (asked_call request) ≡ Some entry.call
             → Fits (said.At position entry.reply) → (cash : ℕ) → ArePosted s.agent s.log.cash from.cash (due_post good position entry) cash
-            → IsTaken (λ item. item ≡ Asks (Ok request)) Fits s from (called from good position cash)
+            → IsTaken (λ item. item ≡ Asks (Ok request)) Fits s from (behind_call from good position cash)
         call_taken few forward alike fit cash posted = record {
           turn = Called request good position entry posted.posted;
           possible = record { asked = refl; fits = fit; allowed = (call_of (asked_call request) asks alike, low, few, forward); next = (next, posted.at) };
           stays = refl;
-          to_is = ap (called from good position) posted.to_is;
+          to_is = ap (behind_call from good position) posted.to_is;
           easiest = λ other is. (
               let made = made_next position entry next other is in
-              let same : called from good position cash ≡ after from other =
-              ap (called from good position) (posted.to_is ∙ one_post (due_post good position entry) posted.posted made.posted posted.at made.at) ∙ sym made.after_is in
-              subst (IsEasier (called from good position cash)) same (same_places (called from good position cash)));
+              let same : behind_call from good position cash ≡ behind_turn from other =
+              ap (behind_call from good position) (posted.to_is ∙ one_post (due_post good position entry) posted.posted made.posted posted.at made.at) ∙ sym made.after_is in
+              subst (IsEasier (behind_call from good position cash)) same (same_places (behind_call from good position cash)));
+          stay = all_stay (λ item. item ≡ Asks (Ok request)) Fits s from (no_call requests.Quit refl);
         }
 
   -- ---- a reading
@@ -193,27 +192,19 @@ module _ (s : Subject) (Fits : Said → Type 0) (from : Places) where
   read_only A Left is read denied = absurd (let asked = is.asked in cc)
 
   module _ (full : from.readings ≡ CASH_READINGS) where
-    pub read_spent_stuck : (Fits said.Spent → ⊥) → IsStuck (λ item. item ≡ Asks (Ok requests.Cash)) Fits s from
-    read_spent_stuck unfit other is = read_only ⊥ other is (λ position dollars same few next fit. omega (arith, few, full)) (λ same all fit. unfit fit)
-
     pub read_spent_taken : Fits said.Spent → IsTaken (λ item. item ≡ Asks (Ok requests.Cash)) Fits s from from
     read_spent_taken fit = record {
       turn = CashDenied;
       possible = record { asked = refl; fits = fit; allowed = full; next = tt };
       stays = refl;
       to_is = refl;
-      easiest = λ other is. read_only (IsEasier from (after from other)) other is
+      easiest = λ other is. read_only (IsEasier from (behind_turn from other)) other is
           (λ position dollars same few next fit. absurd (omega (arith, few, full)))
-          (λ same all fit. subst (λ (t : Turn). IsEasier from (after from t)) (sym same) (same_places from));
+          (λ same all fit. subst (λ (t : Turn). IsEasier from (behind_turn from t)) (sym same) (same_places from));
+      stay = all_stay (λ item. item ≡ Asks (Ok requests.Cash)) Fits s from (λ is. absurd cc);
     }
 
   module _ (some : from.readings ≢ CASH_READINGS) where
-    pub read_none_stuck : cash_left s from.cash ≡ [] → IsStuck (λ item. item ≡ Asks (Ok requests.Cash)) Fits s from
-    read_none_stuck none other is = read_only ⊥ other is
-        (λ position dollars same few next fit.
-        absurd (let both : [] ≡ (position, reading s.agent dollars) ∷ rest_of cash_caller s.agent (position + 1) s.log.cash = sym none ∙ next in cc))
-        (λ same all fit. some all)
-
     module _ (place : ℕ) (entry : CashEntry) (next : HasNext cash_caller s.agent from.cash s.log.cash place entry) where
       alike : (position : ℕ) (dollars : ℤ) → HasNext cash_caller s.agent from.cash s.log.cash position (reading s.agent dollars) → (position ≡ place) × (reading s.agent dollars ≡ entry)
       alike position dollars own =
@@ -225,9 +216,6 @@ module _ (s : Subject) (Fits : Said → Type 0) (from : Places) where
 
       pub read_post_stuck : ((dollars : ℤ) → reading s.agent dollars ≡ entry → ⊥) → IsStuck (λ item. item ≡ Asks (Ok requests.Cash)) Fits s from
       read_post_stuck none other is = read_only ⊥ other is (λ position dollars same few own fit. none dollars (alike position dollars own).1) (λ same all fit. some all)
-
-      pub read_many_stuck : CASH_READINGS < from.readings → IsStuck (λ item. item ≡ Asks (Ok requests.Cash)) Fits s from
-      read_many_stuck many other is = read_only ⊥ other is (λ position dollars same few own fit. omega (arith, few, many)) (λ same all fit. some all)
 
       module _ (shown : ℤ) (entry_is : reading s.agent shown ≡ entry) where
         same_dollars : (dollars : ℤ) → reading s.agent dollars ≡ entry → dollars ≡ shown
@@ -248,12 +236,13 @@ module _ (s : Subject) (Fits : Said → Type 0) (from : Places) where
           to_is = refl;
           easiest = λ other is. (
               let to : Places = record from { cash = place + 1; readings = from.readings + 1 } in
-              read_only (IsEasier to (after from other)) other is
+              read_only (IsEasier to (behind_turn from other)) other is
               (λ position dollars same few own fit. (
               let there = (alike position dollars own).0 in
-              let moved : to ≡ after from other = (λ i. record from { cash = sym there i + 1; readings = from.readings + 1 }) ∙ ap (after from) (sym same) in
+              let moved : to ≡ behind_turn from other = (λ i. record from { cash = sym there i + 1; readings = from.readings + 1 }) ∙ ap (behind_turn from) (sym same) in
               subst (IsEasier to) moved (same_places to)))
               (λ same all fit. absurd (some all)));
+          stay = all_stay (λ item. item ≡ Asks (Ok requests.Cash)) Fits s from (λ is. absurd cc);
         }
 
   -- ---- a quote
@@ -289,14 +278,15 @@ module _ (s : Subject) (Fits : Said → Type 0) (from : Places) where
       };
       stays = refl;
       to_is = λ i. record from { seen = slice_set from.seen good (sym counted i) };
-      easiest = λ other is. quote_only (IsEasier (record from { seen = slice_set from.seen good count }) (after from other)) other is
-          (λ shown same forward' note' fit'. subst (λ (t : Turn). IsEasier (record from { seen = slice_set from.seen good count }) (after from t)) (sym same) (record {
+      easiest = λ other is. quote_only (IsEasier (record from { seen = slice_set from.seen good count }) (behind_turn from other)) other is
+          (λ shown same forward' note' fit'. subst (λ (t : Turn). IsEasier (record from { seen = slice_set from.seen good count }) (behind_turn from t)) (sym same) (record {
             next = refl;
             made = refl;
             cash = refl;
             readings = refl;
             seen = λ g low'. lower_raised from.seen good count shown.count g wide.seen low (not_before shown forward' note' fit');
           }));
+      stay = all_stay (λ item. item ≡ Asks (Ok (requests.Quote good))) Fits s from (λ is. absurd cc);
     }
       where
         not_before : (shown : Board) → slice_index from.seen good ≤ shown.count → IsNote s good (shown.count, shown) → Fits (said.Quote shown) → count ≤ shown.count

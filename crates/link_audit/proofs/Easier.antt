@@ -1,15 +1,30 @@
 -- Whoever saw less may do all that whoever saw more may do.
-use Rattle.std.proofs.Common.{◌≡◌, ℕ, ◌+◌, ◌<◌, ◌≤◌, List, [], ◌∷◌, length, refl, sym, ap, ◌∙◌, subst, inl, inr, arith}
+use Rattle.std.proofs.Common.{◌≡◌, ℕ, ◌+◌, ◌<◌, ◌≤◌, List, [], ◌∷◌, false, Ok, length, refl, sym, ap, ◌∙◌, subst, inl, inr, arith}
 use Rattle.std.specs.Prelude.{slice_index, slice_set}
 use Rattle.std.proofs.lemmas.List.{get_or-set_same, get_or-set_other}
 use Rattle.std.proofs.lemmas.Bool.Decides.{eqb_tells}
 use Rattle.tac_base.specs.declared.limits.TheConstants.{AGENT_CALLS, CASH_READINGS}
 use Rattle.trade_ledger.specs.Posts.{due_post}
+use Rattle.line_protocol.specs.declared.asking.Request.TheVariants as requests
+use Rattle.line_protocol.specs.declared.saying.Said.{Said}
 use Rattle.log_text.specs.SoundLog.{logged_history}
-use Rattle.agent_gate.specs.Turns.{Turn, Called, CallDenied, CashRead, CashDenied, Quoted, Refused, Skipped, Left}
+use Rattle.agent_gate.specs.Items.{Item, Asks}
+use Rattle.agent_gate.specs.Turns.{Turn, Called, CallDenied, CashRead, CashDenied, Quoted, Refused, Skipped, Left, is_leaving, reading}
 use Rattle.link_audit.specs.declared.places.Places.{Places}
-use Rattle.link_audit.specs.Ahead.{Subject, entry_caller, cash_caller, rest_of, IsWide, behind, after, IsAllowed, AreAllowed, Remains, IsEasier}
+use Rattle.link_audit.specs.Ahead.{Subject, entry_caller, cash_caller, rest_of, ArePostedAt, HasNext, IsNext, IsOver, IsWide, behind, behind_turn, IsAllowed, AreAllowed, Remains, IsEasier, IsPossible}
+use Rattle.link_audit.specs.Courses.{AreNext, walked}
 use Rattle.link_audit.proofs.Walking.{wide_after}
+
+-- the agent stays by a line that does not ask to leave
+pub all_stay : (Asked : Item → Type 0) (Fits : Said → Type 0) (s : Subject) (from : Places) → (Asked (Asks (Ok requests.Quit)) → ⊥) → (other : Turn) → IsPossible Asked Fits s from other → is_leaving other ≡ false
+all_stay Asked Fits s from quit (Called request good position entry posted) is = refl
+all_stay Asked Fits s from quit (CallDenied request good) is = refl
+all_stay Asked Fits s from quit (CashRead position dollars) is = refl
+all_stay Asked Fits s from quit CashDenied is = refl
+all_stay Asked Fits s from quit (Quoted good board) is = refl
+all_stay Asked Fits s from quit (Refused fault) is = refl
+all_stay Asked Fits s from quit Skipped is = refl
+all_stay Asked Fits s from quit Left is = absurd (quit is.asked)
 
 pub same_places : (from : Places) → IsEasier from from
 same_places from = record { next = refl; made = refl; cash = refl; readings = refl; seen = λ good low. omega arith }
@@ -67,7 +82,7 @@ module _ (from hard : Places) (easier : IsEasier from hard) where
   easy_allowed Left is = tt
 
   module _ (wide : IsWide from) (wide' : IsWide hard) where
-    easy_after : (turn : Turn) → IsAllowed hard turn → IsEasier (after from turn) (after hard turn)
+    easy_after : (turn : Turn) → IsAllowed hard turn → IsEasier (behind_turn from turn) (behind_turn hard turn)
     easy_after (Called request good position entry posted) is = record {
       next = ap (λ (l : List ℕ). slice_set l good (position + 1)) easier.next;
       made = ap (λ (l : List ℕ). slice_set l good (slice_index l good + 1)) easier.made;
@@ -94,7 +109,7 @@ all_easy from hard [] easier wide wide' all = tt
 all_easy from hard (turn ∷ turns) easier wide wide' all = (
   easy_allowed from hard easier turn all.0,
   all.1,
-  all_easy (after from turn) (after hard turn) turns (easy_after from hard easier wide wide' turn all.0) (wide_after from turn wide) (wide_after hard turn wide') all.2,
+  all_easy (behind_turn from turn) (behind_turn hard turn) turns (easy_after from hard easier wide wide' turn all.0) (wide_after from turn wide) (wide_after hard turn wide') all.2,
 )
 
 pub easy_remains : (s : Subject) (from hard : Places) (turns : List Turn) → IsEasier from hard → IsWide from → IsWide hard → Remains s hard turns → Remains s from turns
@@ -103,4 +118,47 @@ easy_remains s from hard turns easier wide wide' all = record {
   cash = ap (λ (n : ℕ). rest_of cash_caller s.agent n s.log.cash) easier.cash ∙ all.cash;
   boards = all.boards;
   allowed = all_easy from hard turns easier wide wide' all.allowed;
+}
+
+-- ---- what a turn finds
+
+easy_next : (s : Subject) (from hard : Places) → IsEasier from hard → (turn : Turn) → IsNext s hard turn → IsNext s from turn
+easy_next s from hard easier (Called request good position entry posted) is = (
+  subst (λ (l : List ℕ). HasNext entry_caller s.agent (slice_index l good) (logged_history s.log good) position entry) (sym easier.next) is.0,
+  subst (λ (n : ℕ). ArePostedAt s.agent s.log.cash n (due_post good position entry) posted) (sym easier.cash) is.1,
+)
+easy_next s from hard easier (CallDenied request good) is = tt
+easy_next s from hard easier (CashRead position dollars) is = subst (λ (n : ℕ). HasNext cash_caller s.agent n s.log.cash position (reading s.agent dollars)) (sym easier.cash) is
+easy_next s from hard easier CashDenied is = tt
+easy_next s from hard easier (Quoted good board) is = is
+easy_next s from hard easier (Refused fault) is = tt
+easy_next s from hard easier Skipped is = tt
+easy_next s from hard easier Left is = tt
+
+-- turns from harder places are turns from easier ones, and lead to easier ones
+pub record AreEasy (s : Subject) (from hard : Places) (turns : List Turn) : Type 0 where
+  pub allowed : AreAllowed from turns
+  pub next : AreNext s from turns
+  pub to : IsEasier (walked from turns) (walked hard turns)
+
+pub easy_turns : (s : Subject) (from hard : Places) (turns : List Turn) → IsEasier from hard → IsWide from → IsWide hard → AreAllowed hard turns → AreNext s hard turns → AreEasy s from hard turns
+easy_turns s from hard [] easier wide wide' all next = record { allowed = tt; next = tt; to = easier }
+easy_turns s from hard (turn ∷ turns) easier wide wide' all next =
+    let more = easy_turns s (behind_turn from turn) (behind_turn hard turn) turns (easy_after from hard easier wide wide' turn all.0) (wide_after from turn wide) (wide_after hard turn wide') all.2 next.1 in
+    record { allowed = (easy_allowed from hard easier turn all.0, all.1, more.allowed); next = (easy_next s from hard easier turn next.0, more.next); to = more.to }
+
+pub easier_than : (a b c : Places) → IsEasier a b → IsEasier b c → IsEasier a c
+easier_than a b c one two = record {
+  next = one.next ∙ two.next;
+  made = one.made ∙ two.made;
+  cash = one.cash ∙ two.cash;
+  readings = one.readings ∙ two.readings;
+  seen = λ good low. (let x = one.seen good low in let y = two.seen good low in omega (arith, x, y));
+}
+
+-- what is left is the same
+pub easy_over : (s : Subject) (from hard : Places) → IsEasier from hard → IsOver s hard → IsOver s from
+easy_over s from hard easier over = record {
+  calls = λ good low. ap (λ (l : List ℕ). rest_of entry_caller s.agent (slice_index l good) (logged_history s.log good)) easier.next ∙ over.calls good low;
+  cash = ap (λ (n : ℕ). rest_of cash_caller s.agent n s.log.cash) easier.cash ∙ over.cash;
 }

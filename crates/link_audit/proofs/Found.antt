@@ -28,15 +28,19 @@ module _ (log : LoggedGame) (from : List ℕ) (agent good row : ℕ) (found : Li
       let P : ℕ → List Entry → Type 0 = λ r h. rest_of entry_caller agent (slice_index from r) h ≡ [] in
       subst (λ (h : List Entry). P good h) (sym here) (subst (λ (r : ℕ). P r found) same none)
 
+  pub left_at : (position : ℕ) (e : Entry) → HasNext entry_caller agent (slice_index from row) found position e → HasNext entry_caller agent (slice_index from good) (logged_history log good) position e
+  left_at position e next =
+      let P : ℕ → List Entry → Type 0 = λ r h. HasNext entry_caller agent (slice_index from r) h position e in
+      subst (λ (h : List Entry). P good h) (sym here) (subst (λ (r : ℕ). P r found) same next)
+
   pub is_found : (position : ℕ) (e : Entry) (shown : StoredEntry) → slice_get found position ≡ Some e → HasNext entry_caller agent (slice_index from row) found position e → IsShown found position (Some shown)
       → IsFound log from agent good position shown
   is_found position e shown at next is =
-      let P : ℕ → List Entry → Type 0 = λ r h. HasNext entry_caller agent (slice_index from r) h position e in
       let alike : is.0 ≡ e = (let both : Some is.0 ≡ Some e = sym is.1 ∙ at in cc) in
       record {
         entry = e;
         at = subst (λ (h : List Entry). slice_get h position ≡ Some e) (sym here) at;
-        next = subst (λ (h : List Entry). P good h) (sym here) (subst (λ (r : ℕ). P r found) same next);
+        next = left_at position e next;
         shows = subst (λ (w : List Entry × Entry). Shows w.0 position w.1 shown) (λ i. (sym here i, alike i)) is.2;
       }
 

@@ -12,7 +12,7 @@ use Rattle.line_protocol.specs.declared.asking.Request.{Request}
 use Rattle.agent_gate.specs.Turns.{Turn, Called, CallDenied, CashRead, CashDenied, Quoted, Refused, Skipped, Left, entry_made, made_at, is_reading, is_leaving, has_left, shown_length, IsNotBehind, IsLawfulTurn}
 use Rattle.agent_gate.proofs.LawfulTurns.{goes_on_more, goes_on_with, has_left-more}
 use Rattle.link_audit.specs.declared.places.Places.{Places}
-use Rattle.link_audit.specs.Ahead.{start, after, IsAllowed, AreAllowed, IsWide}
+use Rattle.link_audit.specs.Ahead.{start, behind_turn, IsAllowed, AreAllowed, IsWide}
 use Rattle.link_audit.proofs.Walking.{wide_after}
 
 -- the places are those that the turns so far lead to
@@ -126,7 +126,7 @@ module _ (from : Places) (past : List Turn) (tracks : Tracks from past) where
         omega arith
   ]
 
-  pub tracks_after : (turn : Turn) → IsWide from → IsAllowed from turn → is_leaving turn ≡ false → Tracks (after from turn) (past ++ turn ∷ [])
+  pub tracks_after : (turn : Turn) → IsWide from → IsAllowed from turn → is_leaving turn ≡ false → Tracks (behind_turn from turn) (past ++ turn ∷ [])
   tracks_after (Called request g position entry posted) wide here stays =
       let turn : Turn = Called request g position entry posted in
       let long = wide.seen in let long' = wide.made in let low = here.1 in
@@ -168,7 +168,7 @@ lawful_from_allowed from past (t ∷ ts) tracks wide all zero turn at =
     let bare : past ≡ past ++ [] = sym (append-nil past) in
     subst (λ (l : List Turn). IsLawfulTurn l turn × (has_left l ≡ false)) bare (subst (IsLawfulTurn past) same (allowed_lawful from past tracks t all.0), tracks.here)
 lawful_from_allowed from past (t ∷ ts) tracks wide all (suc n) turn at =
-    by_leaving (is_leaving t) refl (λ is. lawful_from_allowed (after from t) (past ++ t ∷ []) ts (tracks_after from past tracks t wide all.0 is) (wide_after from t wide) all.2 n turn at)
+    by_leaving (is_leaving t) refl (λ is. lawful_from_allowed (behind_turn from t) (past ++ t ∷ []) ts (tracks_after from past tracks t wide all.0 is) (wide_after from t wide) all.2 n turn at)
   where
     by_leaving : (b : Bool) → is_leaving t ≡ b
         → (is_leaving t ≡ false → IsLawfulTurn ((past ++ t ∷ []) ++ take n ts) turn × (has_left ((past ++ t ∷ []) ++ take n ts) ≡ false))
@@ -185,7 +185,7 @@ allowed_from_lawful from past (t ∷ ts) tracks wide lawful =
     let here : IsAllowed from t = lawful_allowed from past tracks t (subst (λ (l : List Turn). IsLawfulTurn l t) bare (lawful 0 t refl).0) in (
       here,
       last ts lawful,
-      by_leaving (is_leaving t) refl (λ is. allowed_from_lawful (after from t) (past ++ t ∷ []) ts (tracks_after from past tracks t wide here is) (wide_after from t wide)
+      by_leaving (is_leaving t) refl (λ is. allowed_from_lawful (behind_turn from t) (past ++ t ∷ []) ts (tracks_after from past tracks t wide here is) (wide_after from t wide)
           (λ n turn at. subst (λ (l : List Turn). IsLawfulTurn l turn × (has_left l ≡ false)) (sym (append_assoc past (t ∷ []) (take n ts))) (lawful (suc n) turn at))),
     )
   where
@@ -200,6 +200,6 @@ allowed_from_lawful from past (t ∷ ts) tracks wide lawful =
         or_true true = refl
         or_true false = refl
 
-    by_leaving : (b : Bool) → is_leaving t ≡ b → (is_leaving t ≡ false → AreAllowed (after from t) ts) → AreAllowed (after from t) ts
-    by_leaving true is later = let none = last ts lawful is in subst (λ (l : List Turn). AreAllowed (after from t) l) (sym none) tt
+    by_leaving : (b : Bool) → is_leaving t ≡ b → (is_leaving t ≡ false → AreAllowed (behind_turn from t) ts) → AreAllowed (behind_turn from t) ts
+    by_leaving true is later = let none = last ts lawful is in subst (λ (l : List Turn). AreAllowed (behind_turn from t) l) (sym none) tt
     by_leaving false is later = later is

@@ -11,7 +11,7 @@ use Rattle.agent_gate.specs.Items.{Item, Asks, Overlong, IsItem, AreItems}
 use Rattle.agent_gate.specs.Turns.{Turn, Left, is_leaving, item_of, said_of}
 use Rattle.link_audit.specs.declared.places.Places.{Places}
 use Rattle.link_audit.specs.Links.{MayAsk}
-use Rattle.link_audit.specs.Ahead.{Subject, IsAsked, FitsReply, IsOver, IsWide, after, Remains, IsPossible, IsTaken, IsStuck, IsLeaving, IsEasier, IsAhead}
+use Rattle.link_audit.specs.Ahead.{Subject, IsAsked, FitsReply, IsOver, IsWide, behind_turn, Remains, IsPossible, IsTaken, IsStuck, IsLeaving, IsEasier, IsAhead}
 use Rattle.link_audit.proofs.Walking.{wide_after, turn_first, turn_next, over_none, none_over}
 use Rattle.link_audit.proofs.Easier.{easy_remains}
 
@@ -39,8 +39,8 @@ module _ (dialect : Dialect) (s : Subject) where
   pub record IsOpened (Asked : Item → Type 0) (Fits : Said → Type 0) (from : Places) (lines : List TheLine) (replies : List (List ℕ)) (room : ℕ) : Type 0 where
     pub turn : Turn
     pub possible : IsPossible Asked Fits s from turn
-    pub more : IsAhead dialect s (after from turn) lines replies room
-    pub left : is_leaving turn ≡ true → (replies ≡ []) × IsOver s (after from turn)
+    pub more : IsAhead dialect s (behind_turn from turn) lines replies room
+    pub left : is_leaving turn ≡ true → (replies ≡ []) × IsOver s (behind_turn from turn)
 
   pub easy_ahead : (from hard : Places) (lines : List TheLine) (replies : List (List ℕ)) (room : ℕ) → IsEasier from hard → IsWide from → IsWide hard
       → IsAhead dialect s hard lines replies room → IsAhead dialect s from lines replies room
@@ -83,7 +83,7 @@ module _ (dialect : Dialect) (s : Subject) where
   IsLast gots.Failed = ⊤
   IsLast gots.Budget = ⊤
 
-  no_item : (may_answer : List ℕ → Result Request RequestFault → Type 0) (got : LineGot) (line : List ℕ) (item : Item) → IsLast got → IsItem may_answer (got, line) item → ⊥
+  pub no_item : (may_answer : List ℕ → Result Request RequestFault → Type 0) (got : LineGot) (line : List ℕ) (item : Item) → IsLast got → IsItem may_answer (got, line) item → ⊥
   no_item may_answer gots.Line line item last is = last
   no_item may_answer gots.TooLong line item last is = last
   no_item may_answer gots.End line (Asks asked) last is = is
@@ -144,8 +144,8 @@ module _ (dialect : Dialect) (s : Subject) where
                 left = λ leaves. none_left turns behind (front.last leaves) front.rest;
               }
             where
-              none_left : (us : List Turn) → replies ≡ map (λ turn. dialect.text (said_of turn)) us → us ++ a.unheard ≡ [] → Remains s (after from turn) (us ++ a.unheard) → (replies ≡ []) × IsOver s (after from turn)
-              none_left [] is none rest = (is, none_over s (after from turn) (subst (λ (l : List Turn). Remains s (after from turn) l) none rest))
+              none_left : (us : List Turn) → replies ≡ map (λ turn. dialect.text (said_of turn)) us → us ++ a.unheard ≡ [] → Remains s (behind_turn from turn) (us ++ a.unheard) → (replies ≡ []) × IsOver s (behind_turn from turn)
+              none_left [] is none rest = (is, none_over s (behind_turn from turn) (subst (λ (l : List Turn). Remains s (behind_turn from turn) l) none rest))
               none_left (u ∷ us) is none rest = absurd cc
 
       pub open_unheard : IsAhead dialect s from (line ∷ lines) [] (suc room) → (IsOver s from → ⊥) → IsOpened (IsAsked dialect false line) (FitsReply dialect.text false []) from lines [] room
@@ -174,7 +174,7 @@ module _ (dialect : Dialect) (s : Subject) where
                   replies_are = refl;
                   remains = front.rest;
                 };
-                left = λ leaves. (refl, none_over s (after from turn) (subst (λ (l : List Turn). Remains s (after from turn) l) (front.last leaves) front.rest));
+                left = λ leaves. (refl, none_over s (behind_turn from turn) (subst (λ (l : List Turn). Remains s (behind_turn from turn) l) (front.last leaves) front.rest));
               }
 
           by_heard : (heard : List Turn) (answered : List TheLine) → line ∷ lines ≡ answered ++ (a.unanswered ++ a.later) → AreItems dialect.may_answer answered (map item_of heard)
@@ -195,7 +195,7 @@ module _ (dialect : Dialect) (s : Subject) where
           pub heard_on : IsAhead dialect s from (line ∷ lines) (reply ∷ replies) (suc room) → IsAhead dialect s to lines replies room
           heard_on a =
               let o = open_heard reply replies a in
-              easy_ahead to (after from o.turn) lines replies room (t.easiest o.turn o.possible) (subst IsWide (sym t.to_is) (wide_after from t.turn wide)) (wide_after from o.turn wide) o.more
+              easy_ahead to (behind_turn from o.turn) lines replies room (t.easiest o.turn o.possible) (subst IsWide (sym t.to_is) (wide_after from t.turn wide)) (wide_after from o.turn wide) o.more
 
           pub heard_back : IsAhead dialect s to lines replies room → IsAhead dialect s from (line ∷ lines) (reply ∷ replies) (suc room)
           heard_back a =
@@ -219,7 +219,7 @@ module _ (dialect : Dialect) (s : Subject) where
           pub unheard_on : (IsOver s from → ⊥) → IsAhead dialect s from (line ∷ lines) [] (suc room) → IsAhead dialect s to lines [] room
           unheard_on more a =
               let o = open_unheard a more in
-              easy_ahead to (after from o.turn) lines [] room (t.easiest o.turn o.possible) (subst IsWide (sym t.to_is) (wide_after from t.turn wide)) (wide_after from o.turn wide) o.more
+              easy_ahead to (behind_turn from o.turn) lines [] room (t.easiest o.turn o.possible) (subst IsWide (sym t.to_is) (wide_after from t.turn wide)) (wide_after from o.turn wide) o.more
 
           pub unheard_back : IsAhead dialect s to lines [] room → IsAhead dialect s from (line ∷ lines) [] (suc room)
           unheard_back a = by_heard a.heard a.answered a.lines_are a.heard_items a.few a.replies_are a.remains
@@ -259,7 +259,7 @@ module _ (dialect : Dialect) (s : Subject) where
             let o = open_heard reply replies a in
             let last : o.turn ≡ Left = t.only o.turn o.possible in
             let end = o.left (ap is_leaving last) in
-            (end.0, subst (λ (turn : Turn). IsOver s (after from turn)) last end.1)
+            (end.0, subst (λ (turn : Turn). IsOver s (behind_turn from turn)) last end.1)
 
         pub left_back : replies ≡ [] → IsOver s from → IsAhead dialect s from (line ∷ lines) (reply ∷ replies) (suc room)
         left_back none over = let p = t.possible in record {
@@ -280,7 +280,7 @@ module _ (dialect : Dialect) (s : Subject) where
       unheard_left more t a =
           let o = open_unheard a more in
           let last : o.turn ≡ Left = t.only o.turn o.possible in
-          more (subst (λ (turn : Turn). IsOver s (after from turn)) last (o.left (ap is_leaving last)).1)
+          more (subst (λ (turn : Turn). IsOver s (behind_turn from turn)) last (o.left (ap is_leaving last)).1)
 
     -- ---- no line at the front
 

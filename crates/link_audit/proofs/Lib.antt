@@ -8,7 +8,9 @@ mod Posting
 mod Found
 mod Steps
 mod Cuts
+mod Courses
 mod Walked
+mod CourseWalks
 mod Welcomes
 mod Transcribed
 mod Prefixes
@@ -17,3 +19,4 @@ pub mod OneLines
 mod Sent
 pub mod FarEnds
 pub mod FreshLinks
+mod Judged

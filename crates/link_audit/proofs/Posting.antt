@@ -59,12 +59,6 @@ module _ (agent : ℕ) (log : LoggedGame) (posts : HasTruePosts log) (good posit
       by_trades (t ∷ ts) some post = refl
 
   module _ (some : 0 < length e.trades) where
-    pub unposted_at_end : rest_of cash_caller agent from log.cash ≡ [] → (to : ℕ) → ArePosted agent log.cash from (due_post good position e) to → ⊥
-    unposted_at_end none to is =
-        let next : ArePostedAt agent log.cash from (record { caller = e.caller; call = Post good position (record { dollars = nets_of e.trades }); reply = Done } ∷ []) is.posted =
-        subst (λ (l : List CashEntry). ArePostedAt agent log.cash from l is.posted) (post_due some) is.at in
-        absurd (let both = sym none ∙ next in cc)
-
     module _ (place : ℕ) (c : CashEntry) (there : slice_get log.cash place ≡ Some c) (next : HasNext cash_caller agent from log.cash place c) where
       pub unposted_before : ((nets : Nets) → c.call ≡ Post good position nets → ⊥) → (to : ℕ) → ArePosted agent log.cash from (due_post good position e) to → ⊥
       unposted_before other to is =

@@ -53,12 +53,6 @@ module _ (game : GameFile) (good : ℕ) (history : List Entry) where
   abbrev board_at : ℕ → Board
   board_at count = board_of (record { setup = setup_of good game; history = history }) (take count history)
 
-  pub row_first : (board : Board) → board ≡ board_of (record { setup = setup_of good game; history = history }) [] → AreRow game good history 0 (board ∷ [])
-  row_first board is = record {
-    long = refl;
-    each = λ count few. (let none : count ≡ 0 = omega (arith, few) in subst (λ (k : ℕ). slice_get (board ∷ []) k ≡ Some (board_of (record { setup = setup_of good game; history = history }) (take k history))) (sym none) (ap (λ (b : Board). Some b) is));
-  }
-
   pub row_more : (n : ℕ) (row : List Board) (board : Board) → AreRow game good history n row → board ≡ board_of (record { setup = setup_of good game; history = history }) (take (n + 1) history) → AreRow game good history (n + 1) (row ++ board ∷ [])
   row_more n row board are is = record {
     long = (let long = are.long in omega (arith, long, length-append row (board ∷ [])));

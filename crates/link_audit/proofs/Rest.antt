@@ -1,7 +1,7 @@
 -- What is left of a caller's part of a history.
 use Rattle.std.proofs.Common.{◌≡◌, ◌≢◌, ℕ, zero, suc, ◌+◌, ◌<◌, ◌≤◌, List, [], ◌∷◌, Bool, true, false, cond, length, drop, Some, slice_get, get_or, refl, sym, ap, ◌∙◌, arith, eq-eqb, ne_eqb}
 use Rattle.std.specs.Prelude.{◌==◌}
-use Rattle.std.proofs.lemmas.List.{drop-drop, drop_all}
+use Rattle.std.proofs.lemmas.List.{drop-drop}
 use Rattle.turn_lock.specs.Part.{part_from}
 use Rattle.link_audit.specs.Ahead.{rest_of, HasNext}
 
@@ -66,17 +66,3 @@ module _ {E : Type 0} (caller_of : E → ℕ) (agent : ℕ) where
   rest_there history n e at other =
       ap (part_from caller_of agent n) (drop_here history n e at)
       ∙ ap (λ b. cond b ((n, e) ∷ rest_of caller_of agent (n + 1) history) (rest_of caller_of agent (n + 1) history)) (ne_eqb (caller_of e) agent other)
-
-  pub rest_past : (history : List E) (n : ℕ) → length history ≤ n → rest_of caller_of agent n history ≡ []
-  rest_past history n past = ap (part_from caller_of agent n) (drop_all n history past)
-
--- the entry that is read at an index
-pub read_at : {E : Type 0} (history : List E) (n : ℕ) (d : E) → n < length history → slice_get history n ≡ Some (get_or history n d)
-read_at [] n d lt = absurd (omega (arith, lt))
-read_at (x ∷ history) zero d lt = refl
-read_at (x ∷ history) (suc n) d lt = read_at history n d (omega (arith, lt))
-
-pub got_at : {E : Type 0} (history : List E) (n : ℕ) (d e : E) → slice_get history n ≡ Some e → get_or history n d ≡ e
-got_at [] n d e at = absurd cc
-got_at (x ∷ history) zero d e at = cc
-got_at (x ∷ history) (suc n) d e at = got_at history n d e at

@@ -17,8 +17,8 @@ use Rattle.agent_gate.specs.Turns.{Turn, Called, CallDenied, CashRead, CashDenie
 use Rattle.link_audit.specs.declared.places.Places.{Places}
 use Rattle.link_audit.specs.declared.stepping.Step.{Step}
 use Rattle.link_audit.specs.declared.stepping.Step.TheVariants.{Taken, Leaves, Stuck}
-use Rattle.link_audit.specs.Ahead.{Subject, ReadsBy, IsAsked, FitsReply, IsPossible, IsEasier, IsTaken, IsStuck, IsLeaving, IsStep, IsAnswerTo, after}
-use Rattle.link_audit.proofs.Easier.{same_places}
+use Rattle.link_audit.specs.Ahead.{Subject, ReadsBy, IsAsked, FitsReply, IsPossible, IsEasier, IsTaken, IsStuck, IsLeaving, IsStep, IsAnswerTo, behind_turn}
+use Rattle.link_audit.proofs.Easier.{all_stay, same_places}
 
 module _ (s : Subject) (from : Places) where
   pub step_of : (Asked : Item → Type 0) (Fits : Said → Type 0) (to : Places) (taken : Bool) (result : Step) → (taken ≡ true → IsTaken Asked Fits s from to) → (taken ≡ false → IsStuck Asked Fits s from)
@@ -69,7 +69,8 @@ module _ (s : Subject) (from : Places) where
         possible = record { asked = refl; fits = fit; allowed = tt; next = tt };
         stays = refl;
         to_is = refl;
-        easiest = λ other is. subst (λ (t : Turn). IsEasier from (after from t)) (sym (fault_only other is)) (same_places from);
+        easiest = λ other is. subst (λ (t : Turn). IsEasier from (behind_turn from t)) (sym (fault_only other is)) (same_places from);
+        stay = all_stay (λ item. item ≡ Asks (Err fault)) Fits s from (λ is. absurd cc);
       }
 
       pub fault_stuck : (Fits (said.Fault fault) → ⊥) → IsStuck (λ item. item ≡ Asks (Err fault)) Fits s from
@@ -94,7 +95,8 @@ module _ (s : Subject) (from : Places) where
         possible = record { asked = tt; fits = fit; allowed = tt; next = tt };
         stays = refl;
         to_is = refl;
-        easiest = λ other is. subst (λ (t : Turn). IsEasier from (after from t)) (sym (long_only other is)) (same_places from);
+        easiest = λ other is. subst (λ (t : Turn). IsEasier from (behind_turn from t)) (sym (long_only other is)) (same_places from);
+        stay = all_stay (IsItem may_answer (gots.TooLong, [])) Fits s from (λ is. is);
       }
 
       pub long_stuck : (Fits said.TooLong → ⊥) → IsStuck (IsItem may_answer (gots.TooLong, [])) Fits s from
@@ -111,7 +113,7 @@ module _ (s : Subject) (from : Places) where
     from_other turn is = record { asked = back turn is.asked is.fits; fits = is.fits; allowed = is.allowed; next = is.next }
 
     pub step_as : (to : Places) (result : Step) → IsStep Asked Fits s from to result → IsStep Other Fits s from to result
-    step_as to Taken is = record { turn = is.turn; possible = to_other is.turn is.possible; stays = is.stays; to_is = is.to_is; easiest = λ other o. is.easiest other (from_other other o) }
+    step_as to Taken is = record { turn = is.turn; possible = to_other is.turn is.possible; stays = is.stays; to_is = is.to_is; easiest = λ other o. is.easiest other (from_other other o); stay = λ other o. is.stay other (from_other other o) }
     step_as to Leaves is = (record { possible = to_other Left is.0.possible; only = λ other o. is.0.only other (from_other other o) }, is.1)
     step_as to Stuck is = λ other o. is other (from_other other o)
 

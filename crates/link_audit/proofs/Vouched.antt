@@ -25,7 +25,7 @@ abbrev line_of : LineGot × List ℕ → List ℕ
 line_of answer = answer.1
 
 -- a line is not read as another one
-same_line : (line other : List ℕ) → ended_line line ≡ (gots.Line, other) → other ≡ line
+pub same_line : (line other : List ℕ) → ended_line line ≡ (gots.Line, other) → other ≡ line
 same_line line other is = by_test (nat_le (length line) LINE_BYTES) is
   where
     by_test : (b : Bool) → ◌≡◌ {A = LineGot × List ℕ} (if b then (gots.Line, line) else (gots.TooLong, [])) (gots.Line, other) → other ≡ line
@@ -69,7 +69,7 @@ module _ (game : GameFile) (dialect : Dialect) (log : LoggedGame) (asked said : 
           none (map (λ turn. dialect.text (said_of turn)) v.heard) (v.replies ∙ ap (λ (n : ℕ). welcome_lines game n ++ map (λ turn. dialect.text (said_of turn)) v.heard) (sym (same_agent other v)))
 
       module _ (goods : length log.histories ≡ 28) (boards : List (List Board)) (table : AreBoards game log boards) (replies : List (List ℕ)) (welcome : whole_lines said ≡ welcome_lines game agent ++ replies) where
-        pub vouched_for : IsAhead dialect (record { log = log; boards = boards; agent = agent }) start lines replies SESSION_LINES → IsVouched game dialect log agent asked said
+        unfoldable pub vouched_for : IsAhead dialect (record { log = log; boards = boards; agent = agent }) start lines replies SESSION_LINES → IsVouched game dialect log agent asked said
         vouched_for a = let found = transcribed game log goods agent boards table (a.heard ++ a.unheard) a.remains in record {
           listed = t.listed;
           line = line;
@@ -88,19 +88,20 @@ module _ (game : GameFile) (dialect : Dialect) (log : LoggedGame) (asked said : 
           transcript = found.1;
         }
 
+        unfoldable pub own_ahead : IsVouched game dialect log agent asked said → IsAhead dialect (record { log = log; boards = boards; agent = agent }) start lines replies SESSION_LINES
+        own_ahead v = record {
+          answered = v.answered;
+          unanswered = v.unanswered;
+          later = v.later;
+          lines_are = later_lines agent v;
+          heard = v.heard;
+          unheard = v.unheard;
+          heard_items = v.heard_items;
+          unheard_items = v.unheard_items;
+          few = v.few;
+          replies_are = same_rest (welcome_lines game agent) replies (map (λ turn. dialect.text (said_of turn)) v.heard) (sym welcome ∙ v.replies);
+          remains = remaining game log goods agent boards table (v.heard ++ v.unheard) v.lawful v.transcript;
+        }
+
         pub ahead_of : (other : ℕ) → IsVouched game dialect log other asked said → IsAhead dialect (record { log = log; boards = boards; agent = agent }) start lines replies SESSION_LINES
-        ahead_of other v' =
-            let v : IsVouched game dialect log agent asked said = subst (λ (n : ℕ). IsVouched game dialect log n asked said) (sym (same_agent other v')) v' in
-            record {
-              answered = v.answered;
-              unanswered = v.unanswered;
-              later = v.later;
-              lines_are = later_lines agent v;
-              heard = v.heard;
-              unheard = v.unheard;
-              heard_items = v.heard_items;
-              unheard_items = v.unheard_items;
-              few = v.few;
-              replies_are = same_rest (welcome_lines game agent) replies (map (λ turn. dialect.text (said_of turn)) v.heard) (sym welcome ∙ v.replies);
-              remains = remaining game log goods agent boards table (v.heard ++ v.unheard) v.lawful v.transcript;
-            }
+        ahead_of other v = own_ahead (subst (λ (n : ℕ). IsVouched game dialect log n asked said) (sym (same_agent other v)) v)

@@ -17,12 +17,12 @@ use Rattle.line_protocol.specs.declared.asking.Request.{Request}
 use Rattle.log_text.specs.SoundLog.{logged_history}
 use Rattle.agent_gate.specs.Turns.{Turn, Called, CallDenied, CashRead, CashDenied, Quoted, Refused, Skipped, Left, made_at, cash_made, boards_shown, is_leaving, reading}
 use Rattle.link_audit.specs.declared.places.Places.{Places}
-use Rattle.link_audit.specs.Ahead.{Subject, entry_caller, cash_caller, rest_of, HasNext, calls_left, IsOver, IsNote, IsWide, behind, after, IsAllowed, Remains, ArePostedAt, IsNext}
+use Rattle.link_audit.specs.Ahead.{Subject, entry_caller, cash_caller, rest_of, HasNext, calls_left, IsOver, IsNote, IsWide, behind, behind_turn, IsAllowed, Remains, ArePostedAt, IsNext}
 use Rattle.link_audit.proofs.Rest.{rest_next, has_next}
 
 -- ---- places
 
-pub wide_after : (from : Places) (turn : Turn) → IsWide from → IsWide (after from turn)
+pub wide_after : (from : Places) (turn : Turn) → IsWide from → IsWide (behind_turn from turn)
 wide_after from (Called request good position entry posted) wide = record {
   next = length-set from.next good (position + 1) ∙ wide.next;
   made = length-set from.made good (slice_index from.made good + 1) ∙ wide.made;
@@ -50,7 +50,7 @@ module _ (s : Subject) where
     kept good ne = get_or-set_other from.next g good (position + 1) 0 (λ is. ne (sym is))
 
     call_first : HasNext entry_caller s.agent (slice_index from.next g) (logged_history s.log g) position entry
-        → ((good : ℕ) → good < 28 → calls_left s (after from (Called request g position entry posted)) good ≡ made_at good ts)
+        → ((good : ℕ) → good < 28 → calls_left s (behind_turn from (Called request g position entry posted)) good ≡ made_at good ts)
         → (good : ℕ) → good < 28 → calls_left s from good ≡ made_at good (Called request g position entry posted ∷ ts)
     call_first next rest good low' = elim (eqb_tells g good) [
       | inl here ↦
@@ -72,7 +72,7 @@ module _ (s : Subject) where
     ]
 
     first_rest : ((good : ℕ) → good < 28 → calls_left s from good ≡ made_at good (Called request g position entry posted ∷ ts))
-        → (good : ℕ) → good < 28 → calls_left s (after from (Called request g position entry posted)) good ≡ made_at good ts
+        → (good : ℕ) → good < 28 → calls_left s (behind_turn from (Called request g position entry posted)) good ≡ made_at good ts
     first_rest all good low' = elim (eqb_tells g good) [
       | inl here ↦
           let whole : calls_left s from good ≡ (position, entry) ∷ made_at good ts = all good low' ∙ ap (λ (b : Bool). made_if b good) here.0 in
@@ -139,7 +139,7 @@ module _ (s : Subject) where
   -- ---- a turn at the front
 
   pub turn_first : (from : Places) (turn : Turn) (ts : List Turn) → IsWide from → IsAllowed from turn → (is_leaving turn ≡ true → ts ≡ []) → IsNext s from turn
-      → Remains s (after from turn) ts → Remains s from (turn ∷ ts)
+      → Remains s (behind_turn from turn) ts → Remains s from (turn ∷ ts)
   turn_first from (Called request g position entry posted) ts wide here last next rest = record {
     calls = call_first from request g position posted entry ts wide here.1 next.0 rest.calls;
     cash = posts_first from.cash posted (due_post g position entry) (cash_made s.agent ts) (few_posts g position entry) next.1 rest.cash;
@@ -169,7 +169,7 @@ module _ (s : Subject) where
     pub allowed : IsAllowed from turn
     pub last : is_leaving turn ≡ true → ts ≡ []
     pub next : IsNext s from turn
-    pub rest : Remains s (after from turn) ts
+    pub rest : Remains s (behind_turn from turn) ts
 
   pub turn_next : (from : Places) (turn : Turn) (ts : List Turn) → IsWide from → Remains s from (turn ∷ ts) → HasFirst from turn ts
   turn_next from (Called request g position entry posted) ts wide all =

@@ -86,8 +86,8 @@ abbrev pub behind : ℕ → List CashEntry → ℕ → ℕ
 behind from [] posted = from
 behind from (post ∷ posts) posted = posted + 1
 
-abbrev pub called : Places → ℕ → ℕ → ℕ → Places
-called from good position cash = record {
+abbrev pub behind_call : Places → ℕ → ℕ → ℕ → Places
+behind_call from good position cash = record {
   next = slice_set from.next good (position + 1);
   made = slice_set from.made good (slice_index from.made good + 1);
   seen = slice_set from.seen good (position + 1);
@@ -96,15 +96,15 @@ called from good position cash = record {
 }
 
 -- the places behind a turn
-abbrev pub after : Places → Turn → Places
-after from (Called request good position entry posted) = called from good position (behind from.cash (due_post good position entry) posted)
-after from (CallDenied request good) = from
-after from (CashRead position dollars) = record from { cash = position + 1; readings = from.readings + 1 }
-after from CashDenied = from
-after from (Quoted good board) = record from { seen = slice_set from.seen good board.count }
-after from (Refused fault) = from
-after from Skipped = from
-after from Left = from
+abbrev pub behind_turn : Places → Turn → Places
+behind_turn from (Called request good position entry posted) = behind_call from good position (behind from.cash (due_post good position entry) posted)
+behind_turn from (CallDenied request good) = from
+behind_turn from (CashRead position dollars) = record from { cash = position + 1; readings = from.readings + 1 }
+behind_turn from CashDenied = from
+behind_turn from (Quoted good board) = record from { seen = slice_set from.seen good board.count }
+behind_turn from (Refused fault) = from
+behind_turn from Skipped = from
+behind_turn from Left = from
 
 -- a turn is allowed at the places
 abbrev pub IsAllowed : Places → Turn → Type 0
@@ -121,7 +121,7 @@ IsAllowed from Left = ⊤
 -- each turn is allowed behind those before it, and the agent leaves by the last one only
 abbrev pub AreAllowed : Places → List Turn → Type 0
 AreAllowed from [] = ⊤
-AreAllowed from (turn ∷ turns) = IsAllowed from turn × (is_leaving turn ≡ true → turns ≡ []) × AreAllowed (after from turn) turns
+AreAllowed from (turn ∷ turns) = IsAllowed from turn × (is_leaving turn ≡ true → turns ≡ []) × AreAllowed (behind_turn from turn) turns
 
 -- the turns are allowed, and are what the log has of the agent
 pub record Remains (s : Subject) (from : Places) (turns : List Turn) : Type 0 where
@@ -183,13 +183,14 @@ pub record IsEasier (from hard : Places) : Type 0 where
   pub readings : from.readings ≡ hard.readings
   pub seen : (good : ℕ) → good < GOODS → slice_index from.seen good ≤ slice_index hard.seen good
 
--- a turn led from places to places, by which the agent did not leave; any other that is possible leads to places that are not easier
+-- a turn led from places to places; by any that is possible the agent stays, and it leads to places that are not easier
 pub record IsTaken (Asked : Item → Type 0) (Fits : Said → Type 0) (s : Subject) (from to : Places) : Type 0 where
   pub turn : Turn
   pub possible : IsPossible Asked Fits s from turn
   pub stays : is_leaving turn ≡ false
-  pub to_is : to ≡ after from turn
-  pub easiest : (other : Turn) → IsPossible Asked Fits s from other → IsEasier to (after from other)
+  pub to_is : to ≡ behind_turn from turn
+  pub easiest : (other : Turn) → IsPossible Asked Fits s from other → IsEasier to (behind_turn from other)
+  pub stay : (other : Turn) → IsPossible Asked Fits s from other → is_leaving other ≡ false
 
 -- no turn is possible
 abbrev pub IsStuck : (Item → Type 0) → (Said → Type 0) → Subject → Places → Type 0

@@ -1,10 +1,99 @@
 -- What an audit of a link answers.
-use Rattle.std.specs.Prelude.{◌≡◌, ℕ}
+use Rattle.std.specs.Prelude.{⊤, ◌≡◌, ℕ, ◌-◌, ◌⊎◌, ◌↔◌, List, [], ◌∷◌, ◌++◌, Some, true, length, slice_get}
+use Rattle.std.specs.List.{count_by, list_any}
+use Rattle.tac_base.specs.declared.calls.Board.{Board}
+use Rattle.tac_base.specs.declared.limits.TheConstants.{LINK_BYTES}
+use Rattle.game_text.specs.Games.{GameFile}
+use Rattle.tac_io.specs.AllAnswers.{all_answers}
+use Rattle.tac_io.specs.declared.line_got.LineGot.{LineGot}
+use Rattle.tac_io.specs.declared.line_got.LineGot.TheVariants as gots
+use Rattle.line_protocol.specs.declared.admission.Verdict.TheVariants.{Seated}
+use Rattle.log_text.specs.LoggedGames.{LoggedGame}
+use Rattle.log_text.specs.SoundLog.{gives_seat}
+use Rattle.agent_gate.specs.Dialects.{Dialect}
+use Rattle.agent_gate.specs.Gates.{verdict_of}
+use Rattle.agent_gate.specs.Turns.{Turn, has_left}
+use Rattle.agent_gate.specs.Welcome.{welcome_lines}
+use Rattle.game_run.specs.Admission.{free_seats}
+use Rattle.link_audit.specs.declared.vouching.Difference.{Difference}
+use Rattle.link_audit.specs.declared.vouching.Difference.TheVariants as differences
 use Rattle.link_audit.specs.declared.vouching.Vouching.{Vouching}
 use Rattle.link_audit.specs.declared.vouching.Vouching.TheVariants.{Whole, Cut, Not}
+use Rattle.link_audit.specs.Ahead.{AreBoards}
+use Rattle.link_audit.specs.Courses.{IsDifferent, has_entry}
+use Rattle.link_audit.specs.Links.{IsVouched, logged_verdicts, whole_lines}
 
 -- the link is vouched for as this agent's
 abbrev pub IsYes : ℕ → Vouching → Type 0
 IsYes agent (Whole seat lines) = seat ≡ agent
 IsYes agent (Cut seat lines after) = seat ≡ agent
 IsYes agent (Not difference) = ⊥
+
+-- ---- whole or cut
+
+-- it is called whole, as this agent's
+abbrev pub IsWhole : ℕ → Vouching → Type 0
+IsWhole agent (Whole seat lines) = seat ≡ agent
+IsWhole agent vouching = ⊥
+
+-- A sound log is right about a link, and nothing is left over: each whole line that was asked, up to the one by which the agent left, has its
+-- reply, and the last byte that came is a line end.
+pub record IsWholeLink (game : GameFile) (dialect : Dialect) (log : LoggedGame) (agent : ℕ) (asked said : List ℕ) : Type 0 where
+  pub vouched : IsVouched game dialect log agent asked said
+  pub all_heard : vouched.unheard ≡ []
+  pub last : (has_left vouched.heard ≡ true) ⊎ (vouched.later ≡ (gots.End, []) ∷ [])
+  pub ended : slice_get said (length said - 1) ≡ Some 10
+
+-- the numbers of an answer, by the turns whose replies came and those whose replies did not: how many replies came, and how many of the
+-- other turns left an entry, a call or a reading
+abbrev pub HasNumbers : Vouching → List Turn → List Turn → Type 0
+HasNumbers (Whole agent lines) heard unheard = length heard ≡ lines
+HasNumbers (Cut agent lines after) heard unheard = (length heard ≡ lines) × (count_by has_entry unheard ≡ after)
+HasNumbers (Not difference) heard unheard = ⊤
+
+-- ---- the first difference
+
+-- the first line takes the seat of an agent, which the head of the log gives to a link; behind it come these lines
+pub record IsGreeted (game : GameFile) (log : LoggedGame) (asked : List ℕ) (agent : ℕ) (lines : List (LineGot × List ℕ)) : Type 0 where
+  pub line : List ℕ
+  pub first : all_answers [] LINK_BYTES asked ≡ (gots.Line, line) ∷ lines
+  pub seat : verdict_of (free_seats game) line ≡ Seated agent
+  pub listed : list_any (gives_seat agent) (logged_verdicts log.head) ≡ true
+
+-- the agent's ten lines did not come whole
+pub record LacksWelcome (game : GameFile) (log : LoggedGame) (asked said : List ℕ) : Type 0 where
+  pub agent : ℕ
+  pub lines : List (LineGot × List ℕ)
+  pub greeted : IsGreeted game log asked agent lines
+  pub none : (replies : List (List ℕ)) → whole_lines said ≡ welcome_lines game agent ++ replies → ⊥
+
+-- they came, and what follows differs here first
+pub record DiffersBehind (game : GameFile) (dialect : Dialect) (log : LoggedGame) (asked said : List ℕ) (difference : Difference) : Type 0 where
+  pub agent : ℕ
+  pub lines : List (LineGot × List ℕ)
+  pub greeted : IsGreeted game log asked agent lines
+  pub replies : List (List ℕ)
+  pub welcomed : whole_lines said ≡ welcome_lines game agent ++ replies
+  pub boards : List (List Board)
+  pub boards_are : AreBoards game log boards
+  pub differs : IsDifferent dialect (record { log = log; boards = boards; agent = agent }) lines replies difference
+
+-- the first place at which a sound log is not right about a link
+abbrev pub IsFirstDifference : GameFile → Dialect → LoggedGame → List ℕ → List ℕ → Difference → Type 0
+IsFirstDifference game dialect log asked said differences.Seat = (agent : ℕ) (lines : List (LineGot × List ℕ)) → IsGreeted game log asked agent lines → ⊥
+IsFirstDifference game dialect log asked said differences.Welcome = LacksWelcome game log asked said
+IsFirstDifference game dialect log asked said difference = DiffersBehind game dialect log asked said difference
+
+-- the answer is a difference only where it is the first one
+abbrev pub IsDifferenceOf : GameFile → Dialect → LoggedGame → List ℕ → List ℕ → Vouching → Type 0
+IsDifferenceOf game dialect log asked said (Not difference) = IsFirstDifference game dialect log asked said difference
+IsDifferenceOf game dialect log asked said vouching = ⊤
+
+-- ---- all of it
+
+-- what is said of an answer
+pub record IsJudged (game : GameFile) (dialect : Dialect) (log : LoggedGame) (asked said : List ℕ) (vouching : Vouching) : Type 0 where
+  pub yes : (agent : ℕ) → IsYes agent vouching ↔ IsVouched game dialect log agent asked said
+  pub whole : (agent : ℕ) → IsWhole agent vouching ↔ IsWholeLink game dialect log agent asked said
+  pub numbers : (agent : ℕ) (v : IsVouched game dialect log agent asked said) → HasNumbers vouching v.heard v.unheard
+  pub difference : IsDifferenceOf game dialect log asked said vouching

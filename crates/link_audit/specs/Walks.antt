@@ -1,5 +1,5 @@
 -- The walk over a link's lines; for private clauses.
-use Rattle.std.specs.Prelude.{◌≡◌, ℕ, ◌-◌, ◌≤◌, List, [], Bool, true, false, drop, length}
+use Rattle.std.specs.Prelude.{⊤, ◌≡◌, ℕ, ◌+◌, ◌-◌, ◌≤◌, List, [], ◌∷◌, Bool, true, false, drop, length}
 use Rattle.std.specs.List.{list_any}
 use Rattle.tac_base.specs.declared.limits.TheConstants.{LINK_BYTES, SESSION_LINES}
 use Rattle.game_text.specs.Games.{GameFile}
@@ -14,7 +14,14 @@ use Rattle.agent_gate.specs.Gates.{verdict_of}
 use Rattle.game_run.specs.Admission.{free_seats}
 use Rattle.link_audit.specs.declared.hearing.Heard.{Heard}
 use Rattle.link_audit.specs.declared.hearing.Heard.TheVariants.{Through, Gone, Not}
-use Rattle.link_audit.specs.Ahead.{Subject, IsAhead, IsWide, start}
+use Rattle.link_audit.specs.declared.places.Places.{Places}
+use Rattle.link_audit.specs.declared.vouching.Difference.{Difference}
+use Rattle.link_audit.specs.declared.vouching.Difference.TheVariants as differences
+use Rattle.link_audit.specs.declared.vouching.Vouching.{Vouching}
+use Rattle.link_audit.specs.declared.vouching.Vouching.TheVariants.{Whole, Cut}
+use Rattle.link_audit.specs.declared.vouching.Vouching.TheVariants as vouchings
+use Rattle.link_audit.specs.Ahead.{Subject, IsAhead, IsOver, IsWide, start}
+use Rattle.link_audit.specs.Courses.{Course, Finishes, HasCourse, IsDifferent, IsLowestLeft, IsStop, behind_course}
 use Rattle.link_audit.specs.Links.{logged_verdicts, whole_lines}
 
 -- the lines of bytes from a place on
@@ -47,6 +54,36 @@ abbrev pub IsLeft : Type 0 → Bool → Heard → Type 0
 IsLeft Over more (Gone lines) = (more ≡ false) × Over
 IsLeft Over more (Not difference) = more ≡ false → Over → ⊥
 IsLeft Over more (Through places at lines) = ⊥
+
+-- what was heard, by turns from the start on: behind all replies, where other lines stand; until the agent left; or up to a difference
+abbrev pub HasHeard : Dialect → Subject → List ℕ → ℕ → List (List ℕ) → Heard → Type 0
+HasHeard dialect s asked from replies (Through places at lines) =
+    ((course : Course) → IsBehind (HasCourse dialect s start (lines_at asked from) replies (behind_course lines course)) (HasCourse dialect s places (lines_at asked at) [] course))
+    × ((entries : ℕ) → Finishes dialect s start (lines_at asked from) replies entries → Finishes dialect s places (lines_at asked at) [] entries)
+    × (drop lines (lines_at asked from) ≡ lines_at asked at) × (length replies ≡ lines)
+HasHeard dialect s asked from replies (Gone lines) =
+    ((to : Places) × HasCourse dialect s start (lines_at asked from) replies (record { turns = lines; left = true; to = to }) × IsOver s to)
+    × ((entries : ℕ) → Finishes dialect s start (lines_at asked from) replies entries → entries ≡ 0) × (length replies ≡ lines)
+HasHeard dialect s asked from replies (Not difference) = IsDifferent dialect s (lines_at asked from) replies difference
+
+-- the agent left by a line, after so many: the next line is different if there is another reply, and otherwise the lowest entry that is left
+abbrev pub DiffersAfter : Subject → Places → ℕ → Difference → Bool → Type 0
+DiffersAfter s from lines difference true = difference ≡ differences.Line (lines + 2)
+DiffersAfter s from lines difference false = IsLowestLeft s from difference
+
+-- it left: nothing more came and the log has nothing more, or the next line or the lowest entry is different
+abbrev pub HasLeft : Subject → Places → ℕ → Bool → Heard → Type 0
+HasLeft s from lines more (Gone count) = (count ≡ lines + 1) × (more ≡ false) × IsOver s from
+HasLeft s from lines more (Not difference) = DiffersAfter s from lines difference more
+HasLeft s from lines more (Through places at count) = ⊥
+
+-- what is answered where the replies end, by whether the last byte that was said is a line end
+abbrev pub IsFinished : Dialect → Subject → List ℕ → Bool → Heard → Vouching → Type 0
+IsFinished dialect s asked ended (Through places at lines) (Whole agent count) = (count ≡ lines) × (lines_at asked at ≡ (gots.End, []) ∷ []) × (ended ≡ true)
+IsFinished dialect s asked ended (Through places at lines) (Cut agent count after) =
+    (count ≡ lines) × (lines_at asked at ≡ (gots.End, []) ∷ [] → ended ≡ true → ⊥) × ((entries : ℕ) → Finishes dialect s places (lines_at asked at) [] entries → entries ≡ after)
+IsFinished dialect s asked ended (Through places at lines) (vouchings.Not left) = IsStop dialect s places (lines_at asked at) lines left
+IsFinished dialect s asked ended heard vouching = ⊤
 
 -- a first line takes the seat of an agent, which the head of the log gives to a link
 pub record TakesSeat (game : GameFile) (log : LoggedGame) (line : List ℕ) (agent : ℕ) : Type 0 where

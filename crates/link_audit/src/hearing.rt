@@ -4,7 +4,7 @@ ghost use Rattle.std.specs.Global.{Vec as SeenVec};
 ghost use Rattle.tac_base.specs.declared.calls.Board.{Board as SeenBoard};
 ghost use Rattle.tac_base.specs.declared.limits.TheConstants.{LINK_BYTES};
 ghost use Rattle.link_audit.specs.Ahead.{HasTruePosts, IsOver, IsTable, start, subject_of};
-ghost use Rattle.link_audit.specs.Walks.{IsHeard, IsLeft, replies_at};
+ghost use Rattle.link_audit.specs.Walks.{HasHeard, HasLeft, IsHeard, IsLeft, replies_at};
 
 use crate::known::KnownDialect;
 use crate::leftovers::first_left;
@@ -49,7 +49,8 @@ fn start_places() -> Places
 /// The end of a walk by a line by which the agent left.
 fn leave(log: &Log, agent: Agent, places: &Places, more: bool, lines: u32) -> Heard
     requires { lines < SESSION_LINES }
-    ensures { (boards : List (SeenVec SeenBoard)) → IsLeft (IsOver (subject_of log.now boards agent) places.now) more result }
+    ensures left { (boards : List (SeenVec SeenBoard)) → IsLeft (IsOver (subject_of log.now boards agent) places.now) more result }
+    ensures how { (boards : List (SeenVec SeenBoard)) → HasLeft (subject_of log.now boards agent) places.now lines more result }
 {
     if more {
         return Heard::Not(Difference::Line(lines + 2));
@@ -75,7 +76,8 @@ pub(crate) fn hear<D: KnownDialect>(
     requires table { IsTable boards.now }
     requires short { (from ≤ length asked.now) × (length asked.now < LINK_BYTES) }
     requires welcome { told ≤ length said.now }
-    ensures { IfOk result (IsHeard (D.form dialect.now) (subject_of log.now boards.now agent) asked.now from (replies_at said.now told)) }
+    ensures ahead { IfOk result (IsHeard (D.form dialect.now) (subject_of log.now boards.now agent) asked.now from (replies_at said.now told)) }
+    ensures turns { IfOk result (HasHeard (D.form dialect.now) (subject_of log.now boards.now agent) asked.now from (replies_at said.now told)) }
 {
     let mut places = start_places();
     let mut at = from;

@@ -1,11 +1,12 @@
 // A log is judged by one link.
-ghost use Rattle.std.specs.Prelude.{◌≡◌, ◌<◌, ◌≤◌, ◌-◌, ◌↔◌, ℕ, [], IfOk, length};
+ghost use Rattle.std.specs.Prelude.{◌≡◌, ◌<◌, ◌≤◌, ◌-◌, ◌↔◌, if◌then◌else◌, ℕ, [], IfOk, IsTrue, Some, length, slice_get};
 ghost use Rattle.tac_base.specs.declared.limits.TheConstants.{LINK_BYTES, SESSION_LINES};
 ghost use Rattle.log_text.specs.SoundLog.{IsSound};
+ghost use Rattle.link_audit.specs.declared.hearing.Heard.TheVariants.{Through};
 ghost use Rattle.link_audit.specs.Ahead.{HasTruePosts, IsAhead, IsTable, IsWide, subject_of};
 ghost use Rattle.link_audit.specs.Links.{IsVouched};
-ghost use Rattle.link_audit.specs.Vouchings.{IsYes};
-ghost use Rattle.link_audit.specs.Walks.{lines_at};
+ghost use Rattle.link_audit.specs.Vouchings.{HasNumbers, IsDifferenceOf, IsJudged, IsWhole, IsWholeLink, IsYes};
+ghost use Rattle.link_audit.specs.Walks.{IsFinished, lines_at};
 
 use crate::greeting::{behind_welcome, seat_of};
 use crate::hearing::{Heard, hear};
@@ -21,12 +22,12 @@ use log_reader::Log;
 use std::alloc::Global;
 use tac_base::{Agent, Board, Memory};
 
-/// The answer for a link of which the log is right: whole, if no line left an entry or stands there behind those with replies, and no
-/// rest stands behind the replies.
-fn vouched(agent: Agent, lines: u32, after: u32, more: bool, rest: bool) -> Vouching
-    ensures { (other : ℕ) → IsYes other result ↔ (agent ≡ other) }
+/// The answer for a link of which the log is right and of which no line without a reply is left: whole, if the last byte that was said is a
+/// line end.
+fn vouched(agent: Agent, lines: u32, after: u32, ended: bool) -> Vouching
+    ensures { result ≡ (if ended then Vouching.Whole agent lines else Vouching.Cut agent lines after) }
 {
-    if after == 0 && !more && !rest {
+    if ended {
         Vouching::Whole { agent, lines }
     } else {
         Vouching::Cut {
@@ -37,15 +38,17 @@ fn vouched(agent: Agent, lines: u32, after: u32, more: bool, rest: bool) -> Vouc
     }
 }
 
-/// Whether bytes stand behind the last line end.
-fn has_rest(bytes: &[u8]) -> bool {
+/// Whether the last byte is a line end.
+fn is_ended(bytes: &[u8]) -> bool
+    ensures { IsTrue result ↔ (slice_get bytes.now (length bytes.now - 1) ≡ Some 10) }
+{
     match bytes.last() {
-        Some(last) => *last != b'\n',
+        Some(last) => *last == b'\n',
         None => false,
     }
 }
 
-/// The answer for a link whose replies were walked over. `rest` says whether something stands behind the last of them.
+/// The answer for a link whose replies were walked over. `ended` says whether the last byte that was said is a line end.
 fn finish<D: KnownDialect>(
     log: &Log,
     boards: &[Vec<Board>],
@@ -55,29 +58,32 @@ fn finish<D: KnownDialect>(
     at: usize,
     places: &Places,
     lines: u32,
-    rest: bool,
+    ended: bool,
 ) -> Result<Vouching, Memory>
     requires posts { HasTruePosts log.now }
     requires table { IsTable boards.now }
     requires short { (at ≤ length asked.now) × (length asked.now < LINK_BYTES) }
     requires wide { IsWide places.now }
     requires few { lines ≤ SESSION_LINES }
-    ensures { IfOk result (λ vouching. (other : ℕ) → IsYes other vouching ↔ ((agent ≡ other)
+    ensures yes { IfOk result (λ vouching. (other : ℕ) → IsYes other vouching ↔ ((agent ≡ other)
         × IsAhead (D.form dialect.now) (subject_of log.now boards.now agent) places.now (lines_at asked.now at) [] (SESSION_LINES - lines))) }
+    ensures how { IfOk result (IsFinished (D.form dialect.now) (subject_of log.now boards.now agent) asked.now ended (Through places.now at lines)) }
 {
     match pass(log, boards, agent, dialect, asked, at, places, lines)? {
-        Ok(after) => {
-            let more = line_end(asked, at).is_some();
-            Ok(vouched(agent, lines, after, more, rest))
-        }
+        Ok(after) => match line_end(asked, at) {
+            None => Ok(vouched(agent, lines, after, ended)),
+            Some(_) => Ok(Vouching::Cut {
+                agent,
+                lines,
+                after,
+            }),
+        },
         Err(left) => Ok(Vouching::Not(left)),
     }
 }
 
-/// Judges a sound log by the bytes that the far end of one link tried to send and those that it got: whether the calls of its agent are
-/// those that its lines asked, each once and in their order, with the replies that came. After `Memory` nothing was found. The clause says
-/// when the answer is a yes, for which agent, and when it is a no. Which yes it is, its numbers and the difference are only tested.
-pub fn vouch<D: KnownDialect>(
+/// Judges a sound log by a link.
+fn judge<D: KnownDialect>(
     alloc: Global,
     game: &Game,
     log: &Log,
@@ -87,9 +93,7 @@ pub fn vouch<D: KnownDialect>(
 ) -> Result<Vouching, Memory>
     requires sound { IsSound game.now log.now }
     requires short { length asked.now < LINK_BYTES }
-    // The link is vouched for exactly if it is one of the log.
-    ensures { IfOk result (λ vouching. (agent : ℕ) → IsYes agent vouching
-        ↔ IsVouched game.now (D.form dialect.now) log.now agent asked.now said.now) }
+    ensures { IfOk result (IsJudged game.now (D.form dialect.now) log.now asked.now said.now) }
 {
     // The log is in its ranges, and has no flaw.
     let _head = log.head();
@@ -104,14 +108,39 @@ pub fn vouch<D: KnownDialect>(
         return Ok(Vouching::Not(Difference::Welcome));
     };
     let boards = table(alloc, game, log)?;
-    let rest = has_rest(said);
+    let ended = is_ended(said);
     match hear(log, &boards, agent, dialect, asked, end + 1, said, told)? {
         Heard::Through { places, at, lines } => {
             finish(
-                log, &boards, agent, dialect, asked, at, &places, lines, rest,
+                log, &boards, agent, dialect, asked, at, &places, lines, ended,
             )
         }
-        Heard::Gone { lines } => Ok(vouched(agent, lines, 0, false, rest)),
+        Heard::Gone { lines } => Ok(vouched(agent, lines, 0, ended)),
         Heard::Not(difference) => Ok(Vouching::Not(difference)),
     }
+}
+
+/// Judges a sound log by the bytes that the far end of one link tried to send and those that it got: whether the calls of its agent are
+/// those that its lines asked, each once and in their order, with the replies that came. After `Memory` nothing was found.
+pub fn vouch<D: KnownDialect>(
+    alloc: Global,
+    game: &Game,
+    log: &Log,
+    dialect: &D,
+    asked: &[u8],
+    said: &[u8],
+) -> Result<Vouching, Memory>
+    requires sound { IsSound game.now log.now }
+    requires short { length asked.now < LINK_BYTES }
+    // The link is vouched for exactly if it is one of the log.
+    ensures yes { IfOk result (λ vouching. (agent : ℕ) → IsYes agent vouching ↔ IsVouched game.now (D.form dialect.now) log.now agent asked.now said.now) }
+    // It is called whole exactly if, besides, nothing of it is left over.
+    ensures whole { IfOk result (λ vouching. (agent : ℕ) → IsWhole agent vouching ↔ IsWholeLink game.now (D.form dialect.now) log.now agent asked.now said.now) }
+    // The numbers of a yes are those of its turns.
+    ensures numbers { IfOk result (λ vouching. (agent : ℕ) (v : IsVouched game.now (D.form dialect.now) log.now agent asked.now said.now)
+        → HasNumbers vouching v.heard v.unheard) }
+    // A difference is the first one.
+    ensures difference { IfOk result (IsDifferenceOf game.now (D.form dialect.now) log.now asked.now said.now) }
+{
+    judge(alloc, game, log, dialect, asked, said)
 }

@@ -1,8 +1,9 @@
 // What a log still has of an agent.
-ghost use Rattle.std.specs.Prelude.{◌≡◌, ◌↔◌, List, None};
+ghost use Rattle.std.specs.Prelude.{◌≡◌, ◌↔◌, List, None, IfSome};
 ghost use Rattle.std.specs.Global.{Vec as SeenVec};
 ghost use Rattle.tac_base.specs.declared.calls.Board.{Board};
 ghost use Rattle.link_audit.specs.Ahead.{IsOver, subject_of};
+ghost use Rattle.link_audit.specs.Courses.{IsLowestLeft};
 
 use crate::cash::next_cash;
 use crate::goods::good_of;
@@ -15,7 +16,8 @@ use tac_base::limits::GOODS;
 
 /// The first entry of the agent from some places on, the lowest good first and the cash history last.
 pub(crate) fn first_left(log: &Log, agent: Agent, places: &Places) -> Option<Difference>
-    ensures { (boards : List (SeenVec Board)) → (result ≡ None) ↔ IsOver (subject_of log.now boards agent) places.now }
+    ensures none { (boards : List (SeenVec Board)) → (result ≡ None) ↔ IsOver (subject_of log.now boards agent) places.now }
+    ensures lowest { IfSome result (λ left. (boards : List (SeenVec Board)) → IsLowestLeft (subject_of log.now boards agent) places.now left) }
 {
     for number in 0..GOODS {
         let good = good_of(number);

@@ -1,7 +1,8 @@
 // The lines of a link whose replies did not come.
-ghost use Rattle.std.specs.Prelude.{◌≡◌, ◌+◌, ◌-◌, ◌<◌, ◌≤◌, [], IfOk, MatchResult, length};
+ghost use Rattle.std.specs.Prelude.{◌≡◌, ◌+◌, ◌-◌, ◌<◌, ◌≤◌, ◌↔◌, ℕ, [], IfOk, IsTrue, MatchResult, length};
 ghost use Rattle.tac_base.specs.declared.limits.TheConstants.{LINK_BYTES};
 ghost use Rattle.link_audit.specs.Ahead.{HasTruePosts, IsAhead, IsTable, IsWide, subject_of};
+ghost use Rattle.link_audit.specs.Courses.{Finishes, IsKept, IsStop};
 ghost use Rattle.link_audit.specs.Walks.{lines_at};
 
 use crate::known::KnownDialect;
@@ -14,16 +15,30 @@ use log_reader::Log;
 use tac_base::limits::SESSION_LINES;
 use tac_base::{Agent, Board, Memory};
 
-/// One more than a count, if a line left something in the log.
+/// Whether two lists have the same numbers.
+fn same_numbers(a: &[u32], b: &[u32]) -> bool
+    ensures { IsTrue result ↔ (a.now ≡ b.now) }
+{
+    a == b
+}
+
+/// One more than a count, if a line left a call or a reading in the log.
 fn count_if_moved(count: u32, before: &Places, after: &Places) -> u32
     requires { count < SESSION_LINES }
-    ensures { result ≤ count + 1 }
+    ensures kept { IsKept before.now after.now → result ≡ count }
+    ensures moved { (IsKept before.now after.now → ⊥) → result ≡ count + 1 }
 {
-    if before == after { count } else { count + 1 }
+    if before.readings == after.readings
+        && same_numbers(before.made.as_slice(), after.made.as_slice())
+    {
+        count
+    } else {
+        count + 1
+    }
 }
 
 /// Walks on over lines whose replies did not come, until the log has nothing more of the agent, from places that were reached by some
-/// lines. Answers how many of them left something in the log, or the first entry that none of them asked.
+/// lines. Answers how many of them left a call or a reading in the log, or the first entry that none of them asked.
 pub(crate) fn pass<D: KnownDialect>(
     log: &Log,
     boards: &[Vec<Board>],
@@ -39,9 +54,12 @@ pub(crate) fn pass<D: KnownDialect>(
     requires short { (from ≤ length asked.now) × (length asked.now < LINK_BYTES) }
     requires wide { IsWide reached.now }
     requires few { lines ≤ SESSION_LINES }
-    ensures { IfOk result (λ passed. MatchResult passed
+    ensures ahead { IfOk result (λ passed. MatchResult passed
         (λ count. IsAhead (D.form dialect.now) (subject_of log.now boards.now agent) reached.now (lines_at asked.now from) [] (SESSION_LINES - lines))
         (λ left. IsAhead (D.form dialect.now) (subject_of log.now boards.now agent) reached.now (lines_at asked.now from) [] (SESSION_LINES - lines) → ⊥)) }
+    ensures turns { IfOk result (λ passed. MatchResult passed
+        (λ count. (entries : ℕ) → Finishes (D.form dialect.now) (subject_of log.now boards.now agent) reached.now (lines_at asked.now from) [] entries → entries ≡ count)
+        (λ left. IsStop (D.form dialect.now) (subject_of log.now boards.now agent) reached.now (lines_at asked.now from) lines left)) }
 {
     let mut places = *reached;
     let mut at = from;

@@ -19,13 +19,13 @@ pub enum Difference {
 #[derive(Clone, Copy, Debug, PartialEq, Eq)]
 pub enum Vouching {
     /// The log is right about this link, and nothing is left over: each whole line that was asked, up to the one by which the agent left,
-    /// has its reply, and nothing stands behind the last reply.
+    /// has its reply, so many in all, and nothing stands behind the last reply.
     Whole {
         agent: Agent,
         lines: u32,
     },
-    /// The log is right about this link, as far as replies came. So many of the lines behind them left entries in the log, and no other
-    /// line did.
+    /// The log is right about this link, as far as so many replies came. Of the lines behind them so many left a call or a reading in the
+    /// log, and no other line did. The post of a call is not counted.
     Cut {
         agent: Agent,
         lines: u32,

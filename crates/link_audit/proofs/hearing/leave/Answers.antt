@@ -1,7 +1,23 @@
+use Rattle.std.proofs.Common.{List, Bool, refl, sym, subst}
+use Rattle.std.specs.Global.{Vec}
+use Rattle.tac_base.specs.declared.calls.Board.{Board}
+use Rattle.link_audit.specs.declared.vouching.Difference.{Difference}
+use Rattle.link_audit.specs.Ahead.{subject_of}
+use Rattle.link_audit.specs.Courses.{IsLowestLeft}
+use Rattle.link_audit.specs.Walks.{DiffersAfter}
+use Rattle.link_audit.proofs.CourseWalks.{some_is}
 use Rattle.link_audit.proofs.hearing.leave.Goals as goal
 
-pub returns-in-None : goal.returns-in-None
-returns-in-None c = λ boards. (c.if-more.false, (c.first_left.ensures boards).0 c.in-None.is)
+pub returns-in-None-clause-left : goal.returns-in-None-clause-left
+returns-in-None-clause-left c = λ boards. (c.if-more.false, (c.first_left.ensures.none boards).0 c.in-None.is)
 
-pub returns-in-Some : goal.returns-in-Some
-returns-in-Some c = λ boards more over. let none = (c.first_left.ensures boards).1 over in let some = c.in-Some.is in absurd cc
+pub returns-in-None-clause-how : goal.returns-in-None-clause-how
+returns-in-None-clause-how c = λ boards. (refl, c.if-more.false, (c.first_left.ensures.none boards).0 c.in-None.is)
+
+pub returns-in-Some-clause-left : goal.returns-in-Some-clause-left
+returns-in-Some-clause-left c = λ boards more over. let none = (c.first_left.ensures.none boards).1 over in let some = c.in-Some.is in absurd cc
+
+pub returns-in-Some-clause-how : goal.returns-in-Some-clause-how
+returns-in-Some-clause-how c = λ boards.
+    subst (λ (b : Bool). DiffersAfter (subject_of c.args.log.now boards c.args.agent) c.args.places.now c.args.lines c.in-Some.left b) (sym c.if-more.false)
+    (some_is (λ (d : Difference). (others : List (Vec Board)) → IsLowestLeft (subject_of c.args.log.now others c.args.agent) c.args.places.now d) c.first_left.result c.in-Some.left c.in-Some.is c.first_left.ensures.lowest boards)

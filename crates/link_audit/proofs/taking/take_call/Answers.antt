@@ -12,7 +12,7 @@ use Rattle.line_protocol.specs.declared.saying.Said.TheVariants.{At}
 use Rattle.agent_gate.specs.Items.{Asks}
 use Rattle.agent_gate.specs.Turns.{asked_call}
 use Rattle.link_audit.specs.declared.places.Places.{Places}
-use Rattle.link_audit.specs.Ahead.{FitsReply, IsTaken, called, subject_of}
+use Rattle.link_audit.specs.Ahead.{FitsReply, IsTaken, behind_call, subject_of}
 use Rattle.link_audit.proofs.Determined.{spent_taken, none_stuck, many_stuck, seen_stuck, other_stuck, unfit_stuck, unposted_stuck, call_taken}
 use Rattle.link_audit.proofs.Found.{none_found, is_found, some_shown}
 use Rattle.link_audit.proofs.taking.take_call.Goals as goal
@@ -125,6 +125,6 @@ returns-clause-yes g c =
     let alike : option_map (λ p. p.1) (asked_call c.args.request.now) ≡ Some f.entry.call = c.makes.ensures.0 c.if-not-makes.false ∙ ap (λ (call : Call). Some call) f.shows.call in
     let fit = subst (λ (r : Reply). FitsReply (g.D.Dialect.form c.args.dialect.now).text c.args.heard c.args.reply.now (At position r)) replied (c.fits-2.ensures.0 c.if-not-fits.false) in
     let cash = c.in-Some-post_next.cash in
-    λ t. subst (λ (k : ℕ). IsTaken (λ item. item ≡ Asks (Ok c.args.request.now)) (FitsReply (g.D.Dialect.form c.args.dialect.now).text c.args.heard c.args.reply.now) (subject_of log c.args.boards.now c.args.agent) from (called from k position cash)) (sym row)
+    λ t. subst (λ (k : ℕ). IsTaken (λ item. item ≡ Asks (Ok c.args.request.now)) (FitsReply (g.D.Dialect.form c.args.dialect.now).text c.args.heard c.args.reply.now) (subject_of log c.args.boards.now c.args.agent) from (behind_call from k position cash)) (sym row)
     (call_taken (subject_of log c.args.boards.now c.args.agent) (FitsReply (g.D.Dialect.form c.args.dialect.now).text c.args.heard c.args.reply.now) from c.args.request.now good low c.requires.asks some position f.entry f.next
     few forward alike fit cash (c.in-Some-post_next.ensures f.entry f.at))
