@@ -11,8 +11,7 @@ use Rattle.log_audit.specs.Flaws.{IsFound}
 use Rattle.agent_gate.specs.Dialects.{Dialect}
 use Rattle.link_audit.specs.declared.vouching.Vouching.{Vouching}
 use Rattle.link_audit.specs.declared.vouching.Vouching.TheVariants.{Whole, Cut, Not}
-use Rattle.link_audit.specs.Links.{IsVouched}
-use Rattle.link_audit.specs.Vouchings.{IsYes}
+use Rattle.link_audit.specs.Vouchings.{IsJudged}
 use Rattle.tac_commands.specs.declared.ends.End.{End}
 use Rattle.tac_commands.specs.{IsFlawText, Outcome, Unsound, EndsSteps, link_steps}
 use Rattle.tac_commands.specs.Ends.{Ends}
@@ -43,14 +42,13 @@ module _ (game : GameFile) (log : LoggedGame) where
       (inr ((λ sound. absurd (let is : findings.Unsound flaw ≡ findings.Sound = judged.1 sound in cc), record { flaw = flaw; first = found; due = refl }), (refl, refl))) ended
 
   module _ (dialect : Dialect) (asked said : List ℕ) (files : FilesState) where
-    runs_so : (vouching : Vouching) → ((agent : ℕ) → IsYes agent vouching ↔ IsVouched game dialect log agent asked said) →
-        Runs (link_steps game dialect log asked said) files files (vouching_outcome vouching)
-    runs_so (Whole agent lines) exact = inl ((agent, (exact agent).0 refl), ((agent, (exact agent).0 refl, (Whole agent lines, refl, refl)), (refl, refl)))
-    runs_so (Cut agent lines after) exact = inl ((agent, (exact agent).0 refl), ((agent, (exact agent).0 refl, (Cut agent lines after, refl, refl)), (refl, refl)))
-    runs_so (Not difference) exact = inr (((λ vouched. (exact vouched.0).1 vouched.1), (difference, refl)), (refl, refl))
+    runs_so : (vouching : Vouching) → IsJudged game dialect log asked said vouching → Runs (link_steps game dialect log asked said) files files (vouching_outcome vouching)
+    runs_so (Whole agent lines) judged = inl ((agent, (judged.yes agent).0 refl), ((Whole agent lines, (agent, refl), judged, refl), (refl, refl)))
+    runs_so (Cut agent lines after) judged = inl ((agent, (judged.yes agent).0 refl), ((Cut agent lines after, (agent, refl), judged, refl), (refl, refl)))
+    runs_so (Not difference) judged = inr (((λ vouched. (judged.yes vouched.0).1 vouched.1), (difference, judged.difference, refl)), (refl, refl))
 
     -- what was found of a link is written
-    pub vouching_ends : (vouching : Vouching) (sink sink' : SinkState) (end : End) → ((agent : ℕ) → IsYes agent vouching ↔ IsVouched game dialect log agent asked said) →
+    pub vouching_ends : (vouching : Vouching) (sink sink' : SinkState) (end : End) → IsJudged game dialect log asked said vouching →
         Ends (λ outcome. outcome ≡ vouching_outcome vouching) sink sink' end → EndsSteps (link_steps game dialect log asked said) files files sink sink' end
-    vouching_ends vouching sink sink' end exact ended =
-        ends_so (vouching_outcome vouching) (link_steps game dialect log asked said) files files sink sink' end (runs_so vouching exact) ended
+    vouching_ends vouching sink sink' end judged ended =
+        ends_so (vouching_outcome vouching) (link_steps game dialect log asked said) files files sink sink' end (runs_so vouching judged) ended

@@ -27,7 +27,7 @@ use Rattle.agent_gate.specs.Dialects.{Dialect}
 use Rattle.link_audit.specs.declared.vouching.Difference.{Difference}
 use Rattle.link_audit.specs.declared.vouching.Vouching.{Vouching}
 use Rattle.link_audit.specs.Links.{IsVouched}
-use Rattle.link_audit.specs.Vouchings.{IsYes}
+use Rattle.link_audit.specs.Vouchings.{IsFirstDifference, IsJudged, IsYes}
 use Rattle.tourney.specs.StandingsTexts.{IsPrinted}
 use Rattle.tac_commands.specs.declared.file_kinds.FileKind.TheVariants.{Game, HotelScript, GameScript, Account, Log, Bytes}
 use Rattle.tac_commands.specs.declared.refusals.Refusal.TheVariants.{Usage, LinkFault, Memory}
@@ -110,15 +110,15 @@ step_steps game script = Hears script (replies game) (StepAllows game)
 abbrev pub audit_steps : GameFile → LoggedGame → Steps
 audit_steps game log = Judges (IsSound game log) (IsFlawText game log) (EndsWith (WritesDue (λ text. text ≡ codes "sound\n")))
 
--- a text of a link that the log is right about, as that of one of its agents
+-- the text of a link that the log is right about, as that of one of its agents
 abbrev pub IsVouchedText : GameFile → Dialect → LoggedGame → List ℕ → List ℕ → List ℕ → Type 0
 IsVouchedText game dialect log asked said text =
-    (agent : ℕ) × IsVouched game dialect log agent asked said × ((vouching : Vouching) × IsYes agent vouching × (text ≡ vouching_text vouching))
+    (vouching : Vouching) × ((agent : ℕ) × IsYes agent vouching) × IsJudged game dialect log asked said vouching × (text ≡ vouching_text vouching)
 
--- a log is judged by the bytes that a link asked and was said: it is right about them, or a difference is reported
+-- a log is judged by the bytes that a link asked and was said: it is right about them, or the first difference is reported
 abbrev pub link_steps : GameFile → Dialect → LoggedGame → List ℕ → List ℕ → Steps
 link_steps game dialect log asked said =
-    Judges ((agent : ℕ) × IsVouched game dialect log agent asked said) (λ text. (difference : Difference) × (text ≡ difference_text difference))
+    Judges ((agent : ℕ) × IsVouched game dialect log agent asked said) (λ text. (difference : Difference) × IsFirstDifference game dialect log asked said difference × (text ≡ difference_text difference))
     (EndsWith (WritesDue (IsVouchedText game dialect log asked said)))
 
 -- the two files of a link are read, and the log is judged by them

@@ -19,7 +19,7 @@ difference_text (differences.Cash position) = counted (codes "unvouched cash") p
 abbrev pub whole_text : ℕ → ℕ → List ℕ
 whole_text agent lines = codes "vouched " ++ decimal agent ++ codes " whole " ++ decimal lines ++ codes "\n"
 
--- the line of one that was cut after so many replies, with the number of the agent's entries after them
+-- the line of one that was cut after so many replies, with the number of the lines after them that left a call or a reading
 abbrev pub cut_text : ℕ → ℕ → ℕ → List ℕ
 cut_text agent lines after = codes "vouched " ++ decimal agent ++ codes " cut " ++ decimal lines ++ codes " " ++ decimal after ++ codes "\n"
 

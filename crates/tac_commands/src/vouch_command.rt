@@ -53,7 +53,7 @@ fn whole_text(agent: Agent, lines: u32) -> Text
     text
 }
 
-/// The line of a link that was cut after so many replies, with the number of the agent's entries after them.
+/// The line of a link that was cut after so many replies, with the number of the lines after them that left a call or a reading.
 fn cut_text(agent: Agent, lines: u32, after: u32) -> Text
     ensures { result ≡ texts.cut_text agent lines after }
 {

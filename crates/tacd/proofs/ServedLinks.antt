@@ -1,26 +1,23 @@
 -- The links of a served game are links of its log, which is vouched for by them.
-use Rattle.std.proofs.Common.{◌≡◌, ℕ, ◌<◌, List, [], ◌∷◌, take, None, Some, refl, sym, ap, ◌∙◌, subst, arith, inl, inr}
+use Rattle.std.proofs.Common.{◌≡◌, ℕ, ◌<◌, List, [], take, None, Some, refl, sym, ap, ◌∙◌, subst, arith, inl, inr}
 use Rattle.std.specs.Prelude.{◌⊎◌, ◌==◌, Bool, false, MatchBool, Option}
 use Rattle.game_text.specs.Games.{GameFile}
 use Rattle.auction_core.specs.Auctions.{AuctionHistory}
 use Rattle.score_sheet.specs.Sheets.{Scored}
 use Rattle.tac_io.specs.States.{FilesState, LinkState, LinksState}
 use Rattle.tac_io.specs.Taken.{TookWhole}
-use Rattle.tac_io.specs.declared.line_got.LineGot.{LineGot}
 use Rattle.line_protocol.specs.declared.admission.Verdict.TheVariants.{Seated}
 use Rattle.line_protocol.specs.declared.saying.Said.{Said}
 use Rattle.line_protocol.specs.Heads.{Head, Serve, head_of}
 use Rattle.log_text.specs.LoggedGames.{LoggedGame}
 use Rattle.agent_gate.specs.Dialects.{Dialect}
-use Rattle.agent_gate.specs.Gates.{verdict_of}
 use Rattle.game_run.specs.declared.run.GameEnd.{GameEnd}
-use Rattle.game_run.specs.Admission.{free_seats, seats_given}
+use Rattle.game_run.specs.Admission.{seats_given}
 use Rattle.game_run.specs.Hosted.{HostedGame}
 use Rattle.game_run.specs.LinkRuns.{IsSeated}
 use Rattle.game_run.specs.Outcomes.{IsGameEnd}
 use Rattle.game_run.specs.PlayedGame.{PlayedGame}
 use Rattle.link_audit.specs.Links.{HasWelcome, IsLinkOfLog, IsVouched, fresh_link}
-use Rattle.link_audit.specs.Vouchings.{IsYes}
 use Rattle.link_audit.proofs.FarEnds.{vouched_from}
 use Rattle.link_audit.proofs.FreshLinks.{fresh}
 use Rattle.link_audit.proofs.OneLines.{HasNoEnd, json_line, said_line}
@@ -83,23 +80,9 @@ reply_lines : (form : Form) (reply : Said) → HasNoEnd ((dialect_in form).text 
 reply_lines Lines reply = said_line reply
 reply_lines Json reply = json_line reply
 
--- a link is vouched for as one agent's
-module _ (game : GameFile) (dialect : Dialect) (log : LoggedGame) (asked said : List ℕ) (agent other : ℕ) where
-  one_agent : IsVouched game dialect log agent asked said → IsVouched game dialect log other asked said → other ≡ agent
-  one_agent v w =
-      let line : v.line ≡ w.line = ap (λ (answers : List (LineGot × List ℕ)). line_of v.line answers) (sym v.lines ∙ w.lines) in
-      let seats : Seated agent ≡ Seated other = sym v.seat ∙ (ap (verdict_of (free_seats game)) line ∙ w.seat) in
-      sym (let same : agent ≡ other = cc in same)
-    where
-      line_of : List ℕ → List (LineGot × List ℕ) → List ℕ
-      line_of line [] = line
-      line_of line (answer ∷ answers) = answer.1
-
 module _ (game : GameFile) (dialect : Dialect) (log : LoggedGame) (agent : ℕ) (asked said : List ℕ) (v : IsVouched game dialect log agent asked said) where
   said_yes : (outcome : Outcome) → WritesDue (IsVouchedText game dialect log asked said) outcome → SaysYes agent outcome
-  said_yes (Done text) due =
-      let same = one_agent game dialect log asked said agent due.0 v due.1 in
-      inl (due.2.0, subst (λ (n : ℕ). IsYes n due.2.0) same due.2.1, ap Done due.2.2)
+  said_yes (Done text) due = inl (due.0, (due.2.yes agent).1 v, ap Done due.3)
   said_yes (Lapsed text) due = absurd due
   said_yes (Unsound text) due = absurd due
   said_yes (Stopped text refusal) due = absurd due
