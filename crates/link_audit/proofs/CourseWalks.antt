@@ -1,5 +1,5 @@
 -- A walk under way, by the turns of the lines from the start on.
-use Rattle.std.proofs.Common.{◌≡◌, ℕ, suc, ◌+◌, ◌-◌, ◌<◌, ◌≤◌, List, [], ◌∷◌, Bool, true, false, cond, length, drop, Option, None, Some, refl, sym, ap, ◌∙◌, subst, arith}
+use Rattle.std.proofs.Common.{◌≡◌, ℕ, suc, ◌+◌, ◌<◌, ◌≤◌, List, [], ◌∷◌, Bool, true, false, cond, length, drop, Option, None, Some, refl, sym, ap, ◌∙◌, subst, arith}
 use Rattle.std.specs.Prelude.{IfSome}
 use Rattle.std.proofs.lemmas.List.{drop-drop}
 use Rattle.tac_base.specs.declared.limits.TheConstants.{SESSION_LINES}
@@ -9,11 +9,11 @@ use Rattle.link_audit.specs.declared.hearing.Heard.{Heard}
 use Rattle.link_audit.specs.declared.hearing.Heard.TheVariants.{Through, Gone, Not}
 use Rattle.link_audit.specs.declared.vouching.Difference.{Difference}
 use Rattle.link_audit.specs.declared.vouching.Difference.TheVariants as differences
-use Rattle.link_audit.specs.Ahead.{Subject, FitsReply, IsAsked, IsLeaving, IsOver, IsTaken, IsWide, behind_turn, start}
-use Rattle.link_audit.specs.Courses.{Course, Finishes, HasCourse, HaveTurns, IsDifferent, IsFirstLeft, IsFirstLine, IsKept, IsLowestLeft, IsStop, behind_course, has_entry}
+use Rattle.link_audit.specs.Ahead.{Subject, FitsReply, IsAsked, IsLeaving, IsOver, IsTaken, IsWide, start}
+use Rattle.link_audit.specs.Courses.{Course, Finishes, HasCourse, HaveTurns, IsDifferent, IsFirstLine, IsKept, IsLowestLeft, IsStop, behind_course, has_entry}
 use Rattle.link_audit.specs.Walks.{DiffersAfter, HasHeard, HasLeft, IsBehind, lines_at}
 use Rattle.link_audit.proofs.Leading.{TheLine}
-use Rattle.link_audit.proofs.Courses.{course_back, course_on, finish_on, finish_over, kept_by, leaves_last, leaves_none, leaving_course, moved_by, no_course, pass_back, pass_leaving, pass_on, passes_last}
+use Rattle.link_audit.proofs.Courses.{course_back, course_on, finish_on, kept_by, leaves_last, leaves_none, leaving_course, moved_by, no_course, pass_back, pass_leaving, pass_on, passes_last}
 
 -- what holds of a value that is there
 pub some_is : {A : Type 0} (P : A → Type 0) (found : Option A) (a : A) → found ≡ Some a → IfSome found P → P a
@@ -134,8 +134,12 @@ module _ (dialect : Dialect) (s : Subject) (places : Places) (wide : IsWide plac
       → HasHeard dialect s asked from told result
   left_course more none some (Through to at count) is = absurd is
   left_course more none some (Gone count) is = (
-    (places, recounted dialect s start (lines_at asked from) told (behind_course n (record { turns = 1; left = true; to = places })) count (sym is.0)
-        ((courses (record { turns = 1; left = true; to = places })).back left_here), is.2),
+    (
+      places,
+      recounted dialect s start (lines_at asked from) told (behind_course n (record { turns = 1; left = true; to = places })) count (sym is.0)
+          ((courses (record { turns = 1; left = true; to = places })).back left_here),
+      is.2,
+    ),
     (λ entries f. leaves_none dialect s places wide line lines' reply replies' t entries
         (subst (λ (w : List TheLine × List (List ℕ)). Finishes dialect s places w.0 w.1 entries) (λ i. (lines_are i, replies_are i)) (finishes entries f))),
     (let long = ap length replies_are in let end = ap length (none is.1) in let count_is = is.0 in omega (arith, told_so, long, end, count_is)),

@@ -1,17 +1,15 @@
 -- Turns from some places on, line by line.
-use Rattle.std.proofs.Common.{◌≡◌, ℕ, zero, suc, ◌+◌, ◌<◌, ◌≤◌, List, [], ◌∷◌, Bool, true, false, cond, length, drop, refl, sym, ap, ◌∙◌, subst, arith}
+use Rattle.std.proofs.Common.{◌≡◌, ℕ, zero, suc, ◌+◌, ◌≤◌, List, [], ◌∷◌, Bool, true, false, cond, length, drop, refl, sym, ap, ◌∙◌, subst, arith}
 use Rattle.std.specs.Prelude.{◌||◌, slice_index, slice_set}
 use Rattle.std.specs.List.{count_by}
 use Rattle.std.proofs.lemmas.List.{get_or-set_same}
 use Rattle.std.proofs.lemmas.List.Sums.{sum_by-cons}
-use Rattle.tac_base.specs.declared.limits.TheConstants.{GOODS}
-use Rattle.tac_io.specs.declared.line_got.LineGot.{LineGot}
 use Rattle.tac_io.specs.declared.line_got.LineGot.TheVariants as gots
 use Rattle.log_text.specs.SoundLog.{logged_history}
 use Rattle.agent_gate.specs.Dialects.{Dialect}
-use Rattle.agent_gate.specs.Turns.{Turn, Called, CallDenied, CashRead, CashDenied, Quoted, Refused, Skipped, Left, has_left, is_leaving, item_of, reading, said_of}
+use Rattle.agent_gate.specs.Turns.{Turn, Called, CallDenied, CashRead, CashDenied, Quoted, Refused, Skipped, Left, has_left, is_leaving, item_of, reading}
 use Rattle.link_audit.specs.declared.places.Places.{Places}
-use Rattle.link_audit.specs.Ahead.{Subject, AreAllowed, FitsReply, HasNext, IsAllowed, IsAsked, IsEasier, IsLeaving, IsOver, IsPossible, IsStuck, IsTaken, IsWide, behind_turn, cash_caller, entry_caller, rest_of}
+use Rattle.link_audit.specs.Ahead.{Subject, AreAllowed, FitsReply, IsAllowed, IsAsked, IsEasier, IsLeaving, IsOver, IsPossible, IsStuck, IsTaken, IsWide, behind_turn, cash_caller, entry_caller, rest_of}
 use Rattle.link_audit.specs.Links.{MayAsk}
 use Rattle.link_audit.specs.Courses.{AreAnswered, AreNext, Course, Finishes, HasCourse, IsKept, has_entry, walked}
 use Rattle.link_audit.proofs.Walking.{wide_after}
@@ -297,10 +295,11 @@ module _ (dialect : Dialect) (s : Subject) (from : Places) where
           by_turns (turn ∷ turns) answered allowed next over is =
               let possible : IsPossible (IsAsked dialect false line) (FitsReply dialect.text false []) s from turn = record { asked = answered.0; fits = λ came. absurd cc; allowed = allowed.0; next = next.0 } in
               let easy = easy_turns s to (behind_turn from turn) turns (t.easiest turn possible) wide_to (wide_after from turn wide) allowed.2 next.1 in
-              let alike : cond {A = ℕ} (has_entry t.turn) 1 0 ≡ cond {A = ℕ} (has_entry turn) 1 0 = ap (λ (b : Bool). cond {A = ℕ} b 1 0) (like_taken turn possible) in
-              (count_by has_entry turns,
-              sym is ∙ (entries-cons turn turns ∙ ap (λ (k : ℕ). k + count_by has_entry turns) (sym alike)),
-              record { turns = turns; answered = answered.1; replied = omega arith; allowed = easy.allowed; next = easy.next; over = easy_over s (walked to turns) (walked (behind_turn from turn) turns) easy.to over; entries_are = refl })
+              let alike : cond {A = ℕ} (has_entry t.turn) 1 0 ≡ cond {A = ℕ} (has_entry turn) 1 0 = ap (λ (b : Bool). cond {A = ℕ} b 1 0) (like_taken turn possible) in (
+                count_by has_entry turns,
+                sym is ∙ (entries-cons turn turns ∙ ap (λ (k : ℕ). k + count_by has_entry turns) (sym alike)),
+                record { turns = turns; answered = answered.1; replied = omega arith; allowed = easy.allowed; next = easy.next; over = easy_over s (walked to turns) (walked (behind_turn from turn) turns) easy.to over; entries_are = refl },
+              )
 
     -- the agent leaves by it
     module _ (t : IsLeaving (IsAsked dialect false line) (FitsReply dialect.text false []) s from) where

@@ -17,7 +17,7 @@ use Rattle.log_text.specs.SoundLog.{logged_history}
 use Rattle.agent_gate.specs.Items.{Asks}
 use Rattle.agent_gate.specs.Turns.{Turn, Called, CallDenied, CashRead, CashDenied, Quoted, Refused, Skipped, Left, asked_call, reading}
 use Rattle.link_audit.specs.declared.places.Places.{Places}
-use Rattle.link_audit.specs.Ahead.{Subject, entry_caller, cash_caller, rest_of, HasNext, calls_left, cash_left, IsNote, IsWide, behind, behind_call, behind_turn, ArePostedAt, ArePosted, IsPossible, IsEasier, IsTaken, IsStuck}
+use Rattle.link_audit.specs.Ahead.{Subject, entry_caller, cash_caller, rest_of, HasNext, calls_left, IsNote, IsWide, behind, behind_call, behind_turn, ArePostedAt, ArePosted, IsPossible, IsEasier, IsTaken, IsStuck}
 use Rattle.link_audit.proofs.Rest.{same_position, same_entry}
 use Rattle.link_audit.proofs.Easier.{all_stay, same_places, lower_raised}
 

@@ -1,5 +1,5 @@
 -- What is said of an answer, by how the lines and the replies of a link were walked over.
-use Rattle.std.proofs.Common.{◌≡◌, ℕ, suc, ◌+◌, ◌-◌, ◌<◌, ◌≤◌, List, [], ◌∷◌, ◌++◌, Bool, true, false, length, map, take, drop, Some, refl, sym, ap, ◌∙◌, subst, arith, inl, inr}
+use Rattle.std.proofs.Common.{◌≡◌, ℕ, ◌+◌, ◌-◌, ◌≤◌, List, [], ◌∷◌, ◌++◌, Bool, true, false, length, map, take, drop, Some, refl, sym, ap, ◌∙◌, subst, arith, inl, inr}
 use Rattle.std.specs.Prelude.{◌↔◌, ◌⊎◌, Result, nat_le, slice_get, if◌then◌else◌}
 use Rattle.std.specs.List.{count_by}
 use Rattle.std.proofs.lemmas.List.{append-nil, length-append, length-map, take-append-drop}
@@ -25,7 +25,7 @@ use Rattle.link_audit.specs.declared.vouching.Difference.TheVariants as differen
 use Rattle.link_audit.specs.declared.vouching.Vouching.{Vouching}
 use Rattle.link_audit.specs.declared.vouching.Vouching.TheVariants.{Whole, Cut, Not}
 use Rattle.link_audit.specs.Ahead.{Subject, AreAllowed, AreBoards, IsAhead, IsOver, IsWide, Remains, behind_turn, start}
-use Rattle.link_audit.specs.Courses.{AreAnswered, AreNext, Course, Finishes, HasCourse, HaveTurns, IsDifferent, IsFirstLeft, IsLowestLeft, IsStop, behind_course, has_entry, walked}
+use Rattle.link_audit.specs.Courses.{AreAnswered, AreNext, Course, Finishes, HasCourse, IsDifferent, IsFirstLeft, IsLowestLeft, IsStop, behind_course, has_entry, walked}
 use Rattle.link_audit.specs.Links.{IsVouched, MayAsk, whole_lines}
 use Rattle.link_audit.specs.Vouchings.{DiffersBehind, HasNumbers, IsDifferenceOf, IsFirstDifference, IsGreeted, IsJudged, IsWhole, IsWholeLink, IsYes}
 use Rattle.link_audit.specs.Walks.{HasHeard, IsFinished, IsHeard, TakesSeat, lines_at}
