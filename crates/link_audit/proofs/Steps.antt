@@ -26,30 +26,7 @@ module _ (s : Subject) (from : Places) where
   step_of Asked Fits to true result did not is = subst (IsStep Asked Fits s from to) (sym is) (did refl)
   step_of Asked Fits to false result did not is = subst (IsStep Asked Fits s from to) (sym is) (not refl)
 
-  -- ---- the agent leaves
-
   module _ (Fits : Said → Type 0) where
-    not_quit : (r : Request) (g : ℕ) (call : _) → asked_call r ≡ Some (g, call) → Asks (Ok r) ≡ Asks (Ok requests.Quit) → ⊥
-    not_quit r g call is same =
-        let quit : r ≡ requests.Quit = cc in
-        absurd (let both : None ≡ Some (g, call) = ap asked_call (sym quit) ∙ is in cc)
-
-    quit_only : (other : Turn) → IsPossible (λ item. item ≡ Asks (Ok requests.Quit)) Fits s from other → other ≡ Left
-    quit_only (Called r g p e posted) is = absurd (not_quit r g e.call is.allowed.0 is.asked)
-    quit_only (CallDenied r g) is = absurd (not_quit r g is.allowed.0.0 is.allowed.0.1 is.asked)
-    quit_only (CashRead p dollars) is = absurd (let asked = is.asked in cc)
-    quit_only CashDenied is = absurd (let asked = is.asked in cc)
-    quit_only (Quoted g board) is = absurd (let asked = is.asked in cc)
-    quit_only (Refused fault) is = absurd (let asked = is.asked in cc)
-    quit_only Skipped is = absurd (let asked = is.asked in cc)
-    quit_only Left is = refl
-
-    pub quit_leaves : Fits said.Bye → IsLeaving (λ item. item ≡ Asks (Ok requests.Quit)) Fits s from
-    quit_leaves fit = record { possible = record { asked = refl; fits = fit; allowed = tt; next = tt }; only = quit_only }
-
-    pub quit_stuck : (Fits said.Bye → ⊥) → IsStuck (λ item. item ≡ Asks (Ok requests.Quit)) Fits s from
-    quit_stuck unfit other is = unfit (subst (λ (t : Turn). Fits (said_of t)) (quit_only other is) is.fits)
-
     -- ---- a line that is no request
 
     module _ (fault : RequestFault) where
