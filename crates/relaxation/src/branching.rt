@@ -78,6 +78,7 @@ impl Relaxation {
     }
 
     /// What the relaxation of one part of a split is worth in dollars, as far as it is more than a total in dollars.
+    #[inline(never)]
     pub(crate) fn value_of_part(&self, client: usize, feature: usize, value: u8, total: f64) -> f64
         requires client { client < 8 }
         requires feature { feature < 4 }

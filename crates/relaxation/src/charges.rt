@@ -76,10 +76,9 @@ fn value_charges(prices: &Row) -> ValueCharges {
     }
 }
 
-/// What each package costs, by number 0..392. The second hotel has the ticket choices of the first.
-pub(crate) fn charges(features: &Features, prices: &Row) -> [f64; 393] {
+/// Puts down what each package costs, by number 0..392. The second hotel has the ticket choices of the first.
+pub(crate) fn charge(charges: &mut [f64; 393], features: &Features, prices: &Row) {
     let of = value_charges(prices);
-    let mut charges = [0.0; 393];
     for number in 1..197 {
         let tickets = of.tickets[0][features.night_of(number, 0)]
             + of.tickets[1][features.night_of(number, 1)]
@@ -87,5 +86,4 @@ pub(crate) fn charges(features: &Features, prices: &Row) -> [f64; 393] {
         charges[number] = of.trips[features.trip_of(number)] + tickets;
         charges[number + 196] = of.trips[features.trip_of(number + 196)] + tickets;
     }
-    charges
 }

@@ -2,7 +2,7 @@
 ghost use Rattle.std.specs.Prelude.{◌<◌};
 ghost use Rattle.relaxation.specs.declared.columns.TheConstants.{ROWS};
 
-use crate::charges::charges;
+use crate::charges::charge;
 use crate::columns::{ClientPackage, Column, Entering, GOOD_ROWS, GoodRow, ROWS};
 use crate::rounding::best_margin;
 use crate::tableau::{AMOUNT, Row, TOLERANCE, Tableau, WIDTH};
@@ -21,13 +21,11 @@ pub(crate) struct Infeasible {
 }
 
 /// The direction in which a dual step moves the prices.
-#[derive(Clone, Copy)]
+#[derive(Drop)]
 struct Direction {
     /// The infeasible row, by its sign.
     row: Row,
-    /// What packages cost before the step.
-    charges: [f64; 393],
-    /// What a step of one takes from these charges.
+    /// What a step of one takes from the charge of each package.
     falls: [f64; 393],
 }
 
@@ -35,7 +33,8 @@ impl Tableau {
     /// Pivots out excluded packages by at most so many dual simplex steps, as long as more may be left than a total. The prices bound what is
     /// left after each step, but for errors of rounding.
     pub(crate) fn repair(&mut self, worths: &WorthTable, total: f64, steps: u32) {
-        let mut charges = charges(&worths.features, &self.prices);
+        let mut charges = [0.0; 393];
+        charge(&mut charges, &worths.features, &self.prices);
         for _ in 0..steps {
             let Some(infeasible) = self.infeasible(worths) else {
                 return;
@@ -84,12 +83,18 @@ impl Tableau {
         dollars: f64,
         charges: &mut [f64; 393],
     ) -> bool {
-        let direction = self.direction(worths, infeasible, charges);
+        let mut row = [0.0; WIDTH];
+        add(&mut row, &self.rows[infeasible.row], infeasible.sign);
+        let mut direction = Direction {
+            row,
+            falls: [0.0; 393],
+        };
+        charge(&mut direction.falls, &worths.features, &row);
         let most = dollars / direction.row[AMOUNT];
         if !(most > 0.0) {
             return false;
         }
-        let Some(entering) = self.dual_entering(worths, &direction, most) else {
+        let Some(entering) = self.dual_entering(worths, &direction, charges, most) else {
             add(&mut self.prices, &direction.row, -most);
             return false;
         };
@@ -98,42 +103,31 @@ impl Tableau {
         if pivot.abs() < TOLERANCE {
             return false;
         }
-        *charges = charges_after(&direction, -entering.reduced_cost * infeasible.sign / pivot);
+        let far = -entering.reduced_cost * infeasible.sign / pivot;
+        lower(charges, &direction, far);
         self.pivot(&entering, &pivot_column, infeasible.row);
         true
     }
 
-    /// The direction of the prices as the basic variable of an infeasible row is pivoted out, where packages have these charges.
-    fn direction(
-        &self,
-        worths: &WorthTable,
-        infeasible: &Infeasible,
-        before: &[f64; 393],
-    ) -> Direction {
-        let mut row = [0.0; WIDTH];
-        add(&mut row, &self.rows[infeasible.row], infeasible.sign);
-        Direction {
-            row,
-            charges: *before,
-            falls: charges(&worths.features, &row),
-        }
-    }
-
     /// The ratio test of the dual simplex: the nonbasic column whose reduced cost comes to 0 first as the prices move, if one does before they
-    /// have moved so far.
+    /// have moved so far. Before they move, packages have these charges.
     fn dual_entering(
         &self,
         worths: &WorthTable,
         direction: &Direction,
+        charges: &[f64; 393],
         most: f64,
     ) -> Option<Entering> {
         let (mut found, far) = entering_slack(&self.prices, direction, most);
-        let charges = charges_after(direction, far);
+        let mut after = *charges;
+        lower(&mut after, direction, far);
         let mut least = far;
         for client in 0..8 {
             let gained = self.prices[GOOD_ROWS + client] - far * direction.row[GOOD_ROWS + client];
-            if best_margin(worths.row(client), &charges) > gained + TOLERANCE {
-                let (entering, far) = self.entering_share(worths, direction, client, least);
+            if best_margin(worths.row(client), &after) > gained + TOLERANCE {
+                let (entering, far) = self.entering_share(
+                    worths, direction, charges, client, least,
+                );
                 if far < least {
                     least = far;
                     found = Some(entering);
@@ -148,6 +142,7 @@ impl Tableau {
         &self,
         worths: &WorthTable,
         direction: &Direction,
+        charges: &[f64; 393],
         client: usize,
         most: f64,
     ) -> (Entering, f64)
@@ -161,7 +156,7 @@ impl Tableau {
         let mut least = most;
         for number in 0..393 {
             let entry = direction.falls[number] + taken;
-            let other = f64::from(worths[number]) - direction.charges[number] - gained;
+            let other = f64::from(worths[number]) - charges[number] - gained;
             if entry > TOLERANCE && -other < least * entry {
                 first = number;
                 reduced_cost = other;
@@ -181,13 +176,11 @@ impl Tableau {
     }
 }
 
-/// What each package costs once the prices have moved so far.
-fn charges_after(direction: &Direction, far: f64) -> [f64; 393] {
-    let mut charges = direction.charges;
+/// Takes from the charge of each package what it falls by as the prices move so far.
+fn lower(charges: &mut [f64; 393], direction: &Direction, far: f64) {
     for number in 0..393 {
         charges[number] -= far * direction.falls[number];
     }
-    charges
 }
 
 /// The slack whose reduced cost comes to 0 first as the prices move, if one does before they have moved so far, and how far that is.

@@ -1,7 +1,7 @@
 // The primal simplex, with columns of packages made on demand.
 ghost use Rattle.std.specs.Prelude.{◌≡◌, ◌<◌, length};
 
-use crate::charges::charges;
+use crate::charges::charge;
 use crate::columns::{ClientPackage, Column, Entering, GOOD_ROWS, GoodRow};
 use crate::tableau::{Row, TOLERANCE, Tableau};
 use crate::worth_table::WorthTable;
@@ -70,7 +70,8 @@ impl Tableau {
                 return Some(entering);
             }
         }
-        let charges = charges(&worths.features, &self.prices);
+        let mut charges = [0.0; 393];
+        charge(&mut charges, &worths.features, &self.prices);
         for client in 0..8 {
             let gained = self.prices[GOOD_ROWS + client];
             let worths = worths.row(client);
@@ -96,7 +97,8 @@ impl Tableau {
         if good.reduced_cost > TOLERANCE {
             return Some(good);
         }
-        let charges = charges(&worths.features, &self.prices);
+        let mut charges = [0.0; 393];
+        charge(&mut charges, &worths.features, &self.prices);
         for step in 0..8 {
             let client = (turn + step) % 8;
             let found = self.entering_of(worths, client, &charges);

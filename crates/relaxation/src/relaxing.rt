@@ -22,15 +22,17 @@ pub struct Relaxation {
 
 impl Relaxation {
     /// Every client has every package left; solved.
+    #[inline(never)]
     pub fn new(account: &Account) -> Relaxation
         ensures { HasWorths account.now.clients result.worths.dollars }
     {
-        let stock = amounts(account);
         let mut relaxation = Relaxation {
-            worths: WorthTable::new(account),
-            stock,
-            tableau: Tableau::new(&stock),
+            worths: WorthTable::nothing(),
+            stock: amounts(account),
+            tableau: Tableau::nothing(),
         };
+        relaxation.worths.fill(account);
+        relaxation.tableau.begin(&relaxation.stock);
         relaxation
             .tableau
             .solve(&relaxation.worths, &Limits::none());
@@ -56,7 +58,7 @@ impl Relaxation {
     }
 
     /// Whether the fractions are worth more together than a total in dollars.
-    pub(crate) fn is_worth_more(&self, total: u32) -> bool {
+    pub fn is_worth_more(&self, total: u32) -> bool {
         self.tableau.value() > f64::from(total) + TOLERANCE
     }
 }

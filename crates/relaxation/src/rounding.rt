@@ -2,7 +2,7 @@
 ghost use Rattle.std.specs.Prelude.{◌≡◌, ◌<◌, ◌≤◌, length, IfSome};
 ghost use Rattle.packages.specs.Prices.{ArePrices};
 
-use crate::charges::charges;
+use crate::charges::charge;
 use crate::primal_simplex::Limits;
 use crate::relaxing::Relaxation;
 use crate::tableau::{Row, TOLERANCE, Tableau, WIDTH};
@@ -58,7 +58,8 @@ impl Relaxation {
     /// What whole prices bound, in dollars, as far as each client has a package left.
     pub(crate) fn bound_at(&self, prices: &Prices) -> f64 {
         let row = row_of(prices);
-        let charges = charges(&self.worths.features, &row);
+        let mut charges = [0.0; 393];
+        charge(&mut charges, &self.worths.features, &row);
         let mut bound = 0.0;
         for good in 0..28 {
             bound += row[good] * self.stock[good];
@@ -103,8 +104,8 @@ impl Relaxation {
     fn prices_within(&self, most: f64) -> Prices {
         let (near, bound) = self.rounded(most);
         if bound > most && self.tableau.infeasible(&self.worths).is_none() {
-            if let Some(tableau) = self.tableau.with_whole_prices(&self.worths, most) {
-                return tableau.prices_at(TOLERANCE);
+            if let Some(prices) = self.tableau.whole_prices(&self.worths, most) {
+                return prices;
             }
         }
         near
@@ -168,14 +169,15 @@ impl Tableau {
         None
     }
 
-    /// The relaxation with whole prices that are worth no more than so much, if they are found: one price after the other is kept at the whole
-    /// dollar above it or, if that is worth too much, below it.
-    fn with_whole_prices(&self, worths: &WorthTable, most: f64) -> Option<Tableau> {
+    /// Whole prices with which the relaxation is worth no more than so much, if they are found: one price after the other is kept at the
+    /// whole dollar above it or, if that is worth too much, below it.
+    #[inline(never)]
+    fn whole_prices(&self, worths: &WorthTable, most: f64) -> Option<Prices> {
         let mut limits = Limits::none();
         let mut found = *self;
         for _ in 0..MOST_KEPT {
             let Some(good) = found.fractional() else {
-                return Some(found);
+                return Some(found.prices_at(TOLERANCE));
             };
             let below = f64::from(found.price(good, TOLERANCE));
             limits.low[good] = below + 1.0;

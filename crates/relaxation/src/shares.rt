@@ -3,7 +3,7 @@ ghost use Rattle.std.specs.Prelude.{◌≡◌, ◌<◌, length, IfSome};
 ghost use Rattle.std.specs.List.{All};
 ghost use Rattle.packages.specs.Packages.{IsPackage};
 
-use crate::charges::charges;
+use crate::charges::charge;
 use crate::columns::{ClientPackage, Column, ROWS};
 use crate::primal_simplex::best_package;
 use crate::relaxing::Relaxation;
@@ -59,7 +59,8 @@ impl Relaxation {
         requires lawful { IsPackage has.now }
         ensures { IsPackage result }
     {
-        let charges = charges(&self.worths.features, &row_of(prices));
+        let mut charges = [0.0; 393];
+        charge(&mut charges, &self.worths.features, &row_of(prices));
         let (number, most) = best_package(self.worths.row(client), &charges);
         if most < 0.0 {
             *has

@@ -3,7 +3,7 @@ ghost use Rattle.std.specs.Prelude.{◌≡◌, ◌/◌, ◌%◌, ◌<◌, ◌≤
 ghost use Rattle.relaxation.specs.Splits.{fixed_at, IsFull};
 
 use crate::branching::{first_place, greatest};
-use crate::charges::charges;
+use crate::charges::charge;
 use crate::columns::GOOD_ROWS;
 use crate::relaxing::Relaxation;
 use crate::rounding::row_of;
@@ -90,6 +90,7 @@ impl Relaxation {
     /// The client's feature to split by next, of those that are not fixed; None where all are fixed. It is the one that the rule says, or
     /// where the relaxation is worth no more than a total in dollars or nothing has a branching priority, the one with the fewest parts open
     /// at the prices. `fixed` has, by client 0..7 and feature 0..3, the fixed value, or none.
+    #[inline(never)]
     pub fn next_split(
         &self,
         rule: SplitRule,
@@ -175,7 +176,12 @@ impl Relaxation {
         ensures full { IfNone result (IsFull fixed.now) }
     {
         let priced = self.priced(prices);
-        let moved = self.moved();
+        let mut moved = Moved {
+            at: [0.0; 393],
+            above: [0.0; 393],
+            below: [0.0; 393],
+        };
+        self.charge_moved(&mut moved);
         let mut best = None;
         let mut least = OpenParts {
             is_tied: true,
@@ -284,14 +290,12 @@ impl Relaxation {
         most < bend - TOLERANCE
     }
 
-    /// What packages cost at the prices of the relaxation, and near them.
-    fn moved(&self) -> Moved {
+    /// Puts down what packages cost at the prices of the relaxation, and near them.
+    fn charge_moved(&self, moved: &mut Moved) {
         let features = &self.worths.features;
-        Moved {
-            at: charges(features, &self.tableau.prices),
-            above: charges(features, &self.prices_moved(MOVED)),
-            below: charges(features, &self.prices_moved(-MOVED)),
-        }
+        charge(&mut moved.at, features, &self.tableau.prices);
+        charge(&mut moved.above, features, &self.prices_moved(MOVED));
+        charge(&mut moved.below, features, &self.prices_moved(-MOVED));
     }
 
     /// The prices of the relaxation with those between whole dollars moved, each good's by the square of another number: sums of squares rarely agree,
@@ -310,10 +314,12 @@ impl Relaxation {
 
     /// What packages cost at whole prices, and what these bound, in dollars.
     fn priced(&self, prices: &Prices) -> Priced {
-        Priced {
-            charges: charges(&self.worths.features, &row_of(prices)),
+        let mut priced = Priced {
+            charges: [0.0; 393],
             bound: self.bound_at(prices),
-        }
+        };
+        charge(&mut priced.charges, &self.worths.features, &row_of(prices));
+        priced
     }
 
     /// What whole prices bound, in dollars, in each part of a split by a client's feature.

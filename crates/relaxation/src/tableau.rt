@@ -34,28 +34,29 @@ pub(crate) struct Tableau {
 }
 
 impl Tableau {
-    /// The slack basis: all goods are left over, of which there are so many, and each client stays at home. Of a good of which eight clients
-    /// can't use up all, one more than they can use is as good as any number, and so it gets no price. A good of which there is none has the
-    /// greatest price, and nobody wants it.
-    pub(crate) fn new(stock: &[f64; 28]) -> Tableau {
-        let mut rows = [[0.0; WIDTH]; ROWS];
-        let mut prices = [0.0; WIDTH];
-        let mut basis = [Column::Slack(GoodRow { good: 0 }); ROWS];
+    /// No basis yet.
+    pub(crate) fn nothing() -> Tableau {
+        Tableau {
+            rows: [[0.0; WIDTH]; ROWS],
+            prices: [0.0; WIDTH],
+            basis: [Column::Slack(GoodRow { good: 0 }); ROWS],
+        }
+    }
+
+    /// Puts down, where there was no basis, the slack basis: all goods are left over, of which there are so many, and each client stays at
+    /// home. Of a good of which eight clients can't use up all, one more than they can use is as good as any number, and so it gets no price. A
+    /// good of which there is none has the greatest price, and nobody wants it.
+    pub(crate) fn begin(&mut self, stock: &[f64; 28]) {
         for good in 0..GOOD_ROWS {
-            rows[good][good] = 1.0;
-            rows[good][AMOUNT] = stock[good].min(9.0);
-            prices[good] = first_price(stock[good]);
-            basis[good] = Column::Slack(GoodRow { good });
+            self.rows[good][good] = 1.0;
+            self.rows[good][AMOUNT] = stock[good].min(9.0);
+            self.prices[good] = first_price(stock[good]);
+            self.basis[good] = Column::Slack(GoodRow { good });
         }
         for client in 0..8 {
-            rows[GOOD_ROWS + client][GOOD_ROWS + client] = 1.0;
-            rows[GOOD_ROWS + client][AMOUNT] = 1.0;
-            basis[GOOD_ROWS + client] = Column::Share(ClientPackage { client, number: 0 });
-        }
-        Tableau {
-            rows,
-            prices,
-            basis,
+            self.rows[GOOD_ROWS + client][GOOD_ROWS + client] = 1.0;
+            self.rows[GOOD_ROWS + client][AMOUNT] = 1.0;
+            self.basis[GOOD_ROWS + client] = Column::Share(ClientPackage { client, number: 0 });
         }
     }
 

@@ -22,21 +22,25 @@ pub struct WorthTable {
 }
 
 impl WorthTable {
+    /// No package is worth anything.
+    pub(crate) fn nothing() -> WorthTable {
+        WorthTable {
+            dollars: [0; 3144],
+            features: Features::new(),
+        }
+    }
+
     /// Each package is left to each client.
-    pub(crate) fn new(account: &Account) -> WorthTable
-        ensures { HasWorths account.now.clients result.dollars }
+    #[inline(never)]
+    pub(crate) fn fill(&mut self, account: &Account)
+        ensures { HasWorths account.now.clients self.new.dollars }
     {
         // The proof rests on the account's ranges, which are known where it is read.
         let _holdings = &account.holdings;
-        let mut dollars = [0; 3144];
         for number in 0..393 {
             if let Some(choice) = package(number) {
-                put(&mut dollars, account, number, &choice);
+                put(&mut self.dollars, account, number, &choice);
             }
-        }
-        WorthTable {
-            dollars,
-            features: Features::new(),
         }
     }
 
