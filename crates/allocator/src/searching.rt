@@ -145,6 +145,7 @@ fn offer_left(account: &Account, relaxation: &Relaxation, best: &mut Found)
 }
 
 /// Offers what a relaxation gives as it is decided feature by feature, a bounded number of times, while it is worth more than the best.
+#[inline(never)]
 fn dive(account: &Account, relaxation: &Relaxation, best: &mut Found)
     requires reached { IsReached account.now best.old.allocation best.old.total }
     ensures reached { IsReached account.now best.new.allocation best.new.total }
@@ -166,7 +167,7 @@ pub(crate) fn offer_near(level: u8, account: &Account, relaxation: &Relaxation, 
     ensures grows { best.old.total ≤ best.new.total }
 {
     offer_left(account, relaxation, best);
-    if level < DIVE_LEVELS {
+    if level < DIVE_LEVELS && relaxation.is_worth_more(best.total) {
         dive(account, relaxation, best);
     }
 }
@@ -222,6 +223,7 @@ fn next_split(
 
 /// Searches what a choice leaves, where so many features are fixed. After an error the best is a feasible allocation still.
 #[cycle(search)]
+#[inline(never)]
 pub(crate) fn explore(
     search: &Search<'_>,
     level: u8,
@@ -258,17 +260,17 @@ pub(crate) fn explore(
     explore_parts(search, level, choice, left, split, &quote, hint, best)
 }
 
-/// The quote by which a part is tested first: of the prices of the part that it is like, if a hint has them, and else the one of the split. Parts that
-/// are alike mostly have the same prices, so that the last quote serves again.
-fn quote_for(account: &Account, hint: Hint<'_>, last: &Quote, known: &Quote) -> Quote
-    requires last { last.now.stock_value ≡ stock_value account.now.holdings last.now.prices }
+/// Makes of the last quote the one by which a part is tested first: of the prices of the part that it is like, if a hint has them, and else the
+/// one of the split. Parts that are alike mostly have the same prices, so that the last quote serves again.
+fn renew(quote: &mut Quote, account: &Account, hint: Hint<'_>, known: &Quote)
+    requires last { quote.old.stock_value ≡ stock_value account.now.holdings quote.old.prices }
     requires known { known.now.stock_value ≡ stock_value account.now.holdings known.now.prices }
-    ensures { result.stock_value ≡ stock_value account.now.holdings result.prices }
+    ensures { quote.new.stock_value ≡ stock_value account.now.holdings quote.new.prices }
 {
     match copied_prices(hint) {
-        Some(prices) if *prices == last.prices => *last,
-        Some(prices) => Quote::new(account, prices),
-        None => *known,
+        Some(prices) if *prices == quote.prices => (),
+        Some(prices) => *quote = Quote::new(account, prices),
+        None => *quote = *known,
     }
 }
 
@@ -308,7 +310,7 @@ fn explore_parts(
         let mut part = *left;
         part.narrow(client, feature, value);
         let hint = hint_of_part(hint, split, value, &children, &left.worths);
-        quote = quote_for(account, hint, &quote, known);
+        renew(&mut quote, account, hint, known);
         let child = explore_part(search, level + 1, &next, &mut part, &quote, hint, best)?;
         children.push(child)?;
     }

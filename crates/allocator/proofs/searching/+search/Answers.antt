@@ -74,7 +74,7 @@ explore_parts-explore_part-requires t c =
     let table = c.narrow.new.self.worths.dollars in
     let narrow = ceiling_narrowed account ranges (chosen c.args.choice.now) c.args.split.client c.args.split.feature c.loop-value.value c.args.left.now.worths.dollars table c.requires.ceiling c.narrow.ensures.keeps in
     let ceiling = subst (λ left. IsCeiling account left table) (sym c.with-next.ensures.left) narrow in
-    (search rules, (level, (ceiling, (c.quote_for-quote.ensures, c.loop-value.invariant.reached))))
+    (search rules, (level, (ceiling, (c.renew.ensures, c.loop-value.invariant.reached))))
 
 pub explore-explore_parts-requires : goal.explore-explore_parts-requires
 explore-explore_parts-requires t c =
