@@ -299,7 +299,7 @@ the text of a hotel with four entries, of a cash history, of a head over links a
   numbered from 0 in order of arrival, and a post has good and position.
 - **The usual error** is a line without its end, or a list in another order: histories by good,
   clients and agents from 0. That two different games have different texts is proved apart
-  (`docs/PROOFS.md`, "Crate by crate"), so a text that leaves something out would not be.""",
+  (`crates/README.md`), so a text that leaves something out would not be.""",
     "Outcomes and codes": """\
 Of this chapter the headline needs `Reports`, `IsCashOfPosts`, and `service_of`; the other outcomes
 are those of the other commands. `Reports` has two cases by the code. Code 4: some first bytes of
