@@ -10,7 +10,7 @@ use Rattle.link_audit.specs.declared.hearing.Heard.TheVariants.{Through, Gone, N
 use Rattle.link_audit.specs.declared.vouching.Difference.{Difference}
 use Rattle.link_audit.specs.declared.vouching.Difference.TheVariants as differences
 use Rattle.link_audit.specs.Ahead.{Subject, FitsReply, IsAsked, IsLeaving, IsOver, IsTaken, IsWide, start}
-use Rattle.link_audit.specs.Courses.{Course, Finishes, HasCourse, HaveTurns, IsDifferent, IsFirstLine, IsKept, IsLowestLeft, IsStop, behind_course, has_entry}
+use Rattle.link_audit.specs.Courses.{Course, FinishesLog, HasCourse, HaveTurns, IsDifferent, IsFirstLine, IsKept, IsLowestLeft, IsStop, behind_course, has_entry}
 use Rattle.link_audit.specs.Walks.{DiffersAfter, HasHeard, HasLeft, IsBehind, lines_at}
 use Rattle.link_audit.proofs.Leading.{TheLine}
 use Rattle.link_audit.proofs.Courses.{course_back, course_on, finish_on, kept_by, leaves_last, leaves_none, leaving_course, moved_by, no_course, pass_back, pass_leaving, pass_on, passes_last}
@@ -86,7 +86,7 @@ full_line dialect s places all told n lines reply replies' replies courses repli
 module _ (dialect : Dialect) (s : Subject) (places : Places) (wide : IsWide places) (asked : List ℕ) (from : ℕ) (told : List (List ℕ)) (n : ℕ) (line : TheLine) (lines' lines : List TheLine)
     (lines_are : lines ≡ line ∷ lines') (reply : List ℕ) (replies' replies : List (List ℕ)) (replies_are : replies ≡ reply ∷ replies')
     (courses : (course : Course) → IsBehind (HasCourse dialect s start (lines_at asked from) told (behind_course n course)) (HasCourse dialect s places lines replies course))
-    (finishes : (entries : ℕ) → Finishes dialect s start (lines_at asked from) told entries → Finishes dialect s places lines replies entries)
+    (finishes : (entries : ℕ) → FinishesLog dialect s start (lines_at asked from) told entries → FinishesLog dialect s places lines replies entries)
     (told_so : length told ≡ n + length replies) (low : n < SESSION_LINES) (t : IsLeaving (IsAsked dialect true line) (FitsReply dialect.text true reply) s places) where
   left_here : HasCourse dialect s places lines replies (record { turns = 1; left = true; to = places })
   left_here = subst (λ (w : List TheLine × List (List ℕ)). HasCourse dialect s places w.0 w.1 (record { turns = 1; left = true; to = places })) (λ i. (sym lines_are i, sym replies_are i))
@@ -141,7 +141,7 @@ module _ (dialect : Dialect) (s : Subject) (places : Places) (wide : IsWide plac
       is.2,
     ),
     (λ entries f. leaves_none dialect s places wide line lines' reply replies' t entries
-        (subst (λ (w : List TheLine × List (List ℕ)). Finishes dialect s places w.0 w.1 entries) (λ i. (lines_are i, replies_are i)) (finishes entries f))),
+        (subst (λ (w : List TheLine × List (List ℕ)). FinishesLog dialect s places w.0 w.1 entries) (λ i. (lines_are i, replies_are i)) (finishes entries f))),
     (let long = ap length replies_are in let end = ap length (none is.1) in let count_is = is.0 in omega (arith, told_so, long, end, count_is)),
   )
   left_course more none some (Not difference) is = by_more more is none some
@@ -182,11 +182,11 @@ module _ (dialect : Dialect) (s : Subject) (places : Places) (wide : IsWide plac
 
   pub passed_finish : (count count' : ℕ) → (to : Places) (t : IsTaken (IsAsked dialect false line) (FitsReply dialect.text false []) s places to) → count' ≡ count + cond (has_entry t.turn) 1 0
       → (IsOver s places → ⊥)
-      → ((entries : ℕ) → Finishes dialect s reached all [] entries → (k : ℕ) × (entries ≡ count + k) × Finishes dialect s places lines [] k)
-      → (entries : ℕ) → Finishes dialect s reached all [] entries → (k : ℕ) × (entries ≡ count' + k) × Finishes dialect s to lines' [] k
+      → ((entries : ℕ) → FinishesLog dialect s reached all [] entries → (k : ℕ) × (entries ≡ count + k) × FinishesLog dialect s places lines [] k)
+      → (entries : ℕ) → FinishesLog dialect s reached all [] entries → (k : ℕ) × (entries ≡ count' + k) × FinishesLog dialect s to lines' [] k
   passed_finish count count' to t counted more finishes entries f =
       let here = finishes entries f in
-      let on = finish_on dialect s places wide line lines' to t more here.0 (subst (λ (l : List TheLine). Finishes dialect s places l [] here.0) lines_are here.2) in
+      let on = finish_on dialect s places wide line lines' to t more here.0 (subst (λ (l : List TheLine). FinishesLog dialect s places l [] here.0) lines_are here.2) in
       (on.0, (let a = here.1 in let b = on.1 in omega (arith, a, b, counted)), on.2)
 
 module _ (dialect : Dialect) (s : Subject) (places reached : Places) (all lines : List TheLine) (n used : ℕ)

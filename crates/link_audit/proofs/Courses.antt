@@ -11,7 +11,7 @@ use Rattle.agent_gate.specs.Turns.{Turn, Called, CallDenied, CashRead, CashDenie
 use Rattle.link_audit.specs.declared.places.Places.{Places}
 use Rattle.link_audit.specs.Ahead.{Subject, AreAllowed, FitsReply, IsAllowed, IsAsked, IsEasier, IsLeaving, IsOver, IsPossible, IsStuck, IsTaken, IsWide, behind_turn, cash_caller, entry_caller, rest_of}
 use Rattle.link_audit.specs.Links.{MayAsk}
-use Rattle.link_audit.specs.Courses.{AreAnswered, AreNext, Course, Finishes, HasCourse, IsKept, has_entry, walked}
+use Rattle.link_audit.specs.Courses.{AreAnswered, AreNext, Course, FinishesLog, HasCourse, IsKept, has_entry, walked}
 use Rattle.link_audit.proofs.Walking.{wide_after}
 use Rattle.link_audit.proofs.Easier.{easier_than, easy_over, easy_turns, same_places}
 use Rattle.link_audit.proofs.Leading.{TheLine, no_item}
@@ -164,11 +164,11 @@ module _ (dialect : Dialect) (s : Subject) (from : Places) where
 
       -- turns by which nothing is left
       pub heard_on : (to : Places) → IsTaken (IsAsked dialect true line) (FitsReply dialect.text true reply) s from to
-          → (entries : ℕ) → Finishes dialect s from (line ∷ lines) (reply ∷ replies) entries → Finishes dialect s to lines replies entries
+          → (entries : ℕ) → FinishesLog dialect s from (line ∷ lines) (reply ∷ replies) entries → FinishesLog dialect s to lines replies entries
       heard_on to t entries f = by_turns f.turns f.answered f.replied f.allowed f.next f.over f.entries_are
         where
           by_turns : (turns : List Turn) → AreAnswered dialect turns (line ∷ lines) (reply ∷ replies) → suc (length replies) ≤ length turns → AreAllowed from turns → AreNext s from turns
-              → IsOver s (walked from turns) → count_by has_entry (drop (suc (length replies)) turns) ≡ entries → Finishes dialect s to lines replies entries
+              → IsOver s (walked from turns) → count_by has_entry (drop (suc (length replies)) turns) ≡ entries → FinishesLog dialect s to lines replies entries
           by_turns [] answered replied allowed next over is = absurd (omega (arith, replied))
           by_turns (turn ∷ turns) answered replied allowed next over is =
               let possible : IsPossible (IsAsked dialect true line) (FitsReply dialect.text true reply) s from turn = record { asked = answered.0; fits = λ came. answered.1; allowed = allowed.0; next = next.0 } in
@@ -202,7 +202,7 @@ module _ (dialect : Dialect) (s : Subject) (from : Places) where
             let none : o.turns ≡ [] = o.last (ap is_leaving (t.only o.turn o.possible)) in
             (let count = o.count in let long = ap length none in omega (arith, count, long, is))
 
-        pub leaves_none : (entries : ℕ) → Finishes dialect s from (line ∷ lines) (reply ∷ replies) entries → entries ≡ 0
+        pub leaves_none : (entries : ℕ) → FinishesLog dialect s from (line ∷ lines) (reply ∷ replies) entries → entries ≡ 0
         leaves_none entries f = by_turns f.turns f.answered f.replied f.allowed f.next f.entries_are
           where
             by_turns : (turns : List Turn) → AreAnswered dialect turns (line ∷ lines) (reply ∷ replies) → suc (length replies) ≤ length turns → AreAllowed from turns → AreNext s from turns
@@ -286,11 +286,11 @@ module _ (dialect : Dialect) (s : Subject) (from : Places) where
         }
 
       -- turns by which nothing is left
-      pub finish_on : (IsOver s from → ⊥) → (entries : ℕ) → Finishes dialect s from (line ∷ lines) [] entries → (k : ℕ) × (entries ≡ cond (has_entry t.turn) 1 0 + k) × Finishes dialect s to lines [] k
+      pub finish_on : (IsOver s from → ⊥) → (entries : ℕ) → FinishesLog dialect s from (line ∷ lines) [] entries → (k : ℕ) × (entries ≡ cond (has_entry t.turn) 1 0 + k) × FinishesLog dialect s to lines [] k
       finish_on more entries f = by_turns f.turns f.answered f.allowed f.next f.over f.entries_are
         where
           by_turns : (turns : List Turn) → AreAnswered dialect turns (line ∷ lines) [] → AreAllowed from turns → AreNext s from turns → IsOver s (walked from turns) → count_by has_entry turns ≡ entries
-              → (k : ℕ) × (entries ≡ cond (has_entry t.turn) 1 0 + k) × Finishes dialect s to lines [] k
+              → (k : ℕ) × (entries ≡ cond (has_entry t.turn) 1 0 + k) × FinishesLog dialect s to lines [] k
           by_turns [] answered allowed next over is = absurd (more over)
           by_turns (turn ∷ turns) answered allowed next over is =
               let possible : IsPossible (IsAsked dialect false line) (FitsReply dialect.text false []) s from turn = record { asked = answered.0; fits = λ came. absurd cc; allowed = allowed.0; next = next.0 } in
@@ -320,5 +320,5 @@ module _ (dialect : Dialect) (s : Subject) (from : Places) where
           let none : o.turns ≡ [] = o.last (ap is_leaving (t.only o.turn o.possible)) in
           (let count = o.count in let long = ap length none in omega (arith, count, long, is))
 
-  pub finish_over : (lines : List TheLine) (entries : ℕ) → IsOver s from → Finishes dialect s from lines [] entries → entries ≡ 0
+  pub finish_over : (lines : List TheLine) (entries : ℕ) → IsOver s from → FinishesLog dialect s from lines [] entries → entries ≡ 0
   finish_over lines entries over f = sym f.entries_are ∙ over_entries s from f.turns over f.allowed f.next

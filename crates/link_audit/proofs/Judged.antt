@@ -25,9 +25,9 @@ use Rattle.link_audit.specs.declared.vouching.Difference.TheVariants as differen
 use Rattle.link_audit.specs.declared.vouching.Vouching.{Vouching}
 use Rattle.link_audit.specs.declared.vouching.Vouching.TheVariants.{Whole, Cut, Not}
 use Rattle.link_audit.specs.Ahead.{Subject, AreAllowed, AreBoards, IsAhead, IsOver, IsWide, Remains, behind_turn, start}
-use Rattle.link_audit.specs.Courses.{AreAnswered, AreNext, Course, Finishes, HasCourse, IsDifferent, IsFirstLeft, IsLowestLeft, IsStop, behind_course, has_entry, walked}
+use Rattle.link_audit.specs.Courses.{AreAnswered, AreNext, Course, FinishesLog, HasCourse, IsDifferent, IsFirstLeft, IsLowestLeft, IsStop, behind_course, has_entry, walked}
 use Rattle.link_audit.specs.Links.{IsVouched, MayAsk, whole_lines}
-use Rattle.link_audit.specs.Vouchings.{DiffersBehind, HasNumbers, IsDifferenceOf, IsFirstDifference, IsGreeted, IsJudged, IsWhole, IsWholeLink, IsYes}
+use Rattle.link_audit.specs.Vouchings.{DiffersBehind, HasNumbers, IsDifferenceOf, IsFirstDifference, HasSeatAndLines, IsJudged, IsWhole, IsWholeLink, IsYes}
 use Rattle.link_audit.specs.Walks.{HasHeard, IsFinished, IsHeard, TakesSeat, lines_at}
 use Rattle.link_audit.proofs.Walking.{none_over, over_none, turn_first, turn_next, wide_after}
 use Rattle.link_audit.proofs.Easier.{easy_over, same_places}
@@ -115,7 +115,7 @@ module _ (dialect : Dialect) (s : Subject) (lines : List TheLine) (replies : Lis
       to = same_places (walked start (a.heard ++ a.unheard));
     }
 
-    pub ahead_finishes : Finishes dialect s start lines replies (count_by has_entry a.unheard)
+    pub ahead_finishes : FinishesLog dialect s start lines replies (count_by has_entry a.unheard)
     ahead_finishes = record {
       turns = a.heard ++ a.unheard;
       answered = ahead_answered;
@@ -188,7 +188,7 @@ module _ (game : GameFile) (dialect : Dialect) (log : LoggedGame) (asked said : 
         none agent (record { ended = here ∙ ap (λ (l : List ℕ). (gots.Line, l)) same; seat = ap (verdict_of (free_seats game)) (sym same) ∙ g.seat; listed = g.listed })
 
     module _ (agent : ℕ) (t : TakesSeat game log line agent) where
-      greeted : IsGreeted game log asked agent lines
+      greeted : HasSeatAndLines game log asked agent lines
       greeted = record { line = line; first = first ∙ (λ i. t.ended i ∷ lines); seat = t.seat; listed = t.listed }
 
       pub no_welcome : ((others : List (List ℕ)) → whole_lines said ≡ welcome_lines game agent ++ others → ⊥) → IsFirstDifference game dialect log asked said differences.Welcome
@@ -214,7 +214,7 @@ yes_so agent lines after true result is other = (subst (IsYes other) is, (λ sam
 yes_so agent lines after false result is other = (subst (IsYes other) is, (λ same. subst (IsYes other) (sym is) same))
 
 pub finished_so : (dialect : Dialect) (s : Subject) (asked : List ℕ) (places : Places) (at lines agent after : ℕ) (ended : Bool) (result : Vouching) → result ≡ (if ended then Whole agent lines else Cut agent lines after)
-    → lines_at asked at ≡ (gots.End, []) ∷ [] → ((entries : ℕ) → Finishes dialect s places (lines_at asked at) [] entries → entries ≡ after) → IsFinished dialect s asked ended (Through places at lines) result
+    → lines_at asked at ≡ (gots.End, []) ∷ [] → ((entries : ℕ) → FinishesLog dialect s places (lines_at asked at) [] entries → entries ≡ after) → IsFinished dialect s asked ended (Through places at lines) result
 finished_so dialect s asked places at lines agent after true result is none numbers = subst (IsFinished dialect s asked true (Through places at lines)) (sym is) (refl, none, refl)
 finished_so dialect s asked places at lines agent after false result is none numbers = subst (IsFinished dialect s asked false (Through places at lines)) (sym is) (refl, (λ end never. absurd cc), numbers)
 
@@ -260,7 +260,7 @@ module _ (game : GameFile) (dialect : Dialect) (log : LoggedGame) (asked said : 
     unfolding own own_ahead
     own_course = ahead_course dialect TheSubject all_lines replies SESSION_LINES own
 
-    own_finishes : Finishes dialect TheSubject start all_lines replies (count_by has_entry v.unheard)
+    own_finishes : FinishesLog dialect TheSubject start all_lines replies (count_by has_entry v.unheard)
     unfolding own own_ahead
     own_finishes = ahead_finishes dialect TheSubject all_lines replies SESSION_LINES own
 

@@ -1,4 +1,4 @@
--- What a log still has of an agent from some places on, and the turns that it leaves possible; for private clauses.
+-- What a log still has of an agent from some places on, and the turns that it leaves possible.
 use Rattle.std.specs.Prelude.{⊤, ◌≡◌, ℕ, ◌+◌, ◌<◌, ◌≤◌, List, [], ◌∷◌, ◌++◌, All, Bool, Result, Ok, Err, Some, true, false, drop, length, map, replicate, slice_get, slice_index, slice_index_or, slice_set, take}
 use Rattle.std.specs.Global.{Vec}
 use Rattle.tac_base.specs.declared.limits.TheConstants.{AGENT_CALLS, CASH_READINGS, GOODS}

@@ -108,7 +108,7 @@ IsDifferent dialect s lines replies left = IsFirstLeft dialect s lines replies l
 
 -- from some places on the first lines, all with replies among them, have turns by which the log has nothing more of the agent; so many of those
 -- without a reply left an entry
-pub record Finishes (dialect : Dialect) (s : Subject) (from : Places) (lines : List (LineGot × List ℕ)) (replies : List (List ℕ)) (entries : ℕ) : Type 0 where
+pub record FinishesLog (dialect : Dialect) (s : Subject) (from : Places) (lines : List (LineGot × List ℕ)) (replies : List (List ℕ)) (entries : ℕ) : Type 0 where
   pub turns : List Turn
   pub answered : AreAnswered dialect turns lines replies
   pub replied : length replies ≤ length turns

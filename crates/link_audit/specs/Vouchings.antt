@@ -54,7 +54,7 @@ HasNumbers (Not difference) heard unheard = ⊤
 -- ---- the first difference
 
 -- the first line takes the seat of an agent, which the head of the log gives to a link; behind it come these lines
-pub record IsGreeted (game : GameFile) (log : LoggedGame) (asked : List ℕ) (agent : ℕ) (lines : List (LineGot × List ℕ)) : Type 0 where
+pub record HasSeatAndLines (game : GameFile) (log : LoggedGame) (asked : List ℕ) (agent : ℕ) (lines : List (LineGot × List ℕ)) : Type 0 where
   pub line : List ℕ
   pub first : all_answers [] LINK_BYTES asked ≡ (gots.Line, line) ∷ lines
   pub seat : verdict_of (free_seats game) line ≡ Seated agent
@@ -64,14 +64,14 @@ pub record IsGreeted (game : GameFile) (log : LoggedGame) (asked : List ℕ) (ag
 pub record LacksWelcome (game : GameFile) (log : LoggedGame) (asked said : List ℕ) : Type 0 where
   pub agent : ℕ
   pub lines : List (LineGot × List ℕ)
-  pub greeted : IsGreeted game log asked agent lines
+  pub greeted : HasSeatAndLines game log asked agent lines
   pub none : (replies : List (List ℕ)) → whole_lines said ≡ welcome_lines game agent ++ replies → ⊥
 
 -- they came, and what follows differs here first
 pub record DiffersBehind (game : GameFile) (dialect : Dialect) (log : LoggedGame) (asked said : List ℕ) (difference : Difference) : Type 0 where
   pub agent : ℕ
   pub lines : List (LineGot × List ℕ)
-  pub greeted : IsGreeted game log asked agent lines
+  pub greeted : HasSeatAndLines game log asked agent lines
   pub replies : List (List ℕ)
   pub welcomed : whole_lines said ≡ welcome_lines game agent ++ replies
   pub boards : List (List Board)
@@ -80,7 +80,7 @@ pub record DiffersBehind (game : GameFile) (dialect : Dialect) (log : LoggedGame
 
 -- the first place at which a sound log is not right about a link
 abbrev pub IsFirstDifference : GameFile → Dialect → LoggedGame → List ℕ → List ℕ → Difference → Type 0
-IsFirstDifference game dialect log asked said differences.Seat = (agent : ℕ) (lines : List (LineGot × List ℕ)) → IsGreeted game log asked agent lines → ⊥
+IsFirstDifference game dialect log asked said differences.Seat = (agent : ℕ) (lines : List (LineGot × List ℕ)) → HasSeatAndLines game log asked agent lines → ⊥
 IsFirstDifference game dialect log asked said differences.Welcome = LacksWelcome game log asked said
 IsFirstDifference game dialect log asked said difference = DiffersBehind game dialect log asked said difference
 

@@ -21,7 +21,7 @@ use Rattle.link_audit.specs.declared.vouching.Vouching.{Vouching}
 use Rattle.link_audit.specs.declared.vouching.Vouching.TheVariants.{Whole, Cut}
 use Rattle.link_audit.specs.declared.vouching.Vouching.TheVariants as vouchings
 use Rattle.link_audit.specs.Ahead.{Subject, IsAhead, IsOver, IsWide, start}
-use Rattle.link_audit.specs.Courses.{Course, Finishes, HasCourse, IsDifferent, IsLowestLeft, IsStop, behind_course}
+use Rattle.link_audit.specs.Courses.{Course, FinishesLog, HasCourse, IsDifferent, IsLowestLeft, IsStop, behind_course}
 use Rattle.link_audit.specs.Links.{logged_verdicts, whole_lines}
 
 -- the lines of bytes from a place on
@@ -59,11 +59,11 @@ IsLeft Over more (Through places at lines) = ⊥
 abbrev pub HasHeard : Dialect → Subject → List ℕ → ℕ → List (List ℕ) → Heard → Type 0
 HasHeard dialect s asked from replies (Through places at lines) =
     ((course : Course) → IsBehind (HasCourse dialect s start (lines_at asked from) replies (behind_course lines course)) (HasCourse dialect s places (lines_at asked at) [] course))
-    × ((entries : ℕ) → Finishes dialect s start (lines_at asked from) replies entries → Finishes dialect s places (lines_at asked at) [] entries)
+    × ((entries : ℕ) → FinishesLog dialect s start (lines_at asked from) replies entries → FinishesLog dialect s places (lines_at asked at) [] entries)
     × (drop lines (lines_at asked from) ≡ lines_at asked at) × (length replies ≡ lines)
 HasHeard dialect s asked from replies (Gone lines) =
     ((to : Places) × HasCourse dialect s start (lines_at asked from) replies (record { turns = lines; left = true; to = to }) × IsOver s to)
-    × ((entries : ℕ) → Finishes dialect s start (lines_at asked from) replies entries → entries ≡ 0) × (length replies ≡ lines)
+    × ((entries : ℕ) → FinishesLog dialect s start (lines_at asked from) replies entries → entries ≡ 0) × (length replies ≡ lines)
 HasHeard dialect s asked from replies (Not difference) = IsDifferent dialect s (lines_at asked from) replies difference
 
 -- the agent left by a line, after so many: the next line is different if there is another reply, and otherwise the lowest entry that is left
@@ -81,7 +81,7 @@ HasLeft s from lines more (Through places at count) = ⊥
 abbrev pub IsFinished : Dialect → Subject → List ℕ → Bool → Heard → Vouching → Type 0
 IsFinished dialect s asked ended (Through places at lines) (Whole agent count) = (count ≡ lines) × (lines_at asked at ≡ (gots.End, []) ∷ []) × (ended ≡ true)
 IsFinished dialect s asked ended (Through places at lines) (Cut agent count after) =
-    (count ≡ lines) × (lines_at asked at ≡ (gots.End, []) ∷ [] → ended ≡ true → ⊥) × ((entries : ℕ) → Finishes dialect s places (lines_at asked at) [] entries → entries ≡ after)
+    (count ≡ lines) × (lines_at asked at ≡ (gots.End, []) ∷ [] → ended ≡ true → ⊥) × ((entries : ℕ) → FinishesLog dialect s places (lines_at asked at) [] entries → entries ≡ after)
 IsFinished dialect s asked ended (Through places at lines) (vouchings.Not left) = IsStop dialect s places (lines_at asked at) lines left
 IsFinished dialect s asked ended heard vouching = ⊤
 

@@ -132,7 +132,7 @@ pub fn vouch<D: KnownDialect>(
 ) -> Result<Vouching, Memory>
     requires sound { IsSound game.now log.now }
     requires short { length asked.now < LINK_BYTES }
-    // The link is vouched for exactly if it is one of the log.
+    // It is a yes exactly if the log is right about the link, as this agent's.
     ensures yes { IfOk result (λ vouching. (agent : ℕ) → IsYes agent vouching ↔ IsVouched game.now (D.form dialect.now) log.now agent asked.now said.now) }
     // It is called whole exactly if, besides, nothing of it is left over.
     ensures whole { IfOk result (λ vouching. (agent : ℕ) → IsWhole agent vouching ↔ IsWholeLink game.now (D.form dialect.now) log.now agent asked.now said.now) }

@@ -2,7 +2,7 @@
 ghost use Rattle.std.specs.Prelude.{◌≡◌, ◌+◌, ◌-◌, ◌<◌, ◌≤◌, ◌↔◌, ℕ, [], IfOk, IsTrue, MatchResult, length};
 ghost use Rattle.tac_base.specs.declared.limits.TheConstants.{LINK_BYTES};
 ghost use Rattle.link_audit.specs.Ahead.{HasTruePosts, IsAhead, IsTable, IsWide, subject_of};
-ghost use Rattle.link_audit.specs.Courses.{Finishes, IsKept, IsStop};
+ghost use Rattle.link_audit.specs.Courses.{FinishesLog, IsKept, IsStop};
 ghost use Rattle.link_audit.specs.Walks.{lines_at};
 
 use crate::known::KnownDialect;
@@ -38,7 +38,7 @@ fn count_if_moved(count: u32, before: &Places, after: &Places) -> u32
 }
 
 /// Walks on over lines whose replies did not come, until the log has nothing more of the agent, from places that were reached by some
-/// lines. Answers how many of them left a call or a reading in the log, or the first entry that none of them asked.
+/// lines. Answers how many of them left a call or a reading in the log, or the lowest entry that none of them left.
 pub(crate) fn pass<D: KnownDialect>(
     log: &Log,
     boards: &[Vec<Board>],
@@ -58,7 +58,7 @@ pub(crate) fn pass<D: KnownDialect>(
         (λ count. IsAhead (D.form dialect.now) (subject_of log.now boards.now agent) reached.now (lines_at asked.now from) [] (SESSION_LINES - lines))
         (λ left. IsAhead (D.form dialect.now) (subject_of log.now boards.now agent) reached.now (lines_at asked.now from) [] (SESSION_LINES - lines) → ⊥)) }
     ensures turns { IfOk result (λ passed. MatchResult passed
-        (λ count. (entries : ℕ) → Finishes (D.form dialect.now) (subject_of log.now boards.now agent) reached.now (lines_at asked.now from) [] entries → entries ≡ count)
+        (λ count. (entries : ℕ) → FinishesLog (D.form dialect.now) (subject_of log.now boards.now agent) reached.now (lines_at asked.now from) [] entries → entries ≡ count)
         (λ left. IsStop (D.form dialect.now) (subject_of log.now boards.now agent) reached.now (lines_at asked.now from) lines left)) }
 {
     let mut places = *reached;

@@ -9,7 +9,7 @@ pub enum Difference {
     Welcome,
     /// By the log this line was not answered so, counted from 1 after the greeting, and those before it were; or there is no such line.
     Line(u32),
-    /// The log has this entry of the agent, the first that is left where the lines that it could come of end: no line asked it.
+    /// The log has this entry of the agent, the lowest that is left: none of the lines up to where the comparison stopped left it.
     Entry { good: Good, position: u32 },
     /// The same of this entry of the agent in the cash history; at no good an entry is left.
     Cash(u32),

@@ -14,20 +14,20 @@ use Rattle.tac_commands.specs.declared.refusals.Refusal.TheVariants.{Memory}
 use Rattle.tac_commands.specs.Outcomes.{Outcome, Done, Lapsed, Unsound, Stopped, Unread, Unwritten, Refused}
 use Rattle.tac_commands.specs.Reporting.{Reports}
 use Rattle.game_run.specs.Outcomes.{missed_of}
-use Rattle.tacd.specs.Finishing.{IsLogText, LogAllows, WritesLog, lapsed_code}
+use Rattle.tacd.specs.Finishing.{IsTextOfPlayed, LogAllows, WritesLog, lapsed_code}
 
 abbrev missed : Played → ℕ
 missed played = missed_of (head_of played.head)
 
 -- the game's log was not written whole: whether ticks lapsed or not
-cut_off : (game : GameFile) (played : Played) (text : List ℕ) (sink sink' : SinkState) (code count : ℕ) → IsLogText game played text → missed played ≡ count →
+cut_off : (game : GameFile) (played : Played) (text : List ℕ) (sink sink' : SinkState) (code count : ℕ) → IsTextOfPlayed game played text → missed played ≡ count →
     (code == 4) ≡ true → TookPart sink sink' text → (o : Outcome) × WritesLog game played o × Reports o sink sink' code
 cut_off game played text sink sink' code zero log is four told =
     (Done text, (log, is), subst (λ b. MatchBool b (TookPart sink sink' text) ((code ≡ 0) × TookWhole sink sink' text)) (sym four) told)
 cut_off game played text sink sink' code (suc n) log is four told =
     (Lapsed text, (log, omega (arith, is)), subst (λ b. MatchBool b (TookPart sink sink' text) ((code ≡ 6) × TookWhole sink sink' text)) (sym four) told)
 
-kept_by : (b : Bool) (game : GameFile) (played : Played) (text : List ℕ) (sink sink' : SinkState) (code : ℕ) → IsLogText game played text → (code ≡ 0 → missed played ≡ 0) →
+kept_by : (b : Bool) (game : GameFile) (played : Played) (text : List ℕ) (sink sink' : SinkState) (code : ℕ) → IsTextOfPlayed game played text → (code ≡ 0 → missed played ≡ 0) →
     (code == 4) ≡ b → MatchBool b (TookPart sink sink' text) ((code ≡ 0) × TookWhole sink sink' text) →
     (o : Outcome) × WritesLog game played o × Reports o sink sink' code
 kept_by true game played text sink sink' code log none four told = cut_off game played text sink sink' code (missed played) log refl four told

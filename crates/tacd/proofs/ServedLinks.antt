@@ -25,9 +25,10 @@ use Rattle.tac_commands.specs.declared.refusals.Refusal.{Refusal}
 use Rattle.tac_commands.specs.declared.refusals.Refusal.TheVariants as refusals
 use Rattle.tac_commands.specs.declared.services.Form.{Form}
 use Rattle.tac_commands.specs.declared.services.Form.TheVariants.{Lines, Json}
-use Rattle.tac_commands.specs.{WritesDue, dialect_in, log_of_game, link_steps, EndsInSoundLog}
+use Rattle.tac_commands.specs.{WritesDue, dialect_in, log_of_game, link_steps}
 use Rattle.tac_commands.specs.Allowed.{IsVouchedText}
-use Rattle.tac_commands.specs.Outcomes.{Outcome, Done, Lapsed, Unsound, Stopped, Unread, Unwritten, Refused, code_of, exit_text, refusal_end}
+use Rattle.tac_commands.specs.Codes.{code_of, exit_text}
+use Rattle.tac_commands.specs.Outcomes.{Outcome, Done, Lapsed, Unsound, Stopped, Unread, Unwritten, Refused, refusal_end}
 use Rattle.tac_commands.specs.Outsides.{Outside}
 use Rattle.tac_commands.specs.Reporting.{IsCutShort, Reports}
 use Rattle.tac_commands.specs.Runs.{Runs, StopsAt}
@@ -36,9 +37,9 @@ use Rattle.tac_commands.proofs.SoundLogs.{auctions_again}
 use Rattle.tac_commands.proofs.WrittenLogs.{read_again}
 use Rattle.tacd.specs.declared.answer.Answer.{Answer}
 use Rattle.tacd.specs.declared.answer.Played.{Played}
-use Rattle.tacd.specs.Service.{IsGameFile, Serves, at_pace}
+use Rattle.tacd.specs.Service.{IsGameFile, IsLogOf, Serves, at_pace}
 use Rattle.tacd.specs.Finishing.{hosted_by}
-use Rattle.tacd.specs.ServedLinks.{HasVouchedLog, IsSeatedWith, IsVouchedService, SaysYes, links_of}
+use Rattle.tacd.specs.ServedLinks.{IsSeatedWith, IsVouchedBy, IsVouchedService, SaysYes, links_of, played_log}
 use Rattle.tacd.proofs.ServiceCauses.{IsServedOr}
 
 -- ---- the links of the log
@@ -132,22 +133,26 @@ refused_ill refusals.TextTooLong well = high_ill 8 (omega arith) well
 module _ {L : Type 0} (state : L → LinkState) (service : Service) (before after : Outside L) (answer : Answer L) where
   module _ (game : GameFile) (file : IsGameFile before.files service.game game) (text : List ℕ) (written : TookWhole before.out after.out text) (played : Played) (kept : answer.played ≡ Some played)
       (end : IsGameEnd state (hosted_by service game) before.links after.links (record { closed = played.closed; head = played.head; links = answer.ended }))
-      (sheet : List Scored) (sound : EndsInSoundLog game (log_of_game (head_of played.head) played.closed sheet) [] text) where
-    vouched_by : (agent : ℕ) (asked said : List ℕ) → IsSeatedWith state (links_of state end) agent asked said → HasWelcome game agent said → HasVouchedLog game (dialect_in service.form) text agent asked said
+      (due : IsLogOf game played text) where
+    vouched_by : (agent : ℕ) (asked said : List ℕ) → IsSeatedWith state (links_of state end) agent asked said → HasWelcome game agent said → IsVouchedBy game (dialect_in service.form) (played_log played due.sheet) agent asked said
     vouched_by agent asked said s whole =
-        let log : LoggedGame = log_of_game (head_of played.head) played.closed sheet in
-        let link = link_of_log state (hosted_by service game) before.links after.links (record { closed = played.closed; head = played.head; links = answer.ended }) end sheet agent asked said s in
-        let v : IsVouched game (dialect_in service.form) log agent asked said = vouched_from (hosted_by service game) (reply_lines service.form) log agent asked said link whole in
-        record {
-          log = log;
-          sound = sound.sound;
-          read = read_again game log [] text sound;
-          vouched = v;
-          judged = says_yes game (dialect_in service.form) log agent asked said v;
-        }
+        let link = link_of_log state (hosted_by service game) before.links after.links (record { closed = played.closed; head = played.head; links = answer.ended }) end due.sheet agent asked said s in
+        let v : IsVouched game (dialect_in service.form) (played_log played due.sheet) agent asked said = vouched_from (hosted_by service game) (reply_lines service.form) (played_log played due.sheet) agent asked said link whole in
+        record { vouched = v; judged = says_yes game (dialect_in service.form) (played_log played due.sheet) agent asked said v; }
 
     pub vouched_service : IsVouchedService state service before after answer
-    vouched_service = record { game = game; file = file; text = text; written = written; played = played; kept = kept; end = end; vouched = vouched_by }
+    vouched_service = record {
+      game = game;
+      file = file;
+      text = text;
+      written = written;
+      played = played;
+      kept = kept;
+      log = due;
+      read = read_again game (played_log played due.sheet) [] text due.sound;
+      end = end;
+      vouched = vouched_by;
+    }
 
   -- the text of a code was written
   module _ (well : IsWell answer.code) where
@@ -164,8 +169,8 @@ module _ {L : Type 0} (state : L → LinkState) (service : Service) (before afte
     by_played game file None is (Refused refusals.LinkFault) plays told = absurd (low_ill 5 (omega arith) (omega arith) (subst IsWell told.0 well))
     by_played game file None is (Refused refusals.Memory) plays told = absurd (high_ill 7 (omega arith) (subst IsWell told.0 well))
     by_played game file None is outcome plays told = absurd plays
-    by_played game file (Some played) is (Done text) plays told = vouched_service game file text told.1 played is plays.0 plays.2.0.sheet plays.2.0.sound
-    by_played game file (Some played) is (Lapsed text) plays told = vouched_service game file text told.1 played is plays.0 plays.2.0.sheet plays.2.0.sound
+    by_played game file (Some played) is (Done text) plays told = vouched_service game file text told.1 played is plays.0 plays.2.0
+    by_played game file (Some played) is (Lapsed text) plays told = vouched_service game file text told.1 played is plays.0 plays.2.0
     by_played game file (Some played) is (Stopped text refusals.Memory) plays told = absurd (high_ill 7 (omega arith) (subst IsWell told.0 well))
     by_played game file (Some played) is (Stopped text refusal) plays told = absurd plays.2
     by_played game file (Some played) is (Unwritten text) plays told = absurd plays.2

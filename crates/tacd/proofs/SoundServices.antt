@@ -49,7 +49,7 @@ use Rattle.tac_commands.specs.SoundTexts.{log_of_game, EndsInSoundLog}
 use Rattle.tac_commands.proofs.SoundLogs.{text_is, ends_soundly}
 use Rattle.tacd.specs.declared.answer.Played.{Played}
 use Rattle.tac_commands.specs.declared.refusals.Refusal.TheVariants.{Memory}
-use Rattle.tacd.specs.Finishing.{IsLogText, WritesLog}
+use Rattle.tacd.specs.Finishing.{IsTextOfPlayed, WritesLog}
 use Rattle.tacd.specs.Service.{IsLogOf, PlayedAllows}
 use Rattle.tacd.proofs.SeatedOnce.{is_taken, taken_after, given_once, same_kept}
 
@@ -186,7 +186,7 @@ module _ {L : Type 0} (state : L → LinkState) (hosted : HostedGame) (links lin
 
   module _ (played : Played) (ended : Vec L) (is : IsGameEnd state hosted links links' (record { closed = played.closed; head = played.head; links = ended }))
       (waits : WaitsForAll ticker ticker' (missed_of (head_of played.head))) (shown : IsShowable hosted.game (head_of played.head) played.closed) where
-    log_soundly : (told : List ℕ) → IsLogText hosted.game played told → IsLogOf hosted.game played told
+    log_soundly : (told : List ℕ) → IsTextOfPlayed hosted.game played told → IsLogOf hosted.game played told
     log_soundly told log = record {
       sheet = log.sheet;
       scores = log.scores;

@@ -1,4 +1,4 @@
--- What is written of a game that was played before its lapsed ticks are looked at, and the code after that.
+-- What is written of a game that was played, before and after its lapsed ticks are looked at, and its code.
 use Rattle.std.specs.Prelude.{◌≡◌, ℕ, ◌<◌, List, nat_lt, if◌then◌else◌}
 use Rattle.line_protocol.specs.Heads.{head_of}
 use Rattle.score_sheet.specs.Sheets.{Scored}
@@ -20,21 +20,21 @@ abbrev pub first_part : Played → List ℕ
 first_part played = play_part (head_of played.head) played.closed
 
 -- the text of the log of a game that was played, with some sheet of it
-pub record IsLogText (game : GameFile) (played : Played) (text : List ℕ) : Type 0 where
+pub record IsTextOfPlayed (game : GameFile) (played : Played) (text : List ℕ) : Type 0 where
   pub sheet : List Scored
   pub scores : IsSheetOf game played.closed sheet
   pub due : text ≡ log_text (head_of played.head) played.closed sheet
 
 -- the log of the game is written, or its first part alone
 abbrev pub LogAllows : GameFile → Played → Outcome → Type 0
-LogAllows game played (Done text) = IsLogText game played text
+LogAllows game played (Done text) = IsTextOfPlayed game played text
 LogAllows game played (Stopped text Memory) = text ≡ first_part played
 LogAllows game played outcome = ⊥
 
--- so once the lapsed ticks were looked at
+-- what is written once the lapsed ticks were looked at
 abbrev pub WritesLog : GameFile → Played → Outcome → Type 0
-WritesLog game played (Done text) = IsLogText game played text × (missed_of (head_of played.head) ≡ 0)
-WritesLog game played (Lapsed text) = IsLogText game played text × (0 < missed_of (head_of played.head))
+WritesLog game played (Done text) = IsTextOfPlayed game played text × (missed_of (head_of played.head) ≡ 0)
+WritesLog game played (Lapsed text) = IsTextOfPlayed game played text × (0 < missed_of (head_of played.head))
 WritesLog game played (Stopped text Memory) = text ≡ first_part played
 WritesLog game played outcome = ⊥
 

@@ -4,10 +4,11 @@ use Rattle.tac_base.specs.declared.limits.TheConstants.{TEXT_BYTES}
 use Rattle.tac_io.specs.States.{FilesState, LinkState, LinksState}
 use Rattle.tac_io.specs.Taken.{TookWhole}
 use Rattle.game_text.specs.Games.{GameFile}
+use Rattle.score_sheet.specs.Sheets.{Scored}
 use Rattle.line_protocol.specs.declared.admission.Verdict.{Verdict}
 use Rattle.line_protocol.specs.declared.admission.Verdict.TheVariants.{Seated}
+use Rattle.line_protocol.specs.Heads.{head_of}
 use Rattle.log_text.specs.LoggedGames.{LoggedGame}
-use Rattle.log_text.specs.SoundLog.{IsSound}
 use Rattle.agent_gate.specs.Dialects.{Dialect}
 use Rattle.game_run.specs.declared.run.GameEnd.{GameEnd}
 use Rattle.game_run.specs.Hosted.{HostedGame}
@@ -23,10 +24,11 @@ use Rattle.tac_commands.specs.Outcomes.{Outcome, Done, Refused}
 use Rattle.tac_commands.specs.Outsides.{Outside}
 use Rattle.tac_commands.specs.Runs.{Runs}
 use Rattle.tac_commands.specs.Services.{Service, dialect_in}
+use Rattle.tac_commands.specs.SoundTexts.{log_of_game}
 use Rattle.tac_commands.specs.VouchingTexts.{vouching_text}
 use Rattle.tacd.specs.declared.answer.Answer.{Answer}
 use Rattle.tacd.specs.declared.answer.Played.{Played}
-use Rattle.tacd.specs.Service.{IsGameFile}
+use Rattle.tacd.specs.Service.{IsGameFile, IsLogOf}
 use Rattle.tacd.specs.Finishing.{hosted_by}
 
 -- ---- the links
@@ -58,18 +60,18 @@ module _ {L : Type 0} (state : L → LinkState) where
 abbrev pub SaysYes : ℕ → Outcome → Type 0
 SaysYes agent outcome = ((vouching : Vouching) × IsYes agent vouching × (outcome ≡ Done (vouching_text vouching))) ⊎ (outcome ≡ Refused Memory)
 
--- A text is that of a sound log, and the log is vouched for by a link's bytes: as a file of its own it is read as that log, if it is no longer
--- than a log may be, and a judgement by these bytes is a yes.
-pub record HasVouchedLog (game : GameFile) (dialect : Dialect) (text : List ℕ) (agent : ℕ) (asked said : List ℕ) : Type 0 where
-  pub log : LoggedGame
-  pub sound : IsSound game log
-  pub read : length text ≤ TEXT_BYTES → read_as Log text ≡ Ok log
+-- A log is vouched for by a link's bytes, and a judgement by these bytes is a yes.
+pub record IsVouchedBy (game : GameFile) (dialect : Dialect) (log : LoggedGame) (agent : ℕ) (asked said : List ℕ) : Type 0 where
   pub vouched : IsVouched game dialect log agent asked said
   pub judged : (files files' : FilesState) (outcome : Outcome) → Runs (link_steps game dialect log asked said) files files' outcome → SaysYes agent outcome
 
+-- the log of a game that was played, with this sheet
+abbrev pub played_log : Played → List Scored → LoggedGame
+played_log played sheet = log_of_game (head_of played.head) played.closed sheet
+
 module _ {L : Type 0} (state : L → LinkState) where
-  -- A service wrote the log of a game that was played, and the log is vouched for by the bytes of each link with a seat, where they are known
-  -- and its welcome was sent whole.
+  -- A service wrote the log of a game that was played. If the text is no longer than a log may be, it is read as that log. The log is vouched for
+  -- by the bytes of each link with a seat, where they are known and its welcome was sent whole.
   pub record IsVouchedService (service : Service) (before after : Outside L) (answer : Answer L) : Type 0 where
     pub game : GameFile
     pub file : IsGameFile before.files service.game game
@@ -77,6 +79,8 @@ module _ {L : Type 0} (state : L → LinkState) where
     pub written : TookWhole before.out after.out text
     pub played : Played
     pub kept : answer.played ≡ Some played
+    pub log : IsLogOf game played text
+    pub read : length text ≤ TEXT_BYTES → read_as Log text ≡ Ok (played_log played log.sheet)
     pub end : IsGameEnd state (hosted_by service game) before.links after.links (record { closed = played.closed; head = played.head; links = answer.ended })
     pub vouched : (agent : ℕ) (asked said : List ℕ) → IsSeatedWith state (links_of state end) agent asked said → HasWelcome game agent said
-        → HasVouchedLog game (dialect_in service.form) text agent asked said
+        → IsVouchedBy game (dialect_in service.form) (played_log played log.sheet) agent asked said

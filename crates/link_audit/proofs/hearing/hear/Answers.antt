@@ -9,7 +9,7 @@ use Rattle.link_audit.specs.declared.places.Places.{Places}
 use Rattle.link_audit.specs.declared.stepping.Step.TheVariants.{Taken, Leaves, Stuck}
 use Rattle.link_audit.specs.declared.hearing.Heard.TheVariants.{Through}
 use Rattle.link_audit.specs.Ahead.{Subject, IsAsked, FitsReply, IsAhead, IsOver, IsStep, start, subject_of}
-use Rattle.link_audit.specs.Courses.{Finishes, HasCourse, behind_course}
+use Rattle.link_audit.specs.Courses.{FinishesLog, HasCourse, behind_course}
 use Rattle.link_audit.specs.Walks.{HasHeard, HasLeft, IsAheadAt, IsBehind, IsLeft, lines_at, replies_at}
 use Rattle.link_audit.proofs.Cuts.{lines_here, lines_end, replies_here, replies_end}
 use Rattle.link_audit.proofs.Walked.{walked_on, walk_stuck, walk_left, left_walk, walk_ended, walk_full, more_replies, left_heard, taken_wide}
@@ -118,7 +118,7 @@ loop-lines-preserved g c =
       courses = λ course. heard_course dialect s places v.wide (ended_line line) (lines_at asked (end + 1)) (lines_at asked at) lines_are reply (replies_at said (reply_end + 1)) (replies_at said place) replies_are
           (lines_at asked c.args.from) (replies_at said c.args.told) lines v.courses c.step_line.new.places taken course;
       finishes = λ entries f. heard_on dialect s places v.wide (ended_line line) (lines_at asked (end + 1)) reply (replies_at said (reply_end + 1)) c.step_line.new.places taken entries
-          (subst (λ (w : List (LineGot × List ℕ) × List (List ℕ)). Finishes dialect s places w.0 w.1 entries) (λ i. (lines_are i, replies_are i)) (v.finishes entries f));
+          (subst (λ (w : List (LineGot × List ℕ) × List (List ℕ)). FinishesLog dialect s places w.0 w.1 entries) (λ i. (lines_are i, replies_are i)) (v.finishes entries f));
       rest = rest_on (lines_at asked c.args.from) (lines_at asked at) (lines_at asked (end + 1)) (ended_line line) lines v.rest lines_are;
       told_so = (let told = v.told_so in let long = ap length replies_are in omega (arith, told, long));
       wide = taken_wide dialect true (ended_line line) reply s places c.step_line.new.places v.wide taken;
@@ -165,7 +165,7 @@ returns-in_default-clause-turns g c =
     let all = lines_at asked c.args.from in let replies = replies_at said c.args.told in
     let none = replies_end said place c.in_default.ensures in (
       (λ course. subst (λ (l : List (List ℕ)). IsBehind (HasCourse dialect s start all replies (behind_course lines course)) (HasCourse dialect s places (lines_at asked at) l course)) none (v.courses course)),
-      (λ entries f. subst (λ (l : List (List ℕ)). Finishes dialect s places (lines_at asked at) l entries) none (v.finishes entries f)),
+      (λ entries f. subst (λ (l : List (List ℕ)). FinishesLog dialect s places (lines_at asked at) l entries) none (v.finishes entries f)),
       v.rest,
       (let told = v.told_so in let long = ap length none in omega (arith, told, long)),
     )
@@ -242,7 +242,7 @@ returns-in-None-clause-turns g c =
     let most : lines ≡ SESSION_LINES = (let past = c.loop-lines-test.false in let most = c.loop-lines.auto.lines-end in omega (arith, past, most)) in
     subst (λ (n : ℕ). HasHeard dialect s asked c.args.from replies (Through places at n)) most (
       (λ course. subst (λ (l : List (List ℕ)). IsBehind (HasCourse dialect s start all replies (behind_course lines course)) (HasCourse dialect s places (lines_at asked at) l course)) none (v.courses course)),
-      (λ entries f. subst (λ (l : List (List ℕ)). Finishes dialect s places (lines_at asked at) l entries) none (v.finishes entries f)),
+      (λ entries f. subst (λ (l : List (List ℕ)). FinishesLog dialect s places (lines_at asked at) l entries) none (v.finishes entries f)),
       v.rest,
       (let told = v.told_so in let long = ap length none in omega (arith, told, long)),
     )

@@ -1,7 +1,7 @@
 use Rattle.std.proofs.Common.{◌≡◌, ◌+◌, ◌≤◌, ◌-◌, ℕ, drop, length}
 use Rattle.tac_base.specs.declared.limits.TheConstants.{SESSION_LINES}
 use Rattle.link_audit.specs.Ahead.{IsAhead, IsWide, start, subject_of}
-use Rattle.link_audit.specs.Courses.{Course, Finishes, HasCourse, behind_course}
+use Rattle.link_audit.specs.Courses.{Course, FinishesLog, HasCourse, behind_course}
 use Rattle.link_audit.specs.Walks.{IsAheadAt, IsBehind, lines_at, replies_at}
 use Rattle.link_audit.proofs.hearing.hear.Given as goal
 
@@ -14,8 +14,8 @@ invariant-loop-lines g l = record {
       (HasCourse (g.D.Dialect.form l.dialect) (subject_of l.log l.boards l.agent) start (lines_at l.asked l.from) (replies_at l.said l.told) (behind_course l.lines course))
       (HasCourse (g.D.Dialect.form l.dialect) (subject_of l.log l.boards l.agent) l.places (lines_at l.asked l.at) (replies_at l.said l.place) course);
   finishes : (entries : ℕ)
-      → Finishes (g.D.Dialect.form l.dialect) (subject_of l.log l.boards l.agent) start (lines_at l.asked l.from) (replies_at l.said l.told) entries
-      → Finishes (g.D.Dialect.form l.dialect) (subject_of l.log l.boards l.agent) l.places (lines_at l.asked l.at) (replies_at l.said l.place) entries;
+      → FinishesLog (g.D.Dialect.form l.dialect) (subject_of l.log l.boards l.agent) start (lines_at l.asked l.from) (replies_at l.said l.told) entries
+      → FinishesLog (g.D.Dialect.form l.dialect) (subject_of l.log l.boards l.agent) l.places (lines_at l.asked l.at) (replies_at l.said l.place) entries;
   rest : drop l.lines (lines_at l.asked l.from) ≡ lines_at l.asked l.at;
   told_so : length (replies_at l.said l.told) ≡ l.lines + length (replies_at l.said l.place);
   wide : IsWide l.places;

@@ -4,7 +4,7 @@ use Rattle.tac_base.specs.declared.limits.TheConstants.{SESSION_LINES}
 use Rattle.agent_gate.specs.Dialects.{Dialect}
 use Rattle.link_audit.specs.declared.vouching.Difference.{Difference}
 use Rattle.link_audit.specs.Ahead.{Subject, IsAhead, subject_of}
-use Rattle.link_audit.specs.Courses.{Finishes, IsStop}
+use Rattle.link_audit.specs.Courses.{FinishesLog, IsStop}
 use Rattle.link_audit.specs.Walks.{lines_at}
 use Rattle.link_audit.proofs.Cuts.{lines_here, lines_end}
 use Rattle.link_audit.proofs.Judged.{finished_so, no_end, yes_so}
@@ -24,8 +24,8 @@ returns-in-None-clause-how g c =
     let dialect : Dialect = g.D.Dialect.form c.args.dialect.now in
     let s : Subject = subject_of c.args.log.now c.args.boards.now c.args.agent in
     let lines = lines_at c.args.asked.now c.args.at in
-    let numbers : (entries : ℕ) → Finishes dialect s c.args.places.now lines [] entries → entries ≡ c.in-Ok.after =
-    subst (λ (r : Result ℕ Difference). MatchResult r (λ count. (entries : ℕ) → Finishes dialect s c.args.places.now lines [] entries → entries ≡ count) (λ left. IsStop dialect s c.args.places.now lines c.args.lines left)) c.in-Ok.is c.in_ok-after.ensures.turns in
+    let numbers : (entries : ℕ) → FinishesLog dialect s c.args.places.now lines [] entries → entries ≡ c.in-Ok.after =
+    subst (λ (r : Result ℕ Difference). MatchResult r (λ count. (entries : ℕ) → FinishesLog dialect s c.args.places.now lines [] entries → entries ≡ count) (λ left. IsStop dialect s c.args.places.now lines c.args.lines left)) c.in-Ok.is c.in_ok-after.ensures.turns in
     finished_so dialect s c.args.asked.now c.args.places.now c.args.at c.args.lines c.args.agent c.in-Ok.after c.args.ended c.vouched.result c.vouched.ensures
     (lines_end c.args.asked.now c.args.at c.requires.short.1 c.requires.short.0 c.in-None.ensures) numbers
 
@@ -43,8 +43,8 @@ returns-in-Some-clause-how g c =
     let s : Subject = subject_of c.args.log.now c.args.boards.now c.args.agent in
     let asked : List ℕ = c.args.asked.now in let at = c.args.at in let end = c.in-Some.field-0 in
     let lines = lines_at asked at in
-    let numbers : (entries : ℕ) → Finishes dialect s c.args.places.now lines [] entries → entries ≡ c.in-Ok.after =
-    subst (λ (r : Result ℕ Difference). MatchResult r (λ count. (entries : ℕ) → Finishes dialect s c.args.places.now lines [] entries → entries ≡ count) (λ left. IsStop dialect s c.args.places.now lines c.args.lines left)) c.in-Ok.is c.in_ok-after.ensures.turns in
+    let numbers : (entries : ℕ) → FinishesLog dialect s c.args.places.now lines [] entries → entries ≡ c.in-Ok.after =
+    subst (λ (r : Result ℕ Difference). MatchResult r (λ count. (entries : ℕ) → FinishesLog dialect s c.args.places.now lines [] entries → entries ≡ count) (λ left. IsStop dialect s c.args.places.now lines c.args.lines left)) c.in-Ok.is c.in_ok-after.ensures.turns in
     let here = lines_here asked at c.requires.short.1 c.requires.short.0 end c.in-Some.ensures.0 c.in-Some.ensures.1 c.in-Some.ensures.2 in
     (refl, (λ none is. no_end (slice_range asked at end) (lines_at asked (end + 1)) (sym here ∙ none)), numbers)
 
@@ -61,4 +61,4 @@ returns-in-Err-clause-how g c =
     let dialect : Dialect = g.D.Dialect.form c.args.dialect.now in
     let s : Subject = subject_of c.args.log.now c.args.boards.now c.args.agent in
     let lines = lines_at c.args.asked.now c.args.at in
-    subst (λ (r : Result ℕ Difference). MatchResult r (λ count. (entries : ℕ) → Finishes dialect s c.args.places.now lines [] entries → entries ≡ count) (λ left. IsStop dialect s c.args.places.now lines c.args.lines left)) c.in-Err.is c.in_ok-after.ensures.turns
+    subst (λ (r : Result ℕ Difference). MatchResult r (λ count. (entries : ℕ) → FinishesLog dialect s c.args.places.now lines [] entries → entries ≡ count) (λ left. IsStop dialect s c.args.places.now lines c.args.lines left)) c.in-Err.is c.in_ok-after.ensures.turns

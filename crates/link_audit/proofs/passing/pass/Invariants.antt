@@ -1,7 +1,7 @@
 use Rattle.std.proofs.Common.{◌≡◌, ◌+◌, ◌≤◌, ◌-◌, ℕ, [], length}
 use Rattle.tac_base.specs.declared.limits.TheConstants.{SESSION_LINES}
 use Rattle.link_audit.specs.Ahead.{IsAhead, IsWide, subject_of}
-use Rattle.link_audit.specs.Courses.{Course, Finishes, HasCourse, behind_course}
+use Rattle.link_audit.specs.Courses.{Course, FinishesLog, HasCourse, behind_course}
 use Rattle.link_audit.specs.Walks.{IsBehind, lines_at}
 use Rattle.link_audit.proofs.passing.pass.Given as goal
 
@@ -13,8 +13,8 @@ invariant-loop-line g l = record {
   courses : (course : Course) → IsBehind
       (HasCourse (g.D.Dialect.form l.dialect) (subject_of l.log l.boards l.agent) l.reached (lines_at l.asked l.from) [] (behind_course (l.line - l.lines) course))
       (HasCourse (g.D.Dialect.form l.dialect) (subject_of l.log l.boards l.agent) l.places (lines_at l.asked l.at) [] course);
-  finishes : (entries : ℕ) → Finishes (g.D.Dialect.form l.dialect) (subject_of l.log l.boards l.agent) l.reached (lines_at l.asked l.from) [] entries
-      → (k : ℕ) × (entries ≡ l.count + k) × Finishes (g.D.Dialect.form l.dialect) (subject_of l.log l.boards l.agent) l.places (lines_at l.asked l.at) [] k;
+  finishes : (entries : ℕ) → FinishesLog (g.D.Dialect.form l.dialect) (subject_of l.log l.boards l.agent) l.reached (lines_at l.asked l.from) [] entries
+      → (k : ℕ) × (entries ≡ l.count + k) × FinishesLog (g.D.Dialect.form l.dialect) (subject_of l.log l.boards l.agent) l.places (lines_at l.asked l.at) [] k;
   since : l.lines ≤ l.line;
   wide : IsWide l.places;
   within : l.at ≤ length l.asked;
