@@ -138,7 +138,7 @@ module _ {L : Type 0} (state : L → LinkState) (service : Service) (before afte
     vouched_by agent asked said s whole =
         let link = link_of_log state (hosted_by service game) before.links after.links (record { closed = played.closed; head = played.head; links = answer.ended }) end due.sheet agent asked said s in
         let v : IsVouched game (dialect_in service.form) (played_log played due.sheet) agent asked said = vouched_from (hosted_by service game) (reply_lines service.form) (played_log played due.sheet) agent asked said link whole in
-        record { vouched = v; judged = says_yes game (dialect_in service.form) (played_log played due.sheet) agent asked said v; }
+        record { vouched = v; judged = says_yes game (dialect_in service.form) (played_log played due.sheet) agent asked said v }
 
     pub vouched_service : IsVouchedService state service before after answer
     vouched_service = record {
