@@ -38,7 +38,7 @@ from geesefuton.records.logs import read_log
 KINDS = ("drops", "doubles", "swaps", "invents")
 PACE = 8  # milliseconds from tick to tick
 ROUNDS = 30  # of an agent's requests, two in each
-MOST = 60.0  # seconds that a game may take
+MOST = 600.0  # seconds that a game may take, on a busy machine
 
 
 class MeddlingRelay(Relay):

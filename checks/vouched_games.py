@@ -42,7 +42,8 @@ from geesefuton.records.logs import read_log
 PACES = (4, 12)  # milliseconds from tick to tick
 AFTER = 0.1  # seconds after the last tick until links that are left are half closed
 ENDING = 0.2  # seconds until they are reset then
-MOST = 60.0  # seconds that a game may take
+MOST = 600.0  # seconds that a game may take, on a busy machine
+TOLD = 50  # after so many games it is told how many there were
 STRANGERS = (b"hello nobody\n", b"hello\n", b"x" * 600 + b"\n", b"", b"hello seat3", b"\n",
              b"hello seat5\n", b"HELLO seat1\n", b"\xff\n")
 
@@ -358,6 +359,8 @@ def play_all(given: argparse.Namespace) -> "Counter[str]":
     if given.at_once == 1:
         for seed in range(given.first, given.first + given.games):
             found += play(seed, given.keep)
+            if found["games"] % TOLD == 0:
+                print(f"up to game {seed}: {dict(found)}", flush=True)
         return found
     with Children() as children:
         parts: Dict[Path, "subprocess.Popen[bytes]"] = {}
