@@ -39,8 +39,10 @@ class Vouching(Case):
 
     def play(self, **more: Any) -> Tuple[Host, events.Finished]:
         """A game in which seat 2 asks a line, and what is told at its end."""
-        host = Host(self.folder, pace=1, linger=0.1, start=0.1, **{"vouches": True, **more})
+        host = Host(self.folder, **{"pace": 1, "linger": 60.0, "start": None, "wait": 0.02,
+                                    "vouches": True, **more})
         agent = Agent(host.port, WORDS[2])
+        self.addCleanup(agent.close)
         agent.welcome()
         agent.ask("own 7")
         agent.quit()
