@@ -116,7 +116,8 @@ def class_lines() -> List[str]:
     """The script of a class's game, ticks among its lines."""
     dice, lines = random.Random(7), []
     for number in range(CLASS):
-        good, word = dice.randrange(28), dice.choice(["bid", "bid", "quote", "quote", "own", "cash"])
+        good = dice.randrange(28)
+        word = dice.choice(["bid", "bid", "quote", "quote", "own", "cash"])
         sign = dice.choice([1, -1]) if good in TICKETS else 1
         bid = f" (({sign} {dice.randint(1, 450)}) ({sign} {dice.randint(1, 450)}))"
         text = "cash" if word == "cash" else f"{word} {good}{bid * (word == 'bid')}"

@@ -11,9 +11,9 @@ only play. By the agent's record, the bytes that it sent and those that it was s
 `checks/vouching.py` must find a difference, and for each other agent there must be none. It ends
 with 0 if so.
 
-What is meddled with is a bid, a withdrawal or an `own`, and the two of a swap differ. No record shows
-that a quote was made up from a board that there was, or in which order an agent's calls came to
-different auctions.
+What is meddled with is a bid, a withdrawal or an `own`, and the two of a swap differ. No record
+shows that a quote was made up from a board that there was, or in which order an agent's calls came
+to different auctions.
 """
 
 import asyncio
@@ -204,7 +204,7 @@ class MeddledGame:
 
 def main() -> int:
     parser = Parser("meddling", __doc__)
-    parser.add_argument("--games", type=whole(1), default=3, metavar="N", help="of each kind; 3")
+    parser.add_argument("--games", type=whole(1), default=1, metavar="N", help="of each kind; 1")
     parser.add_argument("--first", type=whole(1), default=1, metavar="SEED",
                         help="the first seed; 1")
     given = parser.parse_args()

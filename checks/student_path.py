@@ -5,8 +5,8 @@
 
 The lines are those of the page's section "A record of a link" from `tac make` on, run by bash in a
 folder with the clone's `tools` and `examples`, at a free port in place of 7000. They have to end
-with `vouched 0 whole N` in less than two minutes; with a byte of a record changed, the last line has
-to name a difference. It ends with 0 if so, takes some 40 seconds, and is run by hand.
+with `vouched 0 whole N` in less than two minutes; with a byte of a record changed, the last line
+has to name a difference. It ends with 0 if so, takes some 40 seconds, and is run by hand.
 """
 
 import re

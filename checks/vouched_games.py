@@ -11,7 +11,7 @@ Strangers come with other greetings. Every third game speaks JSON, every second 
 
 `tac vouch` has to vouch for each link that has its seat and was sent its whole welcome, and for no
 other, and `checks/vouching.py` has to say the same of each. It ends with a line of counts, and with
-0 if all is right. It is run by hand; a game takes a second or two of a processor.
+0 if all is right. A game takes a second of a processor.
 """
 
 import argparse
@@ -269,7 +269,7 @@ class ServedGame:
         try:
             await asyncio.wait_for(self.end(relay, server), MOST)
         except asyncio.TimeoutError:
-            raise program.ProgramError(f"game {self.seed} took more than {MOST:g} seconds") from None
+            raise program.ProgramError(f"it took more than {MOST:g} seconds") from None
         finally:
             for guest in guests:
                 guest.cancel()
@@ -381,7 +381,7 @@ def play_all(given: argparse.Namespace) -> "Counter[str]":
 def main() -> int:
     parser = Parser("vouched_games", __doc__)
     add = parser.add_argument
-    add("--games", type=whole(1), default=10, metavar="N", help="how many games; 10")
+    add("--games", type=whole(1), default=5, metavar="N", help="how many games; 5")
     add("--first", type=whole(1), default=1, metavar="SEED", help="the first seed; 1")
     add("--at-once", type=whole(1, 16), default=1, metavar="M", help="how many at once; 1")
     add("--keep", type=Path, default=Path(tempfile.gettempdir()), metavar="FOLDER",
