@@ -9,7 +9,7 @@ its link, resets it, or keeps it open and passes nothing on any more, with reque
 With --namespace it plays in a network namespace of its own, whose cable is pulled and put back;
 that needs root on Linux. After the game the lobby has to say `vouched 8 of 8`, and `tools/vouch` to
 vouch for the agent's records by the journal, and by what is published of it; if a reply of one
-record is changed, it has to name the line. It ends with 0 if so. A game takes some 15 seconds.
+record is changed, it has to name the line. It ends with 0 if so. A game takes some 25 seconds.
 """
 
 import argparse
@@ -31,10 +31,11 @@ from geesefuton import program
 from geesefuton.arguments import whole
 from geesefuton.processes import Children, command, free_port
 
-PACE = 200  # milliseconds from tick to tick
+PACE = 300  # milliseconds from tick to tick
 TIMES = 3  # that the machine goes away
 WAYS = ("ended", "reset", "silent")
-GAPS = (2.0, 3.0)  # seconds between two of them
+GAPS = (1.5, 2.5)  # seconds between two of them
+PULLED = (1.5, 2.0)  # seconds that a cable is out; an agent waits one for a reply
 MOST = 90.0  # seconds that a game may take
 AGENT = TOP / "examples" / "agents" / "planner.py"
 
@@ -131,7 +132,7 @@ class Hosted:
             for _ in range(TIMES):
                 await asyncio.sleep(self.dice.uniform(*GAPS))
                 subprocess.run(["ip", "link", "set", cable, "down"], check=True)
-                await asyncio.sleep(self.dice.uniform(0.2, 1.5))
+                await asyncio.sleep(self.dice.uniform(*PULLED))
                 subprocess.run(["ip", "link", "set", cable, "up"], check=True)
             await asyncio.sleep(MOST)
 
@@ -149,9 +150,9 @@ class Hosted:
     def wrongs(self) -> List[str]:
         """What is wrong after the game."""
         published, wrongs = self.folder / "published", []
-        told = self.told.read_text().splitlines()
-        if not told or "; vouched 8 of 8" not in told[-1]:
-            wrongs.append(f"the lobby says {told[-1:]}")
+        told = [line for line in self.told.read_text().splitlines() if "the game is over" in line]
+        if len(told) != 1 or "; vouched 8 of 8" not in told[0]:
+            wrongs.append(f"the lobby says {told}")
         ways = [self.vouch("--journal", self.journal, "--publish", published)]
         ways += [self.vouch(self.mine, way, where) for way, where in
                  (("--journal", self.journal), ("--published", published))]

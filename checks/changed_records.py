@@ -252,8 +252,12 @@ def main() -> int:
             if changes is None or number % OF_GAME == 0:
                 changes = Changes(random.Random(given.first + number), folder)
             kind, form = KINDS[number % len(KINDS)], ("words", "json")[number // len(KINDS) % 2]
-            record = getattr(changes, kind)(changes.record())
-            told, due = judged(folder, in_json(record) if form == "json" else record, form)
+            record = changes.record()
+            # A reply that is none has no form in JSON.
+            record = in_json(record) if form == "json" and kind == "reply" else record
+            record = getattr(changes, kind)(record)
+            record = in_json(record) if form == "json" and kind != "reply" else record
+            told, due = judged(folder, record, form)
             found[kind][told.split(" ")[0]] += 1
             if told != due:
                 wrong += 1

@@ -18,6 +18,7 @@ import argparse
 import asyncio
 import contextlib
 import io
+import itertools
 import json
 import random
 import subprocess
@@ -42,7 +43,8 @@ from geesefuton.records.logs import read_log
 PACES = (4, 12)  # milliseconds from tick to tick
 AFTER = 0.1  # seconds after the last tick until links that are left are half closed
 ENDING = 0.2  # seconds until they are reset then
-MOST = 600.0  # seconds that a game may take, on a busy machine
+LATE = 0.2  # seconds until another link asks for a seat, before the game
+MOST = 300.0  # seconds that a game may take, on a busy machine
 TOLD = 50  # after so many games it is told how many there were
 STRANGERS = (b"hello nobody\n", b"hello\n", b"x" * 600 + b"\n", b"", b"hello seat3", b"\n",
              b"hello seat5\n", b"HELLO seat1\n", b"\xff\n")
@@ -265,7 +267,8 @@ class ServedGame:
                                     stdin=subprocess.DEVNULL, stdout=log)
         relay = Relay(port)
         outer = await relay.open()
-        guests = [asyncio.ensure_future(each) for each in self.guests(outer)]
+        guests = [asyncio.ensure_future(each) for each in [*self.guests(outer),
+                                                           self.late(outer, relay)]]
         try:
             await asyncio.wait_for(self.end(relay, server), MOST)
         except asyncio.TimeoutError:
@@ -298,6 +301,17 @@ class ServedGame:
                 streams.end()
             await streams.line()
         streams.writer.close()
+
+    async def late(self, port: int, relay: Relay) -> None:
+        """Links for seats whose agents have left before they had them: the game waits for these."""
+        guests: List["asyncio.Future[None]"] = []
+        for seat in itertools.cycle(range(SEATS)):
+            await asyncio.sleep(LATE)
+            if relay.began.is_set():
+                break
+            greeting = f"hello seat{seat}\n".encode()
+            guests.append(asyncio.ensure_future(self.stranger(port, greeting)))
+        await asyncio.gather(*guests, return_exceptions=True)
 
     async def end(self, relay: Relay, server: "subprocess.Popen[bytes]") -> None:
         """Waits for the last tick, ends the links that are left, and waits for the server."""
