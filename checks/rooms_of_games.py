@@ -2,7 +2,7 @@
 """Plays many games in a practice room whose agents come, go, crash and hang, kills the room in
 between, and compares its standings with what `tac table` and a plain script make of the logs.
 
-    checks/rooms_of_games.py [--games 50] [--kills 3] [--pace 20]
+    checks/rooms_of_games.py [--games 50] [--kills 3] [--pace 20] [--most 240]
 
 The room is killed by SIGKILL in games that are spread over the run, and started again by the same
 command. `tac table` has the averages of seat words, and takes 64 games at most; the room's are of
@@ -33,7 +33,6 @@ from geesefuton.practice.standings import standings_of
 from geesefuton.processes import command, free_port
 from geesefuton.records.logs import read_scores
 
-MOST = 240.0  # seconds that a game may take, on a machine that is busy with other work
 AGENT = """import os, random, sys, time
 from geesefuton.link import HOTELS, run
 def play(link, pause):
@@ -117,8 +116,8 @@ class Trial:
                 for file in self.room.glob("[0-9]*.json")}
 
 
-def play(trial: Trial, games: int, kills: int) -> List[str]:
-    """Plays the games, and gives what went wrong."""
+def play(trial: Trial, games: int, kills: int, most: float) -> List[str]:
+    """Plays the games, each in so many seconds at most, and gives what went wrong."""
     source, faults = random.Random(1), list[str]()
     due = [games * (number + 1) // (kills + 1) for number in range(kills)]
     room, known, heard = trial.start(games), trial.manifests(), time.monotonic()
@@ -129,7 +128,7 @@ def play(trial: Trial, games: int, kills: int) -> List[str]:
         if any(now.get(number) != game for number, game in known.items()):
             faults.append(f"a finished game is lost or changed after {len(known)} games")
         known = now
-        if time.monotonic() > heard + MOST or room.poll() not in (None, 0):
+        if time.monotonic() > heard + most or room.poll() not in (None, 0):
             room.kill()
             room.wait()
             return [*faults, f"the room has stopped after {len(now)} games"]
@@ -187,12 +186,14 @@ def _main() -> int:
     parser.add_argument("--games", type=whole(1, 1000), default=50)
     parser.add_argument("--kills", type=whole(0, 100), default=3)
     parser.add_argument("--pace", type=whole(1, 60000), default=20)
+    parser.add_argument("--most", type=whole(1, 36000), default=240, metavar="SECONDS",
+                        help="that a game may take, and the start of a room with it; 240")
     given = parser.parse_args()
     mark = f"room{os.getpid()}"
     with tempfile.TemporaryDirectory() as folder:
         trial = Trial(Path(folder), given.pace, mark)
         try:
-            faults = play(trial, given.games, given.kills)
+            faults = play(trial, given.games, given.kills, given.most)
         finally:
             trial.close()
         faults += compare(trial)
