@@ -267,14 +267,15 @@ class Following(unittest.TestCase):
 
 class Words(unittest.TestCase):
     def test_words(self) -> None:
-        for words, late, names, until_over in (
-                ([], 6, False, False), (["--late", "0"], 0, False, False),
-                (["--late", "54", "--names", "--until-over"], 54, True, True)):
+        for words, late, names, until_over, json_form in (
+                ([], 6, False, False, False), (["--late", "0"], 0, False, False, False),
+                (["--late", "54", "--names", "--until-over"], 54, True, True, False),
+                (["--json"], 6, False, False, True)):
             with mock.patch("sys.argv", ["live", "my.journal", "7080", *words]):
                 self.assertEqual(vars(_arguments()), {
                     "journal": Path("my.journal"), "port": 7080, "late": late, "names": names,
                     "until_over": until_over, "agents": None, "start": None,
-                    "stay": False})
+                    "json": json_form, "stay": False})
         for words in (["0"], ["65536"], ["7080", "--late", "-1"], ["7080", "--until"]):
             with mock.patch("sys.argv", ["live", "my.journal", *words]), \
                     mock.patch("geesefuton.arguments.tell"), self.assertRaises(SystemExit):
