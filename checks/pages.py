@@ -29,6 +29,7 @@ from trying import TOP, Parser
 from geesefuton import program
 from geesefuton.arguments import whole
 from geesefuton.processes import Children, command, free_port
+from geesefuton.records.games import TICKS
 from tests.seat_server import SeatServer
 
 MOST = 120.0  # seconds that a page may take to show something, on a busy machine
@@ -75,13 +76,13 @@ LOOKS = [Look(width, height, theme) for width, height in ((1280, 720), (390, 844
          for theme in ("light", "dark")]
 
 
-def wait_for(what: str, is_there: Callable[[], bool]) -> None:
-    """Waits until something is seen.
+def wait_for(what: str, is_there: Callable[[], bool], most: float = MOST) -> None:
+    """Waits until something is seen, for so many seconds at most.
 
     Raises:
         BrowserError: It is not.
     """
-    until = time.monotonic() + MOST
+    until = time.monotonic() + most
     while not is_there():
         if time.monotonic() > until:
             raise BrowserError(f"not seen: {what}")
@@ -340,8 +341,9 @@ class Board:
 
     def look(self, name: str, pattern: str) -> None:
         """Waits until each screen shows something, keeps pictures, and measures texts."""
+        most = MOST + TICKS * self._pace / 1000  # a slow game has its ticks later
         for look, tab in self._tabs.items():
-            wait_for(f"{pattern} at {look}", lambda: tab.sees(pattern))
+            wait_for(f"{pattern} at {look}", lambda: tab.sees(pattern), most)
             tab.picture(self._folder / f"{name}-{look}.png")
             size, text = tab.value(SMALLEST)
             large = tab.value(SMALL_ONES % MATTERS)
