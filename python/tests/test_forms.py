@@ -3,8 +3,8 @@ import io
 import json
 import unittest
 
-from geesefuton.experiments.comparisons import deals_to_detect
-from geesefuton.experiments.forms import FORMS, as_csv, as_json, as_text
+from geesefuton.experiments.comparisons import Estimate, deals_to_detect
+from geesefuton.experiments.forms import FORMS, as_csv, as_json, as_text, number_text
 from geesefuton.experiments.results import Kind, Outcome
 from geesefuton.experiments.summary import summarize
 from tests.test_summary import SWAPPED, row
@@ -31,6 +31,10 @@ class Texts(unittest.TestCase):
         self.assertIn("1 game of 1 deal;", as_text(summarize(SWAPPED[:1])))
         self.assertIn("110 +- ?", as_text(summarize(SWAPPED[:1])))
         self.assertIn("difference, by games", as_text(summarize(SWAPPED[:2])))
+
+    def test_nothing_has_no_sign(self) -> None:
+        self.assertEqual(number_text(Estimate(-0.3, 1.6, 4)), "0 +- 2")
+        self.assertEqual(number_text(Estimate(-0.7, None, 1)), "-1 +- ?")
 
     def test_cells_stand_below_one_another_the_names_to_the_left(self) -> None:
         rows = [row(str(deal), 0, seat, agent, score * deal) for deal in (1, 2)

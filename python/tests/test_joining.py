@@ -167,6 +167,15 @@ class Reading(unittest.TestCase):
             self.assertEqual(len(told), 1)
             self.assertIn(text, told[0])
 
+    def test_runs_within_a_folder_are_named(self) -> None:
+        self.folder("part-1-of-2", 1)
+        self.assertEqual(read_source(self.place), (None, [
+            f"{self.place}: it is no folder of a tournament's run; part-1-of-2 in it is"]))
+        self.folder("part-2-of-2", 2)
+        self.assertEqual(read_source(self.place), (None, [
+            f"{self.place}: it is no folder of a tournament's run; part-1-of-2, part-2-of-2 in it "
+            "are"]))
+
     def test_a_half_written_row_is_left_out_with_its_game(self) -> None:
         folder = self.folder("run", 1, 2)
         file = folder / "scores.csv"

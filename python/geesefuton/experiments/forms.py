@@ -18,7 +18,7 @@ def number_text(value: Optional[Estimate]) -> str:
     if value is None:
         return "-"
     half = "?" if value.half is None else f"{value.half:.0f}"
-    return f"{value.mean:.0f} +- {half}"
+    return f"{round(value.mean)} +- {half}"  # a whole number has no -0
 
 
 def _chance(value: Optional[float]) -> str:

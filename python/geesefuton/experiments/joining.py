@@ -49,7 +49,10 @@ def read_source(path: Path) -> Tuple[Optional[Source], List[str]]:
     try:
         if path.is_dir():
             if not is_run(path):
-                return None, [f"{path}: it is no folder of a tournament's run"]
+                within = sorted(each.name for each in path.iterdir() if is_run(each))
+                hint = f"; {', '.join(within)} in it {'are' if within[1:] else 'is'}"
+                return None, [f"{path}: it is no folder of a tournament's run"
+                              f"{hint if within else ''}"]
             found = read_scores(path)
             rows, told = found.rows, [f"{path / SCORES}: {text}; its game is left out"
                                       for text in found.told]
