@@ -6,6 +6,7 @@ import contextlib
 import re
 import resource
 import socket
+import threading
 import unittest
 from typing import Any, Dict, List, Tuple
 from unittest import mock
@@ -30,7 +31,6 @@ class Case(unittest.TestCase):
 
     def run_it(self, work: Any) -> Any:
         async def served() -> Any:
-            self.viewers._changed = asyncio.Condition()  # of this loop, in Python 3.9
             with socket.create_server(("", 0)) as listener:
                 serving = asyncio.ensure_future(self.viewers.accept(listener))
                 try:
@@ -321,6 +321,26 @@ class Crowds(Case):
                           (resource.RLIM_INFINITY, 200)):
             with mock.patch("resource.getrlimit", return_value=(soft, soft)):
                 self.assertEqual(most_viewers(), due)
+
+
+class Stopping(Case):
+    """The page is stopped while its viewers are sent states."""
+
+    def test_a_page_with_viewers_ends_at_any_moment(self) -> None:
+        async def work(port: int, pause: float) -> None:
+            for _ in range(40):
+                reader, writer = await self.open(port)
+                writer.write(GET % b"/events")
+                await reader.readuntil(b"\r\n\r\n")
+            await asyncio.sleep(pause)
+
+        with mock.patch("geesefuton.hosting.viewers.BEAT", 0.01):
+            for pause in (0.01, 0.013, 0.016, 0.019):
+                page = threading.Thread(target=self.run_it, daemon=True,
+                                        args=(lambda port, pause=pause: work(port, pause),))
+                page.start()
+                page.join(MOST)
+                self.assertFalse(page.is_alive(), "it goes on, although it was stopped")
 
 
 class Telling(unittest.TestCase):

@@ -13,7 +13,7 @@ import resource
 import socket
 import time
 from dataclasses import dataclass
-from typing import Callable, Dict, List, Optional
+from typing import Any, Callable, Coroutine, Dict, List, Optional, TypeVar
 
 from geesefuton.hosting.handouts import Handouts
 from geesefuton.processes import why
@@ -35,6 +35,7 @@ HEAD = (
     "Content-Security-Policy: default-src 'none'; style-src 'unsafe-inline'; "
     "script-src 'unsafe-inline'; connect-src 'self'; img-src data:; frame-ancestors 'none'\r\n"
     "Connection: close\r\n")
+Given = TypeVar("Given")
 NOT_FOUND = "404 Not Found", "text/plain", b"the page is at /\n"
 
 
@@ -100,7 +101,7 @@ class Viewers:
         self.page, self._faults, self._most = page, faults, most_viewers()
         self.handouts: Optional[Handouts] = None
         self._state, self._number, self._is_final = b"{}", 0, False
-        self._changed = asyncio.Condition()
+        self._changed: "Optional[asyncio.Future[None]]" = None  # done once there is a new state
         self._links: List[_Link] = []  # the eldest first
         self._refused: List[_Link] = []
 
@@ -111,9 +112,10 @@ class Viewers:
 
     async def show(self, state: bytes, is_final: bool) -> None:
         """Sends a new state to all viewers."""
-        async with self._changed:
-            self._state, self._number, self._is_final = state, self._number + 1, is_final
-            self._changed.notify_all()
+        self._state, self._number, self._is_final = state, self._number + 1, is_final
+        if self._changed is not None:
+            self._changed.set_result(None)
+            self._changed = None
 
     async def accept(self, listener: socket.socket) -> None:
         """Takes links and serves them, until it is cancelled."""
@@ -200,25 +202,43 @@ class Viewers:
         writer.write(HEAD.format("200 OK", "text/event-stream").encode() + b"\r\nretry: 1000\n\n")
         seen = 0
         while True:
-            async with self._changed:
-                with contextlib.suppress(asyncio.TimeoutError):
-                    await asyncio.wait_for(
-                        self._changed.wait_for(lambda: self._number != seen), BEAT)
-                state, is_fresh, is_final = self._state, self._number != seen, self._is_final
-                seen = self._number
+            if self._number == seen:
+                if self._changed is None:
+                    self._changed = asyncio.get_running_loop().create_future()
+                await asyncio.wait([self._changed], timeout=BEAT)
+            state, is_fresh, is_final = self._state, self._number != seen, self._is_final
+            seen = self._number
             writer.write(b"data: " + state + b"\n\n" if is_fresh
                          else b"event: here\ndata: still\n\n")
             if is_final:
                 writer.write(b"event: end\ndata: over\n\n")
-            await asyncio.wait_for(writer.drain(), STALLED)
+            await _within(STALLED, writer.drain())
             if is_final:
                 return
 
 
+async def _within(limit: float, work: "Coroutine[Any, Any, Given]") -> Given:
+    """What some work gives, within so many seconds. `asyncio.wait_for` loses a cancellation if the
+    work is done just then, before Python 3.12, and the page would go on when it is stopped.
+
+    Raises:
+        asyncio.TimeoutError: It takes longer.
+    """
+    task = asyncio.ensure_future(work)
+    task.add_done_callback(lambda done: done.cancelled() or done.exception())  # known, if unasked
+    try:
+        await asyncio.wait([task], timeout=limit)
+        if not task.done():
+            raise asyncio.TimeoutError
+        return task.result()
+    finally:
+        task.cancel()
+
+
 async def _request(reader: asyncio.StreamReader) -> List[bytes]:
     """The lines of a request's head, once it is there."""
-    head = await asyncio.wait_for(reader.readexactly(1), FIRST)
-    head += await asyncio.wait_for(reader.readuntil(b"\r\n\r\n"), STALLED)
+    head = await _within(FIRST, reader.readexactly(1))
+    head += await _within(STALLED, reader.readuntil(b"\r\n\r\n"))
     return head.split(b"\r\n")
 
 
@@ -234,4 +254,4 @@ def _host(head: List[bytes]) -> str:
 async def _send(writer: asyncio.StreamWriter, status: str, kind: str, body: bytes) -> None:
     head = HEAD.format(status, kind) + f"Content-Length: {len(body)}\r\n\r\n"
     writer.write(head.encode() + body)
-    await asyncio.wait_for(writer.drain(), STALLED)
+    await _within(STALLED, writer.drain())
