@@ -102,7 +102,7 @@ class Main(Case):
         self.assertEqual(self.settings(), LobbySettings(
             game=Path("my.game"), port=7000, pace=500, log=sys.stdout.buffer, form="json",
             start=1.0, linger=2.0, patience=3.0, silence=4.0, journal=Path("j"), page=8, late=9,
-            names=True, by_hand=10, advice=False, orders=sys.stdin))
+            names=True, by_hand=10, advice=False, orders=sys.stdin, vouches=True))
         said = self.teller.say.call_args[0][0]
         self.assertIn("port 7000", said)
         self.assertIn("red blue", said)
@@ -115,7 +115,7 @@ class Main(Case):
         self.assertEqual(self.settings(), LobbySettings(
             game=Path("my.game"), port=7000, pace=500, log=sys.stdout.buffer, form="words",
             start=None, linger=30.0, patience=30.0, silence=10.0, journal=Path("default.journal"),
-            page=None, late=6, names=False, orders=sys.stdin))
+            page=None, late=6, names=False, orders=sys.stdin, vouches=True))
 
     def test_without_an_output_and_without_a_journal(self) -> None:
         self.patch("_open_standard_files", return_value=False)
