@@ -100,7 +100,7 @@ def mended(log: List[str]) -> List[str]:
             break
         elif head and re.match("[0-8] ", line):
             count += 1
-            counted[head] = " ".join([*line.split(" ")[:-1], str(count)])
+            counted[head] = " ".join([*counted[head].split(" ")[:-1], str(count)])
     return counted
 
 
