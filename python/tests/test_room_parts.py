@@ -324,6 +324,11 @@ class Commands(Case):
         self.assertEqual(Path(room_command._house(["planner.py"])[0].words[-1]).resolve(),
                          own.resolve())  # a file that is there is none of the examples
 
+    def test_the_house_is_the_planner_outside_a_clone_too(self) -> None:
+        self.patch(program, "top", lambda: None)
+        self.assertEqual([Path(each.words[-1]).name for each in room_command._house(None)],
+                         ["planner.py"])
+
     def test_the_exit_status_is_that_of_the_signal(self) -> None:
         self.patch(program, "find", lambda: "tac")
         words = ["room", "--folder", str(self.path), "--house", "", "--wait", "7", "--after", "8",

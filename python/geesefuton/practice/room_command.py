@@ -100,12 +100,15 @@ def _house(commands: Optional[List[str]]) -> List[Entrant]:
     Raises:
         EntrantError: One of them cannot be run.
     """
-    clone = program.top()
-    if commands is None and clone is None:
+    try:
+        agents: Optional[Path] = program.examples() / "agents"
+    except program.ProgramError:
+        agents = None
+    if commands is None and agents is None:
         return []
     found = []
     for name in [USUAL] if commands is None else [name for name in commands if name]:
-        example = clone / "examples" / "agents" / name if clone else Path()
+        example = agents / name if agents else Path()
         found.append(str(example) if not os.path.exists(name) and example.is_file() else name)
     return read_entrants(found)
 
