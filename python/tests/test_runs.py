@@ -241,10 +241,12 @@ class Killed(unittest.TestCase):
             finished, begun = self.finished(), len(self.begun_games())
             process = self.start()
             deadline = time.monotonic() + 60
-            while (kill % 4 and len(self.begun_games()) == begun and process.poll() is None
+            # Three play at once, so that one has ended where five have begun, on any machine.
+            awaited = begun + source.randint(1, 5) if kill % 4 else 0
+            while (len(self.begun_games()) < awaited and process.poll() is None
                    and time.monotonic() < deadline):
                 time.sleep(0.01)
-            time.sleep(source.random() * 0.4)
+            time.sleep(source.random() * 0.2)
             process.send_signal(signal.SIGKILL)
             output = process.communicate()[0].decode()
             self.assertFalse(finished & set(self.begun_games()[begun:]), output)
