@@ -46,7 +46,7 @@ class Package(unittest.TestCase):
 
     def test_scripts_of_pages_put_texts_in_as_texts(self) -> None:
         pages = [file.read_text() for file in (PACKAGE / "geesefuton").rglob("*.html")]
-        self.assertEqual(len(pages), 3)
+        self.assertEqual(len(pages), 4)
         for page in (*pages, hindsight_page.SCRIPT):
             self.assertIn("<script>", page)
             self.assertNotRegex(page, r"innerHTML|outerHTML|insertAdjacentHTML|document\.write|"

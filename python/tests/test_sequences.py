@@ -82,7 +82,7 @@ class Door:
         pass
 
     def accept(self) -> Tuple[Wire, Tuple[str, int]]:
-        return self.waiting.pop(0), ("here", 0)
+        return self.waiting.pop(0), ("127.0.0.1", 0)
 
     def ready(self) -> int:
         return selectors.EVENT_READ if self.waiting else 0
