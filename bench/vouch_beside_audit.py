@@ -21,6 +21,7 @@ import subprocess
 import sys
 import tempfile
 import time
+from concurrent.futures import ProcessPoolExecutor
 from pathlib import Path
 from typing import Iterator, List, NamedTuple, Sequence, Tuple
 
@@ -74,9 +75,10 @@ def measured(words: Sequence[Word]) -> Run:
                used.ru_maxrss / 1000)
 
 
-def show(what: str, words: Sequence[Word], runs: int) -> None:
-    """Runs a command several times, and prints its figures."""
-    each = [measured(words) for _ in range(runs)]
+def show(pool: ProcessPoolExecutor, what: str, words: Sequence[Word], runs: int) -> None:
+    """Runs a command several times, and prints its figures. A process of the pool starts it: what
+    that one had resident counts as the command's, so it has to be small."""
+    each = [pool.submit(measured, words).result() for _ in range(runs)]
     spent, wall = [one.processor for one in each], [one.wall for one in each]
     print(f"{what:34} processor {min(spent):6.3f} to {max(spent):6.3f}  wall {min(wall):6.3f} to "
           f"{max(wall):6.3f}  {max(one.memory for one in each):4.0f} MB  {each[0].text[:60]}",
@@ -187,7 +189,8 @@ def main() -> int:
     parser.add_argument("--runs", type=whole(1), default=5, help="how often each command runs; 5")
     given = parser.parse_args()
     tac = file_of(given.tac)
-    with tempfile.TemporaryDirectory() as folder:
+    with tempfile.TemporaryDirectory() as folder, ProcessPoolExecutor(1) as pool:
+        pool.submit(os.getpid).result()  # its process starts while this one is small
         place = Path(folder)
         asked, said = place / "asked", place / "said"
 
@@ -197,17 +200,18 @@ def main() -> int:
             sizes = ", ".join(f"{file.stat().st_size / 1e6:.1f}"
                               for file in (played.log, asked, said))
             print(f"log, asked and said of {sizes} MB")
-            show(what, [tac, "vouch", played.game, played.log, asked, said], given.runs)
+            show(pool, what, [tac, "vouch", played.game, played.log, asked, said], given.runs)
 
         lines = class_lines()
         played = Played(tac, place, iter(lines))
-        show("audit of a class's game", [tac, "audit", played.game, played.log], given.runs)
+        audit = [tac, "audit", played.game, played.log]
+        show(pool, "audit of a class's game", audit, given.runs)
         for agent in range(8):
             own = [line[2:-1] for line in lines if line[0] == str(agent)]
             vouch(f"vouch, agent {agent}", played, played.link(agent, own, played.said[agent]))
         for has_quotes in (False, True):
             played, link = greatest(tac, place, has_quotes)
-            show("audit of the greatest log", [tac, "audit", played.game, played.log], given.runs)
+            show(pool, "audit of the greatest log", audit, given.runs)
             whole_link = link if has_quotes else filled(link)
             vouch("vouch, all quotes" if has_quotes else "vouch, lines too long", played,
                   whole_link)
