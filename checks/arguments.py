@@ -34,7 +34,7 @@ def top_parts(text: str, sign: str) -> List[str]:
 
 
 def groups(text: str) -> Tuple[List[str], str]:
-    """The bracketed parts of a text, and what stands in no bracket, without spaces."""
+    """The bracketed parts of a text, and the rest of it, without spaces."""
     found, rest, depth = [], "", 0
     for letter in text:
         if letter in OPENING:

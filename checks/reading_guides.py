@@ -54,7 +54,7 @@ SKIPS: Dict[str, str] = {
         ("whoever does not ask about the replies to `cash`: the sheet's cash comes from the "
          "trades, and the clause `cash` says that the posts have the same sum"),
     "The game file":
-        ("all but `game_text/Schedule` by whoever takes a game for what `tac show` prints of it"),
+        ("all but `game_text/Schedule` by a reader to whom a game is what `tac show` prints"),
     "The auctions of a game":
         "nobody; it is short",
     "Packages and the best total":
@@ -343,7 +343,8 @@ What to look for, and what goes wrong:
   Of `HasNoGame` only the last line is needed: without a game there is no outcome `Done`.
 - **Look for** the same name on both sides: `played.closed` and `played.head` in `IsGameEnd` and in
   `IsLogOf`, and `end.missed` in the waits and in the log; dialect and port are of the same service,
-  and the game is that of its file. Of `dialect_in` both forms, and that words have one answer alone.
+  and the game is that of its file. Of `dialect_in` both forms, and that a line of words has one
+  answer alone.
 - **The usual error**: `before` and `after` exchanged, `Done` without the `missed ≡ 0`, or a game
   that is not the file's.""",
 }

@@ -147,7 +147,7 @@ class Writer(unittest.TestCase):
 
 
 class Keeping(unittest.TestCase):
-    """What stands in the file, and when."""
+    """What the file contains, and when."""
 
     def setUp(self) -> None:
         place = tempfile.TemporaryDirectory()

@@ -71,7 +71,7 @@ class Projecting(unittest.TestCase):
                  {"tick": 1, "t": 100}, *asked(2, "cash", "@1 cash 0", 110)]
         for tick, due in ((8, []), (9, [1]), (10, [1, 2])):
             self.assertEqual(self.project(begun(*lines, tick=tick)).silent, due)
-        # Who comes again is not silent from the beginning.
+        # An agent that reconnects is not silent from the beginning.
         lines += [{"tick": 5, "t": 500}, {"here": 1, "from": "10.0.0.7"}]
         self.assertEqual(self.project(begun(*lines, tick=13)).silent, [2])
         self.assertEqual(self.project(begun(*lines, tick=14)).silent, [1, 2])

@@ -40,7 +40,7 @@ NOT_FOUND = "404 Not Found", "text/plain", b"the page is at /\n"
 
 
 class Faults:
-    """Tells faults that may come again and again: each reason once in a while.
+    """Reports faults that may recur: each reason once in a while.
 
     Args:
         tell: Is given a line.

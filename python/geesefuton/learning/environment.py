@@ -197,7 +197,7 @@ class Environment(ParallelEnv):  # type: ignore[misc]
 
     def reset(self, seed: Optional[int] = None,
               options: Optional[Values] = None) -> Tuple[Values, Values]:
-        """Begins a game, and ends the one that is played.
+        """Begins a game, and ends the current one.
 
         Args:
             seed: What the game is made from, 0 to 18446744073709551615; None for the number after
