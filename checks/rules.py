@@ -314,11 +314,13 @@ RULES = [
 ]
 
 INTRODUCTION = """\
-A row for each rule of `docs/GAME.md`: the pages that state it in words, its definition, the code
-that implements it, the clause that ties the two, for most rules an edit that the clause refuses (a
-wrong body; the gate fails if it is still proved), and a worked row that computes, or a test. To
-change a rule, change all of them, and its choice in `docs/DECISIONS.md`. `checks/reading.py
---write` makes this page, and fails if one of these places is missing."""
+This table has a row for each rule of `docs/GAME.md`. Each row links the sections that state the
+rule in words, its definition, the code that implements it, and the clause that connects the two.
+Most rows also link a refused edit: a wrong function body that the clause rules out (the gate fails
+if the prover accepts it). The last column links a worked row, which the prover computes, or a test.
+
+To change a rule, change all of these places, and its entry in `docs/DECISIONS.md` if it has one.
+`checks/reading.py --write` generates this page, and fails if one of the places does not exist."""
 
 OTHERS = ["FORMATS/Game script"]  # headings of other pages that have rules, with their page
 
@@ -390,7 +392,7 @@ def rules_page() -> Tuple[str, List[str]]:
         headings = re.findall(r"^###? (.*)$", game.read(), re.M)
     faults = [f"rules.py: no rule of the heading {heading} of docs/GAME.md" for heading in headings
               if heading not in UNRULED and not any(rule.heading == heading for rule in RULES)]
-    text = ["# Where each rule stands", "", INTRODUCTION, "",
+    text = ["# Where each rule is stated, coded and proved", "", INTRODUCTION, "",
             "| rule | in words | definition | code | clause | refused edit | worked row or test |",
             "|---|---|---|---|---|---|---|"]
     heading = ""
