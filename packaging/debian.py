@@ -32,11 +32,12 @@ Depends: libc6 (>= 2.34), python3 (>= 3.9)
 Section: education
 Priority: optional
 Description: proved game server of the travel-shopping game TAC Classic
- Eight agents, programs in any language, buy trips for their clients in 28
- auctions that run at once. The server, tac, is proved: what its log holds are
- legal histories, and each score is the greatest over all allocations.
+ Eight agents, which are programs in any language, buy trips for their clients
+ in 28 simultaneous auctions. The server, tac, is proved: its log holds legal
+ histories, and each score is the greatest over all feasible allocations.
  .
- With it come a lobby for a class, tournaments, reports and example agents.
+ The package includes a lobby for a class, tournaments, reports and example
+ agents.
 """
 COPYRIGHT = """Format: https://www.debian.org/doc/packaging-manuals/copyright-format/1.0/
 Upstream-Name: geesefuton
