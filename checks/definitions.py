@@ -40,6 +40,7 @@ class Module:
         self.definitions: Dict[str, Definition] = {}
         self.renamed: List[str] = []
         self.parameters: Dict[str, List[str]] = {}
+        self.mutual: Dict[str, int] = {}  # of a definition in a mutual block the block's line
         self._targets: Dict[str, List[Target]] = {}
         with open(file, encoding="utf-8") as source:
             lines = source.read().split("\n")
@@ -69,18 +70,18 @@ class Module:
                 self.given_again.append(given.group(1))
 
     def _read_definitions(self, lines: Iterable[str]) -> None:
-        level, current, block = 0, None, None
+        level, current, block, mutual = 0, None, None, None
         for number, line in enumerate(lines, 1):
             text, depth = line.strip(), len(line) - len(line.lstrip())
             if not text or text.startswith(("--", "use ", "pub use ", "pub mod ", "infix")):
                 continue
             if depth == 0:
-                level, block = 0, None
+                level, block, mutual = 0, None, None
                 if text.startswith("module "):
                     block, level, current = [line], 2, None
                     continue
             if text in ("mutual", "abbrev mutual"):
-                level, current = depth + 2, None
+                level, current, mutual = depth + 2, None, number
                 continue
             if depth == level:
                 named = re.match(HEADS + r"(?:record|data) ([^\s:({]+)", text) or re.match(
@@ -94,6 +95,8 @@ class Module:
                     current = equation.group(0)
                 if block and current is not None:
                     self.parameters.setdefault(current, block)
+                if mutual and current is not None:
+                    self.mutual.setdefault(current, mutual)
             if current is not None:
                 self.definitions.setdefault(current, Definition(current, number)).lines.append(line)
             elif block is not None:

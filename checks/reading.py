@@ -39,7 +39,8 @@ from reading_guides import (
     SKIPPED,
     TIMES,
 )
-from reading_print import print_chapters, print_types
+from reading_order import Chapters, backward, chapters_of, in_order, order_of, row_places
+from reading_print import CodeType, Marks, print_chapters, print_preamble
 from reading_rows import ROWS, Lemmas, Row, numbers_of
 from reading_text import (
     Rows,
@@ -56,13 +57,23 @@ from rules import rules_page
 from reading_words import (
     ALIKE,
     BESIDE,
+    CAVEATS,
     CHAPTERS,
+    EXAMPLE,
+    EXAMPLE_ABOUT,
+    EXAMPLE_END,
+    EXAMPLE_ROW,
+    HEADLINE,
     HOW_TO_READ,
     IN_WORDS,
     INTRODUCTION,
     LIBRARY,
     NOTATION,
+    PICTURE,
+    PICTURE_ABOUT,
     PLAIN,
+    PREAMBLE_FILE,
+    PREAMBLE_WORDS,
     ROWLESS,
     ROW_WORDS,
     SENTENCES,
@@ -87,57 +98,11 @@ SEEN_AS_VALUES = [
     "settlement.scores.Sheet",
 ]
 LEMMAS = Lemmas()
+PREAMBLE_HELPERS = {(PREAMBLE_FILE, name) for name in PREAMBLE_WORDS}
 # The names behind which the parts beside begin, each with a mark at its place.
 ENTRY_MARKS: Dict[Target, str] = {}
 # What may be left out for code 0, with why.
 SKIP_MARKS: Dict[Target, str] = {}
-
-
-def chapters_of(definitions: Definitions, rows: Rows) -> Dict[str, List[str]]:
-    """The modules of each chapter: the chapter's own, each after those that it uses."""
-    chapters: Dict[str, List[str]] = {}
-    placed = set()
-
-    def place(path: str, chapter: List[str]) -> None:
-        if path in placed or path not in rows:
-            return
-        placed.add(path)
-        for used in definitions.used_modules(path, rows[path]):
-            place(used, chapter)
-        chapter.append(path)
-
-    named = {each: heading for heading, _, places in CHAPTERS for each in places if "." in each}
-    for heading, _, places in CHAPTERS:
-        chapter = chapters.setdefault(heading, [])
-        modules = [
-            (f"{module.crate}.{module.name}", path, module)
-            for path, module in sorted(definitions.modules.items())
-        ]
-        for full, path, module in sorted(
-            modules, key=lambda one: places.index(one[0]) if one[0] in places else len(places)
-        ):
-            if named.get(full) == heading or (module.crate in places and full not in named):
-                place(path, chapter)
-    for path in rows:
-        place(path, chapters[CHAPTERS[-1].heading])
-    return chapters
-
-
-def in_order(definitions: Definitions, rows: Rows) -> List[str]:
-    """Modules, each after those that it uses."""
-    order: List[str] = []
-    placed = set()
-
-    def place(path: str) -> None:
-        if path in rows and path not in placed:
-            placed.add(path)
-            for used in definitions.used_modules(path, rows[path]):
-                place(used)
-            order.append(path)
-
-    for path in rows:
-        place(path)
-    return order
 
 
 def table(definitions: Definitions, rows: Rows, paths: Iterable[str]) -> List[str]:
@@ -160,21 +125,21 @@ def table(definitions: Definitions, rows: Rows, paths: Iterable[str]) -> List[st
     return text
 
 
-def worked(definitions: Definitions, part: Rows, faults: List[str]) -> List[str]:
-    """The table of the worked rows of a part of the page, empty if it has none.
-
-    A row stands where the first definition that it tries has its row.
-    """
-    text: List[str] = []
-    for row in ROWS:
-        path, name = target_of(row.tries[0])
-        if name in part.get(path, []):
-            text.append(
-                f"| {row.words} | {lemma_links(definitions, row, faults)} | "
-                f"{tried_links(definitions, row)} |"
-            )
+def worked(definitions: Definitions, rows: Iterable[Row], faults: List[str]) -> List[str]:
+    """The table of worked rows, empty if there are none."""
+    text = [
+        f"| {row.words} | {lemma_links(definitions, row, faults)} | "
+        f"{tried_links(definitions, row)} |"
+        for row in rows
+    ]
     head = ["", "Worked rows, which compute:", "", "| case | lemma | tries |", "|---|---|---|"]
     return head + text if text else []
+
+
+def rows_first_at(part: Rows) -> List[Row]:
+    """The worked rows that try a definition of this part of the page first."""
+    targets = ((row, target_of(row.tries[0])) for row in ROWS)
+    return [row for row, (path, name) in targets if name in part.get(path, [])]
 
 
 def reached_by_rows(definitions: Definitions) -> Set[Target]:
@@ -240,16 +205,6 @@ def in_words(module: Module) -> str:
         if not re.search(r"^##+ %s$" % re.escape(heading), page_file.read(), re.M):
             raise KeyError(f"docs/{document}.md has no heading {heading}")
     return f"[{document}, {heading}]({document}.md#{anchor_of(heading)})"
-
-
-def backward(definitions: Definitions, rows: Rows, order: List[str]) -> List[str]:
-    """The modules that use one whose row stands below theirs."""
-    return [
-        f"{path} uses {used}, whose row stands below"
-        for place, path in enumerate(order)
-        for used in definitions.used_modules(path, rows[path])
-        if used in order[place + 1 :]
-    ]
 
 
 def inner_imports(definitions: Definitions, rows: Rows) -> List[str]:
@@ -479,15 +434,14 @@ def page(definitions: Definitions) -> Tuple[str, List[str], str]:
     everything = definitions.reached([name for names in clauses.values() for name in names])
     rows, all_rows = rows_of(definitions, headline), rows_of(definitions, everything)
     chapters = chapters_of(definitions, rows)
-    order = [path for paths in chapters.values() for path in paths]
-    core = line_count(definitions, rows, order)
+    order = order_of(definitions, chapters)
+    places = row_places(definitions, order, entries, PREAMBLE_HELPERS, LEMMAS)
+    core = line_count(definitions, rows, rows)
     mark_entries(definitions, rows)
     SKIP_MARKS.update(skipped_of(definitions, start, entries, headline))
-    kept = {
-        path: [name for name in names if (path, name) not in SKIP_MARKS]
-        for path, names in rows.items()
-    }
     sentences, faults = sentences_table(definitions, rows, "the headline", SENTENCES)
+    faults += [f"{name} of the picture is not on the page" for name in names_of_picture(rows)]
+    faults += without_headline()
     faults += [
         f"{full} may be left out, and is not what the headline rests on"
         for full in SKIPPED
@@ -502,7 +456,7 @@ def page(definitions: Definitions) -> Tuple[str, List[str], str]:
     faults += (
         wrong_types
         + wrong_words
-        + backward(definitions, rows, order)
+        + backward(definitions, order)
         + inner_imports(definitions, all_rows)
     )
     listed = {(path, name) for path, names in rows.items() for name in names} - set(entries)
@@ -530,27 +484,55 @@ def page(definitions: Definitions) -> Tuple[str, List[str], str]:
     text = [
         "# What must be believed",
         "",
+        filled(f"**{' '.join(HEADLINE.split())}**"),
+        "",
         filled(INTRODUCTION),
-        "",
-        filled(HOW_TO_READ),
-        "",
-        filled(
-            f"The headline over lines of words takes {core:,} lines of definitions. Beside it are"
-            f" four parts that may be left out at first ({in_all:,} lines with them); the chapters"
-            " need nothing of what they say: "
-            + "; ".join(heading for heading, _, _ in BESIDE)
-            + f". Worked rows reach {tried:,} of the {core:,} lines; most"
-            " of the others state what holds of whole games, and compute nothing."
-        ),
         "",
         "## The headline, half sentence by half sentence",
         "",
     ] + sentences
     text += [
         "",
-        "What the clause does not say in so many words:",
+        "Read the headline with these limits:",
+        "",
+        filled_items("".join(f"\n- {each}" for each in CAVEATS)),
+        "",
+        "## From bytes to a score",
+        "",
+        filled(PICTURE_ABOUT),
+        "",
+        "```",
+        *PICTURE.split("\n"),
+        "```",
+        "",
+        "## One link, followed",
+        "",
+        filled(
+            EXAMPLE_ABOUT.format(
+                quiet=row_link(definitions, "game_text/QuietGames.quiet_game"),
+                rows=lemma_links(definitions, rows_of_lemma(EXAMPLE_ROW), faults),
+            )
+        ),
+        "",
+        "```",
+        *example_lines(),
+        "```",
+        "",
+        filled(EXAMPLE_END),
+        "",
+        "## What else the clauses do not say",
         "",
         filled_items(TRUTHS),
+        "",
+        "## How to read this page",
+        "",
+        filled_blocks(HOW_TO_READ),
+        "",
+        filled(
+            f"The headline for lines of words takes {core:,} lines of definitions, without comments"
+            f" and imports; with the four parts beside it {in_all:,}. Worked rows reach {tried:,} of"
+            f" the {core:,} lines. Most of the others are about whole games, and compute nothing."
+        ),
         "",
         "## How long it takes",
         "",
@@ -559,17 +541,18 @@ def page(definitions: Definitions) -> Tuple[str, List[str], str]:
     ]
     text += times_table(
         {
-            heading: (line_count(definitions, rows, paths), line_count(definitions, kept, paths))
-            for heading, paths in chapters.items()
-            if paths
+            heading: (
+                line_count(definitions, chapter, chapter),
+                line_count(definitions, left_of(chapter, SKIP_MARKS), chapter),
+            )
+            for heading, chapter in chapters.items()
+            if chapter
         }
     )
     faults += [f"no minutes for {heading}" for heading in chapters
                if chapters[heading] and heading not in MINUTES]
     text += ["", "## What has no worked row", "", filled(ROWLESS), ""]
-    text += rowless_table(
-        definitions, chapters, rows, reached_by_rows(definitions), SKIP_MARKS
-    )
+    text += rowless_table(definitions, chapters, reached_by_rows(definitions), SKIP_MARKS)
     text += ["", filled(cases_sentence(definitions, rows))]
     text += ["", "## Names that are alike", "", filled_items(ALIKE)]
     borrowed = row_words(definitions, rows)
@@ -616,17 +599,21 @@ def page(definitions: Definitions) -> Tuple[str, List[str], str]:
     faults += missing
     text += outside_tables() + ["", filled(FIELDS), ""] + fields
     for heading, about, _ in CHAPTERS:
-        paths = chapters[heading]
-        if paths:
+        chapter = chapters[heading]
+        if chapter:
             text += [
                 "",
                 f"## {heading}",
                 "",
-                filled(f"{about} {line_count(definitions, rows, paths)} lines."),
+                filled(f"{about} {line_count(definitions, chapter, chapter)} lines."),
             ]
             text += guided(definitions, rows, heading, faults) + [""]
-            text += table(definitions, rows, paths)
-            text += worked(definitions, {path: rows[path] for path in paths}, faults)
+            text += table(definitions, chapter, chapter)
+            text += worked(
+                definitions,
+                [row for (path, name), row in places if name in chapter.get(path, [])],
+                faults,
+            )
     for heading, about, part in beside:
         text += [
             "",
@@ -636,7 +623,7 @@ def page(definitions: Definitions) -> Tuple[str, List[str], str]:
             "",
         ]
         text += table(definitions, part, in_order(definitions, part)) + worked(
-            definitions, part, faults
+            definitions, rows_first_at(part), faults
         )
     text += (
         [
@@ -654,7 +641,7 @@ def page(definitions: Definitions) -> Tuple[str, List[str], str]:
         + steps
         + [""]
         + table(definitions, others, in_order(definitions, others))
-        + worked(definitions, others, faults)
+        + worked(definitions, rows_first_at(others), faults)
     )
     on_page = {(path, name) for path, names in all_rows.items() for name in names}
     faults += [
@@ -669,42 +656,117 @@ def page(definitions: Definitions) -> Tuple[str, List[str], str]:
     return "\n".join(text) + "\n", faults, figures
 
 
+def example_lines() -> List[str]:
+    """The example, a line for each of its texts, with what it is in front of the first."""
+    wide = max(len(what) for what, _ in EXAMPLE) + 2
+    return [
+        (what.ljust(wide) if at == 0 else " " * wide) + line
+        for what, lines in EXAMPLE
+        for at, line in enumerate(lines)
+    ]
+
+
+def rows_of_lemma(lemma: str) -> Row:
+    """The worked row of a lemma. Raises StopIteration if none has it."""
+    return next(row for row in ROWS if lemma in row.lemmas)
+
+
+def names_of_picture(rows: Rows) -> List[str]:
+    """The names of the picture that are no definitions of the page."""
+    listed = {name for names in rows.values() for name in names}
+    words = re.findall(r"\b(?:[a-z]+_[a-z_]+|(?:Is|Are|Ends|Legal|Matched)\w*)\b", PICTURE)
+    return sorted(set(words) - listed)
+
+
+def without_headline() -> List[str]:
+    """The pages that should have the headline and its limits, and have not."""
+    missing = []
+    for page_of, texts in (("README.md", [HEADLINE, *CAVEATS]), ("docs/PROOFS.md", [HEADLINE])):
+        found = " ".join(open_text(os.path.join(ROOT, page_of)).split())
+        missing += [
+            f"{page_of} does not have: {' '.join(text.split())}"
+            for text in texts
+            if " ".join(text.split()) not in found
+        ]
+    return missing
+
+
 def open_text(file: str) -> str:
     """The text of a file."""
     with open(file, encoding="utf-8") as source:
         return source.read()
 
 
+def beside_words(definitions: Definitions, rows: Rows) -> Dict[Target, str]:
+    """Of each name behind which a part beside begins the words of it that stand there alone."""
+    return {
+        (path, name): ", ".join(
+            f"`{word}`" for word in only_beside(definitions, rows, path, name)
+        )
+        for _, _, names in BESIDE
+        for path, name in map(target_of, names)
+    }
+
+
 def mark_entries(definitions: Definitions, rows: Rows) -> None:
     """Marks each name behind which a part beside begins with what of it stands there alone."""
+    words = beside_words(definitions, rows)
     for heading, _, names in BESIDE:
-        for path, name in map(target_of, names):
-            words = ", ".join(f"`{word}`" for word in only_beside(definitions, rows, path, name))
-            ENTRY_MARKS[path, name] = f" ({words}: [beside](#{anchor_of(f'Beside: {heading}')}))"
+        for target in map(target_of, names):
+            ENTRY_MARKS[target] = f" ({words[target]}: [beside](#{anchor_of(f'Beside: {heading}')}))"
+
+
+def left_of(rows: Rows, skipped: Iterable[Target]) -> Rows:
+    """These definitions without those that may be left out."""
+    return {
+        path: [name for name in names if (path, name) not in skipped]
+        for path, names in rows.items()
+    }
+
+
+def headline_clauses() -> str:
+    """The call `tac` with its premises and the two clauses of the headline, as they stand."""
+    text = open_text(TOP)
+    head = text[text.index("/// Runs the command") : text.index("\n{\n")]
+    others = re.findall(r"\n    ensures (?!service|cash)(\w+) \{(?:(?!\n    ensures).)*", head, re.S)
+    shown = re.sub(
+        r"(?:\n    //[^\n]*)?\n    ensures (?!service|cash)\w+ \{"
+        r"(?:(?!\n    ensures|\n    //).)*",
+        "",
+        head,
+        flags=re.S,
+    )
+    return f"{shown}\n    // Clauses that are no part of the headline: {', '.join(others)}."
 
 
 def print_all(definitions: Definitions) -> None:
-    """Prints the clauses of `tac`, the types of the code, and the definitions of the headline."""
+    """Prints the two clauses of the headline, the words of rows, and the definitions of the
+    headline with the types of the code."""
     clauses = clauses_of(TOP, "tac")
     entries = [target_of(name) for _, _, names in BESIDE for name in names]
     found = definitions.reached(clauses["service"] + clauses["cash"], entries)
     rows = rows_of(definitions, found)
-    mark_entries(definitions, rows)
-    skipped = skipped_of(definitions, clauses["service"] + clauses["cash"], entries, found)
-    with open(TOP, encoding="utf-8") as source:
-        text = source.read()
-    print(text[text.index("/// Runs the command") : text.index("\n{\n")])
-    print_types(
-        (name, file, line, value_of(open_text(file), name))
-        for (_, name), (file, line) in types_of(found)[0].items()
-    )
+    chapters = chapters_of(definitions, rows)
+    order = order_of(definitions, chapters)
+    print(headline_clauses())
+    print_preamble(LEMMAS)
     print_chapters(
         definitions,
-        rows,
-        chapters_of(definitions, rows),
-        reached_by_rows(definitions),
-        ENTRY_MARKS,
-        skipped,
+        chapters,
+        row_places(definitions, order, entries, PREAMBLE_HELPERS, LEMMAS),
+        [
+            CodeType(crate, name, file, line, value_of(open_text(file), name))
+            for (crate, name), (file, line) in types_of(found)[0].items()
+        ],
+        Marks(
+            reached_by_rows(definitions),
+            {
+                (path, name): f"({words} of it: in a part beside)"
+                for (path, name), words in beside_words(definitions, rows).items()
+            },
+            skipped_of(definitions, clauses["service"] + clauses["cash"], entries, found),
+        ),
+        LEMMAS,
     )
 
 

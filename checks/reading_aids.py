@@ -55,23 +55,23 @@ def causes_table() -> List[str]:
 
 def rowless_table(
     definitions: Definitions,
-    chapters: Dict[str, List[str]],
-    rows: Rows,
+    chapters: Dict[str, Rows],
     reached: Set[Target],
     skipped: Dict[Target, str],
 ) -> List[str]:
     """The definitions of each chapter that are none of those to which a worked row leads, with
     their lines; those that may be left out with a sign."""
     text = ["| chapter | lines | definitions |", "|---|---|---|"]
-    for heading, paths in chapters.items():
+    for heading, chapter in chapters.items():
         alone = {
-            path: [name for name in rows[path] if (path, name) not in reached] for path in paths
+            path: [name for name in names if (path, name) not in reached]
+            for path, names in chapter.items()
         }
         found = [
             (definitions.modules[path], one)
-            for path in paths
+            for path, names in alone.items()
             for one in sorted(
-                (definitions.modules[path].definitions[name] for name in alone[path]),
+                (definitions.modules[path].definitions[name] for name in names),
                 key=lambda each: each.line,
             )
         ]
@@ -82,7 +82,7 @@ def rowless_table(
         ]
         if links:
             text.append(
-                f"| {heading} | {line_count(definitions, alone, paths)} | {' · '.join(links)} |"
+                f"| {heading} | {line_count(definitions, alone, alone)} | {' · '.join(links)} |"
             )
     return text
 
@@ -90,12 +90,15 @@ def rowless_table(
 def cases_without_row(
     definitions: Definitions, rows: Rows, lemmas: Lemmas
 ) -> Dict[Target, List[str]]:
-    """Of each statement by cases to which a row leads, the constructors that have an equation of
-    their own and that stand in no lemma that leads to it, nor in the lemma's helpers."""
+    """Of each statement by cases to which a row leads, the constructors of the equations of which
+    none stands in a lemma that leads to it, nor in the lemma's helpers."""
     said: Dict[Target, str] = {}
     for lemma in (each for row in ROWS for each in row.lemmas):
         read = lemmas.read(definitions, lemma)
-        text = "\n".join(sum(lemmas.helpers(lemma), []) + lemmas.statement(lemma))
+        text = "\n".join(
+            sum((lemmas.helper_lines(helper) for helper in lemmas.helpers(lemma)), [])
+            + lemmas.whole(lemma)
+        )
         for target in read[2] if read else ():
             said[target] = said.get(target, "") + text + "\n"
     missing: Dict[Target, List[str]] = {}
@@ -106,9 +109,9 @@ def cases_without_row(
                 continue
             for line in lines:
                 equation = re.match(r"\s*%s (.*?) =" % re.escape(name), line)
-                for word in re.findall(r"\b[A-Z]\w*", equation.group(1) if equation else ""):
-                    if not re.search(r"\b%s\b" % word, said[path, name]):
-                        missing.setdefault((path, name), []).append(word)
+                words = re.findall(r"\b[A-Z]\w*", equation.group(1) if equation else "")
+                if not any(re.search(r"\b%s\b" % word, said[path, name]) for word in words):
+                    missing.setdefault((path, name), []).extend(words)
     return missing
 
 

@@ -1,88 +1,247 @@
 """Prints what the headline rests on, in the order of the page: `checks/reading.py --print`."""
 
 import os
+import re
 import textwrap
-from typing import Dict, Iterable, List, Set, Tuple
+from typing import Dict, Iterable, List, NamedTuple, Set, Tuple
 
-from definitions import ROOT, Definition, Definitions, Target
+from definitions import ROOT, Definition, Definitions, Module, Target
 from reading_aids import cases_without_row
-from reading_rows import ROWS, Lemmas
-from reading_text import Rows, target_of
+from reading_order import Chapters
+from reading_rows import Helper, Lemmas, Row
+from reading_text import target_of
+from reading_words import PREAMBLE, PREAMBLE_FILE, PREAMBLE_WORDS
+
+RULE = "=" * 80
 
 
-def print_types(types: Iterable[Tuple[str, str, int, str]]) -> None:
-    """Prints types of the code: each a name, its file and line, and what contracts see of it.
+class CodeType(NamedTuple):
+    """A type of the code: its crate and name, its file and line, and what contracts see of it."""
 
-    Of a type with such a value only that is printed; of the others the fields or variants, without
-    attributes.
-    """
-    print(f"\n{'=' * 80}\nTypes of the code\n{'=' * 80}\n")
-    for name, file, line, value in types:
-        if value:
-            print(f"{name} appears as {value}\n")
+    crate: str
+    name: str
+    file: str
+    line: int
+    value: str
+
+
+class Marks(NamedTuple):
+    """What is said above definitions: those to which a row leads, those that are continued in a
+    part beside, with a sentence, and those that may be left out, with why."""
+
+    reached: Set[Target]
+    beside: Dict[Target, str]
+    skipped: Dict[Target, str]
+
+
+def type_lines(one: CodeType) -> List[str]:
+    """A type: what contracts see of it if that is something else, and otherwise its fields or
+    variants, without attributes."""
+    if one.value:
+        return [f"{one.name} appears as {one.value}"]
+    with open(one.file, encoding="utf-8") as source:
+        lines = source.read().split("\n")
+    end = next(
+        place
+        for place in range(one.line - 1, len(lines))
+        if lines[place].startswith("}") or lines[place].endswith(";")
+    )
+    shown = [each for each in lines[one.line - 1 : end + 1] if not each.lstrip().startswith("#[")]
+    return shown if any("///" in each for each in shown) else [" ".join(" ".join(shown).split())]
+
+
+def types_by_chapter(
+    definitions: Definitions, chapters: Chapters, types: Iterable[CodeType]
+) -> Dict[str, List[CodeType]]:
+    """The types of the code, each in the first chapter that names it; one that no chapter names is
+    in the first chapter."""
+    first: Dict[Tuple[str, str], str] = {}
+    for heading, chapter in chapters.items():
+        for path, names in chapter.items():
+            for target in (each for name in names for each in definitions.modules[path].targets(name)):
+                found = re.match(r"(\w+)\.specs\.declared\.(?:.+?)\.(\w+)(?:\.TheVariants)?$", target[0])
+                if found:
+                    first.setdefault((found.group(1), found.group(2)), heading)
+    by_chapter: Dict[str, List[CodeType]] = {heading: [] for heading in chapters}
+    for one in types:
+        by_chapter[first.get((one.crate, one.name), next(iter(chapters)))].append(one)
+    return by_chapter
+
+
+def shared_constructors(
+    definitions: Definitions, chapters: Chapters, types: Iterable[CodeType]
+) -> Dict[str, List[str]]:
+    """The names that constructors of several types share, each with these types."""
+    owners: Dict[str, List[str]] = {"None": ["Option"], "Some": ["Option"]}
+    for one in types:
+        lines = [] if one.value else type_lines(one)
+        if lines and lines[0].startswith("pub enum"):
+            text = re.sub(r"///[^\n]*", "", "\n".join(lines))
+            inner = text[text.index("{") + 1 : text.rindex("}")]
+            for name in re.findall(r"\b[A-Z]\w*", re.sub(r"\{[^{}]*\}|\([^()]*\)", "", inner)):
+                owners.setdefault(name, []).append(one.name)
+    for chapter in chapters.values():
+        for path, names in chapter.items():
+            for name in names:
+                head, *rows = definitions.modules[path].definitions[name].lines
+                for row in rows if re.search(r"\bdata ", head) else []:
+                    found = re.match(r"\s+([A-Z]\w*) :", row)
+                    if found:
+                        owners.setdefault(found.group(1), []).append(name)
+    return {name: types_of for name, types_of in owners.items() if len(types_of) > 1}
+
+
+def names_here(
+    definitions: Definitions, module: Module, names: Iterable[str], shared: Dict[str, List[str]]
+) -> List[str]:
+    """What names of a module's definitions stand for that other modules may mean otherwise:
+    constructors that several types have, and imports under another name."""
+    text = "\n".join(
+        line for name in names for line in module.definitions[name].lines
+    )
+    by_type: Dict[str, List[str]] = {}
+    for word, (path, found) in module.imports.items():
+        owner = owner_of(definitions, path, found)
+        if not re.search(r"(?<![\w.'])%s(?![\w'])" % re.escape(word), text):
             continue
-        with open(file, encoding="utf-8") as source:
-            lines = source.read().split("\n")
-        end = next(
-            place
-            for place in range(line - 1, len(lines))
-            if lines[place].startswith("}") or lines[place].endswith(";")
+        if word != found:
+            by_type.setdefault(owner, []).append(f"`{word}` (there `{found}`)")
+        elif word in shared and owner != "Option":
+            by_type.setdefault(owner, []).append(f"`{word}`")
+    for alias, path in module.aliases.items():
+        if re.search(r"\b%s\." % alias, text):
+            owner = owner_of(definitions, path, "")
+            by_type.setdefault(owner, []).append(f"`{alias}.` with a name")
+    told = "; ".join(f"{', '.join(words)} of `{owner}`" for owner, words in by_type.items())
+    return paragraph(f"Here {told}.", "-- ") if told else []
+
+
+def owner_of(definitions: Definitions, path: str, name: str) -> str:
+    """The type of which a name of a module is a constructor, or the module."""
+    if path.endswith(".TheVariants"):
+        return path.split(".")[-2]
+    module = definitions.modules.get(definitions.given.get(path, path))
+    if module:
+        row = re.compile(r"\s+%s :" % re.escape(name))
+        for one in module.definitions.values():
+            if re.search(r"\bdata ", one.lines[0]) and any(map(row.match, one.lines[1:])):
+                return one.name
+        return f"{module.crate}/{module.name}"
+    return "Option" if name in ("None", "Some") else path.split(".")[-1]
+
+
+def paragraph(text: str, sign: str, further: str = "") -> List[str]:
+    """A paragraph as a comment, in lines of at most 100 columns."""
+    return textwrap.wrap(
+        text,
+        100,
+        initial_indent=sign,
+        subsequent_indent=further or sign,
+        break_long_words=False,
+        break_on_hyphens=False,
+    )
+
+
+class Names:
+    """The names of helpers of rows: of two files' helpers of one name, and of a helper with the
+    name of a definition, each is shown behind the name of its file, as `Logs.bid`."""
+
+    def __init__(self, lemmas: Lemmas, rows: Iterable[Row], taken: Set[str]) -> None:
+        helpers = dict.fromkeys(
+            helper for row in rows for lemma in row.lemmas for helper in lemmas.helpers(lemma)
         )
-        shown = [one for one in lines[line - 1 : end + 1] if not one.lstrip().startswith("#[")]
-        if not any("///" in one for one in shown):
-            shown = [" ".join(" ".join(shown).split())]
-        print("\n".join(shown) + "\n")
+        places: Dict[str, List[str]] = {}
+        for place, name in helpers:
+            places.setdefault(name, []).append(place)
+        self.lemmas = lemmas
+        self.shown: Dict[Helper, str] = {
+            (place, name): name
+            if len(places[name]) == 1 and name not in taken or place == PREAMBLE_FILE
+            else f"{place.split('/')[1]}.{name}"
+            for place, name in helpers
+        }
+
+    def renamed(self, place: str, lines: Iterable[str]) -> List[str]:
+        """Lines of a file of `proofs/`, with the names of its helpers as they are shown."""
+        module = self.lemmas.module(place)
+        text = "\n".join(lines)
+        for (of, name), shown in self.shown.items():
+            path = f"{of.replace('/', '.proofs.')}"
+            if shown != name and (of == place or module.imports.get(name) == (path, name)):
+                text = re.sub(
+                    r'"(?:\\.|[^"\\])*"|--[^\n]*|(?:(?<=[{;]) |\n +)%s = |(?<![\w.\'])%s(?![\w\'])'
+                    % (re.escape(name), re.escape(name)),
+                    lambda found, word=name, new=shown: new
+                    if found.group(0) == word
+                    else found.group(0),
+                    text,
+                )
+        return text.split("\n")
+
+
+def print_preamble(lemmas: Lemmas) -> None:
+    """Prints the words of the rows of the auctions' rules, each with its definition."""
+    print(f"\n{RULE}\nWords of the rows\n{RULE}\n")
+    print("\n".join(paragraph(" ".join(PREAMBLE.split()), "-- ")) + "\n")
+    for name, words in PREAMBLE_WORDS.items():
+        print("\n".join(paragraph(words, "-- ")))
+        lines = lemmas.helper_lines((PREAMBLE_FILE, name))
+        print("\n".join(line for line in lines if not line.startswith("-- ")) + "\n")
 
 
 def print_chapters(
     definitions: Definitions,
-    rows: Rows,
-    chapters: Dict[str, List[str]],
-    reached: Set[Target],
-    marks: Dict[Target, str],
-    skipped: Dict[Target, str],
+    chapters: Chapters,
+    places: List[Tuple[Target, Row]],
+    types: List[CodeType],
+    marks: Marks,
+    lemmas: Lemmas,
 ) -> None:
-    """Prints each definition with its comment, without the imports that change no name, and
-    directly below it the worked rows that try it first, with their words.
+    """Prints each chapter: the types of the code that it is the first to name, and each definition
+    with its comment, directly below it the worked rows that stand there.
 
-    A definition to which no row of `reached` leads, one of which a case has no row, and one that is
-    continued in a part beside has a line that says so above it; so has one that may be left out.
+    A definition to which no row leads, one of which a case has no row, and one that is continued in
+    a part beside has a line that says so above it; so has one that may be left out.
     """
-    lemmas = Lemmas()
-    cases = cases_without_row(definitions, rows, lemmas)
-    told: Set[str] = set()
-    firsts = {target_of(row.tries[0]) for row in ROWS}
-    for heading, paths in chapters.items():
-        print(f"\n{'=' * 80}\n{heading}\n{'=' * 80}")
-        for path in paths:
+    cases = cases_without_row(
+        definitions, {path: names for one in chapters.values() for path, names in one.items()}, lemmas
+    )
+    taken = {name for one in chapters.values() for names in one.values() for name in names}
+    shown = Names(lemmas, [row for _, row in places], taken | {"read", "ticket"})
+    shared = shared_constructors(definitions, chapters, types)
+    told: Set[Helper] = {(PREAMBLE_FILE, name) for name in PREAMBLE_WORDS}
+    by_chapter = types_by_chapter(definitions, chapters, types)
+    for heading, chapter in chapters.items():
+        print(f"\n{RULE}\n{heading}\n{RULE}")
+        for one in by_chapter[heading]:
+            print("\n" + "\n".join(type_lines(one)))
+        for path, names in chapter.items():
             module = definitions.modules[path]
-            about = f"-- {os.path.relpath(module.file, ROOT)}: {module.about}"
-            print("\n".join(["", about, *module.renamed, ""]))
-            header = None
+            print("\n-- " + os.path.relpath(module.file, ROOT) + f": {module.about}")
+            print("\n".join(names_here(definitions, module, names, shared) + [""]))
+            header, block = None, None
             for one in sorted(
-                (module.definitions[name] for name in rows[path]), key=lambda each: each.line
+                (module.definitions[name] for name in names), key=lambda each: each.line
             ):
+                target = (path, one.name)
                 if module.parameters.get(one.name) not in (None, header):
                     header = module.parameters[one.name]
                     print("\n".join(header))
-                if (path, one.name) in skipped:
-                    print(f"-- (may be left out for code 0: {skipped[path, one.name]})")
-                if (path, one.name) not in reached:
-                    print("-- (no row: read it slowly)")
-                if (path, one.name) in cases:
-                    print(f"-- (no row for {', '.join(cases[path, one.name])})")
-                if (path, one.name) in marks:
-                    told_beside = marks[path, one.name].split(": [beside]")[0]
-                    print(f"--{told_beside} stand in a part beside)")
-                others = rows_elsewhere(rows, (path, one.name)) or rows_through(
-                    definitions, rows, (path, one.name), lemmas
-                )
-                if others:
-                    print(f"-- (rows at {', '.join(f'`{name}`' for name in others)})")
-                elif (path, one.name) in reached - firsts:
-                    print("-- (rows in a part beside)")
+                if module.mutual.get(one.name) not in (None, block):
+                    block = module.mutual[one.name]
+                    print("mutual")
+                if target in marks.skipped:
+                    print(f"-- (not needed for code 0: {marks.skipped[target]})")
+                if target not in marks.reached:
+                    print("-- (no row)")
+                if target in cases:
+                    print(f"-- (no row for {', '.join(cases[target])})")
+                if target in marks.beside:
+                    print("\n".join(paragraph(marks.beside[target], "-- ")))
                 print("\n".join(with_comment(module.file, one)) + "\n")
-                print_worked(definitions, rows, (path, one.name), lemmas, told)
+                for place, row in places:
+                    if place == target:
+                        print_row(definitions, row, lemmas, shown, told)
 
 
 def with_comment(file: str, one: Definition) -> List[str]:
@@ -95,65 +254,18 @@ def with_comment(file: str, one: Definition) -> List[str]:
     return lines[above + 1 : one.line - 1] + one.lines
 
 
-def rows_elsewhere(rows: Rows, tried: Target) -> List[str]:
-    """The names of the definitions below which rows stand that try this definition too."""
-    found = [
-        places[0][1]
-        for places in ([target_of(full) for full in row.tries] for row in ROWS)
-        if tried in places[1:] and places[0][1] in rows.get(places[0][0], [])
-    ]
-    return [name for name in dict.fromkeys(found) if name != tried[1]]
-
-
-def rows_through(
-    definitions: Definitions, rows: Rows, reached: Target, lemmas: Lemmas
-) -> List[str]:
-    """Of a definition that no row tries, the first three names below which rows stand that lead to
-    it."""
-    found: List[str] = []
-    for row in ROWS:
-        path, name = target_of(row.tries[0])
-        if (path, name) == reached:
-            return []
-        if name in rows.get(path, []) and name not in found:
-            reads = [lemmas.read(definitions, lemma) for lemma in row.lemmas]
-            if any(read and reached in read[2] for read in reads):
-                found.append(name)
-    return found[:3]
-
-
-def print_worked(
-    definitions: Definitions, rows: Rows, tried: Target, lemmas: Lemmas, told: Set[str]
+def print_row(
+    definitions: Definitions, row: Row, lemmas: Lemmas, shown: Names, told: Set[Helper]
 ) -> None:
-    """Prints the worked rows that try this definition first: the words, and what is computed.
-
-    A helper of a row's file, and a definition that no part of the headline has, is printed above
-    the first row that uses it; `told` holds those that were printed.
-    """
-    for row in ROWS:
-        if tried != target_of(row.tries[0]):
-            continue
-        print(
-            textwrap.fill(
-                f"Row: {row.words}",
-                100,
-                initial_indent="-- ",
-                subsequent_indent="--      ",
-                break_long_words=False,
-            )
-        )
-        for lemma in row.lemmas:
-            outer = [
-                with_comment(module.file, module.definitions[name])
-                for module, name in (
-                    (definitions.modules[path], name)
-                    for path, name in lemmas.borrowed(definitions, lemma)
-                    if name not in rows.get(path, [])
-                )
-            ]
-            for helper in map("\n".join, outer + lemmas.helpers(lemma)):
-                if helper not in told:
-                    told.add(helper)
-                    print(textwrap.indent(helper, "    "))
-            print("\n".join(lemmas.statement(lemma)))
-        print()
+    """Prints a worked row: the words, and what is computed. A helper of the row's file stands above
+    the first row that uses it; `told` has those that were printed."""
+    tried = ", ".join(f"`{target_of(full)[1]}`" for full in row.tries)
+    print("\n".join(paragraph(f"Row of {tried}: {row.words}", "-- ", "--      ")))
+    for lemma in row.lemmas:
+        for helper in lemmas.helpers(lemma):
+            if helper not in told:
+                told.add(helper)
+                lines = shown.renamed(helper[0], lemmas.helper_lines(helper))
+                print(textwrap.indent("\n".join(lines), "    "))
+        print("\n".join(shown.renamed(lemma.split(":")[0], lemmas.statement(lemma))))
+    print()

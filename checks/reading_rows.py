@@ -8,9 +8,12 @@ number of the words is none of the lemma or of the definitions that it leads to.
 
 import os
 import re
-from typing import Dict, List, NamedTuple, Optional, Set, Tuple
+from typing import Dict, Iterable, List, NamedTuple, Optional, Set, Tuple
 
 from definitions import CRATES, Definitions, Module, Target
+
+PROOFS = re.compile(r"(\w+)\.proofs\.(\w+)$")
+Helper = Tuple[str, str]  # CRATE/FILE of `proofs/`, and a name that this file defines
 
 
 class Row(NamedTuple):
@@ -47,8 +50,11 @@ ROWS = [
         ("A hotel of 16 rooms. Agent 0 bids for 13 at 100, agent 1 for 3 at 120; the clock "
          "publishes; agent 2 bids for 14 at 101, and then agent 1 for 3 at 101. The closing "
          "sells 16 at 101: 2 to agent 1, which came later, and 14 to agent 2")),
-    Row(["auction_rules/Rows:two_bids_win_until_the_closing"], ["auction_rules/Standing.stand"],
-        "A hotel with bids was closed: no unit stands"),
+    Row(["auction_rules/Rows:two_bids_win_until_the_closing"],
+        ["auction_rules/Standing.stand", "auction_rules/WinningNumber.winning_number",
+         "auction_rules/Ask.ask"],
+        ("A hotel of 16 rooms with 13 units at 100 and 3 at 120: the ask is 100, and 13 and 3 "
+         "units win. After the closing no unit stands")),
     Row(["auction_rules/Rows:part_of_a_sale_is_left"],
         ["auction_rules/Standing.left", "auction_rules/Effects.holding"],
         ("Agent 1 sells 2 tickets at 60 that it does not have, and agent 0 buys 1: agent 1 is "
@@ -110,7 +116,7 @@ ROWS = [
          "offers 2 at 150 and 1 at 100: refused, it needs 3 at 101 or more and offers 2. With "
          "15 units at 10 and 0 published, 1 unit at 1 is refused: 15 at 1 or more are needed")),
     Row(["auction_rules/Rows:ask_is_shown_when_published_or_closed"],
-        ["auction_rules/Ask.published", "auction_rules/Board.board"],
+        ["auction_rules/Board.board", "auction_rules/Ask.published"],
         ("After 1 bid and no publication a hotel shows the ask 0; after 2 bids and the closing "
          "it shows 100, and that it is closed, and counts 3 entries")),
     Row(["auction_rules/Rows:live_bid_must_beat_the_last_one"],
@@ -187,11 +193,6 @@ ROWS = [
         ("In a game file of which nobody has a ticket at first, good 0 is a flight with first "
          "price 300 and bound 10, good 15 a hotel night of 16 rooms without live quotes, good "
          "27 tickets")),
-    Row(["worked_rows/Sessions:turns_make_the_agents_part"], ["turn_lock/Part.part"],
-        ("A hotel has four entries: agent 1 bids, agent 0 bids for 1 at 50, the clock "
-         "publishes, agent 0 looks. Agent 0's part is the entries 1 and 3")),
-    Row(["worked_rows/Sessions:shown_board_is_of_a_prefix"], ["floor/ClosedBoards.board_of"],
-        "The board with the count 3 that agent 0 was shown there is that of the first 3 entries"),
     # Packages and the best total
     Row(["worked_rows/Trips:trips_use_four_and_eight_goods"],
         ["packages/Packages.use_of", "packages/Goods.thing_of"],
@@ -280,10 +281,6 @@ ROWS = [
         ("Six lines, six turns, six replies: `bid 8 ((1 50))`: `@1 taken 0 0`; `quote 8`: `@3 "
          "quote 0 40 open`; `own 8`: `@3 own 0 ((1 50))`; `cash`: `@0 cash 0`; `sell 8`: `no "
          "syntax`; `quit`: `bye`")),
-    Row(["worked_rows/Sessions:turns_make_the_agents_part"],
-        ["agent_gate/Turns.made_at", "agent_gate/Turns.cash_made"],
-        ("What these turns made at good 8 is agent 0's part of that history, at good 9 they "
-         "made nothing, and in the cash history one reading, at 0")),
     Row(["worked_rows/Sessions:answers_tell_lengths_and_quit_is_last"],
         ["agent_gate/Turns.shown_length", "agent_gate/Turns.has_left"],
         ("Their answers say that the history of good 8 has at least 2, 3 and 4 entries, so "
@@ -302,6 +299,14 @@ ROWS = [
     Row(["worked_rows/Sessions:board_is_not_shorter"], ["agent_gate/Turns.IsNotBehind"],
         ("After a call at position 3 of good 8 no board of the first 3 entries may be shown: it "
          "would be behind that call")),
+    Row(["worked_rows/Sessions:turns_make_the_agents_part"],
+        ["turn_lock/Part.part", "agent_gate/Turns.made_at", "agent_gate/Turns.cash_made"],
+        ("A hotel has four entries: agent 1 bids, agent 0 bids for 1 at 50, the clock publishes, "
+         "agent 0 looks. Agent 0's part, the entries 1 and 3, is what its turns made at good 8; at "
+         "good 9 they made nothing, and in the cash history one reading, at 0")),
+    Row(["worked_rows/Sessions:shown_board_is_of_a_prefix"],
+        ["floor/ClosedBoards.board_of", "agent_gate/Turns.boards_shown"],
+        "The board with the count 3 that agent 0 was shown there is that of the first 3 entries"),
     Row(["worked_rows/Ends:quit_after_bye", "worked_rows/Ends:no_quit_without_it"],
         ["agent_gate/Served.EndsBy", "agent_gate/Served.SendsAll"],
         ("A session with the welcome `hi`, all sent. The turn `quit`, answered `bye`: the cause is "
@@ -362,6 +367,17 @@ ROWS = [
         ("After a wrong word, seat 2 and a lost link the seat of agent 2 alone is taken. A "
          "first line that is too long is `syntax`. Refused links are sent `refused syntax`, "
          "`refused wrongword` or `refused taken`, and a lost one nothing")),
+    Row(["worked_rows/LoggedLinks:ended_by_quit"],
+        ["game_run/LinkRuns.IsSeated", "agent_gate/Transcript.IsTranscript",
+         "agent_gate/Served.IsServed", "agent_gate/Items.AreItems"],
+        ("Agent 2 asks `bid 0 ((2 310))`, `cash` and `quit`, and buys 2 seats at 300: the link of "
+         "the example at the beginning. `own 8` comes behind `quit`, and is not answered")),
+    Row(["worked_rows/LoggedLinks:ended_by_its_end", "worked_rows/LoggedLinks:ended_by_a_read",
+         "worked_rows/LoggedLinks:ended_by_a_write"],
+        ["game_run/LinkRuns.IsSeated", "agent_gate/Served.EndsBy"],
+        ("The same link without `quit`: `End` if its bytes end there; `ReadFault` if a read fails "
+         "within the line `own 8`; `WriteFault` if of the reply `@1 cash -600` only the first "
+         "5 bytes are sent")),
     # The log
     Row(["worked_rows/Logs:history_of_a_hotel"], ["log_text/LogText.auction_text"],
         ("`auction 8 4`, `0 bid ((1 50)) = taken 0 0`, `8 publish = done`, `1 bid ((1 50)) = "
@@ -451,7 +467,10 @@ class Lemmas:
         if place not in self.modules:
             crate, name = place.split("/")
             file = os.path.join(CRATES, crate, "proofs", name + ".antt")
-            self.modules[place] = Module(crate, name, file) if os.path.exists(file) else None
+            module = Module(crate, name, file) if os.path.exists(file) else None
+            if module:
+                module.path = f"{crate}.proofs.{name}"
+            self.modules[place] = module
         return self.modules[place]
 
     def read(self, definitions: Definitions,
@@ -470,17 +489,20 @@ class Lemmas:
         module = self.module(place)
         if module is None or name not in module.definitions:
             return None
-        text, todo, met = [], [name], set()
+        text: List[str] = []
+        todo, met = [(place, name)], set()
         outside: List[Target] = []
         while todo:
             here = todo.pop()
-            if here in met:
+            inner = self.module(here[0])
+            if here in met or inner is None or here[1] not in inner.definitions:
                 continue
             met.add(here)
-            text += module.definitions[here].lines
-            for path, word in module.targets(here):
-                if path == module.path:
-                    todo.append(word)
+            text += inner.definitions[here[1]].lines
+            for path, word in inner.targets(here[1]):
+                proofs = PROOFS.match(path)
+                if proofs:
+                    todo.append(("/".join(proofs.groups()), word))
                 else:
                     outside.append((path, word))
         reached = definitions.reached(outside)
@@ -491,62 +513,73 @@ class Lemmas:
 
     def statement(self, lemma: str) -> List[str]:
         """The lines of a lemma without its proof; none if there is no such lemma."""
-        place, name = lemma.split(":")
-        module = self.module(place)
-        lines = module.definitions[name].lines if module and name in module.definitions else []
+        lines = self.whole(lemma)
         proof = [at for at, line in enumerate(lines) if at and not line.startswith(" ")]
         return lines[: proof[0]] if proof else lines
 
-    def borrowed(self, definitions: Definitions, lemma: str) -> List[Target]:
-        """The definitions of `specs/` that a lemma's statement and its helpers name."""
+    def whole(self, lemma: str) -> List[str]:
+        """The lines of a lemma with its proof; none if there is no such lemma."""
+        place, name = lemma.split(":")
+        module = self.module(place)
+        return module.definitions[name].lines if module and name in module.definitions else []
+
+    def borrowed(self, definitions: Definitions, lemma: str,
+                 left_out: Iterable[Helper] = ()) -> List[Target]:
+        """The definitions of `specs/` that a lemma's statement and its helpers name, but for what
+        only helpers of `left_out` name."""
         place, name = lemma.split(":")
         module = self.module(place)
         if module is None or name not in module.definitions:
             return []
-        words = re.findall(
-            r"[A-Za-z_][A-Za-z0-9_']*",
-            "\n".join(sum(self.helpers(lemma), []) + self.statement(lemma)),
-        )
-        named = [name] + [word for word in words if word in module.definitions]
-        found = [
-            (definitions.given.get(path, path), word)
-            for one in dict.fromkeys(named)
-            for path, word in module.targets(one)
-        ]
+        statement = names_in(self.statement(lemma))
+        found = [target for word, target in module.imports.items() if word in statement]
+        for of, helper in self.helpers(lemma):
+            if (of, helper) not in left_out:
+                found += self.module(of).targets(helper)
+        named = [(definitions.given.get(path, path), word) for path, word in found]
         return [
             (path, word)
-            for path, word in dict.fromkeys(found)
+            for path, word in dict.fromkeys(named)
             if path in definitions.modules and word in definitions.modules[path].definitions
         ]
 
-    def helpers(self, lemma: str) -> List[List[str]]:
-        """The definitions of its own file that a lemma's statement uses, each with its comment and
-        after those that it uses."""
+    def helpers(self, lemma: str) -> List[Helper]:
+        """The definitions of files of `proofs/` that a lemma's statement uses, each after those
+        that it uses."""
         place, name = lemma.split(":")
-        module = self.module(place)
-        if module is None or name not in module.definitions:
-            return []
+        order: List[Helper] = []
+
+        def place_helpers(of: str, lines: List[str], own: str) -> None:
+            module = self.module(of)
+            for word in names_in(lines) if module else []:
+                path, found = module.imports.get(word, (module.path, word))
+                proofs = PROOFS.match(path)
+                helper = ("/".join(proofs.groups()) if proofs else "", found)
+                inner = self.module(helper[0]) if proofs else None
+                if inner and found in inner.definitions and found != own and helper not in order:
+                    place_helpers(helper[0], inner.definitions[found].lines, found)
+                    order.append(helper)
+
+        place_helpers(place, self.statement(lemma), name)
+        return list(dict.fromkeys(order))
+
+    def helper_lines(self, helper: Helper) -> List[str]:
+        """A helper with its comment, as it stands in its file."""
+        module = self.module(helper[0])
         with open(module.file, encoding="utf-8") as source:
             whole = source.read().split("\n")
-        order: List[str] = []
+        one = module.definitions[helper[1]]
+        above = one.line - 2
+        while above >= 0 and whole[above].startswith("-- ") and "----" not in whole[above]:
+            above -= 1
+        return whole[above + 1 : one.line - 1] + one.lines
 
-        def place_helpers(lines: List[str]) -> None:
-            for word in re.findall(r"[A-Za-z_][A-Za-z0-9_']*", "\n".join(lines)):
-                if word in module.definitions and word not in order and word != name:
-                    place_helpers(
-                        [line.replace(word, "") for line in module.definitions[word].lines]
-                    )
-                    order.append(word)
 
-        place_helpers(self.statement(lemma))
-        texts = []
-        for word in order:
-            one = module.definitions[word]
-            above = one.line - 2
-            while above >= 0 and whole[above].startswith("-- ") and "----" not in whole[above]:
-                above -= 1
-            texts.append(whole[above + 1 : one.line - 1] + one.lines)
-        return texts
+def names_in(lines: List[str]) -> List[str]:
+    """The names in lines, each once, but for those in texts and those of fields."""
+    text = re.sub(r'"(?:\\.|[^"\\])*"', '""', "\n".join(lines))
+    text = re.sub(r"(?<=[{;]) \w+ = |(?<=\n) +\w+ = |\.\w+", " ", text)
+    return list(dict.fromkeys(re.findall(r"[A-Za-z_][A-Za-z0-9_']*", text)))
 
 
 def numbers_of(text: str) -> Set[str]:
