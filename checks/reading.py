@@ -22,6 +22,7 @@ from reading_aids import (
     causes_table,
     glance_table,
     map_table,
+    minutes_of,
     only_beside,
     row_words,
     rowless_table,
@@ -31,12 +32,12 @@ from reading_aids import (
 from reading_guides import (
     FIELDS,
     GUIDES,
-    MINUTES,
     NOTES,
     OUTSIDE,
     PLAYED,
     RULES_NOTE,
     SKIPPED,
+    SKIPS,
     TIMES,
 )
 from reading_order import Chapters, backward, chapters_of, in_order, order_of, row_places
@@ -99,6 +100,7 @@ SEEN_AS_VALUES = [
 ]
 LEMMAS = Lemmas()
 PREAMBLE_HELPERS = {(PREAMBLE_FILE, name) for name in PREAMBLE_WORDS}
+KEY_WORDS = sum(len(f"{sign} {meaning}".split()) for sign, meaning in NOTATION)
 # The names behind which the parts beside begin, each with a mark at its place.
 ENTRY_MARKS: Dict[Target, str] = {}
 # What may be left out for code 0, with why.
@@ -539,18 +541,25 @@ def page(definitions: Definitions) -> Tuple[str, List[str], str]:
         filled_blocks(TIMES),
         "",
     ]
+    faults += [f"nothing says who may leave out {heading}" for heading, chapter in chapters.items()
+               if chapter and heading not in SKIPS]
     text += times_table(
         {
             heading: (
                 line_count(definitions, chapter, chapter),
                 line_count(definitions, left_of(chapter, SKIP_MARKS), chapter),
+                minutes_of(
+                    definitions,
+                    heading,
+                    chapter,
+                    [row for (path, name), row in places if name in chapter.get(path, [])],
+                ),
             )
             for heading, chapter in chapters.items()
-            if chapter
-        }
+            if chapter and heading in SKIPS
+        },
+        len(re.sub(r"\]\([^)]*\)", "", "\n".join(text)).split()) + KEY_WORDS,
     )
-    faults += [f"no minutes for {heading}" for heading in chapters
-               if chapters[heading] and heading not in MINUTES]
     text += ["", "## What has no worked row", "", filled(ROWLESS), ""]
     text += rowless_table(definitions, chapters, reached_by_rows(definitions), SKIP_MARKS)
     text += ["", filled(cases_sentence(definitions, rows))]
@@ -749,7 +758,14 @@ def print_all(definitions: Definitions) -> None:
     chapters = chapters_of(definitions, rows)
     order = order_of(definitions, chapters)
     print(headline_clauses())
-    print_preamble(LEMMAS)
+    print_preamble(
+        LEMMAS,
+        {
+            target_of(name)[1]: ROW_WORDS[name]
+            for name in row_words(definitions, rows)
+            if name in ROW_WORDS
+        },
+    )
     print_chapters(
         definitions,
         chapters,

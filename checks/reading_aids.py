@@ -5,9 +5,24 @@ import os
 import re
 from typing import Dict, Iterable, List, Set, Tuple
 
-from definitions import ROOT, Definitions, Target
-from reading_guides import CAUSE_ROWS, MINUTES, RULES_MAP, SKIPPED, SKIPS
-from reading_rows import ROWS, Lemmas
+from definitions import ROOT, Definition, Definitions, Target
+from reading_guides import (
+    BACK,
+    BACK_MINUTES,
+    CAUSE_ROWS,
+    FRONT,
+    GOING_BACK,
+    GUIDES,
+    PROSE_RATE,
+    ROW_RATE,
+    RULES_MAP,
+    RULE_RATE,
+    SKIPPED,
+    SKIPS,
+    SPELLED,
+    SPELLED_RATE,
+)
+from reading_rows import ROWS, Lemmas, Row
 from reading_text import Rows, anchor_of, line_count, link, target_of
 
 
@@ -28,21 +43,55 @@ def skipped_of(
     }
 
 
-def times_table(counts: Dict[str, Tuple[int, int]]) -> List[str]:
-    """How long each chapter takes, how much of it is for code 0, and who may leave it out."""
+def minutes_of(
+    definitions: Definitions, heading: str, chapter: Rows, rows: Iterable[Row]
+) -> float:
+    """How many minutes a chapter takes, by the lengths of its definitions, rows, comments and
+    guide."""
+    symbols = comments = 0
+    for path, names in chapter.items():
+        module = definitions.modules[path]
+        for one in (module.definitions[name] for name in names):
+            symbols += len("\n".join(one.lines).split())
+            comments += len(" ".join(comment_of(module.file, one)).split())
+    words = sum(len(row.words.split()) for row in rows)
+    prose = comments + len(GUIDES.get(heading, "").split())
+    rate = SPELLED_RATE if heading in SPELLED else RULE_RATE
+    return (symbols / rate + words / ROW_RATE + prose / PROSE_RATE) * GOING_BACK
+
+
+def times_table(parts: Dict[str, Tuple[int, int, float]], front_words: int) -> List[str]:
+    """How long each chapter takes, how much of it is for code 0, and who may leave it out: of each
+    chapter its lines, those for code 0, and its minutes."""
     text = [
         "| chapter | lines | for code 0 | minutes | may be left out by |",
         "|---|---|---|---|---|",
     ]
-    for part, minutes in MINUTES.items():
-        if part in counts:
-            text.append(
-                f"| [{part}](#{anchor_of(part)}) | {counts[part][0]} | {counts[part][1]} |"
-                f" {minutes} | {SKIPS[part]} |"
-            )
-        else:
-            text.append(f"| {part} | | | {minutes} | {SKIPS[part]} |")
+    front = front_words / PROSE_RATE * GOING_BACK
+    text.append(f"| {FRONT} | | | {front:.0f} | {SKIPS[FRONT]} |")
+    for heading, (lines, needed, minutes) in parts.items():
+        text.append(
+            f"| [{heading}](#{anchor_of(heading)}) | {lines} | {needed} | {minutes:.0f} |"
+            f" {SKIPS[heading]} |"
+        )
+    text.append(f"| {BACK} | | | {BACK_MINUTES} | {SKIPS[BACK]} |")
+    total = round(front + sum(minutes for _, _, minutes in parts.values()) + BACK_MINUTES)
+    text.append(
+        f"| **All** | {sum(lines for lines, _, _ in parts.values()):,} |"
+        f" {sum(needed for _, needed, _ in parts.values()):,} |"
+        f" {total}, which is {total // 60} h {total % 60:02} | |"
+    )
     return text
+
+
+def comment_of(file: str, one: Definition) -> List[str]:
+    """The lines of the comment above a definition."""
+    with open(file, encoding="utf-8") as source:
+        lines = source.read().split("\n")
+    above = one.line - 2
+    while above >= 0 and lines[above].lstrip().startswith("--"):
+        above -= 1
+    return lines[above + 1 : one.line - 1]
 
 
 def causes_table() -> List[str]:
@@ -110,7 +159,8 @@ def cases_without_row(
             for line in lines:
                 equation = re.match(r"\s*%s (.*?) =" % re.escape(name), line)
                 words = re.findall(r"\b[A-Z]\w*", equation.group(1) if equation else "")
-                if not any(re.search(r"\b%s\b" % word, said[path, name]) for word in words):
+                shown = (re.search(r"\b%s\b" % word, said[path, name]) for word in words)
+                if words and not any(shown):
                     missing.setdefault((path, name), []).extend(words)
     return missing
 

@@ -5,8 +5,8 @@ import re
 import textwrap
 from typing import Dict, Iterable, List, NamedTuple, Set, Tuple
 
-from definitions import ROOT, Definition, Definitions, Module, Target
-from reading_aids import cases_without_row
+from definitions import ROOT, Definitions, Module, Target
+from reading_aids import cases_without_row, comment_of
 from reading_order import Chapters
 from reading_rows import Helper, Lemmas, Row
 from reading_text import target_of
@@ -105,15 +105,15 @@ def names_here(
         if not re.search(r"(?<![\w.'])%s(?![\w'])" % re.escape(word), text):
             continue
         if word != found:
-            by_type.setdefault(owner, []).append(f"`{word}` (there `{found}`)")
+            by_type.setdefault(owner, []).append(f"`{word}` (= `{found}`)")
         elif word in shared and owner != "Option":
             by_type.setdefault(owner, []).append(f"`{word}`")
     for alias, path in module.aliases.items():
         if re.search(r"\b%s\." % alias, text):
             owner = owner_of(definitions, path, "")
-            by_type.setdefault(owner, []).append(f"`{alias}.` with a name")
-    told = "; ".join(f"{', '.join(words)} of `{owner}`" for owner, words in by_type.items())
-    return paragraph(f"Here {told}.", "-- ") if told else []
+            by_type.setdefault(owner, []).append(f"`{alias}.NAME`")
+    told = "; ".join(f"of `{owner}`: {', '.join(words)}" for owner, words in by_type.items())
+    return paragraph(f"Names {told}.", "-- ") if told else []
 
 
 def owner_of(definitions: Definitions, path: str, name: str) -> str:
@@ -179,14 +179,18 @@ class Names:
         return text.split("\n")
 
 
-def print_preamble(lemmas: Lemmas) -> None:
-    """Prints the words of the rows of the auctions' rules, each with its definition."""
+def print_preamble(lemmas: Lemmas, borrowed: Dict[str, str]) -> None:
+    """Prints the words of the rows of the auctions' rules, each with its definition, and in words
+    the names that rows borrow from definitions that no chapter has."""
     print(f"\n{RULE}\nWords of the rows\n{RULE}\n")
     print("\n".join(paragraph(" ".join(PREAMBLE.split()), "-- ")) + "\n")
     for name, words in PREAMBLE_WORDS.items():
         print("\n".join(paragraph(words, "-- ")))
         lines = lemmas.helper_lines((PREAMBLE_FILE, name))
         print("\n".join(line for line in lines if not line.startswith("-- ")) + "\n")
+    print("-- Rows also use these definitions, which are in no chapter:")
+    for name, words in borrowed.items():
+        print("\n".join(paragraph(f"`{name}`: {words}.", "-- ", "--     ")))
 
 
 def print_chapters(
@@ -213,8 +217,9 @@ def print_chapters(
     by_chapter = types_by_chapter(definitions, chapters, types)
     for heading, chapter in chapters.items():
         print(f"\n{RULE}\n{heading}\n{RULE}")
-        for one in by_chapter[heading]:
-            print("\n" + "\n".join(type_lines(one)))
+        values = [one for one in by_chapter[heading] if one.value]
+        for one in [*values, *(one for one in by_chapter[heading] if not one.value)]:
+            print(("" if one in values[1:] else "\n") + "\n".join(type_lines(one)))
         for path, names in chapter.items():
             module = definitions.modules[path]
             print("\n-- " + os.path.relpath(module.file, ROOT) + f": {module.about}")
@@ -238,20 +243,10 @@ def print_chapters(
                     print(f"-- (no row for {', '.join(cases[target])})")
                 if target in marks.beside:
                     print("\n".join(paragraph(marks.beside[target], "-- ")))
-                print("\n".join(with_comment(module.file, one)) + "\n")
+                print("\n".join(comment_of(module.file, one) + one.lines) + "\n")
                 for place, row in places:
                     if place == target:
                         print_row(definitions, row, lemmas, shown, told)
-
-
-def with_comment(file: str, one: Definition) -> List[str]:
-    """The lines of a definition, after those of the comment above it."""
-    with open(file, encoding="utf-8") as source:
-        lines = source.read().split("\n")
-    above = one.line - 2
-    while above >= 0 and lines[above].lstrip().startswith("--"):
-        above -= 1
-    return lines[above + 1 : one.line - 1] + one.lines
 
 
 def print_row(
