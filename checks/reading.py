@@ -134,7 +134,7 @@ def worked(definitions: Definitions, rows: Iterable[Row], faults: List[str]) -> 
         f"{tried_links(definitions, row)} |"
         for row in rows
     ]
-    head = ["", "Worked rows, which compute:", "", "| case | lemma | tries |", "|---|---|---|"]
+    head = ["", "Worked rows:", "", "| case | lemma | tries |", "|---|---|---|"]
     return head + text if text else []
 
 
@@ -300,7 +300,7 @@ def outside_tables() -> List[str]:
         if file.endswith(".rt")
     )
     traits, objects = ["| trait | its `state` | what it says |", "|---|---|---|"], [
-        "| object in memory | trait | its `state` is said by |",
+        "| object in memory | trait | definitions of its `state` |",
         "|---|---|---|",
     ]
     for file in files:
@@ -333,9 +333,9 @@ def outside_tables() -> List[str]:
                 f" `{made.group(1)}` | {links} |"
             )
     memory = (
-        "The objects in memory state all of it, so the premises can be met; the tests run over"
-        " them. They need not be read to believe the promise. The system's own (`HostFiles`,"
-        " `StdSink`, `TcpLinks`, `TcpLink`, `SleepTicker` of `crates/tacd/src`) state `None` and"
+        "The objects in memory say everything, so the premises can be met; the tests run over"
+        " them. You need not read them to believe the headline. The system's own (`HostFiles`,"
+        " `StdSink`, `TcpLinks`, `TcpLink`, `SleepTicker` of `crates/tacd/src`) say `None` and"
         " their counts of faults."
     )
     return traits + ["", filled(memory), ""] + objects
@@ -376,7 +376,7 @@ def guided(definitions: Definitions, rows: Rows, heading: str, faults: List[str]
         at_a_glance, missing = glance_table()
         faults += missing
         text += ["", "The causes of a session's end, in words:", ""] + causes_table()
-        text += ["", "And by rows:", ""] + at_a_glance
+        text += ["", "The same by rows:", ""] + at_a_glance
     if heading == "The command `serve`":
         text += ["", "Which `played` is which:", ""]
         text += ["| where | type | what it says |", "|---|---|---|"]
@@ -407,24 +407,40 @@ def sentences_table(
     return text, missing
 
 
-def library_words(definitions: Definitions, found: Iterable[Target]) -> Tuple[str, List[str]]:
-    own = definitions.crates
-    words = sorted(
-        {
-            name
-            for path, name in found
-            if path.split(".")[0] not in own and "◌" not in name and re.match(r"\w", name)
-        },
-        key=lambda word: (word.lower(), word),
-    )
+def library_words(
+    definitions: Definitions, headline: Iterable[Target], everything: Iterable[Target]
+) -> Tuple[str, List[str]]:
+    """The explanations of the library's words, those of the headline first; and the words without
+    one."""
+    needed = words_of_library(definitions, headline)
+    words = words_of_library(definitions, everything)
     missing = [
         f"no explanation of the library's word {word}"
         for word in words
         if word not in LIBRARY and word not in PLAIN
     ]
-    told = " · ".join(f"`{word}` {LIBRARY[word]}" for word in words if word in LIBRARY)
+    told, more = (
+        " · ".join(f"`{word}` {LIBRARY[word]}" for word in words if word in LIBRARY and here(word))
+        for here in (lambda word: word in needed, lambda word: word not in needed)
+    )
     plain = ", ".join(f"`{word}`" for word in words if word in PLAIN)
-    return f"{told}\n\nPlain by their names, in Rust or in mathematics: {plain}.", missing
+    return (
+        f"{told}\n\nAs their names say, in Rust or in mathematics: {plain}.\n\nOnly in the parts"
+        f" beside and in the last chapter: {more}.",
+        missing,
+    )
+
+
+def words_of_library(definitions: Definitions, found: Iterable[Target]) -> List[str]:
+    """The words of the toolchain's library among these names, in alphabetical order."""
+    words = {
+        name
+        for path, name in found
+        if path.split(".")[0] not in definitions.crates
+        and "◌" not in name
+        and re.match(r"\w", name)
+    }
+    return sorted(words, key=lambda word: (word.lower(), word))
 
 
 def page(definitions: Definitions) -> Tuple[str, List[str], str]:
@@ -454,7 +470,7 @@ def page(definitions: Definitions) -> Tuple[str, List[str], str]:
     )
     faults += wrong_steps
     types, wrong_types = types_table(headline)
-    words, wrong_words = library_words(definitions, everything)
+    words, wrong_words = library_words(definitions, headline, everything)
     faults += (
         wrong_types
         + wrong_words
@@ -563,7 +579,7 @@ def page(definitions: Definitions) -> Tuple[str, List[str], str]:
     text += ["", "## What has no worked row", "", filled(ROWLESS), ""]
     text += rowless_table(definitions, chapters, reached_by_rows(definitions), SKIP_MARKS)
     text += ["", filled(cases_sentence(definitions, rows))]
-    text += ["", "## Names that are alike", "", filled_items(ALIKE)]
+    text += ["", "## Names that are alike", "", filled_blocks(ALIKE)]
     borrowed = row_words(definitions, rows)
     faults += [f"no words for {name} of rows" for name in borrowed if name not in ROW_WORDS]
     faults += [f"no row names {name}" for name in ROW_WORDS if name not in borrowed]
@@ -572,14 +588,14 @@ def page(definitions: Definitions) -> Tuple[str, List[str], str]:
     text += [
         "",
         filled(
-            "Words of the toolchain's library (`rt lemma WORD` in the folder of a crate prints the"
-            " definition of one):"
+            "Words of the toolchain's library (`rt lemma WORD`, in the folder of a crate, prints the"
+            " definition of a word):"
         ),
         "",
         filled_blocks(words),
         "",
         filled(
-            "Names that rows have and no chapter defines: "
+            "Rows also use these definitions, which are in no chapter: "
             + "; ".join(
                 f"{row_link(definitions, name)}: {ROW_WORDS[name]}"
                 for name in borrowed
@@ -590,7 +606,7 @@ def page(definitions: Definitions) -> Tuple[str, List[str], str]:
         "",
         "## Types of the code",
         "",
-        "Each in `src/` of its crate; its ranges are kept by its own calls.",
+        "Each is in `src/` of its crate, and its own calls keep its ranges.",
         "",
     ] + types
     text += ["", "## Limits", ""] + limits_table(everything)
@@ -599,7 +615,7 @@ def page(definitions: Definitions) -> Tuple[str, List[str], str]:
         "## The objects of the outside",
         "",
         filled(
-            "`F.state`, `K.state`, `N.state`, `N.Link.state` and `T.state` in the clauses of `tac`"
+            "In the clauses of `tac`, `F.state`, `K.state`, `N.state`, `N.Link.state` and `T.state`"
             " are the ghost `state` of these traits."
         ),
         "",
@@ -640,8 +656,8 @@ def page(definitions: Definitions) -> Tuple[str, List[str], str]:
             "## For the other commands and the codes",
             "",
             filled(
-                "The other clauses of `tac`: what each command writes, and when each exit code"
-                f" comes. {line_count(definitions, others, others):,} lines beside those above."
+                "The other clauses of `tac`: what each command writes, and when it ends with which"
+                f" code. {line_count(definitions, others, others):,} more lines."
             ),
             "",
             filled(STEP_TRUTHS),

@@ -173,9 +173,9 @@ def cases_sentence(definitions: Definitions, rows: Rows) -> str:
         for (_, name), words in sorted(found.items())
     )
     return (
-        f"Of these statements by cases other cases have a row, and these have none: {told}."
+        f"Rows try some cases of these statements, but not these cases: {told}."
         if found
-        else "Of each statement by cases that a row tries, each case that it names has a row."
+        else "If a row tries a statement by cases, each case that the statement names has a row."
     )
 
 

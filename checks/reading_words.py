@@ -146,7 +146,7 @@ ALIKE = """\
   has the seat. The field `taken` of a sink or a link has the bytes that were taken, and that of
   `Seats` says which seats are.
 - **End.** `End` of `LineGot` says that the link's bytes give no further line; `End` of `Cause` that
-  a session ended for that reason. A read fault has the first and not the second.
+  a session ended for that reason. A session with a read fault has the first, and not the second.
 - **Closed.** `Closed` of `Reply` is a refusal, `is_closed` says whether the auction has ended, and
   the field `closed`, a `ClosedGame`, has the histories of a game whose calls are over.
 - **Part.** `part` gives a caller's entries of one history with their positions; `play_part` is the

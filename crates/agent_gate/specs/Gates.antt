@@ -20,7 +20,7 @@ greeted words = None
 abbrev pub greeting_of : List ℕ → Option (List ℕ)
 greeting_of line = greeted (words_of line)
 
--- the verdict on a greeting with a seat word, and what is left
+-- the verdict on a greeting with a seat word, by the seat that has this word, if one has it, and whether that is taken
 abbrev pub seat_verdict : List Bool → Option ℕ → Verdict
 seat_verdict taken None = WrongWord
 seat_verdict taken (Some seat) = if slice_index_or taken seat false then Taken else Seated seat

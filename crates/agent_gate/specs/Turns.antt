@@ -114,7 +114,8 @@ shown_length good (Called request g position entry posted) = if g == good then p
 shown_length good (Quoted g board) = if g == good then board.count else 0
 shown_length good turn = 0
 
--- this length of a good's history is not below anything that was answered of it
+-- this number, the position of a new entry or the length that a new board states, is not below any length of the good's history that was
+-- shown before
 abbrev pub IsNotBehind : ℕ → ℕ → List Turn → Type 0
 IsNotBehind good count past = All (λ turn. shown_length good turn ≤ count) past
 

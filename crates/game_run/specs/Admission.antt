@@ -47,7 +47,8 @@ IsSentOrCut line before after =
     ((after.sent ≡ known_then before.sent line) × NoWriteFails before after)
     ⊎ (TakesSome before.sent after.sent line × LastWriteFails before after)
 
--- the bytes that a link gave begin with a line of this verdict, and no read failed
+-- the bytes that a link gave begin with a line of this verdict, and no read failed; a read may have taken more bytes
+-- than that line, which do not count
 pub record HasFirstLine (seats : Seats) (verdict : Verdict) (before after : LinkState) : Type 0 where
   pub bytes : List ℕ
   pub gave : GaveBytes bytes before after

@@ -41,8 +41,8 @@ IsNoGameFile files files' name refusal =
 
 -- ---- the text
 
--- The log of a game that was played, with some sheet of it: for each agent the greatest total utility over all feasible allocations, less
--- what it cost and the penalties. That log is sound.
+-- The log of a game that was played, with some sheet of it: for each agent the greatest total utility over all feasible allocations, plus
+-- its cash, less the penalties. That log is sound.
 pub record IsLogOf (game : GameFile) (played : Played) (text : List ℕ) : Type 0 where
   pub sheet : List Scored
   pub scores : IsSheetOf game played.closed sheet
