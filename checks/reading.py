@@ -548,8 +548,8 @@ def page(definitions: Definitions) -> Tuple[str, List[str], str]:
         "",
         filled(
             f"The headline for lines of words takes {core:,} lines of definitions, without comments"
-            f" and imports; with the four parts beside it {in_all:,}. Worked rows reach {tried:,} of"
-            f" the {core:,} lines. Most of the others are about whole games, and compute nothing."
+            f" and imports; with the four parts beside it {in_all:,}. Worked rows reach {tried:,}"
+            f" of the {core:,} lines. Most others are about whole games, and compute nothing."
         ),
         "",
         "## How long it takes",
@@ -567,7 +567,7 @@ def page(definitions: Definitions) -> Tuple[str, List[str], str]:
                 minutes_of(
                     definitions,
                     heading,
-                    chapter,
+                    left_of(chapter, SKIP_MARKS),
                     [row for (path, name), row in places if name in chapter.get(path, [])],
                 ),
             )
@@ -588,8 +588,8 @@ def page(definitions: Definitions) -> Tuple[str, List[str], str]:
     text += [
         "",
         filled(
-            "Words of the toolchain's library (`rt lemma WORD`, in the folder of a crate, prints the"
-            " definition of a word):"
+            "Words of the toolchain's library (`rt lemma WORD`, in the folder of a crate, prints"
+            " the definition of a word):"
         ),
         "",
         filled_blocks(words),
@@ -738,7 +738,8 @@ def mark_entries(definitions: Definitions, rows: Rows) -> None:
     words = beside_words(definitions, rows)
     for heading, _, names in BESIDE:
         for target in map(target_of, names):
-            ENTRY_MARKS[target] = f" ({words[target]}: [beside](#{anchor_of(f'Beside: {heading}')}))"
+            anchor = anchor_of(f"Beside: {heading}")
+            ENTRY_MARKS[target] = f" ({words[target]}: [beside](#{anchor}))"
 
 
 def left_of(rows: Rows, skipped: Iterable[Target]) -> Rows:
@@ -753,7 +754,7 @@ def headline_clauses() -> str:
     """The call `tac` with its premises and the two clauses of the headline, as they stand."""
     text = open_text(TOP)
     head = text[text.index("/// Runs the command") : text.index("\n{\n")]
-    others = re.findall(r"\n    ensures (?!service|cash)(\w+) \{(?:(?!\n    ensures).)*", head, re.S)
+    others = re.findall(r"\n    ensures (?!service|cash)(\w+) \{", head)
     shown = re.sub(
         r"(?:\n    //[^\n]*)?\n    ensures (?!service|cash)\w+ \{"
         r"(?:(?!\n    ensures|\n    //).)*",

@@ -1,5 +1,5 @@
 """What saves a reader of docs/READING.md time: the rates by which the minutes of each part are
-computed, who may leave it out, guides to the chapters, and the outside, field by field, in words."""
+computed, who may leave it out, guides to the chapters, and the outside field by field, in words."""
 
 from typing import Dict, List, Tuple
 
@@ -17,8 +17,7 @@ all three; the last three of them would have needed ten minutes less without. Th
 hours.
 
 The column "for code 0" leaves out the definitions with the sign °: what only other outcomes use,
-and what a certificate is. You can skip them if you look at the log and the scores of a game that
-ended with code 0."""
+and what a certificate is. The headline does not need them, and the minutes are without them."""
 
 FRONT = "This page up to the first chapter, without its tables for looking up"
 BACK = "The headline's table again, at the end"
@@ -109,69 +108,72 @@ PLAYED: List[Tuple[str, str, str]] = [
 GUIDES: Dict[str, str] = {
     "The rules of the auctions": """\
 The chapter ends with `Legal`: each entry of a history is `entry_of` the entries before it. The
-definitions stand in this order: what all kinds of auction share (`Units` to `Effects`), flights,
-tickets, what stands (`Standing`), the sales of flights, hotels, and last `Refusals`, `Board` and
-`Legal`, which put the kinds together. `FlightRule` and `TicketMatch` come before `Standing` because
-`gone_by` uses them. A past has the newest entry first: `e ∷ past` is an entry and what was before
-it, and `length past` is its position.
+definitions stand in this order: what all kinds of auction share (`Units` to `Effects`),
+flights, tickets, what stands (`Standing`), the sales of flights, hotels, and last `Refusals`,
+`Board` and `Legal`, which put the kinds together. `FlightRule` and `TicketMatch` come before
+`Standing` because `gone_by` uses them. A past has the newest entry first: `e ∷ past` is an
+entry and what was before it, and `length past` is its position.
 
-What stands: `left_standing` is nothing after a closing, and otherwise the units of each agent's last
-bid (`bid_units`) without those that are gone. `gone` goes through the past from the oldest entry.
-For each admitted call it hands what stood before that call to `gone_by`, and adds what that gives:
-the units that the house sells at a flight, nothing in a hotel, both units of each pair for tickets.
-`stand` is `left_standing` of the past and all that is gone.
+What stands: `left_standing` is nothing after a closing, and otherwise the units of each agent's
+last bid (`bid_units`) without those that are gone. `gone` goes through the past from the oldest
+entry. For each admitted call it hands what stood before that call to `gone_by`, and adds what
+that gives: the units that the house sells at a flight, nothing in a hotel, both units of each
+pair for tickets. `stand` is `left_standing` of the past and all that is gone.
 
 - **Comparisons**: `nat_le` is at most, `nat_lt` is below, and the smaller number stands first.
-- **Whose price is paid**: the current one at a flight, the ask in a hotel, the standing unit's for
-  tickets. A bid is matched against what stands before it (`stand` of the past).
+- **Whose price is paid**: the current one at a flight, the ask in a hotel, the standing unit's
+  for tickets. A bid is matched against what stands before it (`stand` of the past).
 - **A sale at a flight is defined twice**: by points for the trades (`points_looked_at`,
   `flight_trades`), and by units for what stands afterwards (`looked_at`, `flight_gone`). Both
-  compare the same price, which the units of a point share, so a point is sold whole or not at all.
-  That the trades are the same is proved for all pasts (`by_units` of
+  compare the same price, which the units of a point share, so a point is sold whole or not at
+  all. That the trades are the same is proved for all pasts (`by_units` of
   `crates/flight_auction/proofs/UnitTrades.antt`).""",
     "The cash book": """\
-- **Two lists hold the same** (`HoldSame`) if every weight of entries has the same sum over both. The
-  weight that is 1 for one entry and 0 for all others counts how often that entry stands in a list.
-  So the lists have the same entries, each equally often, in any order. `Matched` says that of posts.
-- **A post's position** is that of its entry in the history of its good. A reading sums the posts
-  before it (`take position history`).
+- **Two lists hold the same** (`HoldSame`) if every weight of entries has the same sum over
+  both. The weight that is 1 for one entry and 0 for all others counts how often that entry
+  stands in a list. So the lists have the same entries, each equally often, in any order.
+  `Matched` says that of posts.
+- **A post's position** is that of its entry in the history of its good. A reading sums the
+  posts before it (`take position history`).
 - **What is not said here**: `IsLegalCash` does not bound the caller of a reading, while `Legal`
-  bounds the callers at the 28 goods. By these chapters alone, a caller that is no agent could have a
-  reading of its own cash in the cash history; it would change no post, no total and no agent's part.
-  `IsCashReading` (an agent, 0 to 7) excludes it, in the part beside, "That the log is sound, as
-  `audit` has it".""",
+  bounds the callers at the 28 goods. By these chapters alone, a caller that is no agent could
+  have a reading of its own cash in the cash history; it would change no post, no total and no
+  agent's part. `IsCashReading` (an agent, 0 to 7) excludes it, in the part beside, "That the
+  log is sound, as `audit` has it".""",
     "The game file": """\
 A game is a value (`GameFile`, a list of fields), and the clock's calls follow from it
 (`game_text/Schedule`). How a text is read as a game is beside.
 
-- **480 calls**: the flights are updated at each tick from 1 to 53, which makes 424. At every sixth
-  tick, 6 to 48, one hotel night closes, 8 in all, and those still open publish: 7, 6, .. and 0, 28 in
-  all. At tick 54 the 8 flights and the 12 ticket auctions close.
-- **Defaults**: `get_or order (turn - 1) 0` is the hotel night that closes as the turn-th, counted
-  from 1, and `draw_at` the draw of a tick. Their 0 is never used: a game that a text is read as has
-  8 nights in its order and 53 draws for each flight.""",
+- **480 calls**: the flights are updated at each tick from 1 to 53, which makes 424. At every
+  sixth tick, 6 to 48, one hotel night closes, 8 in all, and those still open publish: 7, 6, ..
+  and 0, 28 in all. At tick 54 the 8 flights and the 12 ticket auctions close.
+- **Defaults**: `get_or order (turn - 1) 0` is the hotel night that closes as the turn-th,
+  counted from 1, and `draw_at` the draw of a tick. Their 0 is never used: a game that a text is
+  read as has 8 nights in its order and 53 draws for each flight.""",
     "The auctions of a game": """\
 `setup_of` gives each good its rules: a flight has its first price and its bound, a hotel night its
 rooms (place 0 is good 8) and whether quotes are live, and a ticket auction the endowments of the
 eight agents. The defaults 0 and `[]` are never used for a game that a text is read as.""",
     "Packages and the best total": """\
-`IsBest` has two halves: some feasible allocation reaches the total, and no feasible one is worth
-more. `IsFeasible` has three parts: eight of them, each a package, and of no good more than there is.
+`IsBest` has two halves: some feasible allocation reaches the total, and no feasible one is
+worth more. `IsFeasible` has three parts: eight of them, each a package, and of no good more
+than there is.
 
-- **What a trip uses**: the inbound seat of its first day, the outbound seat of its last, a room of
-  its hotel for each night from arrival to the night before departure, and a ticket for each night
-  that is named. `one_if` is 1 if the test holds.
-- **Lists**: values and nights have the order alligator wrestling, amusement park, museum, which are
-  0, 1 and 2. Night 0 is no ticket. The `-` of `utility_of` never stops at 0, since both days are at
-  most 3 off.""",
+- **What a trip uses**: the inbound seat of its first day, the outbound seat of its last, a room
+  of its hotel for each night from arrival to the night before departure, and a ticket for each
+  night that is named. `one_if` is 1 if the test holds.
+- **Lists**: values and nights have the order alligator wrestling, amusement park, museum, which
+  are 0, 1 and 2. Night 0 is no ticket. The `-` of `utility_of` never stops at 0, since both
+  days are at most 3 off.""",
     "Scores": """\
-A score is the best total, plus cash, less 200 for each ticket short (`score_of`); an agent's costs
-are in its cash. `short_of` drops the first 16 goods, flights and hotel nights, and adds up what the
-agent lacks of each of the others; too many of one night do not make up for another. `settlement_of`
-has the holdings (what was held at first, plus bought, less sold) and the dollars (sold, less bought).
+A score is the best total, plus cash, less 200 for each ticket short (`score_of`); an agent's
+costs are in its cash. `short_of` drops the first 16 goods, flights and hotel nights, and adds
+up what the agent lacks of each of the others; too many of one night do not make up for another.
+`settlement_of` has the holdings (what was held at first, plus bought, less sold) and the
+dollars (sold, less bought).
 
-- **Certificates** add nothing to a score. It needs only the field `best` of `IsSolution`, which is
-  `IsBest`. `feasible` and `worth` are about the allocation that the log shows.
+- **Certificates** add nothing to a score. It needs only the field `best` of `IsSolution`, which
+  is `IsBest`. `feasible` and `worth` are about the allocation that the log shows.
 - **No number is free**: `IsScored` ties the four numbers of a line to one another, and to the
   clients, the holdings and the cash of the same agent.""",
     "Requests and replies as lines": """\
@@ -185,71 +187,72 @@ one of two ways: the bytes end, or `room` is used up, which is tested first. Wha
 `None`, and stays `None` (`known_then`). `Rose` is a count that grew, or stayed at the last value of
 a u64. The states of files, output, links and ticker stand in the chapters that use them.""",
     "The session of a link": """\
-A session is a list of turns. Each turn is an item that was asked, with its answer and what it left
-in the histories. Three statements hold it together:
+A session is a list of turns. Each turn is an item that was asked, with its answer and what it
+left in the histories. Three statements hold it together:
 
 1. **Asked**: `IsServed` divides what the link's bytes give into what was `read` and the `rest`;
 `AreItems` ties the `read` lines to the turns, one to one.
-2. **Left in the histories**: `IsTranscript` says that what the turns made *is* the agent's part of
-each history, position by position. Both sides are whole lists, so no call is missing, invented or
-made twice.
-3. **Answered**: `EndsBy` says what was sent: the welcome and a line for each turn (`pieces_of`), or,
-after a failed write, a beginning of that which is cut in the last line.
+2. **Left in the histories**: `IsTranscript` says that what the turns made *is* the agent's part
+of each history, position by position. Both sides are whole lists, so no call is missing,
+invented or made twice.
+3. **Answered**: `EndsBy` says what was sent: the welcome and a line for each turn
+(`pieces_of`), or, after a failed write, a beginning of that which is cut in the last line.
 
-- **A read fault has `ComesTo gots.End`** too: `all_answers` goes by the bytes alone, and never gives
-  `Failed`. `LastReadFails` says, by the count of faults, that the read failed.
-- **Nothing comes after `quit`**: by the second half of `AreLawful`, `Left` is the last turn. With
-  the cause `Quit`, nothing that the link gives after that line is looked at.
+- **A read fault has `ComesTo gots.End`** too: `all_answers` goes by the bytes alone, and never
+  gives `Failed`. `LastReadFails` says, by the count of faults, that the read failed.
+- **Nothing comes after `quit`**: by the second half of `AreLawful`, `Left` is the last turn.
+  With the cause `Quit`, nothing that the link gives after that line is looked at.
 - **After all it had seen** is `IsNotBehind`. Its number is the position of a new entry, or the
-  length that a new board states. It must be at least every length that the agent's earlier answers
-  have shown of that history: an entry at position p shows p + 1.
-- **The order of cash readings** follows from the field `cash` of `IsTranscript`: the agent's part of
-  the cash history is the posts and readings of its turns, in their order.
+  length that a new board states. It must be at least every length that the agent's earlier
+  answers have shown of that history: an entry at position p shows p + 1.
+- **The order of cash readings** follows from the field `cash` of `IsTranscript`: the agent's
+  part of the cash history is the posts and readings of its turns, in their order.
 - **Limits have two halves**: the 1024th call is made, and the next one is denied.
-- **Boards**: `AreNotes` says for each board that was shown that it is the board of the first so many
-  entries of the history.""",
+- **Boards**: `AreNotes` says for each board that was shown that it is the board of the first so
+  many entries of the history.""",
     "A game over links": """\
-The links that came are the list `given`, in order, each with its verdict at the same place. `CameTo`
-says for each verdict what became of the link; for a seat that is `IsSeated`, which puts the session
-together. The four fields of `IsPlayedBy` are the rest of the headline.
+The links that came are the list `given`, in order, each with its verdict at the same place.
+`CameTo` says for each verdict what became of the link; for a seat that is `IsSeated`, which
+puts the session together. The four fields of `IsPlayedBy` are the rest of the headline.
 
-- **Each link is judged by the seats that earlier links left** (`take n verdicts` in `TakesLinks`).
-  `AreAllTaken`: no link was taken after the last that could be, and none that could be was left.
-- **`bytes` of `HasFirstLine`** is all that the link gave, and may go on behind the first line, since
-  one read may take more. Only the first line decides.
-- **`IsClockTranscript`** says for the clock what `IsTranscript` says for an agent: its turns make the
-  whole schedule in order, and its part of each history is what they made.
+- **Each link is judged by the seats that earlier links left** (`take n verdicts` in
+  `TakesLinks`). `AreAllTaken`: no link was taken after the last that could be, and none that
+  could be was left.
+- **`bytes` of `HasFirstLine`** is all that the link gave, and may go on behind the first line,
+  since one read may take more. Only the first line decides.
+- **`IsClockTranscript`** says for the clock what `IsTranscript` says for an agent: its turns
+  make the whole schedule in order, and its part of each history is what they made.
 - **The pace**: `WaitsForAll` gets the outside from `ServeAllows` with the pace already set
-  (`at_pace`, last chapter). So `all_paced` and `paced` say that it was PACE at each of the 54 waits
-  and at the end.""",
+  (`at_pace`, last chapter). So `all_paced` and `paced` say that it was PACE at each of the 54
+  waits and at the end.""",
     "The log": """\
 Read the worked rows with `docs/FORMATS.md`, "The log". Look at what is counted and numbered:
-`auction_line` counts the entries of a good, links are numbered from 0 as they came, a post has a good
-and a position. Histories stand in the order of the goods, agents and clients from 0. Two games with
-different heads or histories never have the same text; that is proved separately
+`auction_line` counts the entries of a good, links are numbered from 0 as they came, a post has
+a good and a position. Histories stand in the order of the goods, agents and clients from 0. Two
+games with different heads or histories never have the same text; that is proved separately
 (`crates/README.md`).""",
     "Outcomes and codes": """\
-The headline needs `Reports`, `IsCashOfPosts` and `service_of`; the other outcomes are those of other
-commands. `Reports` has two cases. With code 4 a part of the text was taken, but not all of it. With
-any other code it is the outcome's own, and the whole text was taken.""",
+The headline needs `Reports`, `IsCashOfPosts` and `service_of`; the other outcomes are those of
+other commands. `Reports` has two cases. With code 4 a part of the text was taken, but not all
+of it. With any other code it is the outcome's own, and the whole text was taken.""",
     "The command `serve`": """\
 Four definitions, each a sentence:
 
-1. `Serves`: some outcome is allowed, and it was reported. So code 0 is `Done` and code 6 `Lapsed`,
-with the whole text written.
+1. `Serves`: some outcome is allowed, and it was reported. So code 0 is `Done` and code 6
+`Lapsed`, with the whole text written.
 2. `ServeAllows`: the file of that name holds a game, and `ServesGame` holds; or the file was
 refused, and then links and ticker were not touched.
 3. `ServesGame`: if `answer.played` is there, three things hold of it: what became of each link
 (`IsGameEnd`), the 54 waits, and the log (`PlayedAllows`). If not, `HasNoGame`.
-4. `PlayedAllows`: `Done` with no missed tick, `Lapsed` with some, or only the first part of the log
-if memory was refused. `IsLogOf`: the text is `log_text` of this head, these histories and a sheet of
-theirs, and that log is sound.
+4. `PlayedAllows`: `Done` with no missed tick, `Lapsed` with some, or only the first part of the
+log if memory was refused. `IsLogOf`: the text is `log_text` of this head, these histories and a
+sheet of theirs, and that log is sound.
 
-All of them are about one game. `answer.played` has `closed`, the 29 histories, and `head`. By the
-field `head` of `IsGameEnd` this head has the verdicts, the ends and the missed ticks; its field
-`played` hands these verdicts and ends, with the same `closed`, to `IsPlayedOver`. That hands the
-verdicts to `AreAllTaken`, everything to `IsPlayedBy`, and `IsSeated hosted played` to `TakesLinks`,
-which adds for each link its seats, its agent, and the link before and after.""",
+All of them are about one game. `answer.played` has `closed`, the 29 histories, and `head`. By
+the field `head` of `IsGameEnd` this head has the verdicts, the ends and the missed ticks; its
+field `played` hands these verdicts and ends, with the same `closed`, to `IsPlayedOver`. That
+hands the verdicts to `AreAllTaken`, everything to `IsPlayedBy`, and `IsSeated hosted played` to
+`TakesLinks`, which adds for each link its seats, its agent, and the link before and after.""",
 }
 
 # For each cause of a session's end, by lemmas of worked_rows/Ends: sessions that end so, and those
@@ -269,10 +272,10 @@ CAUSE_ROWS: List[Tuple[str, Tuple[List[str], List[str]]]] = [
 
 # After the map of the rules.
 RULES_NOTE = """\
-No definition here says that nobody trades with itself. At flights and in hotels the house sells, and
-for tickets it is the first half of `faces`: the agents differ. `HasNoSelfTrade`, which
-`docs/RULES.md` names, is ensured by a clause of `act` (`crates/auction_core`); the headline does
-not need it."""
+No definition here says that nobody trades with itself. At flights and in hotels the house
+sells, and for tickets it is the first half of `faces`: the agents differ. `HasNoSelfTrade`,
+which `docs/RULES.md` names, is ensured by a clause of `act` (`crates/auction_core`); the
+headline does not need it."""
 
 FIELDS = """\
 The next table says field by field what has to be assumed of the system's own files, connections and

@@ -9,7 +9,7 @@ from definitions import ROOT, Definitions, Module, Target
 from reading_aids import cases_without_row, comment_of
 from reading_order import Chapters
 from reading_rows import Helper, Lemmas, Row
-from reading_text import target_of
+from reading_text import Rows, target_of
 from reading_words import PREAMBLE, PREAMBLE_FILE, PREAMBLE_WORDS
 
 RULE = "=" * 80
@@ -58,8 +58,11 @@ def types_by_chapter(
     first: Dict[Tuple[str, str], str] = {}
     for heading, chapter in chapters.items():
         for path, names in chapter.items():
-            for target in (each for name in names for each in definitions.modules[path].targets(name)):
-                found = re.match(r"(\w+)\.specs\.declared\.(?:.+?)\.(\w+)(?:\.TheVariants)?$", target[0])
+            module = definitions.modules[path]
+            for place, _ in (target for name in names for target in module.targets(name)):
+                found = re.match(
+                    r"(\w+)\.specs\.declared\.(?:.+?)\.(\w+)(?:\.TheVariants)?$", place
+                )
                 if found:
                     first.setdefault((found.group(1), found.group(2)), heading)
     by_chapter: Dict[str, List[CodeType]] = {heading: [] for heading in chapters}
@@ -207,10 +210,12 @@ def print_chapters(
     A definition to which no row leads, one of which a case has no row, and one that is continued in
     a part beside has a line that says so above it; so has one that may be left out.
     """
-    cases = cases_without_row(
-        definitions, {path: names for one in chapters.values() for path, names in one.items()}, lemmas
-    )
-    taken = {name for one in chapters.values() for names in one.values() for name in names}
+    rows: Rows = {}
+    for chapter in chapters.values():
+        for path, names in chapter.items():
+            rows[path] = rows.get(path, []) + names
+    cases = cases_without_row(definitions, rows, lemmas)
+    taken = {name for names in rows.values() for name in names}
     shown = Names(lemmas, [row for _, row in places], taken | {"read", "ticket"})
     shared = shared_constructors(definitions, chapters, types)
     told: Set[Helper] = {(PREAMBLE_FILE, name) for name in PREAMBLE_WORDS}

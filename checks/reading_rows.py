@@ -36,20 +36,20 @@ ROWS = [
     Row(["bid_strings/Worked:faults_of_points_in_their_order"],
         ["tac_base/Bids.fault_of", "tac_base/Bids.point_fault"],
         ("0 units at 10001: no units. 1 unit at 10001, or at 0: the price. 9 to buy and 8 to "
-         "sell: too many units. Sixteen points of 1 unit, and then one of 0 units: too many "
+         "sell: too many units. Sixteen points of 1 unit and then one of 0 units: too many "
          "points")),
     Row(["bid_strings/Worked:numerals_have_one_form"],
         ["tac_base/Numerals.numeral", "tac_base/Numerals.signed_numeral"],
-        "`01`, `-0` and `100000` are no numbers of a bid; `-1` is a number of units"),
+        "A bid cannot have the numbers `01`, `-0` and `100000`; `-1` is a number of units"),
     # The rules of the auctions: bids and units
     Row(["auction_rules/Rows:units_go_on_through_the_points"], ["auction_rules/Units.units_of"],
-        ("A bid at position 5 buys two units at 70 and sells one at 90: the units 0 and 1 buy "
-         "at 70, and the unit 2 sells at 90")),
+        ("A bid at position 5 buys two units at 70 and sells one at 90: its units 0 and 1 buy at "
+         "70, and its unit 2 sells at 90")),
     Row(["auction_rules/Rows:new_bid_takes_its_own_place_in_time"],
         ["auction_rules/Standing.stand", "auction_rules/Precedence.precedes"],
         ("A hotel of 16 rooms. Agent 0 bids for 13 at 100, agent 1 for 3 at 120; the clock "
          "publishes; agent 2 bids for 14 at 101, and then agent 1 for 3 at 101. The closing "
-         "sells 16 at 101: 2 to agent 1, which came later, and 14 to agent 2")),
+         "sells 16 rooms at 101: 2 to agent 1, whose bid is later, and 14 to agent 2")),
     Row(["auction_rules/Rows:two_bids_win_until_the_closing"],
         ["auction_rules/Standing.stand", "auction_rules/WinningNumber.winning_number",
          "auction_rules/Ask.ask"],
@@ -57,40 +57,40 @@ ROWS = [
          "units win. After the closing no unit stands")),
     Row(["auction_rules/Rows:part_of_a_sale_is_left"],
         ["auction_rules/Standing.left", "auction_rules/Effects.holding"],
-        ("Agent 1 sells 2 tickets at 60 that it does not have, and agent 0 buys 1: agent 1 is "
-         "answered that it holds -1, and that 1 unit at 60 is left to sell")),
+        ("Agent 1 sells 2 tickets at 60 that it does not have, and agent 0 buys 1. Agent 1 then "
+         "holds -1, and 1 unit at 60 is left to sell")),
     # .. refusals
     Row(["auction_rules/Rows:calls_and_bids_that_are_refused"], ["auction_rules/Refusals.refusal"],
-        ("After a closing a bid and a second closing are `closed`; a withdrawal from a hotel "
-         "is a wrong call; selling a seat at 300 is `sell`; buying a ticket at 80 and selling "
-         "one at 70 crosses itself, and leaves no bid to withdraw")),
+        ("After a closing, a bid and a second closing are `closed`. Withdrawing from a hotel is "
+         "a wrong call. Selling a seat at 300 is `sell`. Buying a ticket at 80 and selling one "
+         "at 70 crosses itself, and leaves no bid to withdraw")),
     Row(["auction_rules/Rows:each_has_its_own_calls"],
         ["auction_rules/Refusals.is_wrong_caller", "auction_rules/Refusals.is_wrong_place"],
-        ("Wrong calls: the clock, 8, bids or looks; agent 0 publishes or closes; an update of a "
-         "hotel; publishing a flight; publishing or updating tickets")),
+        ("Wrong calls: the clock, 8, bids or asks `own`; agent 0 publishes or closes; an update "
+         "of a hotel; publishing a flight; publishing or updating tickets")),
     Row(["auction_rules/Rows:closed_comes_first"], ["auction_rules/Refusals.refusal"],
-        ("After the closing of a hotel agent 0 publishes and withdraws, both wrong calls: "
-         "both are answered `closed`. To look is answered as ever: it holds 0")),
+        ("After the closing of a hotel agent 0 publishes and withdraws, which are wrong calls "
+         "too: both are answered `closed`. Its `own` is answered as before: it holds 0")),
     Row(["auction_rules/Rows:equal_prices_cross_themselves"],
         ["auction_rules/Refusals.crosses_itself"],
         "Buying at 70 and selling at 70 crosses itself; buying at 69 and selling at 70 is taken"),
     Row(["auction_rules/Rows:withdrawn_bid_is_gone"],
         ["auction_rules/Refusals.has_standing", "auction_rules/History.bid_after"],
-        ("Agent 0 bids for 2 seats at 200 when the price is 300, and withdraws: done; a second "
+        ("Agent 0 bids for 2 seats at 200 when the price is 300, and withdraws: done. A second "
          "withdrawal is `nobid`, and nothing is left")),
     # .. flights
     Row(["auction_rules/Rows:one_dollar_below_the_price"],
         ["auction_rules/FlightSales.is_sold", "auction_rules/FlightRule.flight_gone"],
-        "At the price 300 a bid at 299 stands, and those at 300 and at 301 buy 1 seat at 300 each"),
+        ("At the price 300 a bid at 299 stands, and bids at 300 and at 301 buy 1 seat each at "
+         "300")),
     Row(["auction_rules/Rows:sold_units_never_stand_again"],
         ["auction_rules/Standing.gone", "auction_rules/Standing.gone_by"],
-        ("Agent 0 buys 1 seat at 300 by a bid; after that, and after an update too, none of the "
-         "bid stands, and the seat is not sold again")),
+        ("Agent 0 buys 1 seat at 300 by a bid. After that, and after an update too, nothing of "
+         "the bid stands, and the seat is not sold again")),
     Row(["auction_rules/Rows:draws_raise_and_lower_the_price"],
         ["auction_rules/FlightRule.next_price", "auction_rules/FlightRule.drift"],
-        ("Price 300, bound 30, tick 27, draw 30: 320, the highest that this draw's interval "
-         "has. Price 300, bound -10, tick 28, draw 0: 299, since the drift, which lies between "
-         "-1 and 0, is rounded down")),
+        ("Price 300, bound 30, tick 27, draw 30: 320, the top of the interval. Price 300, bound "
+         "-10, tick 28, draw 0: 299, since the drift, between -1 and 0, is rounded down")),
     Row(["auction_rules/Rows:price_stops_at_800_and_150"], ["auction_rules/FlightRule.clamped"],
         "Bound 30, tick 27, draw 30: from 795 to 800. Bound 10, tick 1, draw 0: from 151 to 150"),
     Row(["auction_rules/Rows:points_above_the_price_are_sold_one_by_one"],
@@ -104,32 +104,32 @@ ROWS = [
     # .. hotels
     Row(["auction_rules/Rows:price_of_the_last_room_is_paid_for_all"],
         ["auction_rules/HotelClosing.closing_trades", "auction_rules/Ask.ask"],
-        ("Sixteen units at 100, 101 .. 115 for 16 rooms: all 16 are sold at 100. Of 15 units "
-         "at 100 each is sold at 0. Without bids 0 units are sold at 0")),
+        ("Sixteen units at 100, 101 .. 115 for 16 rooms: all 16 are sold at 100. 15 units at 100 "
+         "are sold at 0. Without bids, 0 units are sold at 0")),
     Row(["auction_rules/Rows:earlier_of_equal_bids_wins"],
         ["auction_rules/Precedence.wins", "auction_rules/HotelClosing.closing_trades"],
         ("15 units at 200, then agent 1 and then agent 2 with 1 unit at 150 each: agent 1 gets "
          "the sixteenth room, and all 16 cost 150")),
     Row(["auction_rules/Rows:fewer_units_do_not_replace_those_that_win"],
         ["auction_rules/BeatQuote.is_below_quote", "auction_rules/WinningNumber.winning_number"],
-        ("13 units of agent 0 at 100 and 3 of agent 1 at 120; published: 100. Agent 1 then "
-         "offers 2 at 150 and 1 at 100: refused, it needs 3 at 101 or more and offers 2. With "
-         "15 units at 10 and 0 published, 1 unit at 1 is refused: 15 at 1 or more are needed")),
+        ("Agent 0 has 13 units at 100 and agent 1 has 3 at 120; 100 is published. Agent 1 then "
+         "offers 2 at 150 and 1 at 100, and is refused: it needs 3 at 101 or more, and offers 2. "
+         "With 15 units at 10 and 0 published, 1 unit at 1 is refused: it needs 15 at 1 or more")),
     Row(["auction_rules/Rows:ask_is_shown_when_published_or_closed"],
         ["auction_rules/Board.board", "auction_rules/Ask.published"],
-        ("After 1 bid and no publication a hotel shows the ask 0; after 2 bids and the closing "
-         "it shows 100, and that it is closed, and counts 3 entries")),
+        ("After 1 bid and no publication a hotel shows the ask 0. After 2 bids and the closing "
+         "it shows 100, says that it is closed, and counts 3 entries")),
     Row(["auction_rules/Rows:live_bid_must_beat_the_last_one"],
         ["auction_rules/Ask.published", "auction_rules/BeatQuote.is_below_quote"],
-        ("One room and live quotes: after a bid at 50 another at 50 is refused, since it needs "
-         "1 at 51, and the ask stays 50; one at 51 is taken, and wins the room at 51")),
+        ("One room and live quotes: after a bid at 50 another at 50 is refused, since it needs 1 "
+         "at 51, and the ask stays 50. A bid at 51 is taken, and wins the room at 51")),
     Row(["auction_rules/Rows:enough_at_one_dollar_more"],
         ["auction_rules/BeatQuote.quote_to_beat", "auction_rules/BeatQuote.need"],
-        ("16 units at 50, published. Another agent's unit at 50 is refused: it needs 1 at 51, and "
-         "offers 0. At 51 it is taken, and wins: 15 rooms and 1, all at 50")),
+        ("16 units at 50, published. Another agent's unit at 50 is refused: it needs 1 at 51, "
+         "and offers 0. At 51 it is taken, and wins: 15 rooms and 1 are sold, all at 50")),
     # .. tickets
     Row(["auction_rules/Rows:equal_prices_trade"], ["auction_rules/TicketMatch.crosses"],
-        "One ticket is asked for at 60: a bid at 59 does not trade, and one at 60 does"),
+        "A ticket is for sale at 60: a bid at 59 does not trade, and one at 60 does"),
     Row(["auction_rules/Rows:cheapest_then_earliest_and_dearest_first"],
         ["auction_rules/TicketMatch.goes_before", "auction_rules/TicketMatch.better"],
         ("Asks at 60, 50 and 50, by the agents 0, 1 and 2: a bid for 2 at 90 buys agent 1's and "
@@ -138,41 +138,41 @@ ROWS = [
         ["auction_rules/TicketMatch.partner", "auction_rules/TicketMatch.ticket_trades",
          "auction_rules/Board.board"],
         ("Agent 0 sells 1 at 60, then agent 1 buys 2 at 70: 1 is traded at 60, the standing "
-         "price, and the board shows the bid 70 and no ask")),
+         "price. The board shows the bid 70 and no ask")),
     Row(["auction_rules/Rows:new_bid_does_not_meet_the_old_one"],
         ["auction_rules/TicketMatch.faces"],
-        ("Agent 0 sells 1 at 60, and then bids to buy 1 at 70: nothing is traded, and of its "
-         "bids only the later stands")),
+        ("Agent 0 sells 1 at 60, and then bids to buy 1 at 70: nothing is traded, and only the "
+         "later bid stands")),
     # .. trades, holdings, dollars
     Row(["auction_rules/Rows:buyers_pay_and_nets_add_up_to_0"],
         ["auction_rules/Effects.dollars", "auction_rules/Effects.nets"],
-        ("Two seats at 300 and a ticket at 60 give their buyer -660 dollars. Agent 1 sells a "
-         "ticket at 60 to each of the agents 0 and 2: the nets are -60, 120 and -60, and 0 for "
+        ("Two seats at 300 and a ticket at 60 are -660 dollars for their buyer. Agent 1 sells a "
+         "ticket at 60 to agent 0 and one to agent 2: the nets are -60, 120 and -60, and 0 for "
          "all others and the house")),
     Row(["auction_rules/Rows:holding_may_be_negative"],
         ["auction_rules/Effects.holding", "auction_rules/Legal.entry_of"],
         "Agent 1 sells 2 tickets that it does not have, to two buyers: it holds -2"),
     Row(["auction_rules/Rows:part_has_its_positions"], ["auction_rules/Legal.entry_of"],
-        "Of the five calls of that auction agent 1 made those at the positions 0 and 3"),
+        "Of the five calls of `short_sale`, agent 1 made those at the positions 0 and 3"),
     Row(["auction_rules/Rows:history_is_lawful_by_its_replies"], ["auction_rules/Legal.IsLawful"],
-        ("The entries that the rules give for a bid and a publication are lawful; a publication "
-         "that is answered `closed`, before any closing, is not")),
+        ("The entries that the rules give for a bid and a publication are lawful. A publication "
+         "that is answered `closed` before any closing is not")),
     Row(["auction_rules/Rows:cap_of_agents_and_clock"], ["auction_rules/Legal.cap"],
-        "The agents 0 and 7 may have 1024 entries, and the clock, 8, 64"),
+        "The agents 0 and 7 may have 1024 entries each, and the clock, 8, may have 64"),
     # The cash book
     Row(["worked_rows/Logs:trades_are_posted_with_their_nets"], ["trade_ledger/Posts.due_post"],
-        ("Agent 0 buys 2 seats at 300 by the entry 0 of good 0: the post due is agent 0's, "
-         "with -600 for it, 600 for the house, and 0 for the others. An entry without a trade "
-         "has no post")),
+        ("Agent 0 buys 2 seats at 300 by the entry 0 of good 0. It owes a post: -600 for itself, "
+         "600 for the house, 0 for the others. An entry without a trade has no post")),
     Row(["worked_rows/Logs:reading_sums_the_posts_before_it"],
         ["trade_ledger/CashHistory.cash_reply_of"],
-        ("The book has a post of -60 for agent 0, a reading, and a post of -600: a reading "
-         "after 0, 1, 2 or 3 of these entries answers 0, -60, -60 and -660")),
+        ("A book has a post of -60 for agent 0, a reading, and a post of -600. A reading after "
+         "0, 1, 2 or 3 of these entries answers 0, -60, -60 and -660")),
     Row(["worked_rows/Logs:totals_of_the_book"], ["trade_ledger/CashHistory.cash_total"],
-        "In all that is -660 for agent 0, 60 for agent 1 and 600 for the house, 8"),
+        ("A book with posts of -60 and -600 for agent 0 comes to -660 for agent 0, 60 for agent "
+         "1 and 600 for the house, 8")),
     Row(["worked_rows/Logs:posts_match_in_any_order"], ["trade_ledger/Posts.Matched"],
-        ("The post of good 1 may stand before that of good 0: the book still has one post for "
-         "each entry with a trade, and no other")),
+        ("The post of good 1 stands before that of good 0: the book still has one post for each "
+         "entry with a trade, and no other")),
     # The game file
     Row(["clock_events/Worked:flights_alone_are_updated_first"], ["game_text/Schedule.calls_at"],
         "At tick 1 flight 0 is updated by its draw 10 first, and no call follows the eighth"),
@@ -183,16 +183,15 @@ ROWS = [
     Row(["clock_events/Worked:last_hotel_closes_alone"], ["game_text/Schedule.hotel_calls"],
         "At tick 48 the ninth call closes hotel 15, and none publishes"),
     Row(["clock_events/Worked:tickets_close_after_the_flights"], ["game_text/Schedule.closed_last"],
-        "At tick 54 the flights close, then good 16, and at last good 27; no call follows"),
+        "At tick 54 the flights close, then good 16, and so on to good 27; no call follows"),
     Row(["clock_events/Worked:all_calls_and_those_of_two_goods"],
         ["game_text/Schedule.schedule", "game_text/Schedule.clock_calls"],
         ("480 calls in all. Hotel 10, the third to close, publishes, publishes and closes; "
          "good 20, a ticket, closes alone")),
     # The auctions of a game
     Row(["worked_rows/Links:auctions_have_their_rules"], ["auction_core/Setups.setup_of"],
-        ("In a game file of which nobody has a ticket at first, good 0 is a flight with first "
-         "price 300 and bound 10, good 15 a hotel night of 16 rooms without live quotes, good "
-         "27 tickets")),
+        ("In `quiet_game` good 0 is a flight with first price 300 and bound 10, good 15 a hotel "
+         "night of 16 rooms without live quotes, and good 27 tickets, of which nobody has any")),
     # Packages and the best total
     Row(["worked_rows/Trips:trips_use_four_and_eight_goods"],
         ["packages/Packages.use_of", "packages/Goods.thing_of"],
@@ -201,34 +200,34 @@ ROWS = [
          "1 and the second on night 3: 0, 7, 8, 9, 10, 11, 16 and 22")),
     Row(["packages/Worked:museum_trip", "worked_rows/Trips:long_trip_is_worth_830_and_home_0"],
         ["packages/Packages.utility_of"],
-        ("The first to a client of day 1 to 3, premium 100 and 200 for the museum: 1000 - 100 "
-         "+ 100 + 200 = 1200. The second to one of day 2 to 4, premium 80 and the values 10, "
-         "20 and 30: 1000 - 200 + 10 + 20 = 830. To stay at home: 0")),
+        ("Tampa Towers from day 2 to 3 with the museum, for a client of day 1 to 3 with premium "
+         "100 and 200 for the museum: 1000 - 100 + 100 + 200 = 1200. Shoreline Shanties from day "
+         "1 to 5 with two tickets, for one of day 2 to 4 with premium 80 and the values 10, 20 "
+         "and 30: 1000 - 200 + 10 + 20 = 830. To stay at home: 0")),
     Row(["worked_rows/Trips:packages_keep_to_days_nights_and_tickets"],
         ["packages/Packages.is_package"],
-        ("None, and both trips, are packages. No package: a hotel 2, no night, day 6, a ticket "
-         "on the day of departure, two tickets on one night, four ticket types")),
+        ("To stay at home is a package, and so are two trips. No package: a hotel 2, no night, "
+         "day 6, a ticket on the day of departure, two tickets on one night, four ticket types")),
     Row(["worked_rows/Trips:second_traveller_has_no_seat"],
         ["packages/BestTotal.used_by", "packages/Stocks.stock_of"],
-        ("With one seat in, two seats out, two rooms and a ticket owed: no good lacks for one "
-         "traveller, and good 0 lacks for two; of the owed good 27 there are 0")),
+        ("An agent has one inbound seat, two outbound seats and two rooms, and owes a ticket of "
+         "good 27. One traveller lacks nothing, two lack good 0; of good 27 there are 0")),
     Row(["worked_rows/Trips:lacking_goods_or_seven_packages_are_not_feasible"],
         ["packages/BestTotal.IsFeasible"],
-        ("Not feasible, of itself: a trip from day 1 where there are 8 of each good but 0 of good "
-         "0, the first; a museum trip on night 4 where there are 8 of each but good 27, the last; "
-         "7 packages, though none uses anything")),
+        ("Each of these is not feasible: a trip from day 1 with 8 of each good but 0 of good 0, "
+         "the first; a museum trip on night 4 with 8 of each but good 27, the last; 7 packages, "
+         "though none uses anything")),
     Row(["worked_rows/Trips:one_traveller_is_worth_1000"], ["packages/BestTotal.total_of"],
         "One traveller and seven at home are worth 1000 together"),
     # Scores
     Row(["worked_rows/Logs:goods_and_cash_that_are_left"],
         ["settlement/Settlement.settlement_of", "settlement/Settlement.holdings_of",
          "settlement/Settlement.cash_gained"],
-        ("Agent 0 buys 2 seats at 300. Agent 1, which has 1 ticket, sells 3 at 60: one to "
-         "agent 0 and two to agent 2. Left are 2 seats and 1 ticket, none and -2, none and 2; "
-         "and -660, 180 and -120 dollars")),
+        ("Agent 0 buys 2 seats at 300. Agent 1, which has 1 ticket, sells 3 at 60: one to agent "
+         "0 and two to agent 2. They end with 2 seats and 1 ticket, none and -2, none and 2; and "
+         "with -660, 180 and -120 dollars")),
     Row(["worked_rows/Logs:three_tickets_short"], ["settlement/Score.short_of"],
-        ("-2 seats and -1 room count nothing; of the tickets -2, 4 and -1 make the agent short "
-         "of 3")),
+        "-2 seats and -1 room do not count; with -2, 4 and -1 tickets an agent is 3 short"),
     Row(["worked_rows/Logs:ticket_short_costs_200"], ["settlement/Score.score_of"],
         ("Best total 1150, -360 dollars and 2 short: 1150 - 360 - 2 * 200 = 390. Best total 0, "
          "60 dollars and 1 short: -140")),
@@ -252,26 +251,26 @@ ROWS = [
          "units, `no toolong`, `bye`")),
     # The outside
     Row(["worked_rows/Links:lines_have_ends_and_fit_the_budget"], ["tac_io/AllAnswers.all_answers"],
-        ("A link gives `own 1`, a line end, another one, and `qui`: two lines, the second "
-         "empty, and the end; `qui` is dropped. Where 3 bytes may be taken of `ab`, a line end "
-         "and more: the line `ab`, and then the bytes are used up")),
+        ("A link gives `own 1`, a line end, another one, and `qui`: two lines, the second empty, "
+         "and the end; `qui` is dropped. If only 3 bytes of `ab`, a line end and more may be "
+         "taken: the line `ab`, and then the budget is used up")),
     Row(["worked_rows/Links:longest_line"], ["tac_io/AllAnswers.ended_line"],
-        ("512 bytes before a line end are a line; 513 are one that is too long, with nothing "
-         "of it; the line after it counts")),
+        ("512 bytes before a line end are a line; 513 are an overlong one, of which nothing is "
+         "kept. The next line counts")),
     Row(["worked_rows/Links:known_bytes_grow_and_unknown_stay"],
         ["tac_io/Known.known_then", "tac_io/Known.then_known"],
         ("`ab` and then `c` is `abc`; `a` and then `bc` is `abc`; what is not known (`None`) "
          "is not known with `c` either")),
     Row(["worked_rows/Links:cut_line"], ["tac_io/Known.TakesSome"],
-        "A write of a line failed: of its bytes the first 3 were taken, but not all"),
+        "The write of a line failed after its first 3 bytes"),
     Row(["worked_rows/Links:counts_rise_or_stay"], ["tac_io/Counts.Rose"],
-        "A count of 3 faults rose to 4; at 2 ^ 64 - 1 it stays"),
+        "A count of 3 faults rose to 4. At 2 ^ 64 - 1 it stays"),
     # The session of a link
     Row(["worked_rows/Links:first_line_decides"],
         ["agent_gate/Gates.verdict_of", "agent_gate/Gates.seats_after"],
-        ("The seat of agent 2 is given. `hello seat7`: seat 7; `hello seat2`: taken; `hello "
-         "seat8`: wrong word. Syntax: `Hello seat7`, `hello`, `hello Seat7`, two spaces, a "
-         "space at the end, a word that is too long, an empty line")),
+        ("The seat of agent 2 is taken. `hello seat7`: seat 7; `hello seat2`: taken; `hello "
+         "seat8`: wrong word. Syntax: `Hello seat7`, `hello`, `hello Seat7`, two spaces, a space "
+         "at the end, a word that is too long, an empty line")),
     Row(["worked_rows/Links:ten_lines_are_sent_first"],
         ["agent_gate/Welcome.welcome_lines", "game_text/OneAgent.lines_of_agent"],
         ("A link with seat 3 is sent 10 lines: `welcome 3`, `endow 3 0 0 ..`, `client 3 0 1 2 "
@@ -283,11 +282,11 @@ ROWS = [
          "syntax`; `quit`: `bye`")),
     Row(["worked_rows/Sessions:answers_tell_lengths_and_quit_is_last"],
         ["agent_gate/Turns.shown_length", "agent_gate/Turns.has_left"],
-        ("Their answers say that the history of good 8 has at least 2, 3 and 4 entries, so "
-         "that a later position there is at least 4; the agent has left after turn 6, and not "
-         "after 5")),
+        ("The answers of a session of six turns show that the history of good 8 has at least 2, "
+         "3 and 4 entries; a later position there is at least 4. The agent has left after turn "
+         "6, and not after 5")),
     Row(["worked_rows/Sessions:nothing_comes_after_quit"], ["agent_gate/Turns.AreLawful"],
-        ("`quit` and then a line that is too long: not lawful. That line first, and then `quit`: "
+        ("`quit` and then an overlong line: not lawful. The overlong line first and then `quit`: "
          "lawful")),
     Row(["worked_rows/Sessions:call_is_denied_after_1024"],
         ["agent_gate/Turns.IsLawfulTurn", "agent_gate/Turns.asked_call"],
@@ -295,10 +294,11 @@ ROWS = [
          "1023; after 1024 none may be made")),
     Row(["worked_rows/Sessions:reading_is_denied_after_1024"],
         ["agent_gate/Turns.IsLawfulTurn", "agent_gate/Turns.is_reading"],
-        "So with cash: after 1024 readings one is denied, and none made"),
+        ("The same with cash: after 1024 readings the next one may be denied, and may not be "
+         "made")),
     Row(["worked_rows/Sessions:board_is_not_shorter"], ["agent_gate/Turns.IsNotBehind"],
-        ("After a call at position 3 of good 8 no board of the first 3 entries may be shown: it "
-         "would be behind that call")),
+        ("After a call at position 3 of good 8 no board of only 3 entries may be shown: it would "
+         "be behind that call")),
     Row(["worked_rows/Sessions:turns_make_the_agents_part"],
         ["turn_lock/Part.part", "agent_gate/Turns.made_at", "agent_gate/Turns.cash_made"],
         ("A hotel has four entries: agent 1 bids, agent 0 bids for 1 at 50, the clock publishes, "
@@ -306,56 +306,57 @@ ROWS = [
          "good 9 they made nothing, and in the cash history one reading, at 0")),
     Row(["worked_rows/Sessions:shown_board_is_of_a_prefix"],
         ["floor/ClosedBoards.board_of", "agent_gate/Turns.boards_shown"],
-        "The board with the count 3 that agent 0 was shown there is that of the first 3 entries"),
+        ("A hotel has four entries. The board with the count 3 that agent 0 was shown is that of "
+         "the first 3 entries")),
     Row(["worked_rows/Ends:quit_after_bye", "worked_rows/Ends:no_quit_without_it"],
         ["agent_gate/Served.EndsBy", "agent_gate/Served.SendsAll"],
-        ("A session with the welcome `hi`, all sent. The turn `quit`, answered `bye`: the cause is "
-         "`Quit`, whatever the link has left. Without that turn it is not `Quit`")),
+        ("The welcome is `hi`, and all was sent. The turn `quit`, answered `bye`: the cause is "
+         "`Quit`, whatever the link has left. Without that turn it is not")),
     Row(["worked_rows/Ends:end_with_all_taken", "worked_rows/Ends:no_end_with_bytes_left",
          "worked_rows/Ends:read_fault_with_bytes_left"],
         ["agent_gate/Served.EndsBy", "agent_gate/Served.ComesTo"],
-        ("No further line. If nothing is left the cause is `End`; if the link has an `x` left it "
-         "is not `End`; if a read failed, the last one, it is `ReadFault`")),
+        ("No further line comes. If nothing is left the cause is `End`; if an `x` is left it is "
+         "not. If the last read failed it is `ReadFault`")),
     Row(["worked_rows/Ends:no_end_with_a_reply_unsent",
          "worked_rows/Ends:write_fault_cuts_the_last_line"],
         ["agent_gate/Served.EndsBy", "agent_gate/Served.IsCutOff"],
-        ("Of the reply `no toolong` only `no too` was sent: the cause is not `End`; it is "
-         "`WriteFault`, with the 6 first bytes of the last piece and a write that failed there")),
+        ("Of the reply `no toolong` only `no too` was sent. The cause is not `End`; it is "
+         "`WriteFault`: the 6 first bytes of the last line were sent, and a write failed there")),
     Row(["worked_rows/Ends:no_budget_after_one_turn", "worked_rows/Ends:budget_after_65536_turns",
          "worked_rows/Ends:budget_with_all_bytes_used_up"],
         ["agent_gate/Served.EndsBy", "agent_gate/Served.IsUsedUp"],
-        ("All is sent. 1 turn, and then the end of the bytes: never `Budget`. 65536 turns without "
-         "`quit`, whatever they are, and bytes left: `Budget`, and so after 1 turn where the bytes "
+        ("All was sent. 1 turn and then the end of the bytes: not `Budget`. 65536 turns without "
+         "`quit`, whatever they are, and bytes left: `Budget`. So too after 1 turn if the bytes "
          "that may be taken are used up")),
     Row(["worked_rows/Ends:end_counts_no_fault",
          "worked_rows/Ends:no_session_writes_after_a_failed_write"],
         ["agent_gate/Served.EndsBy", "agent_gate/Served.IsCutOff"],
-        ("Where the count of failed reads rose from 3 to 4 the cause is not `End`. A write that "
-         "failed after 2 bytes, with more sent after it, is no `WriteFault`")),
+        ("If failed reads rose from 3 to 4 the cause is not `End`. A write that failed after 2 "
+         "bytes, with more sent after it, is not `WriteFault`")),
     # A game over links
     Row(["worked_rows/Links:second_greeting_is_taken"], ["game_run/Admission.HasFirstLine"],
-        ("The seat of agent 2 is given. A link gives `hello seat2`, and then `hello seat3`: by its "
-         "first line it is `Taken`, and no later line counts")),
+        ("The seat of agent 2 is taken. A link gives `hello seat2`, and then `hello seat3`: its "
+         "first line makes it `Taken`, and later lines do not count")),
     Row(["worked_rows/Links:refusal_is_sent_or_cut",
          "worked_rows/Links:no_refusal_goes_on_after_a_failed_write"],
         ["game_run/Admission.IsSentOrCut"],
-        ("`refused taken` was sent whole, and no fault counted; or the first 7 bytes of it, "
-         "`refused`, and failed writes rose from 0 to 1. A write that failed after 4 bytes, and "
-         "then 3 more bytes: never")),
+        ("`refused taken` was sent whole, and no fault counted; or its first 7 bytes, `refused`, "
+         "and failed writes rose from 0 to 1. Never: a write that failed after 4 bytes, and then "
+         "3 more bytes")),
     Row(["worked_rows/Links:lost_at_its_end_or_a_failed_read",
          "worked_rows/Links:no_link_is_read_after_a_failed_read"],
         ["game_run/Admission.IsLost"],
-        ("`hello seat2` without a line end, and no more: lost. `hello`, and then a read failed, "
-         "though the rest of the line was still to come: lost. Nothing was sent. A read that "
-         "failed after 2 bytes, and then 3 more bytes: never")),
+        ("Lost, and sent nothing: `hello seat2` without a line end, and no more; or `hello`, and "
+         "then a read failed, though the rest of the line was to come. Never: a read that failed "
+         "after 2 bytes, and then 3 more bytes")),
     Row(["worked_rows/Links:links_are_taken_up_to_8_seats_or_64_links"],
         ["game_run/Admission.MayGoOn", "game_run/Admission.is_seated"],
-        ("After seven seats another link may be taken, and after eight none; after 63 links that "
-         "were refused another one, and after 64 none")),
+        ("After seven seats another link may be taken, and after eight none. After 63 refused "
+         "links another one may, and after 64 none")),
     Row(["worked_rows/CommandLines:one_tick_lapsed"],
         ["clock_events/Clocking.WaitsForAll"],
-        ("The ticks 1 to 54 were waited for, tick 7 lapsed, and the count of faults rose from 0 to "
-         "1: 1 tick was missed. The pace, 500, was set at each wait, and stays")),
+        ("The ticks 1 to 54 were waited for, tick 7 lapsed, and faults rose from 0 to 1: 1 tick "
+         "was missed. The pace was 500 at each wait, and stays")),
     Row(["worked_rows/Sessions:clock_posts_what_was_traded"],
         ["clock_events/ClockTurns.call_made", "clock_events/ClockTurns.clock_entries",
          "clock_events/ClockTurns.clock_posts"],
@@ -364,20 +365,20 @@ ROWS = [
     Row(["worked_rows/Links:one_seat_is_given_and_refused_links_are_told"],
         ["game_run/Admission.seats_given", "game_run/Admission.first_verdict",
          "game_run/Admission.refusal_line"],
-        ("After a wrong word, seat 2 and a lost link the seat of agent 2 alone is taken. A "
-         "first line that is too long is `syntax`. Refused links are sent `refused syntax`, "
-         "`refused wrongword` or `refused taken`, and a lost one nothing")),
+        ("After a wrong word, seat 2 and a lost link, only the seat of agent 2 is taken. A first "
+         "line that is too long is `syntax`. Refused links are sent `refused syntax`, `refused "
+         "wrongword` or `refused taken`, and a lost one nothing")),
     Row(["worked_rows/LoggedLinks:ended_by_quit"],
         ["game_run/LinkRuns.IsSeated", "agent_gate/Transcript.IsTranscript",
          "agent_gate/Served.IsServed", "agent_gate/Items.AreItems"],
-        ("Agent 2 asks `bid 0 ((2 310))`, `cash` and `quit`, and buys 2 seats at 300: the link of "
-         "the example at the beginning. `own 8` comes behind `quit`, and is not answered")),
+        ("The link of the example: agent 2 asks `bid 0 ((2 310))`, `cash` and `quit`, and buys 2 "
+         "seats at 300. `own 8` comes after `quit`, and is not answered")),
     Row(["worked_rows/LoggedLinks:ended_by_its_end", "worked_rows/LoggedLinks:ended_by_a_read",
          "worked_rows/LoggedLinks:ended_by_a_write"],
         ["game_run/LinkRuns.IsSeated", "agent_gate/Served.EndsBy"],
-        ("The same link without `quit`: `End` if its bytes end there; `ReadFault` if a read fails "
-         "within the line `own 8`; `WriteFault` if of the reply `@1 cash -600` only the first "
-         "5 bytes are sent")),
+        ("The same link without `quit`: `End` if its bytes end there; `ReadFault` if a read "
+         "fails within the line `own 8`; `WriteFault` if only the first 5 bytes of the reply `@1 "
+         "cash -600` are sent")),
     # The log
     Row(["worked_rows/Logs:history_of_a_hotel"], ["log_text/LogText.auction_text"],
         ("`auction 8 4`, `0 bid ((1 50)) = taken 0 0`, `8 publish = done`, `1 bid ((1 50)) = "
@@ -398,19 +399,19 @@ ROWS = [
          "65536 or 07000, pace 60001, no pace, another form")),
     Row(["worked_rows/CommandLines:codes_of_texts_and_refusals"],
         ["tac_commands/Outcomes.exit_of", "tac_commands/Outcomes.refusal_end"],
-        ("A text has the code 0, with lapsed ticks 6, of an unsound log 9, cut off by a failed "
-         "write 4; a first part is followed by `memory`, with 7; replies to a script that was "
-         "broken off by `fault read`, with 3. Refusals: 1 `usage`, 2 `game 3 2`, 3 `fault read`, "
-         "5 `fault links`, 7 `memory`")),
+        ("A text has code 0; with lapsed ticks 6; of an unsound log 9; cut off by a failed write "
+         "4. A first part is followed by `memory`, with 7. Replies to a script that broke off "
+         "are followed by `fault read`, with 3. Refusals: 1 `usage`, 2 `game 3 2`, 3 `fault "
+         "read`, 5 `fault links`, 7 `memory`")),
     Row(["worked_rows/CommandLines:text_is_written_with_its_code_or_cut"],
         ["tac_commands/Reporting.Reports", "tac_io/Taken.TookPart"],
-        ("The text `ab` of a game with lapsed ticks: all of it, and code 6. Of `ab` only `a`, and "
-         "a fault counted: code 4. Only `a` and code 0: never; and never `a` after a write that "
+        ("The text `ab` of a game with lapsed ticks, whole: code 6. Of `ab` only `a`, and a "
+         "fault counted: code 4. Never: only `a` and code 0; or `a` after a write that had "
          "failed before it")),
     Row(["worked_rows/CommandLines:replies_are_whole_before_a_failed_read_is_told"],
         ["tac_commands/Reporting.Reports", "tac_commands/Reporting.IsCutShort"],
-        ("The reply `ab` to a script that was broken off, and then `fault read`: code 3. Then only "
-         "`fau`, and a fault counted: code 4. Only `a` of the reply, and code 4: never")),
+        ("The reply `ab` to a script that broke off, and then `fault read`: code 3. Then only "
+         "`fau`, and a fault counted: code 4. Never: only `a` of the reply, and code 4")),
     # The command `step`
     Row(["worked_rows/Lines:good_lines_and_a_rest_or_a_bad_line"],
         ["script_run/HeardScripts.heard", "script_run/HeardScripts.heard_from"],

@@ -16,10 +16,10 @@ CAVEATS: List[str] = [
     """**29 orders.** Each auction has its own history, and so has the cash book. Nothing says which
     of two calls came first if they are in different auctions and have different callers. So "after
     all it had seen" is about one auction at a time.""",
-    """**Fewer than eight agents.** A game begins once eight agents have a seat, 64 links were taken,
-    or no link is left. An empty seat makes no calls, and has a score.""",
-    """**No memory.** In a game in JSON the server may answer any line `{"no":"memory"}`. Such a line
-    asks nothing.""",
+    """**Fewer than eight agents.** A game begins once eight agents have a seat, 64 links were
+    taken, or no link is left. An empty seat makes no calls, and has a score.""",
+    """**No memory.** In a game in JSON the server may answer any line `{"no":"memory"}`. Such a
+    line asks nothing.""",
     """**Costs are subtracted once.** They are in the agent's cash, which is added: a score is the
     greatest utility, plus cash, less 200 dollars for each ticket short.""",
 ]
@@ -159,23 +159,24 @@ No worked row leads to these definitions, so read them slowly. Most are about wh
 number of turns. Those of the outside are records of fields, which a table explains."""
 
 TRUTHS = """\
-- **Reading ahead, or answering late.** No clause forbids it in words, but a server that did so would
-  violate them. A failed write cuts the turns at its line, and after a failed read every whole line
-  must have been answered. Any read or write may fail, so each reply goes out before the next read.
-- **When the clock makes its calls.** The clause `service` says that they are the schedule's, good
-  by good, that their posts are in the schedule's order, and that the ticks were waited for. Two
-  things are clauses of `run_clock` (`crates/clock_events`) and not of `tac`: the order of all calls
-  across the goods, and that a tick's calls come after its wait and, if the ticker reports its
-  waits, before the next one.
-- **How late a post may come.** The desk's clause bounds that, and `tac`'s does not: every desk has
-  posted what is due before its call returns. A server that appended the clock's posts at the end,
-  in the schedule's order, would meet the clauses of `tac`.
-- **Well-formed game files.** No chapter says that each agent has eight clients, that the seat words
-  differ, or that the closing order has each hotel night once. It follows from how a text is read
-  (`game_in`, in the part "Beside: how the text of a game file is read"), since the clauses are
-  about a game that some text is read as. So the defaults of `get_or` and `slice_index_or` in the
-  chapters are never used: such a game has 53 draws for each flight, 8 nights in its order, and
-  rooms for each night."""
+- **Reading ahead, or answering late.** No clause forbids it in words, but a server that did so
+  would violate them. A failed write cuts the turns at its line, and after a failed read every
+  whole line must have been answered. Any read or write may fail, so each reply goes out before
+  the next read.
+- **When the clock makes its calls.** The clause `service` says that they are the schedule's,
+  good by good, that their posts are in the schedule's order, and that the ticks were waited
+  for. Two things are clauses of `run_clock` (`crates/clock_events`) and not of `tac`: the order
+  of all calls across the goods, and that a tick's calls come after its wait and, if the ticker
+  reports its waits, before the next one.
+- **How late a post may come.** The desk's clause bounds that, and `tac`'s does not: every desk
+  has posted what is due before its call returns. A server that appended the clock's posts at
+  the end, in the schedule's order, would meet the clauses of `tac`.
+- **Well-formed game files.** No chapter says that each agent has eight clients, that the seat
+  words differ, or that the closing order has each hotel night once. It follows from how a text
+  is read (`game_in`, in the part "Beside: how the text of a game file is read"), since the
+  clauses are about a game that some text is read as. So the defaults of `get_or` and
+  `slice_index_or` in the chapters are never used: such a game has 53 draws for each flight, 8
+  nights in its order, and rooms for each night."""
 
 # What rows name and no chapter defines, as CRATE/MODULE.NAME, in words.
 ROW_WORDS: Dict[str, str] = {
@@ -218,7 +219,8 @@ NOTATION: List[Tuple[str, str]] = [
     ("`≡`, `≤`, `<`, `→`, `↔`", "equal, at most, below, implies (or a function), exactly if"),
     ("`A × B`, `A ⊎ B`, `⊤`, `⊥`",
      "both hold (or a pair), one of them holds, what always holds, what never holds"),
-    ("`(x : A) → P x`, `(x : A) × P x`", "for every x P holds, and there is an x for which P holds"),
+    ("`(x : A) → P x`, `(x : A) × P x`",
+     "for every x P holds, and there is an x for which P holds"),
     ("`(k : ℕ) (n : A) → get_elem? xs k ≡ some n → P n`",
      ("P holds for each item n of xs, at whichever place k, from 0 on. `slice_get xs k ≡ Some n` "
       "says the same; `some` is the library's other spelling of `Some`")),
@@ -418,8 +420,8 @@ CHAPTERS = [
             "How goods, parties and callers are numbered; the types of bids.",
             ["tac_base"]),
     Chapter("The rules of the auctions",
-            ("For every history: which units stand, which calls are refused, what trades, and which "
-             "entry comes next."),
+            ("For every history: which units stand, which calls are refused, what trades, and "
+             "which entry comes next."),
             ["auction_rules.Units", "auction_rules.History", "auction_rules.Setup",
              "auction_rules.Effects", "auction_rules.FlightRule", "auction_rules.TicketMatch",
              "auction_rules.Standing", "auction_rules.FlightSales", "auction_rules.Ask",
@@ -436,7 +438,8 @@ CHAPTERS = [
             "The 28 auctions with their setups.",
             ["auction_core", "turn_lock", "floor"]),
     Chapter("Packages and the best total",
-            "What a client can be given, what that uses and is worth, and the best for eight clients.",
+            ("What a client can be given, what that uses and is worth, and the best for eight "
+             "clients."),
             ["packages"]),
     Chapter("Scores",
             "What an agent has at the end, and its score.",
@@ -448,8 +451,8 @@ CHAPTERS = [
             "What is known of a link before a call and after it.",
             ["tac_io"]),
     Chapter("The session of a link",
-            ("First lines and seats; what an agent's lines ask, how each is answered, what they leave "
-             "in the histories, and why the session ends."),
+            ("First lines and seats; what an agent's lines ask, how each is answered, what they "
+             "leave in the histories, and why the session ends."),
             ["agent_gate"]),
     Chapter("A game over links",
             "Which links get a seat, what was played, and what became of each link.",
