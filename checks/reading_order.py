@@ -112,6 +112,33 @@ def order_of(definitions: Definitions, chapters: Chapters) -> List[Target]:
     ]
 
 
+def nearest_rows(
+    definitions: Definitions,
+    order: List[Target],
+    places: List[Tuple[Target, Row]],
+    lemmas: Lemmas,
+) -> Dict[Target, Target]:
+    """Of each definition to which a row leads, but not the next row below it, the definition below
+    which the nearest one stands that does: the next such row, or else the last one above."""
+    at = {target: number for number, target in enumerate(order)}
+    rows = sorted(
+        (
+            (at[place], {target for lemma in row.lemmas
+                         for target in (lemmas.read(definitions, lemma) or ("", 0, set()))[2]})
+            for place, row in places
+        ),
+        key=lambda one: one[0],
+    )
+    found: Dict[Target, Target] = {}
+    for target in order:
+        leading = [number for number, reached in rows if target in reached]
+        below = [number for number in leading if number >= at[target]]
+        next_row = next((number for number, _ in rows if number >= at[target]), None)
+        if leading and (not below or below[0] != next_row):
+            found[target] = order[below[0] if below else leading[-1]]
+    return found
+
+
 def in_order(definitions: Definitions, rows: Rows) -> List[str]:
     """Modules, each after those that it uses."""
     order: List[str] = []

@@ -7,7 +7,7 @@ from typing import Dict, Iterable, List, NamedTuple, Set, Tuple
 
 from definitions import ROOT, Definitions, Module, Target
 from reading_aids import cases_without_row, comment_of
-from reading_order import Chapters
+from reading_order import Chapters, nearest_rows, order_of
 from reading_rows import Helper, Lemmas, Row
 from reading_text import Rows, target_of
 from reading_words import PREAMBLE, PREAMBLE_FILE, PREAMBLE_WORDS
@@ -208,7 +208,8 @@ def print_chapters(
     with its comment, directly below it the worked rows that stand there.
 
     A definition to which no row leads, one of which a case has no row, and one that is continued in
-    a part beside has a line that says so above it; so has one that may be left out.
+    a part beside has a line that says so above it; so has one that may be left out, and the first
+    of several whose nearest row is not the next one below.
     """
     rows: Rows = {}
     for chapter in chapters.values():
@@ -220,6 +221,7 @@ def print_chapters(
     shared = shared_constructors(definitions, chapters, types)
     told: Set[Helper] = {(PREAMBLE_FILE, name) for name in PREAMBLE_WORDS}
     by_chapter = types_by_chapter(definitions, chapters, types)
+    near = nearest_rows(definitions, order_of(definitions, chapters), places, lemmas)
     for heading, chapter in chapters.items():
         print(f"\n{RULE}\n{heading}\n{RULE}")
         values = [one for one in by_chapter[heading] if one.value]
@@ -229,7 +231,7 @@ def print_chapters(
             module = definitions.modules[path]
             print("\n-- " + os.path.relpath(module.file, ROOT) + f": {module.about}")
             print("\n".join(names_here(definitions, module, names, shared) + [""]))
-            header, block = None, None
+            header, block, far = None, None, None
             for one in sorted(
                 (module.definitions[name] for name in names), key=lambda each: each.line
             ):
@@ -248,6 +250,9 @@ def print_chapters(
                     print(f"-- (no row for {', '.join(cases[target])})")
                 if target in marks.beside:
                     print("\n".join(paragraph(marks.beside[target], "-- ")))
+                if near.get(target) not in (None, far):
+                    print(f"-- (nearest row: below `{near[target][1]}`)")
+                far = near.get(target)
                 print("\n".join(comment_of(module.file, one) + one.lines) + "\n")
                 for place, row in places:
                     if place == target:

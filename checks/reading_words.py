@@ -24,6 +24,10 @@ CAVEATS: List[str] = [
     greatest utility, plus cash, less 200 dollars for each ticket short.""",
 ]
 
+LEAD = """\
+This page has every definition that this sentence rests on. First, the definitions that say each
+half of a sentence."""
+
 INTRODUCTION = """\
 A proof says that the code meets its contract. Only a reader can judge whether the contract says
 what a game is. This page is for a sceptic with one evening. It lists every definition that the
@@ -113,9 +117,10 @@ Read them from top to bottom, with this page beside them: the long chapters have
 4. At the end go through the table again.
 
 **Worked rows** are small cases, first in words and then as the lemma that the toolchain checks. A
-row stands below the definition that it tries; if it names later ones, below the last of these. A
-definition without a row directly below it is tried by a later row, which uses it. `--print` marks
-those that no row tries with "(no row)", and "What has no worked row" lists them: read these slowly.
+row stands below the definition that it tries; if it names later ones, below the last of these. The
+nearest row of a definition is the next one below it, or the one that `--print` names above it or
+above those before it. `--print` marks definitions that no row tries with "(no row)", and "What has
+no worked row" lists them: read these slowly.
 
 **What you need not read.** The tables of library words, types and limits are for looking up.
 Nothing in the chapters uses what the four parts "Beside" say. The last chapter, on the other
@@ -487,7 +492,7 @@ LATER: Dict[str, List[str]] = {
         "game_text/Endowments", "game_text/OneAgent"],
     "A game over links": [
         "tac_io/States.TickWait", "tac_io/States.TickerState", "tac_io/States.LinksState",
-        "tac_io/LinkCalls.GaveBytes", "tac_io/LinkCalls.SendsNothing", "line_protocol/Heads"],
+        "tac_io/LinkCalls.GaveBytes", "tac_io/LinkCalls.SendsNothing"],
     "Outcomes and codes": ["tac_io/States.SinkState", "tac_io/States.FilesState", "tac_io/Taken"],
     "The command `serve`": ["tac_io/Reading"],
 }
