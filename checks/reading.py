@@ -40,7 +40,7 @@ from reading_guides import (
     SKIPS,
     TIMES,
 )
-from reading_order import Chapters, backward, chapters_of, in_order, order_of, row_places
+from reading_order import backward, chapters_of, in_order, order_of, row_places
 from reading_print import CodeType, Marks, print_chapters, print_preamble
 from reading_rows import ROWS, Lemmas, Row, numbers_of
 from reading_text import (
@@ -64,6 +64,7 @@ from reading_words import (
     EXAMPLE_ABOUT,
     EXAMPLE_END,
     EXAMPLE_ROW,
+    EXAMPLE_TEXTS,
     HEADLINE,
     HOW_TO_READ,
     IN_WORDS,
@@ -461,6 +462,12 @@ def page(definitions: Definitions) -> Tuple[str, List[str], str]:
     sentences, faults = sentences_table(definitions, rows, "the headline", SENTENCES)
     faults += [f"{name} of the picture is not on the page" for name in names_of_picture(rows)]
     faults += without_headline()
+    proved = LEMMAS.read(definitions, EXAMPLE_ROW)
+    faults += [
+        f"{EXAMPLE_ROW} has no text {text}, which the example has"
+        for text in EXAMPLE_TEXTS
+        if proved is None or text not in proved[3]
+    ]
     faults += [
         f"{full} may be left out, and is not what the headline rests on"
         for full in SKIPPED

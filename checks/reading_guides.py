@@ -196,7 +196,7 @@ left in the histories. Three statements hold it together:
 of each history, position by position. Both sides are whole lists, so no call is missing,
 invented or made twice.
 3. **Answered**: `EndsBy` says what was sent: the welcome and a line for each turn
-(`pieces_of`), or, after a failed write, a beginning of that which is cut in the last line.
+(`pieces_of`); or, after a failed write, a part of that, cut within the last piece.
 
 - **A read fault has `ComesTo gots.End`** too: `all_answers` goes by the bytes alone, and never
   gives `Failed`. `LastReadFails` says, by the count of faults, that the read failed.

@@ -25,8 +25,8 @@ CAVEATS: List[str] = [
 ]
 
 LEAD = """\
-This page has every definition that this sentence rests on. First, the definitions that say each
-half of a sentence."""
+This page has every definition that this sentence rests on. The table names those that say each part
+of it."""
 
 INTRODUCTION = """\
 A proof says that the code meets its contract. Only a reader can judge whether the contract says
@@ -92,7 +92,13 @@ EXAMPLE: List[Tuple[str, List[str]]] = [
     ("cash history", ["position 0: agent 2 posts entry 0 of good 0, -600 for itself, 600 for the "
                       "house",
                       "position 1: agent 2 reads its cash, -600"]),
-    ("log", ["auction 0 55       the entry of agent 2, and 54 of the clock",
+    ("log", ["taclog 1",
+             "serve",
+             "link 0 lost        an earlier link, which sent no line",
+             "link 1 seated 2",
+             "end 2 quit",
+             "missed 0",
+             "auction 0 55       the entry of agent 2, and 54 of the clock",
              "2 bid ((2 310)) = taken 2 0",
              "trade 2 8 2 300",
              "..",
@@ -103,10 +109,18 @@ EXAMPLE: List[Tuple[str, List[str]]] = [
              "score 2 0 -600 0 -600"]),
 ]
 
+# What the row of the example has in its texts.
+EXAMPLE_TEXTS = [
+    "hello seat2\\nbid 0 ((2 310))\\ncash\\nquit\\nown 8\\n",
+    "@0 taken 2 0\\n@1 cash -600\\n",
+    "bye\\n",
+]
+
 EXAMPLE_END = """\
 Two inbound seats make no trip, so the greatest utility is 0; with -600 dollars and no ticket short
-the score is 0 - 600 - 200 * 0 = -600. The lines of the log are worked out by `auction_text`,
-`cash_text` and `score_line`; the rows of "The log" have other lines of these forms."""
+the score is 0 - 600 - 200 * 0 = -600. The lines of the log are worked out by `first_lines`,
+`auction_text`, `cash_text` and `score_line`; the rows of "The log" have other lines of these
+forms."""
 
 HOW_TO_READ = """\
 1. Read the table, the picture and the example above, and skim the key.
@@ -128,8 +142,8 @@ commands and the codes, is no part of the headline. Nobody has to believe what o
 private functions use, nor how a certificate is found.
 
 `checks/reading.py --write` makes this page from the sources. Without `--write` the script runs
-after the gate. It fails if the page is not what the sources say, if a definition or a row uses
-something that stands below it, or if a listed module imports one that is not listed."""
+after the gate. It fails if the page is not what the sources say, if a definition uses one that
+stands below it, or if a listed module imports one that is not listed."""
 
 ALIKE = """\
 - **Lawful, legal.** `IsLawful` is about one auction's past and its rules; `Legal` about a whole
@@ -176,12 +190,13 @@ TRUTHS = """\
 - **How late a post may come.** The desk's clause bounds that, and `tac`'s does not: every desk
   has posted what is due before its call returns. A server that appended the clock's posts at
   the end, in the schedule's order, would meet the clauses of `tac`.
-- **Well-formed game files.** No chapter says that each agent has eight clients, that the seat
-  words differ, or that the closing order has each hotel night once. It follows from how a text
-  is read (`game_in`, in the part "Beside: how the text of a game file is read"), since the
-  clauses are about a game that some text is read as. So the defaults of `get_or` and
-  `slice_index_or` in the chapters are never used: such a game has 53 draws for each flight, 8
-  nights in its order, and rooms for each night."""
+- **Well-formed game files.** No chapter says that each agent has eight clients, that the seat words
+  differ, or that the closing order has each hotel night once. It follows from how a text is read
+  (`game_in`, in the part "Beside: how the text of a game file is read"), since the clauses are
+  about a game that some text is read as. Such a game has eight flights with 53 draws each, eight
+  nights in its order, rooms for each night, and twelve tickets and eight clients for each agent. So
+  where the chapters read such a list with a default (`get_or`, `slice_index_or`), the default is
+  never used."""
 
 # What rows name and no chapter defines, as CRATE/MODULE.NAME, in words.
 ROW_WORDS: Dict[str, str] = {
