@@ -41,7 +41,7 @@ from reading_guides import (
     TIMES,
 )
 from reading_order import backward, chapters_of, in_order, order_of, row_places
-from reading_print import CodeType, Marks, print_chapters, print_preamble
+from reading_print import CodeType, Marks, paragraph, print_chapters, print_preamble
 from reading_rows import ROWS, Lemmas, Row, numbers_of
 from reading_text import (
     Rows,
@@ -275,20 +275,27 @@ def types_table(found: Iterable[Target]) -> Tuple[List[str], List[str]]:
     return text, missing
 
 
-def limits_table(found: Iterable[Target]) -> List[str]:
+LIMITS_FILE = os.path.join(CRATES, "tac_base", "src", "limits.rt")
+
+
+def limits_of(found: Iterable[Target]) -> List[Tuple[str, str, str]]:
+    """The limits among these names, each with its value and what it is."""
     named = {name for path, name in found if path == LIMITS}
-    file = os.path.join(CRATES, "tac_base", "src", "limits.rt")
-    text = ["| limit | value | what it is |", "|---|---|---|"]
-    with open(file, encoding="utf-8") as source:
+    return [
+        (name, value.replace("_", ",") if value[0].isdigit() else f"`{value}`", about)
         for about, name, value in re.findall(
-            r"/// (.*)\npub const (\w+): \w+ = (\w+)(?: as \w+)?;", source.read()
-        ):
-            if name in named:
-                shown = value.replace("_", ",") if value[0].isdigit() else f"`{value}`"
-                text.append(
-                    f"| {link(name, file, line_of(file, f'pub const {name}:'))} | {shown} |"
-                    f" {about} |"
-                )
+            r"/// (.*)\npub const (\w+): \w+ = (\w+)(?: as \w+)?;", open_text(LIMITS_FILE)
+        )
+        if name in named
+    ]
+
+
+def limits_table(found: Iterable[Target]) -> List[str]:
+    """The table of these limits."""
+    text = ["| limit | value | what it is |", "|---|---|---|"]
+    for name, shown, about in limits_of(found):
+        line = line_of(LIMITS_FILE, f"pub const {name}:")
+        text.append(f"| {link(name, LIMITS_FILE, line)} | {shown} | {about} |")
     return text
 
 
@@ -784,7 +791,10 @@ def print_all(definitions: Definitions) -> None:
     rows = rows_of(definitions, found)
     chapters = chapters_of(definitions, rows)
     order = order_of(definitions, chapters)
+    print("-- The two clauses of `tac` that say the headline. docs/READING.md has the key.\n")
     print(headline_clauses())
+    limits = "; ".join(f"{name} {value}" for name, value, _ in limits_of(found))
+    print("\n" + "\n".join(paragraph(f"Limits that the definitions name: {limits}.", "-- ")))
     print_preamble(
         LEMMAS,
         {
