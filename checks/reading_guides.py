@@ -142,7 +142,8 @@ pair for tickets. `stand` is `left_standing` of the past and all that is gone.
   log is sound, as `audit` has it".""",
     "The game file": """\
 A game is a value (`GameFile`, a list of fields), and the clock's calls follow from it
-(`game_text/Schedule`). How a text is read as a game is beside.
+(`game_text/Schedule`). The part beside says how a text is
+read as a game.
 
 - **480 calls**: the flights are updated at each tick from 1 to 53, which makes 424. At every
   sixth tick, 6 to 48, one hotel night closes, 8 in all, and those still open publish: 7, 6, ..
@@ -156,8 +157,8 @@ rooms (place 0 is good 8) and whether quotes are live, and a ticket auction the 
 eight agents. The defaults 0 and `[]` are never used for a game that a text is read as.""",
     "Packages and the best total": """\
 `IsBest` has two halves: some feasible allocation reaches the total, and no feasible one is
-worth more. `IsFeasible` has three parts: eight of them, each a package, and of no good more
-than there is.
+worth more. `IsFeasible` has three parts: there are
+eight, each is a package, and together they use no more of any good than there is.
 
 - **What a trip uses**: the inbound seat of its first day, the outbound seat of its last, a room
   of its hotel for each night from arrival to the night before departure, and a ticket for each
@@ -212,8 +213,8 @@ invented or made twice.
   many entries of the history.""",
     "A game over links": """\
 The links that came are the list `given`, in order, each with its verdict at the same place.
-`CameTo` says for each verdict what became of the link; for a seat that is `IsSeated`, which
-puts the session together. The four fields of `IsPlayedBy` are the rest of the headline.
+`CameTo` says for each verdict what became of the link; for one with
+a seat that is `IsSeated`, which puts the session together. The four fields of `IsPlayedBy` are the rest of the headline.
 
 - **Each link is judged by the seats that earlier links left** (`take n verdicts` in
   `TakesLinks`). `AreAllTaken`: no link was taken after the last that could be, and none that
