@@ -15,6 +15,7 @@ CRATES = os.path.join(ROOT, "crates")
 LIMITS = "tac_base.specs.declared.limits.TheConstants"
 WORD = re.compile(r"[A-Za-z_][A-Za-z0-9_'?]*(?:\.[A-Za-z_][A-Za-z0-9_'?]*)*")
 HEADS = r"(?:(?:pub|abbrev|unfoldable) )*"
+USES = ("use ", "pub use ", "unfoldable pub use ")
 Target = Tuple[str, str]  # the path of a module, and a name in it
 
 
@@ -55,13 +56,13 @@ class Module:
 
     def _read_imports(self, lines: Iterable[str]) -> None:
         for line in lines:
-            several = re.match(r"(?:pub )?use (?:Rattle\.)?([\w.]+)\.\{(.*)\}$", line)
+            several = re.match(r"(?:unfoldable )?(?:pub )?use (?:Rattle\.)?([\w.]+)\.\{(.*)\}$", line)
             whole = re.match(r"use Rattle\.([\w.]+) as (\w+)$", line)
             given = re.match(r"pub use Rattle\.([\w.]+)$", line)
             if several:
                 names = imported(several.group(1), several.group(2))
                 self.imports.update(names)
-                self.passed_on.update(names if line.startswith("pub ") else [])
+                self.passed_on.update(names if "pub use " in line else [])
             elif whole:
                 self.aliases[whole.group(2)] = whole.group(1)
             if whole or " as " in line and line.startswith("use "):
@@ -73,7 +74,7 @@ class Module:
         level, current, block, mutual = 0, None, None, None
         for number, line in enumerate(lines, 1):
             text, depth = line.strip(), len(line) - len(line.lstrip())
-            if not text or text.startswith(("--", "use ", "pub use ", "pub mod ", "infix")):
+            if not text or text.startswith(("--", *USES, "pub mod ", "infix")):
                 continue
             if depth == 0:
                 level, block, mutual = 0, None, None
@@ -131,7 +132,7 @@ class Module:
             lines = [
                 line
                 for line in source.read().split("\n")
-                if not line.lstrip().startswith(("--", "use ", "pub use "))
+                if not line.lstrip().startswith(("--", *USES))
             ]
         used = set(re.split(r"[\s(){},;.]+", "\n".join(lines)))
         if "do" in used:
@@ -181,11 +182,24 @@ class Definitions:
                     self.given_names.update(
                         {(f"{crate}.specs", name): it for name, it in module.imports.items()}
                     )
-                else:
+                elif module.definitions:
                     self.modules[module.path] = module
+                else:
+                    self.given_names.update(
+                        {(module.path, name): it for name, it in module.imports.items()}
+                    )
         self.crates = set(module.crate for module in self.modules.values()) | set(
             os.listdir(CRATES)
         )
+        for module in self.modules.values():
+            module.imports = {name: self.owner(it) for name, it in module.imports.items()}
+
+    def owner(self, target: Target) -> Target:
+        """What a name stands for where a crate's `specs/` give it, or its module, again."""
+        while target in self.given_names:
+            target = self.given_names[target]
+        path, name = target
+        return self.given.get(path, path), name
 
     def reached(self, start: Iterable[Target], stop: Iterable[Target] = ()) -> Dict[Target, None]:
         """All that these names lead to, in the order in which it was met: definitions, types of the
@@ -194,8 +208,7 @@ class Definitions:
         todo, met, found = list(start), set(), {}
         while todo:
             path, name = todo.pop(0)
-            path, name = self.given_names.get((path, name), (path, name))
-            path = self.given.get(path, path)
+            path, name = self.owner((path, name))
             if (path, name) in met:
                 continue
             met.add((path, name))

@@ -81,6 +81,9 @@ def behind_soundness(definitions: Definitions, below: Dict[str, List[str]]) -> D
             return []  # of the toolchain's library
         if place.endswith(".specs"):
             return [path for path in definitions.modules if path.startswith(place + ".")]
+        passed_on = [it[0] for (path, _), it in definitions.given_names.items() if path == place]
+        if passed_on:
+            return passed_on
         return [source_of(place)]
 
     return ways(SOUND, next_of)

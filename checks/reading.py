@@ -469,6 +469,15 @@ def page(definitions: Definitions) -> Tuple[str, List[str], str]:
     sentences, faults = sentences_table(definitions, rows, "the headline", SENTENCES)
     faults += [f"{name} of the picture is not on the page" for name in names_of_picture(rows)]
     faults += without_headline()
+    joined = " ".join(half for half, _ in SENTENCES if not half.startswith("("))
+    if joined.replace(" ..", "") != " ".join(HEADLINE.split()):
+        faults.append("the half sentences do not make the headline")
+    preamble = LEMMAS.module(PREAMBLE_FILE)
+    faults += [
+        f"{PREAMBLE_FILE} has no {name}, which the print explains"
+        for name in PREAMBLE_WORDS
+        if preamble is None or name not in preamble.definitions
+    ]
     proved = LEMMAS.read(definitions, EXAMPLE_ROW)
     faults += [
         f"{EXAMPLE_ROW} has no text {text}, which the example has"
@@ -526,7 +535,7 @@ def page(definitions: Definitions) -> Tuple[str, List[str], str]:
     ] + sentences
     text += [
         "",
-        "Read the headline with these limits:",
+        "Limits of the headline:",
         "",
         filled_items("".join(f"\n- {each}" for each in CAVEATS)),
         "",

@@ -124,7 +124,7 @@ pair for tickets. `stand` is `left_standing` of the past and all that is gone.
 - **Whose price is paid**: the current one at a flight, the ask in a hotel, the standing unit's
   for tickets. A bid is matched against what stands before it (`stand` of the past).
 - **A sale at a flight is defined twice**: by points for the trades (`points_looked_at`,
-  `flight_trades`), and by units for what stands afterwards (`looked_at`, `flight_gone`). Both
+  `flight_trades`), and by units for what stands afterwards (`looked_at`, `gone_by`). Both
   compare the same price, which the units of a point share, so a point is sold whole or not at
   all. That the trades are the same is proved for all pasts (`by_units` of
   `crates/flight_auction/proofs/UnitTrades.antt`).""",
@@ -149,7 +149,7 @@ read as a game.
   sixth tick, 6 to 48, one hotel night closes, 8 in all, and those still open publish: 7, 6, ..
   and 0, 28 in all. At tick 54 the 8 flights and the 12 ticket auctions close.
 - **Defaults**: `get_or order (turn - 1) 0` is the hotel night that closes as the turn-th,
-  counted from 1, and `draw_at` the draw of a tick. Their 0 is never used: a game that a text is
+  counted from 1, and `update_of` takes the draw of a tick. Their 0 is never used: a game that a text is
   read as has 8 nights in its order and 53 draws for each flight.""",
     "The auctions of a game": """\
 `setup_of` gives each good its rules: a flight has its first price and its bound, a hotel night its
@@ -203,9 +203,9 @@ invented or made twice.
   gives `Failed`. `LastReadFails` says, by the count of faults, that the read failed.
 - **Nothing comes after `quit`**: by the second half of `AreLawful`, `Left` is the last turn.
   With the cause `Quit`, nothing that the link gives after that line is looked at.
-- **After all it had seen** is `IsNotBehind`. Its number is the position of a new entry, or the
-  length that a new board states. It must be at least every length that the agent's earlier
-  answers have shown of that history: an entry at position p shows p + 1.
+- **Everything that the agent had seen**: `IsNotBehind`. Its number is the position of a new
+  entry, or the length that a new board states. It must be at least every length that the agent's
+  earlier answers have shown of that history: an entry at position p shows p + 1.
 - **The order of cash readings** follows from the field `cash` of `IsTranscript`: the agent's
   part of the cash history is the posts and readings of its turns, in their order.
 - **Limits have two halves**: the 1024th call is made, and the next one is denied.
@@ -214,7 +214,8 @@ invented or made twice.
     "A game over links": """\
 The links that came are the list `given`, in order, each with its verdict at the same place.
 `CameTo` says for each verdict what became of the link; for one with
-a seat that is `IsSeated`, which puts the session together. The four fields of `IsPlayedBy` are the rest of the headline.
+a seat that is `IsSeated`, which puts the session together. The four fields of `IsPlayedBy` are the
+rest of the headline.
 
 - **Each link is judged by the seats that earlier links left** (`take n verdicts` in
   `TakesLinks`). `AreAllTaken`: no link was taken after the last that could be, and none that
@@ -363,13 +364,13 @@ RULES_MAP: List[Tuple[str, Tuple[Cell, Cell, Cell]]] = [
       ("the ask of what stands: {}", ["auction_rules/Ask.ask"]),
       ("the standing unit's: {}", ["auction_rules/TicketMatch.pair_trade"]))),
     ("what a call takes from what stands",
-     (("{} of {}", ["auction_rules/FlightRule.flight_gone", "auction_rules/FlightRule.looked_at"]),
+     (("the units at or above the price, of {}", ["auction_rules/FlightRule.looked_at"]),
       ("nothing until the closing, then all", []),
       ("{}", ["auction_rules/TicketMatch.ticket_gone"]))),
     ("which bid is refused",
      (("one that {}", ["auction_rules/Refusals.sells"]),
-      ("one that {}, or {}, by {} and {}",
-       ["auction_rules/Refusals.sells", "auction_rules/BeatQuote.is_below_quote",
+      ("one that {}, or has fewer units {} than {} at {}",
+       ["auction_rules/Refusals.sells", "auction_rules/BeatQuote.offered",
         "auction_rules/BeatQuote.need", "auction_rules/BeatQuote.quote_to_beat"]),
       ("one that {}", ["auction_rules/Refusals.crosses_itself"]))),
     ("which calls it does not take",

@@ -14,11 +14,7 @@ Chapters = Dict[str, Rows]  # the definitions of each chapter, its modules in th
 def chapters_of(definitions: Definitions, rows: Rows) -> Chapters:
     """The definitions of each chapter: those of its modules, each module after those that it uses,
     and those that are moved to it, before the first module that uses them, or else behind the last
-    one that they use.
-
-    Raises KeyError if no module of the chapter uses a definition that is moved there, and it uses
-    none.
-    """
+    one that they use, or else at its beginning."""
     moved = moved_to(rows)
     chapters: Chapters = {}
     placed: Set[str] = set()
@@ -68,7 +64,7 @@ def moved_to(rows: Rows) -> Dict[Target, str]:
 
 def inserted(definitions: Definitions, chapter: Rows, path: str, names: List[str]) -> Rows:
     """The definitions of a chapter, with some of a module before the first module that uses them,
-    or else behind the last one that they use."""
+    or else behind the last one that they use, or else at its beginning."""
     items = list(chapter.items())
     here = {(path, name) for name in names}
     users = [
@@ -85,19 +81,13 @@ def inserted(definitions: Definitions, chapter: Rows, path: str, names: List[str
             for target in ((user, one) for one in used)
         )
     ]
-    if not users + used_by:
-        raise KeyError(f"no module of the chapter uses {', '.join(names)} of {path}")
-    at = users[0] if users else used_by[-1]
+    at = users[0] if users else max(used_by, default=0)
     return dict(items[:at] + [(path, names)] + items[at:])
 
 
 def targets_of(definitions: Definitions, path: str, name: str) -> List[Target]:
     """What a definition uses, each by the module that defines it."""
-    found = []
-    for target in definitions.modules[path].targets(name):
-        target = definitions.given_names.get(target, target)
-        found.append((definitions.given.get(target[0], target[0]), target[1]))
-    return found
+    return [definitions.owner(target) for target in definitions.modules[path].targets(name)]
 
 
 def order_of(definitions: Definitions, chapters: Chapters) -> List[Target]:

@@ -26,138 +26,133 @@ class Row(NamedTuple):
 
 ROWS = [
     # Goods, bids, calls and replies
-    Row(["auction_rules/Rows:last_and_first_goods_of_each_kind"], ["tac_base/Kinds.kind_of"],
+    Row(["worked_rows/Auctions:last_and_first_goods_of_each_kind"], ["tac_base/Kinds.kind_of"],
         "Goods 0 and 7 are flights, 8 and 15 hotel nights, 16 and 27 tickets"),
-    Row(["auction_rules/Rows:goods_are_numbered_by_days_and_nights"],
-        ["tac_base/Goods.outbound_flight", "tac_base/Goods.hotel_night",
-         "tac_base/Goods.ticket_night"],
-        ("The flights out on the days 2 to 5 are the goods 4 to 7; the nights 1 to 4 of the "
-         "two hotels are 8 to 15, and those of the three ticket types 16 to 27")),
-    Row(["bid_strings/Worked:faults_of_points_in_their_order"],
+    Row(["worked_rows/Bids:faults_of_points_in_their_order"],
         ["tac_base/Bids.fault_of", "tac_base/Bids.point_fault"],
         ("0 units at 10001: no units. 1 unit at 10001, or at 0: the price. 9 to buy and 8 to "
          "sell: too many units. Sixteen points of 1 unit and then one of 0 units: too many "
          "points")),
-    Row(["bid_strings/Worked:numerals_have_one_form"],
+    Row(["worked_rows/Bids:numerals_have_one_form"],
         ["tac_base/Numerals.numeral", "tac_base/Numerals.signed_numeral"],
         "A bid cannot have the numbers `01`, `-0` and `100000`; `-1` is a number of units"),
     # The rules of the auctions: bids and units
-    Row(["auction_rules/Rows:units_go_on_through_the_points"], ["auction_rules/Units.units_of"],
+    Row(["worked_rows/Auctions:units_go_on_through_the_points"], ["auction_rules/Units.units_of"],
         ("A bid at position 5 buys two units at 70 and sells one at 90: its units 0 and 1 buy at "
          "70, and its unit 2 sells at 90")),
-    Row(["auction_rules/Rows:new_bid_takes_its_own_place_in_time"],
+    Row(["worked_rows/Auctions:new_bid_takes_its_own_place_in_time"],
         ["auction_rules/Standing.stand", "auction_rules/Precedence.precedes"],
         ("A hotel of 16 rooms. Agent 0 bids for 13 at 100, agent 1 for 3 at 120; the clock "
          "publishes; agent 2 bids for 14 at 101, and then agent 1 for 3 at 101. The closing "
          "sells 16 rooms at 101: 2 to agent 1, whose bid is later, and 14 to agent 2")),
-    Row(["auction_rules/Rows:two_bids_win_until_the_closing"],
-        ["auction_rules/Standing.stand", "auction_rules/WinningNumber.winning_number",
+    Row(["worked_rows/Auctions:two_bids_win_until_the_closing"],
+        ["auction_rules/Standing.stand", "auction_rules/WinningNumber.winning",
          "auction_rules/Ask.ask"],
         ("A hotel of 16 rooms with 13 units at 100 and 3 at 120: the ask is 100, and 13 and 3 "
          "units win. After the closing no unit stands")),
-    Row(["auction_rules/Rows:part_of_a_sale_is_left"],
+    Row(["worked_rows/Auctions:part_of_a_sale_is_left"],
         ["auction_rules/Standing.left", "auction_rules/Effects.holding"],
         ("Agent 1 sells 2 tickets at 60 that it does not have, and agent 0 buys 1. Agent 1 then "
          "holds -1, and 1 unit at 60 is left to sell")),
     # .. refusals
-    Row(["auction_rules/Rows:calls_and_bids_that_are_refused"], ["auction_rules/Refusals.refusal"],
+    Row(["worked_rows/Auctions:calls_and_bids_that_are_refused"], ["auction_rules/Refusals.refusal"],
         ("After a closing, a bid and a second closing are `closed`. Withdrawing from a hotel is "
          "a wrong call. Selling a seat at 300 is `sell`. Buying a ticket at 80 and selling one "
          "at 70 crosses itself, and leaves no bid to withdraw")),
-    Row(["auction_rules/Rows:each_has_its_own_calls"],
+    Row(["worked_rows/Auctions:each_has_its_own_calls"],
         ["auction_rules/Refusals.is_wrong_caller", "auction_rules/Refusals.is_wrong_place"],
         ("Wrong calls: the clock, 8, bids or asks `own`; agent 0 publishes or closes; an update "
          "of a hotel; publishing a flight; publishing or updating tickets")),
-    Row(["auction_rules/Rows:closed_comes_first"], ["auction_rules/Refusals.refusal"],
+    Row(["worked_rows/Auctions:closed_comes_first"], ["auction_rules/Refusals.refusal"],
         ("After the closing of a hotel agent 0 publishes and withdraws, which are wrong calls "
          "too: both are answered `closed`. Its `own` is answered as before: it holds 0")),
-    Row(["auction_rules/Rows:equal_prices_cross_themselves"],
+    Row(["worked_rows/Auctions:equal_prices_cross_themselves"],
         ["auction_rules/Refusals.crosses_itself"],
         "Buying at 70 and selling at 70 crosses itself; buying at 69 and selling at 70 is taken"),
-    Row(["auction_rules/Rows:withdrawn_bid_is_gone"],
+    Row(["worked_rows/Auctions:withdrawn_bid_is_gone"],
         ["auction_rules/Refusals.has_standing", "auction_rules/History.bid_after"],
         ("Agent 0 bids for 2 seats at 200 when the price is 300, and withdraws: done. A second "
          "withdrawal is `nobid`, and nothing is left")),
     # .. flights
-    Row(["auction_rules/Rows:one_dollar_below_the_price"],
-        ["auction_rules/FlightSales.is_sold", "auction_rules/FlightRule.flight_gone"],
+    Row(["worked_rows/Auctions:one_dollar_below_the_price"],
+        ["auction_rules/FlightSales.is_sold", "auction_rules/Standing.gone_by"],
         ("At the price 300 a bid at 299 stands, and bids at 300 and at 301 buy 1 seat each at "
          "300")),
-    Row(["auction_rules/Rows:sold_units_never_stand_again"],
+    Row(["worked_rows/Auctions:sold_units_never_stand_again"],
         ["auction_rules/Standing.gone", "auction_rules/Standing.gone_by"],
         ("Agent 0 buys 1 seat at 300 by a bid. After that, and after an update too, nothing of "
          "the bid stands, and the seat is not sold again")),
-    Row(["auction_rules/Rows:draws_raise_and_lower_the_price"],
+    Row(["worked_rows/Auctions:draws_raise_and_lower_the_price"],
         ["auction_rules/FlightRule.next_price", "auction_rules/FlightRule.drift"],
         ("Price 300, bound 30, tick 27, draw 30: 320, the top of the interval. Price 300, bound "
          "-10, tick 28, draw 0: 299, since the drift, between -1 and 0, is rounded down")),
-    Row(["auction_rules/Rows:price_stops_at_800_and_150"], ["auction_rules/FlightRule.clamped"],
+    Row(["worked_rows/Auctions:price_stops_at_800_and_150"], ["auction_rules/FlightRule.clamped"],
         "Bound 30, tick 27, draw 30: from 795 to 800. Bound 10, tick 1, draw 0: from 151 to 150"),
-    Row(["auction_rules/Rows:points_above_the_price_are_sold_one_by_one"],
+    Row(["worked_rows/Auctions:points_above_the_price_are_sold_one_by_one"],
         ["auction_rules/FlightSales.flight_trades", "auction_rules/Standing.left"],
         ("At the price 300 agent 0 bids for 1 unit at 300, 2 at 200 and 1 at 400: two trades "
          "of 1 unit at 300 each, and the 2 at 200 stand")),
-    Row(["auction_rules/Rows:falling_price_reaches_a_bid"],
+    Row(["worked_rows/Auctions:falling_price_reaches_a_bid"],
         ["auction_rules/FlightSales.flight_trades", "auction_rules/FlightRule.price"],
         ("From 250 the draw 0 lowers the price by 10 a tick: the tenth update reaches 150, and "
          "sells the 2 seats that were bid for at 150")),
     # .. hotels
-    Row(["auction_rules/Rows:price_of_the_last_room_is_paid_for_all"],
+    Row(["worked_rows/Auctions:price_of_the_last_room_is_paid_for_all"],
         ["auction_rules/HotelClosing.closing_trades", "auction_rules/Ask.ask"],
         ("Sixteen units at 100, 101 .. 115 for 16 rooms: all 16 are sold at 100. 15 units at 100 "
          "are sold at 0. Without bids, 0 units are sold at 0")),
-    Row(["auction_rules/Rows:earlier_of_equal_bids_wins"],
+    Row(["worked_rows/Auctions:earlier_of_equal_bids_wins"],
         ["auction_rules/Precedence.wins", "auction_rules/HotelClosing.closing_trades"],
         ("15 units at 200, then agent 1 and then agent 2 with 1 unit at 150 each: agent 1 gets "
          "the sixteenth room, and all 16 cost 150")),
-    Row(["auction_rules/Rows:fewer_units_do_not_replace_those_that_win"],
-        ["auction_rules/BeatQuote.is_below_quote", "auction_rules/WinningNumber.winning_number"],
+    Row(["worked_rows/Auctions:fewer_units_do_not_replace_those_that_win"],
+        ["auction_rules/BeatQuote.need", "auction_rules/Refusals.hotel_refusal"],
         ("Agent 0 has 13 units at 100 and agent 1 has 3 at 120; 100 is published. Agent 1 then "
          "offers 2 at 150 and 1 at 100, and is refused: it needs 3 at 101 or more, and offers 2. "
          "With 15 units at 10 and 0 published, 1 unit at 1 is refused: it needs 15 at 1 or more")),
-    Row(["auction_rules/Rows:ask_is_shown_when_published_or_closed"],
+    Row(["worked_rows/Auctions:ask_is_shown_when_published_or_closed"],
         ["auction_rules/Board.board", "auction_rules/Ask.published"],
         ("After 1 bid and no publication a hotel shows the ask 0. After 2 bids and the closing "
          "it shows 100, says that it is closed, and counts 3 entries")),
-    Row(["auction_rules/Rows:live_bid_must_beat_the_last_one"],
-        ["auction_rules/Ask.published", "auction_rules/BeatQuote.is_below_quote"],
+    Row(["worked_rows/Auctions:live_bid_must_beat_the_last_one"],
+        ["auction_rules/Ask.published", "auction_rules/Refusals.hotel_refusal"],
         ("One room and live quotes: after a bid at 50 another at 50 is refused, since it needs 1 "
          "at 51, and the ask stays 50. A bid at 51 is taken, and wins the room at 51")),
-    Row(["auction_rules/Rows:enough_at_one_dollar_more"],
+    Row(["worked_rows/Auctions:enough_at_one_dollar_more"],
         ["auction_rules/BeatQuote.quote_to_beat", "auction_rules/BeatQuote.need"],
         ("16 units at 50, published. Another agent's unit at 50 is refused: it needs 1 at 51, "
          "and offers 0. At 51 it is taken, and wins: 15 rooms and 1 are sold, all at 50")),
     # .. tickets
-    Row(["auction_rules/Rows:equal_prices_trade"], ["auction_rules/TicketMatch.crosses"],
+    Row(["worked_rows/Auctions:equal_prices_trade"], ["auction_rules/TicketMatch.crosses"],
         "A ticket is for sale at 60: a bid at 59 does not trade, and one at 60 does"),
-    Row(["auction_rules/Rows:cheapest_then_earliest_and_dearest_first"],
+    Row(["worked_rows/Auctions:cheapest_then_earliest_and_dearest_first"],
         ["auction_rules/TicketMatch.goes_before", "auction_rules/TicketMatch.better"],
         ("Asks at 60, 50 and 50, by the agents 0, 1 and 2: a bid for 2 at 90 buys agent 1's and "
          "then agent 2's, at 50. Bids at 60 and 80: an ask at 40 sells to the one at 80, at 80")),
-    Row(["auction_rules/Rows:trade_is_at_the_standing_price"],
+    Row(["worked_rows/Auctions:trade_is_at_the_standing_price"],
         ["auction_rules/TicketMatch.partner", "auction_rules/TicketMatch.ticket_trades",
          "auction_rules/Board.board"],
         ("Agent 0 sells 1 at 60, then agent 1 buys 2 at 70: 1 is traded at 60, the standing "
          "price. The board shows the bid 70 and no ask")),
-    Row(["auction_rules/Rows:new_bid_does_not_meet_the_old_one"],
+    Row(["worked_rows/Auctions:new_bid_does_not_meet_the_old_one"],
         ["auction_rules/TicketMatch.faces"],
         ("Agent 0 sells 1 at 60, and then bids to buy 1 at 70: nothing is traded, and only the "
          "later bid stands")),
     # .. trades, holdings, dollars
-    Row(["auction_rules/Rows:buyers_pay_and_nets_add_up_to_0"],
+    Row(["worked_rows/Auctions:buyers_pay_and_nets_add_up_to_0"],
         ["auction_rules/Effects.dollars", "auction_rules/Effects.nets"],
         ("Two seats at 300 and a ticket at 60 are -660 dollars for their buyer. Agent 1 sells a "
          "ticket at 60 to agent 0 and one to agent 2: the nets are -60, 120 and -60, and 0 for "
          "all others and the house")),
-    Row(["auction_rules/Rows:holding_may_be_negative"],
+    Row(["worked_rows/Auctions:holding_may_be_negative"],
         ["auction_rules/Effects.holding", "auction_rules/Legal.entry_of"],
         "Agent 1 sells 2 tickets that it does not have, to two buyers: it holds -2"),
-    Row(["auction_rules/Rows:part_has_its_positions"], ["auction_rules/Legal.entry_of"],
+    Row(["worked_rows/Auctions:part_has_its_positions"], ["auction_rules/Legal.entry_of"],
         "Of the five calls of `short_sale`, agent 1 made those at the positions 0 and 3"),
-    Row(["auction_rules/Rows:history_is_lawful_by_its_replies"], ["auction_rules/Legal.IsLawful"],
+    Row(["worked_rows/Auctions:history_is_lawful_by_its_replies"], ["auction_rules/Legal.IsLawful"],
         ("The entries that the rules give for a bid and a publication are lawful. A publication "
          "that is answered `closed` before any closing is not")),
-    Row(["auction_rules/Rows:cap_of_agents_and_clock"], ["auction_rules/Legal.cap"],
+    Row(["worked_rows/Auctions:cap_of_agents_and_clock"], ["auction_rules/Legal.cap"],
         "The agents 0 and 7 may have 1024 entries each, and the clock, 8, may have 64"),
     # The cash book
     Row(["worked_rows/Logs:trades_are_posted_with_their_nets"], ["trade_ledger/Posts.due_post"],
@@ -174,17 +169,17 @@ ROWS = [
         ("The post of good 1 stands before that of good 0: the book still has one post for each "
          "entry with a trade, and no other")),
     # The game file
-    Row(["clock_events/Worked:flights_alone_are_updated_first"], ["game_text/Schedule.calls_at"],
+    Row(["worked_rows/Ticks:flights_alone_are_updated_first"], ["game_text/Schedule.calls_at"],
         "At tick 1 flight 0 is updated by its draw 10 first, and no call follows the eighth"),
-    Row(["clock_events/Worked:first_hotel_closes_and_seven_publish"],
-        ["game_text/Schedule.hotel_calls_at", "game_text/Schedule.open_after"],
+    Row(["worked_rows/Ticks:first_hotel_closes_and_seven_publish"],
+        ["game_text/Schedule.open_after", "game_text/Schedule.calls_at"],
         ("At tick 6 the ninth call closes hotel 8, and the seven others, 9 to 15, publish; no "
          "call follows")),
-    Row(["clock_events/Worked:last_hotel_closes_alone"], ["game_text/Schedule.hotel_calls"],
+    Row(["worked_rows/Ticks:last_hotel_closes_alone"], ["game_text/Schedule.hotel_calls"],
         "At tick 48 the ninth call closes hotel 15, and none publishes"),
-    Row(["clock_events/Worked:tickets_close_after_the_flights"], ["game_text/Schedule.closed_last"],
+    Row(["worked_rows/Ticks:tickets_close_after_the_flights"], ["game_text/Schedule.closed_last"],
         "At tick 54 the flights close, then good 16, and so on to good 27; no call follows"),
-    Row(["clock_events/Worked:all_calls_and_those_of_two_goods"],
+    Row(["worked_rows/Ticks:all_calls_and_those_of_two_goods"],
         ["game_text/Schedule.schedule", "game_text/Schedule.clock_calls"],
         ("480 calls in all. Hotel 10, the third to close, publishes, publishes and closes; "
          "good 20, a ticket, closes alone")),
@@ -193,12 +188,15 @@ ROWS = [
         ("In `quiet_game` good 0 is a flight with first price 300 and bound 10, good 15 a hotel "
          "night of 16 rooms without live quotes, and good 27 tickets, of which nobody has any")),
     # Packages and the best total
-    Row(["worked_rows/Trips:trips_use_four_and_eight_goods"],
-        ["packages/Packages.use_of", "packages/Goods.thing_of"],
+    Row(["worked_rows/Packages:goods_are_seats_rooms_and_tickets"], ["packages/Goods.thing_of"],
+        ("The goods 0 and 3 are the seats in on the days 1 and 4, the goods 4 and 7 those out "
+         "on the days 2 and 5; 8, 11, 12 and 15 are the first and the last night of the two "
+         "hotels, 16, 19, 20, 23, 24 and 27 those of the three ticket types")),
+    Row(["worked_rows/Trips:trips_use_four_and_eight_goods"], ["packages/Packages.use_of"],
         ("Tampa Towers (1) from day 2 to 3 with the museum on night 2 uses the goods 1, 5, 13 "
          "and 25. Shoreline Shanties (0) from day 1 to 5, with the first ticket type on night "
          "1 and the second on night 3: 0, 7, 8, 9, 10, 11, 16 and 22")),
-    Row(["packages/Worked:museum_trip", "worked_rows/Trips:long_trip_is_worth_830_and_home_0"],
+    Row(["worked_rows/Packages:museum_trip", "worked_rows/Trips:long_trip_is_worth_830_and_home_0"],
         ["packages/Packages.utility_of"],
         ("Tampa Towers from day 2 to 3 with the museum, for a client of day 1 to 3 with premium "
          "100 and 200 for the museum: 1000 - 100 + 100 + 200 = 1200. Shoreline Shanties from day "
@@ -358,8 +356,7 @@ ROWS = [
         ("The ticks 1 to 54 were waited for, tick 7 lapsed, and faults rose from 0 to 1: 1 tick "
          "was missed. The pace was 500 at each wait, and stays")),
     Row(["worked_rows/Sessions:clock_posts_what_was_traded"],
-        ["clock_events/ClockTurns.call_made", "clock_events/ClockTurns.clock_entries",
-         "clock_events/ClockTurns.clock_posts"],
+        ["clock_events/ClockTurns.clock_entries", "clock_events/ClockTurns.clock_posts"],
         ("The clock updates flight 0, where a seat is sold at 300, and publishes at hotel 8: one "
          "entry at each good, and one post, for the update")),
     Row(["worked_rows/Links:one_seat_is_given_and_refused_links_are_told"],
@@ -419,39 +416,39 @@ ROWS = [
          "which one asks what is no request, and the rest `0 ca`. `0 cash`, `tock`, `tick`: one "
          "good line, and line 2 is bad for reason 1")),
     Row(["worked_rows/Lines:script_is_open_bad_broken_off_or_whole"],
-        ["script_run/HeardScripts.standing"],
+        ["script_run/HeardScripts.script_standing"],
         ("`tick` and the rest `0 ca`: open where more may come; at the end line 2 is bad for "
          "reason 3; where a read failed it is broken off. `tick`, `0 cash`: whole at the end. "
          "`tock`, `tick`: line 1 is bad for reason 1, though a read failed")),
     # Beside
-    Row(["game_text/Worked:first_bad_line_is_told"], ["game_text/Games.game_in"],
+    Row(["worked_rows/Games:first_bad_line_is_told"], ["game_text/Games.game_in"],
         ("`tic 1` is bad at line 1 for its keyword; a comment and an empty line count, so "
          "`seats` after `tac 1` is line 4; a comment without a line end is bad for reason 7")),
-    Row(["packages/Worked:prices_bound_all_allocations"], ["packages/Bounds.leaf_bound"],
+    Row(["worked_rows/Packages:prices_bound_all_allocations"], ["packages/Bounds.leaf_bound"],
         ("With one seat in and one ticket that two clients want, the prices 1000 and 150 bound "
          "every allocation by 1150; without prices the bound is 8650, and at 50 for the seat "
          "8300")),
-    Row(["json_dialect/Worked:forms_of_a_request"], ["json_dialect/JsonRequests.asked_by_value"],
+    Row(["worked_rows/Json:forms_of_a_request"], ["json_dialect/JsonRequests.asked_by_value"],
         ("`{\"do\":\"bid\",\"auction\":0,\"points\":[[1,300]]}` asks to buy 1 at 300; of two "
          "keys `do` the last counts; a further key, or 1.0 for an auction, is a syntax fault")),
     Row(["worked_rows/Lines:replies_in_json"], ["json_dialect/JsonReplies.json_text"],
         ("`{\"at\":7,\"taken\":[1,0]}`, `{\"at\":8,\"own\":-1,\"points\":[[-1,60]]}`, "
          "`{\"at\":9,\"quote\":[70,0],\"open\":true}`, `{\"no\":\"bid\",\"fault\":5}`")),
     # The other commands
-    Row(["good_worth/Worked:seat_is_worth_1000_more_and_1150_less"],
+    Row(["worked_rows/Worths:seat_is_worth_1000_more_and_1150_less"],
         ["good_worth/Worths.up_at", "good_worth/Worths.down_at"],
         ("Best total 1150 with one seat, 2150 with two and 0 with none: one more is worth "
          "1000, one less 1150")),
-    Row(["draw_maker/Worked:first_words_of_42"], ["draw_maker/Words.next_words"],
+    Row(["worked_rows/Draws:first_words_of_42"], ["draw_maker/Words.next_words"],
         "The first words of the seed 42: 2707161783, 2068313097, 3122475824, 2211639955"),
-    Row(["draw_maker/Worked:own_place_keeps_order_and_the_first_turns_it"],
+    Row(["worked_rows/Draws:own_place_keeps_order_and_the_first_turns_it"],
         ["draw_maker/ClosingOrders.made_order"],
         "Seven draws that each exchange with the first place: 9, 10, 11, 12, 13, 14, 15, 8"),
-    Row(["tourney/Worked:standings_of_one_game_twice"],
+    Row(["worked_rows/Standings:standings_of_one_game_twice"],
         ["tourney/Standings.total", "tourney/Standings.rank"],
         ("Two games with the scores 440, -280, -60 and five times 0: 880, -560 and -120; the "
          "ranks are 1, 8 and 7, and 2 for the others")),
-    Row(["tourney/Worked:averages_in_lowest_terms"], ["tourney/Rows.IsAverage"],
+    Row(["worked_rows/Standings:averages_in_lowest_terms"], ["tourney/Rows.IsAverage"],
         "-560 of 2 games is -280/1; 440 of 3 is 440/3; 0 of 3 is 0/1"),
 ]
 
@@ -537,7 +534,7 @@ class Lemmas:
         for of, helper in self.helpers(lemma):
             if (of, helper) not in left_out:
                 found += self.module(of).targets(helper)
-        named = [(definitions.given.get(path, path), word) for path, word in found]
+        named = [definitions.owner(target) for target in found]
         return [
             (path, word)
             for path, word in dict.fromkeys(named)

@@ -3,19 +3,20 @@
 from typing import Dict, List, NamedTuple, Tuple
 
 HEADLINE = """\
-When `serve` ends with code 0, the log written holds 29 legal one-thread histories; in each, every
-agent's calls are those its link asked, each once, after all it had seen, with the replies it got,
-and the clock's are the game file's; goods and cash equal the trades recorded; each score is the
-greatest utility over all feasible allocations, less costs and penalties."""
+When `serve` ends with code 0, the log that it wrote holds 29 legal one-thread histories. In each of
+them, every agent's calls are those that its link asked for, each once, each after everything that
+the agent had seen, with the replies that it got; the clock's calls are those of the game file.
+Goods and cash equal the recorded trades. Each score is the greatest utility over all feasible
+allocations, less costs and penalties."""
 
 # What stands beside the headline, here and in README.md.
 CAVEATS: List[str] = [
     """**Some bytes.** The system's sockets and files do not say what they carry. For them the
-    sentence holds of *some* bytes, and of a game that *some* text says (`docs/PROOFS.md`,
+    headline holds of *some* bytes, and of a game that *some* text says (`docs/PROOFS.md`,
     "Premises").""",
     """**29 orders.** Each auction has its own history, and so has the cash book. Nothing says which
-    of two calls came first if they are in different auctions and have different callers. So "after
-    all it had seen" is about one auction at a time.""",
+    of two calls came first if they are in different auctions and have different callers. So
+    "everything that the agent had seen" is about one auction at a time.""",
     """**Fewer than eight agents.** A game begins once eight agents have a seat, 64 links were
     taken, or no link is left. An empty seat makes no calls, and has a score.""",
     """**No memory.** In a game in JSON the server may answer any line `{"no":"memory"}`. Such a
@@ -25,7 +26,7 @@ CAVEATS: List[str] = [
 ]
 
 LEAD = """\
-This page has every definition that this sentence rests on. The table names those that say each part
+This page has every definition that the headline rests on. The table names those that say each part
 of it."""
 
 INTRODUCTION = """\
@@ -158,7 +159,7 @@ ALIKE = """\
 - **Ask, published.** `ask` is computed from units, `published` is the ask that was shown last,
   `quote_to_beat` is one dollar more.
 - **Winning.** `wins` is about a unit, `winning` counts an agent's winning units among given ones,
-  `winning_number` among those that stand, and `need` is that number, but at least 1.
+  and `need` is that number among the units that stand, but at least 1.
 - **None.** `None` of `Option` is no value; `None` of `Package` is a client who stays at home. Only
   the module packages/Packages, and the log's `package_line`, mean the second.
 - **Taken.** `Taken` of `Reply` says that a bid was admitted; `Taken` of `Verdict` that another link
@@ -348,10 +349,10 @@ LIBRARY: Dict[str, str] = {
 # Words of the library that their names explain.
 PLAIN = set(
     """
-    as_array as_number as_object as_str Bool bytes_eq concat Contains drop Err false filter fst
-    int_le int_lt int_max int_min item length List map max member min nat_le nat_lt no_items
-    no_members None not Ok Option option_map range_with_len replicate Result reverse snd Some
-    String string_bytes string_len swap take true zero zip
+    abs_diff as_array as_number as_object as_str Bool bytes_eq concat Contains drop Err false
+    filter fst int_le int_lt int_max int_min item length List map max member min nat_le nat_lt
+    no_items no_members None not Ok Option option_map range_with_len replicate Result reverse snd
+    Some String string_bytes string_len swap take true zero zip
     """.split()
 )
 
@@ -415,6 +416,10 @@ IN_WORDS: Dict[str, Tuple[str, str]] = {
     "log_text.SoundLog": ("FORMATS", "The audit of a log"),
     "game_log": ("FORMATS", "The log"),
     "log_reader": ("FORMATS", "The audit of a log"),
+    "log_reader.HeadForms": ("FORMATS", "The log"),
+    "log_reader.EntryForms": ("FORMATS", "The histories"),
+    "log_reader.SheetForms": ("FORMATS", "The sheet"),
+    "log_reader.LogReading": ("FORMATS", "The log"),
     "tac_commands": ("FORMATS", "Exit statuses and refusals"),
     "tac_commands.Cash": ("GAME", "Cash"),
     "tacd": ("PROOFS", "The headline: a game over links"),
@@ -513,7 +518,7 @@ LATER: Dict[str, List[str]] = {
 }
 
 # The file of the rows of the auctions' rules, and the words that these rows use.
-PREAMBLE_FILE = "auction_rules/Rows"
+PREAMBLE_FILE = "worked_rows/Auctions"
 PREAMBLE = """\
 A row is a small case of a definition: first in words, and then as the lemma that the toolchain
 checks by computing both sides. The rows of the auction rules use the words below. A list of calls
@@ -571,10 +576,10 @@ STEP_SENTENCES: List[Tuple[str, List[str]]] = [
      ["tac_commands/HeardFiles.IsGiven", "script_run/HeardScripts.heard",
       "script_run/HeardScripts.heard_from"]),
     ("(too many bytes, a read that failed, the end, or more to come)",
-     ["script_run/HeardScripts.standing", "script_run/HeardScripts.Reading",
+     ["script_run/HeardScripts.script_standing", "script_run/HeardScripts.Reading",
       "script_run/HeardScripts.Standing"]),
     ("and writes the replies to the good lines, and then what is due:",
-     ["tac_commands/HeardFiles.IsHeard", "tac_commands/HeardFiles.IsScriptOutcome",
+     ["tac_commands/HeardFiles.IsScriptHeard", "tac_commands/HeardFiles.IsScriptOutcome",
       "script_run/OneThreadRun.replies"]),
     ("after a whole script the log, as `play` does,",
      ["tac_commands/Allowed.StepAllows", "tac_commands/Allowed.IsPlayText"]),
@@ -589,34 +594,34 @@ SENTENCES: List[Tuple[str, List[str]]] = [
     ("When `serve` ends with code 0, ..",
      ["tacd/Service.Serves", "tacd/Service.ServeAllows", "tacd/Service.ServesGame",
       "tac_commands/Reporting.Reports"]),
-    ("the log written ..",
+    ("the log that it wrote ..",
      ["tacd/Service.PlayedAllows", "tacd/Service.IsLogOf", "log_text/SheetText.log_text"]),
-    ("holds 29 legal one-thread histories;",
+    ("holds 29 legal one-thread histories.",
      ["game_run/PlayedGame.IsLegalGame", "auction_rules/Legal.Legal",
       "auction_rules/Legal.trades_by", "auction_rules/Refusals.refusal",
       "trade_ledger/CashHistory.IsLegalCash"]),
     ("(who has a seat: the links taken, and the verdict on each)",
      ["game_run/Admission.AreAllTaken", "game_run/Admission.TakesLinks",
       "game_run/Admission.CameTo"]),
-    ("in each, every agent's calls are those its link asked,",
+    ("In each of them, every agent's calls are those that its link asked for,",
      ["agent_gate/Served.EndsBy", "game_run/Outcomes.IsPlayedOver", "game_run/LinkRuns.IsSeated",
       "agent_gate/Transcript.IsTranscript", "agent_gate/Served.IsServed",
       "agent_gate/Items.AreItems", "line_protocol/Requests.request_of"]),
     ("each once,",
      ["agent_gate/Transcript.IsTranscript", "turn_lock/Part.part", "agent_gate/Turns.made_at"]),
-    ("after all it had seen,",
+    ("each after everything that the agent had seen,",
      ["agent_gate/Turns.AreLawful", "agent_gate/Turns.IsNotBehind", "turn_lock/Notes.AreNotes"]),
-    ("with the replies it got,",
+    ("with the replies that it got;",
      ["agent_gate/Served.pieces_of", "agent_gate/Served.SendsAll", "agent_gate/Served.IsCutOff",
       "line_protocol/Replies.said_text"]),
-    ("and the clock's are the game file's;",
+    ("the clock's calls are those of the game file.",
      ["game_run/PlayedGame.IsPlayedBy", "game_run/PlayedGame.IsClockTranscript",
       "game_text/Schedule.schedule", "clock_events/Clocking.WaitsForAll"]),
-    ("goods and cash equal the trades recorded;",
+    ("Goods and cash equal the recorded trades.",
      ["trade_ledger/Posts.Matched", "settlement/Settlement.settlement_of",
       "settlement/Settlement.cash_gained", "auction_rules/Effects.holding",
       "auction_rules/Effects.dollars", "tac_commands/Cash.IsCashOfPosts"]),
-    ("each score is the greatest utility over all feasible allocations,",
+    ("Each score is the greatest utility over all feasible allocations,",
      ["settlement/Sheets.IsSheet", "settlement/Sheets.IsScored",
       "bound_cert/Solutions.IsSolution", "packages/BestTotal.IsBest",
       "packages/BestTotal.IsFeasible", "packages/Packages.utility_of"]),

@@ -4,7 +4,7 @@ implemented, proved and tried.
 A place is written as CRATE/FILE:NAME, without `src/`, `specs/` or endings. A definition stands in
 `specs/`, code in `src/`, and so does a clause, as CALL.CLAUSE or as the call whose clause has no
 name. An edit is CRATE/NAME of `must-fail/`, and a row is a lemma of `proofs/` that computes, with
-no file one of `auction_rules/proofs/Rows.antt`, or a test. Words are DOCUMENT/HEADING of docs/,
+no file one of `worked_rows/proofs/Auctions.antt`, or a test. Words are DOCUMENT/HEADING of docs/,
 with no heading for a whole page.
 """
 
@@ -53,7 +53,7 @@ RULES = [
          ["tac_base/bids:new"],
          ["tac_base/bids:new"],
          ["tac_base/forgets_units_so_far", "bid_strings/accepts_zero_units"],
-         ["bid_strings/Worked:faults_of_points_in_their_order"]),
+         ["worked_rows/Bids:faults_of_points_in_their_order"]),
     Rule("Bids and units",
          "the index of a unit, and its place in time",
          [],
@@ -163,7 +163,7 @@ RULES = [
     Rule("Hotels",
          "beating the quote",
          ["PROTOCOL/Refusals", "PROTOCOL/What a hotel bid would win"],
-         ["auction_rules/BeatQuote:is_below_quote", "auction_rules/WinningNumber:winning_number"],
+         ["auction_rules/BeatQuote:need", "auction_rules/Refusals:hotel_refusal"],
          ["hotel_book/quotes:refusal", "hotel_book/ranking:won"],
          ["hotel_book/book:bid.follows"],
          ["hotel_book/forgets_winning_number"],
@@ -217,22 +217,22 @@ RULES = [
          ["clock_events/calls:schedule", "clock_events/clock:run_clock"],
          ["clock_events/clock:run_clock.calls"],
          ["clock_events/closes_hotels_backwards", "clock_events/skips_calls_of_lapsed_tick"],
-         ["clock_events/Worked:all_calls_and_those_of_two_goods",
-          "clock_events/Worked:first_hotel_closes_and_seven_publish",
+         ["worked_rows/Ticks:all_calls_and_those_of_two_goods",
+          "worked_rows/Ticks:first_hotel_closes_and_seven_publish",
           "tacd/serve_tests:the_calls_of_lapsed_ticks_are_made"]),
     Rule("The schedule",
          "the order in which the hotels close",
          ["FORMATS/Game file", "FORMATS/Made games"],
-         ["game_text/ClosingOrders:IsOrder", "game_text/Schedule:hotel_calls_at",
+         ["game_text/ClosingOrders:IsOrder", "game_text/Schedule:hotel_calls",
           "draw_maker/ClosingOrders:made_order"],
          ["clock_events/calls:hotel_call", "game_text/closing_orders:order_of",
           "draw_maker/closing_orders:draw_order"],
          ["clock_events/calls:schedule", "game_text/closing_orders:order_of",
           "draw_maker/closing_orders:draw_order.value"],
          ["clock_events/closes_hotels_backwards"],
-         ["clock_events/Worked:first_hotel_closes_and_seven_publish",
-          "clock_events/Worked:last_hotel_closes_alone",
-          "clock_events/Worked:all_calls_and_those_of_two_goods"]),
+         ["worked_rows/Ticks:first_hotel_closes_and_seven_publish",
+          "worked_rows/Ticks:last_hotel_closes_alone",
+          "worked_rows/Ticks:all_calls_and_those_of_two_goods"]),
     Rule("Cash",
          "each entry with trades has one post",
          ["FORMATS/The histories"],
@@ -275,7 +275,7 @@ RULES = [
          ["packages/utilities:utility"],
          ["packages/utilities:utility"],
          ["packages/early_days_are_free"],
-         ["packages/Worked:museum_trip", "worked_rows/Trips:long_trip_is_worth_830_and_home_0"]),
+         ["worked_rows/Packages:museum_trip", "worked_rows/Trips:long_trip_is_worth_830_and_home_0"]),
     Rule("Scores",
          "the best total of a feasible allocation",
          ["FORMATS/A best allocation", "FORMATS/The sheet"],
@@ -309,7 +309,7 @@ RULES = [
          ["floor/desk:bid"],
          ["floor/desk:bid"],
          ["floor/spent_one_call_early"],
-         ["auction_rules/Rows:cap_of_agents_and_clock",
+         ["worked_rows/Auctions:cap_of_agents_and_clock",
           "tacd/play_tests:long_scripts_and_large_scores_are_played"]),
 ]
 
@@ -334,7 +334,7 @@ def place_of(kind: str, place: str) -> Tuple[str, Optional[int], str]:
         file = os.path.join(CRATES, crate, "must-fail", name + ".edit")
         return file, 1 if os.path.exists(file) else None, place
     if kind == "row" and ":" not in place:
-        file = os.path.join(CRATES, "auction_rules", "proofs", "Rows.antt")
+        file = os.path.join(CRATES, "worked_rows", "proofs", "Auctions.antt")
         return file, line_of(file, re.escape(place) + " :"), place
     module, name = place.split(":")
     crate, path = module.split("/", 1)

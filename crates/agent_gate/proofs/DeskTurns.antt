@@ -1,16 +1,10 @@
 -- What a desk has of the turns taken with it.
-use Rattle.std.proofs.Common.{◌≡◌, ℕ, ◌<◌, List, [], ◌∷◌, ◌++◌, length, get_or, replicate, refl, sym, ap, ◌∙◌, subst, arith}
-use Rattle.std.specs.List.{count_by}
-use Rattle.std.proofs.lemmas.List.{append_assoc, append-nil, get_or-replicate}
+use Rattle.std.proofs.Common.{◌≡◌, ℕ, ◌<◌, List, [], ◌∷◌, ◌++◌, length, get_or, replicate, refl, sym, ap, ◌∙◌, subst, arith, count_by, append_assoc, append-nil}
+use Rattle.std.proofs.lemmas.List.{get_or-replicate}
 use Rattle.std.proofs.lemmas.List.Elements.{filter_map-append}
 use Rattle.std.proofs.lemmas.List.FromFn.{fill_by_all}
 use Rattle.std.proofs.lemmas.Grind.{flat_map-append}
-use Rattle.auction_rules.specs.History.{Entry}
-use Rattle.floor.specs.declared.desk.Desk.{Desk}
-use Rattle.floor.specs.Answers.{IsSameDesk}
-use Rattle.floor.specs.Desks.{desk_caller, desk_entries, entries_at, desk_cash, boards_at, seen_at}
-use Rattle.floor.specs.Keeping.{count_readings}
-use Rattle.agent_gate.specs.{Turn, Called, CallDenied, CashRead, CashDenied, Quoted, Refused, Skipped, Left, made_at, entry_made, cash_by, cash_made, boards_shown, shown_by, is_reading, IsNotBehind, IsLawfulTurn, IsDueTurn, IsMade, AreMadeBy}
+use Rattle.agent_gate.specs.{Entry, Desk, IsSameDesk, desk_caller, desk_entries, entries_at, desk_cash, boards_at, seen_at, count_readings, Turn, Called, CallDenied, CashRead, CashDenied, Quoted, Refused, Skipped, Left, made_at, entry_made, cash_by, cash_made, boards_shown, shown_by, is_reading, IsNotBehind, IsLawfulTurn, IsDueTurn, IsMade, AreMadeBy}
 use Rattle.agent_gate.proofs.LawfulTurns.{goes_on_more, goes_on_with, readings_made}
 
 -- the desk has what the turns left besides what it had, and has seen as much as they were answered

@@ -1,15 +1,10 @@
 -- The welcome, piece by piece.
-use Rattle.std.proofs.Common.{◌≡◌, ℕ, ◌+◌, ◌<◌, List, [], ◌∷◌, ◌++◌, length, take, drop, get_or, sym, ap, ◌∙◌, arith, length-append, subst, Ok, Err}
-use Rattle.std.specs.Prelude.{Option, Result}
+use Rattle.std.proofs.Common.{◌≡◌, ℕ, ◌+◌, ◌<◌, List, [], ◌∷◌, ◌++◌, length, take, drop, get_or, sym, ap, ◌∙◌, arith, length-append, Ok, Err, Option, Result, append_assoc, append-nil, take-append-drop}
 use Rattle.std.proofs.Math.Seq.{take-append-add, take-length}
-use Rattle.std.proofs.lemmas.List.{append_assoc, append-nil, take-append-le, take-append-drop, take_more}
+use Rattle.std.proofs.lemmas.List.{take-append-le, take_more}
 use Rattle.std.proofs.lemmas.Grind.{flat_map-append}
-use Rattle.text_forms.specs.Lines.{text_of}
-use Rattle.tac_io.specs.LinkCalls.{LastWriteFails, NoWriteFails, OnlySends, ReadsNothing}
-use Rattle.tac_io.specs.States.{LinkState}
-use Rattle.tac_io.specs.Known.{known_then, TakesSome}
+use Rattle.agent_gate.specs.{text_of, LastWriteFails, NoWriteFails, OnlySends, ReadsNothing, LinkState, known_then, TakesSome, MovesOn}
 use Rattle.tac_io.proofs.KnownPieces.{known_then-twice, last_write_fails_then, no_write_fails_twice, read_nothing_twice}
-use Rattle.agent_gate.specs.Welcome.{MovesOn}
 
 -- what was sent of a part, after all that stands before it, was sent of the whole
 takes_within : (told₀ told₁ told₂ : Option (List ℕ)) (done part after whole : List ℕ) → told₁ ≡ known_then told₀ done → whole ≡ (done ++ part) ++ after → TakesSome told₁ told₂ part → TakesSome told₀ told₂ whole

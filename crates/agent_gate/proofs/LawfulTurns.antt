@@ -1,17 +1,13 @@
 -- The turns of a session are allowed, one after the other.
-use Rattle.std.proofs.Common.{◌≡◌, ℕ, zero, suc, ◌+◌, ◌<◌, ◌≤◌, List, [], ◌∷◌, ◌++◌, map, length, take, Bool, true, false, cond, Some, refl, sym, ap, ◌∙◌, subst, arith, inl, inr}
-use Rattle.std.specs.Prelude.{◌⊎◌, All, slice_get, not, ◌||◌}
-use Rattle.std.specs.List.{AllZip, count_by}
+use Rattle.std.proofs.Common.{◌≡◌, ℕ, zero, suc, ◌+◌, ◌<◌, ◌≤◌, List, [], ◌∷◌, ◌++◌, map, length, take, Bool, true, false, cond, Some, refl, sym, ap, ◌∙◌, subst, arith, inl, inr, ◌⊎◌, All, slice_get, not, ◌||◌, count_by}
+use Rattle.std.specs.List.{AllZip}
 use Rattle.std.proofs.Math.Seq.{take-append_seam}
 use Rattle.std.proofs.lemmas.List.{take-append-le}
 use Rattle.std.proofs.lemmas.List.Elements.{All-append}
 use Rattle.std.proofs.lemmas.List.Folds.{list_any-append}
 use Rattle.std.proofs.lemmas.List.Sums.{sum_by-append}
 use Rattle.tac_base.specs.declared.calls.Trade.{Trade}
-use Rattle.trade_ledger.specs.declared.cash_calls.CashEntry.{CashEntry}
-use Rattle.trade_ledger.specs.Posts.{post_for, is_post}
-use Rattle.floor.specs.Keeping.{count_readings}
-use Rattle.agent_gate.specs.Turns.{Turn, Called, CallDenied, CashRead, CashDenied, Quoted, Refused, Skipped, Left, cash_by, cash_made, is_reading, is_leaving, has_left, shown_length, IsNotBehind, IsLawfulTurn, AreLawful}
+use Rattle.agent_gate.specs.{CashEntry, post_for, is_post, count_readings, Turn, Called, CallDenied, CashRead, CashDenied, Quoted, Refused, Skipped, Left, cash_by, cash_made, is_reading, is_leaving, has_left, shown_length, IsNotBehind, IsLawfulTurn, AreLawful}
 
 module _ {A : Type 0} where
   -- the element at a place of a list with one more is one of the list at that place, or the last

@@ -1,24 +1,14 @@
 -- Each outcome of a desk's call is that of a turn.
-use Rattle.std.proofs.Common.{◌≡◌, ℕ, ◌+◌, ◌<◌, ◌≤◌, ◌≢◌, List, [], ◌∷◌, ◌++◌, length, get_or, set, Bool, cond, eqb, Some, Ok, Err, refl, sym, ap, ◌∙◌, arith, inl, inr}
-use Rattle.std.proofs.lemmas.List.{append-nil, length-map, get_or-set_same, get_or-set_other}
+use Rattle.std.proofs.Common.{◌≡◌, ℕ, ◌+◌, ◌<◌, ◌≤◌, ◌≢◌, List, [], ◌∷◌, ◌++◌, length, get_or, set, Bool, cond, eqb, Some, Ok, Err, refl, sym, ap, ◌∙◌, arith, inl, inr, append-nil, get_or-set_same, get_or-set_other}
+use Rattle.std.proofs.lemmas.List.{length-map}
 use Rattle.std.proofs.lemmas.Bool.Decides.{eqb_tells}
-use Rattle.tac_base.specs.declared.calls.Call.{Call}
-use Rattle.tac_base.specs.declared.calls.Board.{Board}
-use Rattle.line_protocol.specs.declared.asking.Request.{Request}
+use Rattle.agent_gate.specs.{Call, Board, Request, RequestFault, Said, Desk, Outcome, CashOutcome, IsOutcome, IsCashOutcome, IsSeen, desk_caller, desk_entries, entries_at, desk_cash, boards_of, boards_at, seen_of, seen_at, Item, Asks, Overlong, Turn, Called, CallDenied, CashRead, CashDenied, Quoted, Refused, Skipped, Left, asked_call, item_of, made_at, cash_by, boards_shown, shown_length, IsDueTurn, IsMade, TakesTurn, said_of_outcome, said_of_reading}
 use Rattle.line_protocol.specs.declared.asking.Request.TheVariants as requests
-use Rattle.line_protocol.specs.declared.asking.RequestFault.{RequestFault}
-use Rattle.line_protocol.specs.declared.saying.Said.{Said}
 use Rattle.line_protocol.specs.declared.saying.Said.TheVariants as said
 use Rattle.turn_lock.specs.Passes.{made_by, noted_by, seen_by}
-use Rattle.floor.specs.declared.desk.Desk.{Desk}
-use Rattle.floor.specs.declared.outcomes.Outcome.{Outcome}
 use Rattle.floor.specs.declared.outcomes.Outcome.TheVariants as outcomes
-use Rattle.floor.specs.declared.outcomes.CashOutcome.{CashOutcome}
 use Rattle.floor.specs.declared.outcomes.CashOutcome.TheVariants as cash_outcomes
-use Rattle.floor.specs.Answers.{IsOutcome, IsCashOutcome, IsSeen}
 use Rattle.floor.proofs.Rows.{row_more}
-use Rattle.floor.specs.Desks.{desk_caller, desk_entries, entries_at, desk_cash, boards_of, boards_at, seen_of, seen_at}
-use Rattle.agent_gate.specs.{Item, Asks, Overlong, Turn, Called, CallDenied, CashRead, CashDenied, Quoted, Refused, Skipped, Left, asked_call, item_of, made_at, cash_by, boards_shown, shown_length, IsDueTurn, IsMade, TakesTurn, said_of_outcome, said_of_reading}
 
 -- numbers where one was raised
 pub seen_more : (seen : List ℕ) (place good count : ℕ) → place < length seen → get_or seen place 0 ≤ count

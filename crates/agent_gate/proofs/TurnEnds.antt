@@ -1,19 +1,8 @@
 -- How a turn ends.
-use Rattle.std.proofs.Common.{◌≡◌, ℕ, ◌≢◌, [], ◌∷◌, ◌++◌, Some, Ok, Err, refl, sym, ap, ◌∙◌, subst}
-use Rattle.std.specs.Prelude.{Result}
-use Rattle.tac_io.specs.HeldBytes.{Held, LinkPlace}
-use Rattle.tac_io.specs.LineAnswers.{Answers, IsNext}
-use Rattle.tac_io.specs.LinkCalls.{ReadsNothing}
-use Rattle.tac_io.specs.States.{LinkState}
-use Rattle.tac_io.specs.Known.{known_then, then_known, IsAtEnd, TakesSome}
-use Rattle.tac_io.specs.declared.line_got.LineGot.{LineGot}
+use Rattle.std.proofs.Common.{◌≡◌, ℕ, ◌≢◌, [], ◌∷◌, ◌++◌, Some, Ok, Err, refl, sym, ap, ◌∙◌, subst, Result}
+use Rattle.agent_gate.specs.{Held, LinkPlace, Answers, IsNext, ReadsNothing, LinkState, known_then, then_known, IsAtEnd, TakesSome, LineGot, Said, Bye, Cause, Desk, Dialect, SessionState, cause_without_line, TakesNext, Says, IsTurned, HasTurn}
 use Rattle.tac_io.specs.declared.line_got.LineGot.TheVariants as gots
-use Rattle.line_protocol.specs.declared.saying.Said.{Said}
-use Rattle.line_protocol.specs.declared.saying.Said.TheVariants.{Bye}
-use Rattle.line_protocol.specs.declared.admission.Cause.{Cause}
 use Rattle.line_protocol.specs.declared.admission.Cause.TheVariants as causes
-use Rattle.floor.specs.declared.desk.Desk.{Desk}
-use Rattle.agent_gate.specs.{Dialect, SessionState, cause_without_line, TakesNext, Says, IsTurned, HasTurn}
 
 -- the next of the lines' answers never says that the agent left, or that a write failed
 ends_alone : (got : LineGot) (cause : Cause) → cause_without_line got ≡ Some cause → (cause ≢ causes.Quit) × (cause ≢ causes.WriteFault)

@@ -1,30 +1,11 @@
 -- A session under way, from turn to turn to its end.
-use Rattle.std.proofs.Common.{◌≡◌, ℕ, ◌+◌, ◌^◌, ◌<◌, ◌≤◌, ◌≢◌, List, [], ◌∷◌, ◌++◌, map, length, true, false, Some, None, Ok, Err, refl, sym, ap, ◌∙◌, subst, arith, inl, inr, length-append}
-use Rattle.std.specs.Prelude.{Option, Result}
-use Rattle.std.specs.List.{flat_map}
-use Rattle.std.proofs.lemmas.List.{append_assoc, append-nil}
+use Rattle.std.proofs.Common.{◌≡◌, ℕ, ◌+◌, ◌^◌, ◌<◌, ◌≤◌, ◌≢◌, List, [], ◌∷◌, ◌++◌, map, length, true, false, Some, None, Ok, Err, refl, sym, ap, ◌∙◌, subst, arith, inl, inr, length-append, Option, Result, flat_map, append_assoc, append-nil}
 use Rattle.std.proofs.lemmas.Grind.{flat_map-append}
-use Rattle.tac_io.specs.AnswersInTurn.{answers_left}
-use Rattle.tac_io.specs.HeldBytes.{Held, LinkPlace}
-use Rattle.tac_io.specs.LineAnswers.{Answers}
-use Rattle.tac_io.specs.LinkCalls.{GaveBytes, NoReadFails, NoWriteFails}
-use Rattle.tac_io.specs.States.{LinkState}
-use Rattle.tac_io.specs.Known.{known_then, IsAtEnd, TakesSome}
-use Rattle.tac_io.specs.declared.line_got.LineGot.{LineGot}
+use Rattle.agent_gate.specs.{answers_left, Held, LinkPlace, Answers, GaveBytes, NoReadFails, NoWriteFails, LinkState, known_then, IsAtEnd, TakesSome, LineGot, Request, RequestFault, Said, Bye, Cause, Desk, IsSameDesk, desk_caller, GameFile, Dialect, SessionState, Item, Asks, Overlong, IsItem, AreItems, Turn, Called, CallDenied, CashRead, CashDenied, Quoted, Refused, Skipped, Left, item_of, said_of, is_leaving, has_left, AreLawful, Session, reply_line, IsServed, IsSession, HasSessionCause, lines_of, welcome_text, cause_without_line, Says, HasTurn, count_whole}
 use Rattle.tac_io.specs.declared.line_got.LineGot.TheVariants as gots
 use Rattle.tac_io.proofs.ByBytes.{in_turn}
 use Rattle.tac_io.proofs.KnownPieces.{known_then-twice, gave_twice, last_read_fails_then, last_write_fails_then, no_read_fails_twice, no_write_fails_twice}
-use Rattle.line_protocol.specs.declared.asking.Request.{Request}
-use Rattle.line_protocol.specs.declared.asking.RequestFault.{RequestFault}
-use Rattle.line_protocol.specs.declared.saying.Said.{Said}
-use Rattle.line_protocol.specs.declared.saying.Said.TheVariants.{Bye}
-use Rattle.line_protocol.specs.declared.admission.Cause.{Cause}
 use Rattle.line_protocol.specs.declared.admission.Cause.TheVariants as causes
-use Rattle.floor.specs.declared.desk.Desk.{Desk}
-use Rattle.floor.specs.Answers.{IsSameDesk}
-use Rattle.floor.specs.Desks.{desk_caller}
-use Rattle.game_text.specs.Games.{GameFile}
-use Rattle.agent_gate.specs.{Dialect, SessionState, Item, Asks, Overlong, IsItem, AreItems, Turn, Called, CallDenied, CashRead, CashDenied, Quoted, Refused, Skipped, Left, item_of, said_of, is_leaving, has_left, AreLawful, Session, reply_line, IsServed, IsSession, HasSessionCause, lines_of, welcome_text, cause_without_line, Says, HasTurn, count_whole}
 use Rattle.agent_gate.proofs.TurnEnds.{standing}
 use Rattle.agent_gate.proofs.WholeTexts.{session_text, EndsFor, ends_by}
 use Rattle.agent_gate.proofs.LawfulTurns.{lawful_more, has_left-more, none_lawful, zip_more}

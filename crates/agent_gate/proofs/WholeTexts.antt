@@ -1,18 +1,13 @@
 -- A session's end, said of its text as a whole and of its last turn: the same as by its pieces, for all sessions.
-use Rattle.std.proofs.Common.{◌≡◌, ℕ, ◌-◌, List, [], ◌∷◌, ◌++◌, map, length, true, refl, sym, ap, ◌∙◌, subst, arith, inl, inr, length-append}
-use Rattle.std.specs.Prelude.{◌⊎◌}
-use Rattle.std.specs.List.{concat, flat_map}
+use Rattle.std.proofs.Common.{◌≡◌, ℕ, ◌-◌, List, [], ◌∷◌, ◌++◌, map, length, true, refl, sym, ap, ◌∙◌, subst, arith, inl, inr, length-append, ◌⊎◌, flat_map}
+use Rattle.std.specs.List.{concat}
 use Rattle.std.proofs.lemmas.List.{map-append}
 use Rattle.std.proofs.lemmas.List.Concat.{concat_is}
 use Rattle.std.proofs.lemmas.List.Folds.{flat_map-map}
-use Rattle.tac_io.specs.LinkCalls.{LastWriteFails, NoWriteFails}
-use Rattle.tac_io.specs.Known.{known_then, IsAtEnd, TakesSome}
+use Rattle.agent_gate.specs.{LastWriteFails, NoWriteFails, known_then, IsAtEnd, TakesSome, Said, Cause, HasSessionCause, Session, reply_line, SendsAll, IsCutOff, ComesTo, IsUsedUp, EndsBy, lines_of, Turn, has_left}
 use Rattle.tac_io.specs.declared.line_got.LineGot.TheVariants as gots
 use Rattle.tac_io.proofs.KnownPieces.{known_then-nothing}
-use Rattle.line_protocol.specs.declared.saying.Said.{Said}
-use Rattle.line_protocol.specs.declared.admission.Cause.{Cause}
 use Rattle.line_protocol.specs.declared.admission.Cause.TheVariants as causes
-use Rattle.agent_gate.specs.{HasSessionCause, Session, reply_line, SendsAll, IsCutOff, ComesTo, IsUsedUp, EndsBy, lines_of, Turn, has_left}
 
 -- ---- the text as a whole
 

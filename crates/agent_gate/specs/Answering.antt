@@ -1,16 +1,9 @@
 -- What a turn does with the agent's desk.
 use Rattle.std.specs.Prelude.{⊤, ◌≡◌, ℕ, ◌<◌, ◌≤◌, [], ◌∷◌, ◌++◌, length, Some}
-use Rattle.tac_base.specs.declared.limits.TheConstants.{AGENT_CALLS, CASH_READINGS, GOODS}
-use Rattle.tac_base.specs.declared.calls.Call.{Call}
-use Rattle.line_protocol.specs.declared.saying.Said.{Said}
+use Rattle.agent_gate.specs.Prelude.{AGENT_CALLS, CASH_READINGS, GOODS, Call, Said, Desk, Outcome, CashOutcome, desk_caller, entries_at, desk_cash, boards_at, seen_at, count_readings}
 use Rattle.line_protocol.specs.declared.saying.Said.TheVariants as said
-use Rattle.floor.specs.declared.desk.Desk.{Desk}
-use Rattle.floor.specs.declared.outcomes.Outcome.{Outcome}
 use Rattle.floor.specs.declared.outcomes.Outcome.TheVariants as outcomes
-use Rattle.floor.specs.declared.outcomes.CashOutcome.{CashOutcome}
 use Rattle.floor.specs.declared.outcomes.CashOutcome.TheVariants as cash_outcomes
-use Rattle.floor.specs.Desks.{desk_caller, entries_at, desk_cash, boards_at, seen_at}
-use Rattle.floor.specs.Keeping.{count_readings}
 use Rattle.agent_gate.specs.Items.{Item}
 use Rattle.agent_gate.specs.Turns.{Turn, Called, CallDenied, CashRead, CashDenied, Quoted, Refused, Skipped, Left, asked_call, item_of, said_of, made_at, cash_by, boards_shown, shown_length}
 

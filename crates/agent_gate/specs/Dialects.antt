@@ -1,8 +1,6 @@
 -- The form of an agent's lines.
 use Rattle.std.specs.Prelude.{ℕ, List, Result}
-use Rattle.line_protocol.specs.declared.asking.Request.{Request}
-use Rattle.line_protocol.specs.declared.asking.RequestFault.{RequestFault}
-use Rattle.line_protocol.specs.declared.saying.Said.{Said}
+use Rattle.agent_gate.specs.Prelude.{Request, RequestFault, Said}
 
 -- what a line may be read as, and the text of each reply
 pub record Dialect : Type 1 where

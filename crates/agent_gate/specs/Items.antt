@@ -1,9 +1,7 @@
 -- What a link asks: an item for each of its lines.
 use Rattle.std.specs.Prelude.{⊤, ℕ, List, Result}
 use Rattle.std.specs.List.{AllZip}
-use Rattle.line_protocol.specs.declared.asking.Request.{Request}
-use Rattle.line_protocol.specs.declared.asking.RequestFault.{RequestFault}
-use Rattle.tac_io.specs.declared.line_got.LineGot.{LineGot}
+use Rattle.agent_gate.specs.Prelude.{Request, RequestFault, LineGot}
 use Rattle.tac_io.specs.declared.line_got.LineGot.TheVariants.{Line, TooLong}
 
 -- a request or its fault, or a line that is too long

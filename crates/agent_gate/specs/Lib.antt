@@ -1,3 +1,4 @@
+pub mod Prelude
 pub mod Gates
 pub mod Items
 pub mod Turns
@@ -13,6 +14,7 @@ pub use Rattle.agent_gate.specs.Turns.{AreLawful, CallDenied, Called, CashDenied
 pub use Rattle.agent_gate.specs.Dialects.{Dialect}
 pub use Rattle.agent_gate.specs.Served.{ComesTo, EndsBy, IsCutOff, IsServed, IsUsedUp, SendsAll, Session, reply_line}
 pub use Rattle.agent_gate.specs.Sessions.{AreMadeBy, EndedSession, IsSession, ended_session, lines_of}
-pub use Rattle.agent_gate.specs.Welcome.{welcome_text}
+pub use Rattle.agent_gate.specs.Welcome.{welcome_text, MovesOn}
 pub use Rattle.agent_gate.specs.Answering.{IsDueTurn, IsMade, TakesTurn, said_of_outcome, said_of_reading}
 pub use Rattle.agent_gate.specs.Turning.{HasSessionCause, HasTurn, HasTurnCause, IsTurned, Says, SessionState, TakesNext, cause_without_line, count_whole, session_state}
+pub use Rattle.agent_gate.specs.Prelude.{Answers, Board, Bye, Call, CashEntry, CashOutcome, Cause, Desk, Entry, FailsByWrite, GameFile, GaveBytes, Held, IsAtEnd, IsCashOutcome, IsNext, IsOutcome, IsSameDesk, IsSeen, KeepsPlace, LastWriteFails, LineGot, LinkPlace, LinkState, NoReadFails, NoWriteFails, OnlySends, Outcome, ReadsNothing, Request, RequestFault, Said, TakesSome, answers_left, boards_at, boards_of, count_readings, desk_caller, desk_cash, desk_entries, desk_ids, entries_at, floor_ids, goes_on, is_post, known_then, last_of, lines_of_agent, link_of, post_for, seen_at, seen_of, text_of, then_known}

@@ -1,14 +1,8 @@
 -- How a link's lines are answered, and why its session ends.
 use Rattle.std.specs.Prelude.{◌≡◌, ℕ, ◌<◌, ◌≤◌, ◌⊎◌, List, [], ◌∷◌, ◌++◌, true, false, length, map}
 use Rattle.std.specs.List.{concat}
-use Rattle.tac_base.specs.declared.limits.TheConstants.{SESSION_LINES}
-use Rattle.tac_io.specs.LinkCalls.{LastReadFails, LastWriteFails, NoReadFails, NoWriteFails}
-use Rattle.tac_io.specs.States.{LinkState}
-use Rattle.tac_io.specs.Known.{known_then, IsAtEnd, TakesSome}
-use Rattle.tac_io.specs.declared.line_got.LineGot.{LineGot}
+use Rattle.agent_gate.specs.Prelude.{SESSION_LINES, LastReadFails, LastWriteFails, NoReadFails, NoWriteFails, LinkState, known_then, IsAtEnd, TakesSome, LineGot, Said, Cause}
 use Rattle.tac_io.specs.declared.line_got.LineGot.TheVariants as gots
-use Rattle.line_protocol.specs.declared.saying.Said.{Said}
-use Rattle.line_protocol.specs.declared.admission.Cause.{Cause}
 use Rattle.line_protocol.specs.declared.admission.Cause.TheVariants as causes
 use Rattle.agent_gate.specs.Dialects.{Dialect}
 use Rattle.agent_gate.specs.Items.{AreItems}

@@ -1,17 +1,8 @@
 -- What a session leaves of a link and of a desk.
 use Rattle.std.specs.Prelude.{◌≡◌, ℕ, ◌-◌, ◌<◌, List, ◌++◌, length, map}
-use Rattle.tac_base.specs.declared.limits.TheConstants.{GOODS}
-use Rattle.game_text.specs.Games.{GameFile}
+use Rattle.agent_gate.specs.Prelude.{GOODS, GameFile, answers_left, GaveBytes, LinkState, LineGot, Cause, Desk, desk_caller, desk_entries, desk_cash, boards_at, IsSameDesk}
 use Rattle.auction_core.specs.ClosedGame.{all_goods}
-use Rattle.tac_io.specs.AnswersInTurn.{answers_left}
-use Rattle.tac_io.specs.LinkCalls.{GaveBytes}
-use Rattle.tac_io.specs.States.{LinkState}
-use Rattle.tac_io.specs.declared.line_got.LineGot.{LineGot}
-use Rattle.line_protocol.specs.declared.admission.Cause.{Cause}
 use Rattle.line_protocol.specs.declared.admission.Cause.TheVariants.{WriteFault}
-use Rattle.floor.specs.declared.desk.Desk.{Desk}
-use Rattle.floor.specs.Desks.{desk_caller, desk_entries, desk_cash, boards_at}
-use Rattle.floor.specs.Answers.{IsSameDesk}
 use Rattle.agent_gate.specs.Dialects.{Dialect}
 use Rattle.agent_gate.specs.Turns.{Turn, made_at, cash_made, boards_shown}
 use Rattle.agent_gate.specs.Welcome.{welcome_text}

@@ -1,20 +1,9 @@
 -- One turn of a session: a line is read, answered, and its reply is sent.
 use Rattle.std.specs.Prelude.{◌≡◌, ◌≢◌, ℕ, ◌+◌, ◌≤◌, ◌∷◌, [], ◌++◌, Result, Ok, Err, Option, Some, None}
-use Rattle.tac_base.specs.declared.limits.TheConstants.{LINK_BYTES}
-use Rattle.tac_io.specs.HeldBytes.{LinkPlace}
-use Rattle.tac_io.specs.LineAnswers.{Answers}
-use Rattle.tac_io.specs.LinkCalls.{LastReadFails, LastWriteFails, NoReadFails, NoWriteFails}
-use Rattle.tac_io.specs.Lines.{link_place}
-use Rattle.tac_io.specs.States.{LinkState}
-use Rattle.tac_io.specs.Known.{known_then, TakesSome}
-use Rattle.tac_io.specs.declared.line_got.LineGot.{LineGot}
+use Rattle.agent_gate.specs.Prelude.{LINK_BYTES, LinkPlace, Answers, LastReadFails, LastWriteFails, NoReadFails, NoWriteFails, link_place, LinkState, known_then, TakesSome, LineGot, Said, Bye, Cause, Desk}
 use Rattle.tac_io.specs.declared.line_got.LineGot.TheVariants as gots
 use Rattle.tac_io.specs.declared.lines.Lines.{Lines}
-use Rattle.line_protocol.specs.declared.saying.Said.{Said}
-use Rattle.line_protocol.specs.declared.saying.Said.TheVariants.{Bye}
-use Rattle.line_protocol.specs.declared.admission.Cause.{Cause}
 use Rattle.line_protocol.specs.declared.admission.Cause.TheVariants as causes
-use Rattle.floor.specs.declared.desk.Desk.{Desk}
 use Rattle.agent_gate.specs.Dialects.{Dialect}
 use Rattle.agent_gate.specs.Items.{IsItem}
 use Rattle.agent_gate.specs.Answering.{TakesTurn}

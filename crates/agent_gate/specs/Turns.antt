@@ -1,19 +1,11 @@
 -- The turns of a session: each is an item with its answer, and with what it left in the auctions and in the cash history.
-use Rattle.std.specs.Prelude.{⊤, ◌≡◌, ℕ, ◌+◌, ◌<◌, ◌≤◌, ◌==◌, if◌then◌else◌, List, [], ◌∷◌, Bool, true, false, ℤ, Option, Some, None, Ok, Err, All, length, map, take, slice_get}
-use Rattle.std.specs.List.{filter_map, flat_map, count_by, list_any}
-use Rattle.tac_base.specs.declared.limits.TheConstants.{AGENT_CALLS, CASH_READINGS, GOODS}
-use Rattle.tac_base.specs.declared.calls.Board.{Board}
-use Rattle.tac_base.specs.declared.calls.Call.{Call}
+use Rattle.std.specs.Prelude.{⊤, ◌≡◌, ℕ, ◌+◌, ◌<◌, ◌≤◌, ◌==◌, if◌then◌else◌, List, [], ◌∷◌, Bool, true, false, ℤ, Option, Some, None, Ok, Err, All, length, map, take, slice_get, filter_map, flat_map, count_by}
+use Rattle.std.specs.List.{list_any}
+use Rattle.agent_gate.specs.Prelude.{AGENT_CALLS, CASH_READINGS, GOODS, Board, Call, Entry, CashEntry, due_post, Request, RequestFault, Said}
 use Rattle.tac_base.specs.declared.calls.Call.TheVariants as calls
-use Rattle.auction_rules.specs.History.{Entry}
 use Rattle.trade_ledger.specs.declared.cash_calls.CashCall.TheVariants as cash_calls
 use Rattle.trade_ledger.specs.declared.cash_calls.CashReply.TheVariants as cash_replies
-use Rattle.trade_ledger.specs.declared.cash_calls.CashEntry.{CashEntry}
-use Rattle.trade_ledger.specs.Posts.{due_post}
-use Rattle.line_protocol.specs.declared.asking.Request.{Request}
 use Rattle.line_protocol.specs.declared.asking.Request.TheVariants as requests
-use Rattle.line_protocol.specs.declared.asking.RequestFault.{RequestFault}
-use Rattle.line_protocol.specs.declared.saying.Said.{Said}
 use Rattle.line_protocol.specs.declared.saying.Said.TheVariants as said
 use Rattle.agent_gate.specs.Items.{Item, Asks, Overlong}
 

@@ -1,10 +1,6 @@
 -- What a seated link is sent first.
 use Rattle.std.specs.Prelude.{◌≡◌, ℕ, ◌++◌, List, ◌∷◌, codes, decimal}
-use Rattle.text_forms.specs.Lines.{text_of}
-use Rattle.tac_io.specs.States.{LinkState}
-use Rattle.tac_io.specs.Known.{known_then}
-use Rattle.game_text.specs.Games.{GameFile}
-use Rattle.game_text.specs.OneAgent.{lines_of_agent}
+use Rattle.agent_gate.specs.Prelude.{text_of, LinkState, known_then, GameFile, lines_of_agent}
 
 -- the agent, what it has at first, and its eight clients
 abbrev pub welcome_lines : GameFile → ℕ → List (List ℕ)

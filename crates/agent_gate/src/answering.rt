@@ -1,10 +1,7 @@
 // A request is answered by the agent's desk.
 ghost use Rattle.std.specs.Prelude.{◌≡◌, ◌<◌, Ok};
-ghost use Rattle.floor.specs.Answers.{IsSameDesk};
-ghost use Rattle.floor.specs.Desks.{desk_ids, desk_caller};
-ghost use Rattle.floor.specs.Floors.{floor_ids};
+ghost use Rattle.agent_gate.specs.{IsSameDesk, desk_ids, desk_caller, floor_ids, Asks, IsItem, TakesTurn, said_of_outcome, said_of_reading};
 ghost use Rattle.tac_io.specs.declared.line_got.LineGot.TheVariants as gots;
-ghost use Rattle.agent_gate.specs.{Asks, IsItem, TakesTurn, said_of_outcome, said_of_reading};
 
 use crate::dialect::Dialect;
 use floor::{CashOutcome, Desk, Floor, Outcome};

@@ -1,6 +1,5 @@
 // Who may play as which agent.
-ghost use Rattle.std.specs.Prelude.{◌≡◌, ◌≢◌, ◌<◌, IfSome, false, length, position, replicate};
-ghost use Rattle.std.specs.Str.{bytes_eq};
+ghost use Rattle.std.specs.Prelude.{◌≡◌, ◌≢◌, ◌<◌, IfSome, false, length, position, replicate, bytes_eq};
 ghost use Rattle.agent_gate.specs.Gates as gates;
 
 use game_text::{Game, SeatWord};

@@ -1,10 +1,7 @@
 // The session of a seated link.
 ghost use Rattle.std.specs.Prelude.{◌≡◌, ◌<◌, [], true, replicate};
-ghost use Rattle.floor.specs.Desks.{desk_ids, desk_caller, desk_entries, desk_cash};
-ghost use Rattle.floor.specs.Floors.{floor_ids};
-ghost use Rattle.tac_io.specs.LineAnswers.{goes_on};
-ghost use Rattle.tac_io.specs.Lines.{last_of};
 ghost use Rattle.agent_gate.specs.{IsSession, count_whole, ended_session, session_state};
+ghost use Rattle.agent_gate.specs.Prelude.{desk_ids, desk_caller, desk_entries, desk_cash, floor_ids, goes_on, last_of};
 
 use crate::dialect::Dialect;
 use crate::turns::turn;

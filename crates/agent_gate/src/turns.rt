@@ -1,12 +1,6 @@
 // One turn of a session.
 ghost use Rattle.std.specs.Prelude.{◌≡◌, ◌<◌, ◌∷◌, [], ◌++◌, true, OnOk};
-ghost use Rattle.floor.specs.Answers.{IsSameDesk};
-ghost use Rattle.floor.specs.Desks.{desk_ids, desk_caller};
-ghost use Rattle.floor.specs.Floors.{floor_ids};
-ghost use Rattle.tac_io.specs.LineAnswers.{goes_on};
-ghost use Rattle.tac_io.specs.Lines.{KeepsPlace, last_of, link_of};
-ghost use Rattle.tac_io.specs.LinkCalls.{OnlySends};
-ghost use Rattle.agent_gate.specs.{TakesNext, HasTurn, HasTurnCause, session_state};
+ghost use Rattle.agent_gate.specs.{IsSameDesk, desk_ids, desk_caller, floor_ids, goes_on, KeepsPlace, last_of, link_of, OnlySends, TakesNext, HasTurn, HasTurnCause, session_state};
 
 use crate::answering::answer_line;
 use crate::dialect::Dialect;

@@ -1,9 +1,6 @@
 // What a seated link is sent first.
 ghost use Rattle.std.specs.Prelude.{◌≤◌, OnOk, OnErr, length};
-ghost use Rattle.tac_io.specs.Lines.{KeepsPlace, link_of};
-ghost use Rattle.tac_io.specs.LinkCalls.{FailsByWrite, OnlySends, ReadsNothing};
-ghost use Rattle.tac_io.specs.Known.{TakesSome};
-ghost use Rattle.agent_gate.specs.Welcome.{MovesOn, welcome_text};
+ghost use Rattle.agent_gate.specs.{KeepsPlace, link_of, FailsByWrite, OnlySends, ReadsNothing, TakesSome, MovesOn, welcome_text};
 
 use game_text::{Game, print_agent_line};
 use tac_base::{Agent, Text, print_numeral};

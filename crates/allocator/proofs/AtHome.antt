@@ -1,14 +1,8 @@
 -- Eight clients that stay at home, from which the search begins.
-use Rattle.std.proofs.Common.{get_or, ◌≡◌, ℕ, zero, suc, ◌<◌, true, List, [], ◌∷◌, refl, arith}
-use Rattle.std.proofs.Math.ListN.{replicate}
+use Rattle.std.proofs.Common.{get_or, ◌≡◌, ℕ, zero, suc, ◌<◌, true, List, [], ◌∷◌, refl, arith, replicate}
 use Rattle.std.proofs.lemmas.List.Sums.{AllPass-from_list_all}
-use Rattle.tac_base.specs.Clients.{Preferences}
-use Rattle.packages.specs.declared.travel_packages.Package.{Package}
+use Rattle.allocator.specs.{Preferences, Package, is_package, total_of, AccountFile, IsReached}
 use Rattle.packages.specs.declared.travel_packages.Package.TheVariants as kinds
-use Rattle.packages.specs.Packages.{is_package}
-use Rattle.packages.specs.BestTotal.{total_of}
-use Rattle.allocator.specs.Searching.{IsReached}
-use Rattle.game_text.specs.Accounts.{AccountFile}
 
 -- packages of clients that stay at home are worth nothing
 worthless : (n : ℕ) (clients : List Preferences) → total_of clients (replicate n kinds.None) ≡ 0

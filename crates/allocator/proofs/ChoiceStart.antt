@@ -1,8 +1,6 @@
 -- Where nothing is fixed, everything is left.
 use Rattle.std.proofs.Common.{◌≡◌, ℕ, zero, suc, true, refl}
-use Rattle.packages.specs.declared.travel_packages.Package.{Package}
-use Rattle.bound_cert.specs.Certificate.{all_left}
-use Rattle.dual_bound.specs.Choices.{has_fixed, chosen, nothing_fixed}
+use Rattle.allocator.specs.Prelude.{Package, all_left, has_fixed, chosen, nothing_fixed}
 
 left_at : (k : ℕ) (p : Package) → chosen nothing_fixed k p ≡ true
 unfolding has_fixed

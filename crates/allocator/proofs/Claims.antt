@@ -2,11 +2,7 @@
 use Rattle.std.proofs.Common.{◌≡◌, ℕ, ◌+◌, ◌≤◌, ℤ, true, Option, Some, None, eqb, refl, arith}
 use Rattle.std.proofs.lemmas.Int.{ints}
 use Rattle.std.proofs.lemmas.Bool.{and_parts, and_from}
-use Rattle.game_text.specs.Accounts.{AccountFile}
-use Rattle.packages.specs.Bounds.{Narrowing, leaf_bound}
-use Rattle.packages.specs.Features.{narrowed, values_of}
-use Rattle.bound_cert.specs.Trees.{Tree, leaf, split, Trees, no_trees, more, tree_count}
-use Rattle.bound_cert.specs.Certificate.{holds, all_hold, is_within}
+use Rattle.allocator.specs.Prelude.{AccountFile, Narrowing, leaf_bound, narrowed, values_of, Tree, leaf, split, Trees, no_trees, more, tree_count, holds, all_hold, is_within}
 
 within_more : (bound : Option ℤ) (a b : ℕ) → is_within bound a ≡ true → a ≤ b → is_within bound b ≡ true
 within_more None a b h le = refl

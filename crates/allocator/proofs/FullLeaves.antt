@@ -1,28 +1,14 @@
 -- Where every feature is fixed, the scarcity prices leave no more than the packages' worth.
-use Rattle.std.proofs.Common.{◌≡◌, ℕ, zero, suc, ◌+◌, ◌*◌, ◌<◌, ◌≤◌, ◌⊎◌, ◌&&◌, ℤ, pos, ◌+ℤ◌, ◌-ℤ◌, ◌≤ℤ◌, Bool, true, false, cond, List, [], ◌∷◌, Option, Some, None, is_some, map, length, get_or, leb, int_le, inl, inr, refl, sym, ap, subst, ◌∙◌, arith}
-use Rattle.std.specs.List.{filter, slice_get}
+use Rattle.std.proofs.Common.{◌≡◌, ℕ, zero, suc, ◌+◌, ◌*◌, ◌<◌, ◌≤◌, ◌⊎◌, ◌&&◌, ℤ, pos, ◌+ℤ◌, ◌-ℤ◌, ◌≤ℤ◌, Bool, true, false, cond, List, [], ◌∷◌, Option, Some, None, is_some, map, length, get_or, leb, int_le, inl, inr, refl, sym, ap, subst, ◌∙◌, arith, filter, slice_get, mul-le-mul_left}
 use Rattle.std.proofs.lemmas.Int.{ints}
-use Rattle.std.proofs.Math.Nat.{mul-le-mul_left}
 use Rattle.std.proofs.lemmas.Bool.{cases_lt, and_parts}
 use Rattle.std.proofs.lemmas.Bool.Decides.{nat_tests}
-use Rattle.tac_base.specs.Clients.{Preferences}
-use Rattle.game_text.specs.Accounts.{AccountFile, IsAccount}
-use Rattle.packages.specs.Stocks.{stock_of}
-use Rattle.packages.specs.declared.travel_packages.Package.{Package}
+use Rattle.allocator.specs.{Preferences, AccountFile, IsAccount, stock_of, Package, is_package, utility_of, packages, feature_of, rank_of, total_of, used_by, Narrowing, sum_below, cost_of, stock_value, margin_of, greatest, plus, best_margin, margins, leaf_bound, is_within, fits, has_fixed, chosen, IsFull, ArePackagesLeft, IsOut}
 use Rattle.packages.specs.declared.travel_packages.Package.TheVariants as kinds
-use Rattle.packages.specs.Packages.{is_package, utility_of}
-use Rattle.packages.specs.Listing.{packages}
-use Rattle.packages.specs.Features.{feature_of, rank_of}
-use Rattle.packages.specs.BestTotal.{total_of, used_by}
-use Rattle.packages.specs.Bounds.{Narrowing, sum_below, cost_of, stock_value, margin_of, greatest, plus, best_margin, margins, leaf_bound}
 use Rattle.packages.proofs.Found.{package_lawful, ranges_of, three_of}
-use Rattle.bound_cert.specs.Certificate.{is_within}
 use Rattle.bound_cert.proofs.Duality.{all_cost, cost_together, sum_below_le}
 use Rattle.allocator.specs.Scarcity.{scarcity_price}
 use Rattle.dual_bound.proofs.Greatest.{greatest_at_most, parts_of}
-use Rattle.dual_bound.specs.Choices.{fits, has_fixed, chosen}
-use Rattle.relaxation.specs.Splits.{IsFull}
-use Rattle.allocator.specs.Searching.{ArePackagesLeft, IsOut}
 
 -- packages with the same features are the same
 same_trip : (hotel arrive depart : ℕ) (nights : List ℕ) (hotel' arrive' depart' : ℕ) (nights' : List ℕ)

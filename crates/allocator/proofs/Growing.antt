@@ -4,15 +4,9 @@ use Rattle.std.proofs.lemmas.Bool.{and_parts, and_from}
 use Rattle.std.proofs.lemmas.Bool.Decides.{nat_tests}
 use Rattle.std.proofs.lemmas.List.Sums.{list_all-from_AllPass}
 use Rattle.std.specs.List.{list_all}
-use Rattle.packages.specs.Prices.{ArePrices}
+use Rattle.allocator.specs.Prelude.{ArePrices, AccountFile, Narrowing, narrowed, values_of, leaf, tree_count, are_prices, is_tree, are_trees, tree_of, forest_of, holds, all_hold}
 use Rattle.bound_cert.proofs.Views.{tree_of-Split, tree_count-forest_of}
-use Rattle.game_text.specs.Accounts.{AccountFile}
-use Rattle.packages.specs.Bounds.{Narrowing}
-use Rattle.packages.specs.Features.{narrowed, values_of}
 use Rattle.bound_cert.specs.declared.trees.CertNode.{CertNode, Split}
-use Rattle.bound_cert.specs.Trees.{leaf, tree_count, are_prices, is_tree, are_trees}
-use Rattle.bound_cert.specs.Views.{tree_of, forest_of}
-use Rattle.bound_cert.specs.Certificate.{holds, all_hold}
 
 -- one more child, for the next value
 pub all_hold-push : (account : AccountFile) (claim : ℕ) (left : Narrowing) (client feature first value : ℕ) (nodes : List CertNode) (node : CertNode) → all_hold account claim left client feature first (forest_of nodes) ≡ true

@@ -1,8 +1,6 @@
 -- Prices that keep clients from what is used up; for private clauses.
 use Rattle.std.specs.Prelude.{ℕ, List, nat_le, if◌then◌else◌}
-use Rattle.tac_base.specs.declared.limits.TheConstants.{DUAL_PRICE}
-use Rattle.packages.specs.declared.travel_packages.Package.{Package}
-use Rattle.packages.specs.BestTotal.{used_by}
+use Rattle.allocator.specs.Prelude.{DUAL_PRICE, Package, used_by}
 
 -- a good of which nothing is left has the greatest price, and every other good none
 abbrev pub scarcity_price : (ℕ → ℕ) → List Package → ℕ → ℕ

@@ -1,12 +1,7 @@
 -- What the search keeps; for private clauses.
 use Rattle.std.specs.Prelude.{◌≡◌, ℕ, ◌<◌, true, false, List, Some, slice_get, slice_index_or}
-use Rattle.game_text.specs.Accounts.{AccountFile}
-use Rattle.packages.specs.declared.travel_packages.Package.{Package}
+use Rattle.allocator.specs.Prelude.{AccountFile, Package, is_package, packages, Narrowing, IsFeasible, total_of}
 use Rattle.packages.specs.declared.travel_packages.Package.TheVariants as kinds
-use Rattle.packages.specs.Packages.{is_package}
-use Rattle.packages.specs.Listing.{packages}
-use Rattle.packages.specs.Bounds.{Narrowing}
-use Rattle.packages.specs.BestTotal.{IsFeasible, total_of}
 
 -- a feasible allocation and what it is worth
 pub record IsReached (account : AccountFile) (allocation : List Package) (total : ℕ) : Type 0 where

@@ -1,12 +1,9 @@
 -- The text of a best allocation with its certificate.
 use Rattle.std.specs.Prelude.{ℕ, List, [], ◌∷◌, ◌++◌, pos, length, codes, decimal, slice_index}
-use Rattle.text_forms.specs.Lines.{text_of}
+use Rattle.allocator.specs.Prelude.{text_of, Package, tree_lines, Tree}
 use Rattle.text_forms.specs.Rows.{row_text}
 use Rattle.text_forms.specs.Steps.{lines_of_parts, one_line}
-use Rattle.packages.specs.declared.travel_packages.Package.{Package}
 use Rattle.packages.specs.declared.travel_packages.Package.TheVariants.{None, Trip}
-use Rattle.bound_cert.specs.Texts.{tree_lines}
-use Rattle.bound_cert.specs.Trees.{Tree}
 
 -- total N
 abbrev pub total_text : ℕ → List ℕ

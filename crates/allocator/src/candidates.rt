@@ -1,9 +1,6 @@
 // Allocations of packages that a choice leaves.
-ghost use Rattle.std.specs.Prelude.{◌≡◌, ℕ, ◌<◌, true, length, IfSome, IfNone};
-ghost use Rattle.std.specs.List.{All};
-ghost use Rattle.packages.specs.Packages.{IsPackage};
-ghost use Rattle.dual_bound.specs.Choices.{chosen};
-ghost use Rattle.allocator.specs.Searching.{IsOut, ArePackagesLeft};
+ghost use Rattle.std.specs.Prelude.{◌≡◌, ℕ, ◌<◌, true, length, IfSome, IfNone, All};
+ghost use Rattle.allocator.specs.{IsPackage, chosen, IsOut, ArePackagesLeft};
 
 use crate::scarcity::scarcity_prices;
 use dual_bound::Choice;

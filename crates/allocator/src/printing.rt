@@ -1,9 +1,7 @@
 // The text of a best allocation with its certificate.
 ghost use Rattle.std.specs.Prelude.{◌≡◌, ◌++◌, ◌∷◌, [], OnOk, IfOk, decimal};
-ghost use Rattle.text_forms.specs.Lines.{text_of};
+ghost use Rattle.allocator.specs.Prelude.{text_of, tree_lines, tree_of};
 ghost use Rattle.packages.specs.declared.travel_packages.Package.TheVariants as Package;
-ghost use Rattle.bound_cert.specs.Texts.{tree_lines};
-ghost use Rattle.bound_cert.specs.Views.{tree_of};
 ghost use Rattle.allocator.specs.SolvedTexts as texts;
 
 use bound_cert::{Cert, Solved, print_cert};

@@ -1,9 +1,6 @@
 // Prices that keep clients from what is used up.
-ghost use Rattle.std.specs.Prelude.{◌≡◌, ℕ, ◌<◌, ◌≤◌, slice_index};
-ghost use Rattle.std.specs.List.{All};
-ghost use Rattle.packages.specs.Packages.{IsPackage};
-ghost use Rattle.packages.specs.Prices.{ArePrices};
-ghost use Rattle.packages.specs.Stocks.{stock_of};
+ghost use Rattle.std.specs.Prelude.{◌≡◌, ℕ, ◌<◌, ◌≤◌, slice_index, All};
+ghost use Rattle.allocator.specs.Prelude.{IsPackage, ArePrices, stock_of};
 ghost use Rattle.allocator.specs.Scarcity.{scarcity_price};
 
 use game_text::Account;

@@ -1,20 +1,7 @@
 // The search for the best allocation, which leaves a certificate behind it.
-ghost use Rattle.std.specs.Prelude.{◌≡◌, ℕ, ◌+◌, ◌-◌, ◌<◌, ◌≤◌, ◌⊎◌, true, length, IfOk, IfSome, IfNone, None};
-ghost use Rattle.std.specs.List.{All};
-ghost use Rattle.tac_base.specs.declared.limits.TheConstants.{CERTIFICATE_DEPTH, BEST_TOTAL};
-ghost use Rattle.packages.specs.Packages.{IsPackage};
-ghost use Rattle.packages.specs.Bounds.{leaf_bound, stock_value};
-ghost use Rattle.packages.specs.BestTotal.{total_of, used_by};
-ghost use Rattle.packages.specs.Prices.{ArePrices};
-ghost use Rattle.packages.specs.Stocks.{stock_of};
+ghost use Rattle.std.specs.Prelude.{◌≡◌, ℕ, ◌+◌, ◌-◌, ◌<◌, ◌≤◌, ◌⊎◌, true, length, IfOk, IfSome, IfNone, None, All};
+ghost use Rattle.allocator.specs.{CERTIFICATE_DEPTH, BEST_TOTAL, IsPackage, leaf_bound, stock_value, total_of, used_by, ArePrices, stock_of, is_tree, tree_of, fixed_at, IsFull, chosen, fixed_count, IsCeiling, holds, is_within, IsReached};
 ghost use Rattle.bound_cert.specs.Trees as trees;
-ghost use Rattle.bound_cert.specs.Trees.{is_tree};
-ghost use Rattle.bound_cert.specs.Views.{tree_of};
-ghost use Rattle.relaxation.specs.Splits.{fixed_at, IsFull};
-ghost use Rattle.dual_bound.specs.Choices.{chosen, fixed_count};
-ghost use Rattle.dual_bound.specs.Ceilings.{IsCeiling};
-ghost use Rattle.bound_cert.specs.Certificate.{holds, is_within};
-ghost use Rattle.allocator.specs.Searching.{IsReached};
 
 use crate::candidates::{better_choice, first_choice};
 use crate::scarcity::scarcity_prices;
@@ -133,7 +120,7 @@ fn offer(account: &Account, chosen: &[Package; 8], best: &mut Found)
 
 /// Offers the packages that the relaxation gives whole, and where it leaves some out and is worth more than the best, a greedy improvement of
 /// them.
-fn offer_left(account: &Account, relaxation: &Relaxation, best: &mut Found)
+fn offer_packages(account: &Account, relaxation: &Relaxation, best: &mut Found)
     requires reached { IsReached account.now best.old.allocation best.old.total }
     ensures reached { IsReached account.now best.new.allocation best.new.total }
     ensures grows { best.old.total ≤ best.new.total }
@@ -156,7 +143,7 @@ fn dive(account: &Account, relaxation: &Relaxation, best: &mut Found)
         if !left.decide(best.total) {
             return;
         }
-        offer_left(account, &left, best);
+        offer_packages(account, &left, best);
     }
 }
 
@@ -166,7 +153,7 @@ pub(crate) fn offer_near(level: u8, account: &Account, relaxation: &Relaxation, 
     ensures reached { IsReached account.now best.new.allocation best.new.total }
     ensures grows { best.old.total ≤ best.new.total }
 {
-    offer_left(account, relaxation, best);
+    offer_packages(account, relaxation, best);
     if level < DIVE_LEVELS && relaxation.is_worth_more(best.total) {
         dive(account, relaxation, best);
     }

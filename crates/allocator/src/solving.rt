@@ -1,12 +1,6 @@
 // The best allocation of an account.
 ghost use Rattle.std.specs.Prelude.{◌≡◌, true, IfOk, IsTrue};
-ghost use Rattle.tac_base.specs.declared.limits.TheConstants.{CERTIFICATE_DEPTH};
-ghost use Rattle.packages.specs.BestTotal.{IsBest, IsFeasible, total_of};
-ghost use Rattle.bound_cert.specs.Trees.{is_tree};
-ghost use Rattle.bound_cert.specs.Views.{tree_of};
-ghost use Rattle.bound_cert.specs.Certificate.{holds, all_left};
-ghost use Rattle.dual_bound.specs.Ceilings.{IsCeiling};
-ghost use Rattle.allocator.specs.Searching.{IsReached};
+ghost use Rattle.allocator.specs.{CERTIFICATE_DEPTH, IsBest, IsFeasible, total_of, is_tree, tree_of, holds, all_left, IsCeiling, IsReached};
 
 use crate::searching::{Attempt, Found, Search, Stop, explore, leaf, offer_near};
 use crate::symmetry::Hint;

@@ -1,20 +1,12 @@
 -- Who calls, and the answer to an agent's reading.
 use Rattle.std.proofs.Common.{◌≡◌, ℕ, ◌≤◌, ◌==◌, Bool, true, false, cond, List, [], ◌∷◌, ap, ◌∙◌, arith, ℤ, pos, get_or, Some, None}
 use Rattle.std.proofs.lemmas.Bool.Decides.{nat_tests}
-use Rattle.tac_base.specs.declared.bids.Point.{Point}
-use Rattle.tac_base.specs.declared.calls.Reply.{Reply}
-use Rattle.tac_base.specs.declared.calls.Trade.{Trade}
+use Rattle.auction_core.specs.{Point, Reply, Trade, Setup, holding, left, entry_of, Follows, held_by}
 use Rattle.tac_base.specs.declared.calls.Reply.TheVariants.{Own}
 use Rattle.tac_base.specs.declared.calls.Call.TheVariants.{Own as OwnCall}
-use Rattle.auction_rules.specs.Setup.{Setup}
 use Rattle.auction_rules.specs.History.{Entry}
-use Rattle.auction_rules.specs.Effects.{holding}
-use Rattle.auction_rules.specs.Standing.{left}
-use Rattle.auction_rules.specs.Legal.{entry_of}
-use Rattle.auction_rules.specs.Follows.{Follows}
 use Rattle.auction_rules.proofs.Idle.{own_follows}
 use Rattle.trade_ledger.proofs.Trading.{get_or-nine}
-use Rattle.auction_core.specs.Books.{held_by}
 
 -- a caller that is no agent is the clock
 pub is_clock : (caller : ℕ) → None ≡ cond (caller == 8) None (Some caller) → caller ≡ 8

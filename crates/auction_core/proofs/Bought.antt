@@ -1,15 +1,11 @@
 -- Units bought and units bid: how sums and counts of them split.
-use Rattle.std.proofs.Common.{◌≡◌, ℕ, zero, suc, ◌+◌, ◌≤◌, Bool, true, false, cond, List, [], ◌∷◌, refl, ap, ◌∙◌, subst, arith, Option, Some, None}
-use Rattle.std.specs.Prelude.{◌&&◌, ◌||◌, ◌==◌, nat_lt, nat_le, filter, sum_by, count_by}
-use Rattle.std.specs.List.{AllByRecursion, cons_option, filter_map, flat_map}
+use Rattle.std.proofs.Common.{◌≡◌, ℕ, zero, suc, ◌+◌, ◌≤◌, Bool, true, false, cond, List, [], ◌∷◌, refl, ap, ◌∙◌, subst, arith, Option, Some, None, ◌&&◌, ◌||◌, ◌==◌, nat_lt, nat_le, filter, sum_by, count_by, filter_map, flat_map}
+use Rattle.std.specs.List.{AllByRecursion, cons_option}
 use Rattle.std.proofs.lemmas.Bool.Decides.{nat_tests}
 use Rattle.std.proofs.lemmas.List.Sums.{sum_by-cons, sum_by-append, sum_by_push}
-use Rattle.tac_base.specs.declared.calls.Trade.{Trade}
-use Rattle.auction_rules.specs.declared.units.BidUnit.{BidUnit}
-use Rattle.auction_rules.specs.Units.{block, same_unit, among, common_units}
+use Rattle.auction_core.specs.{Trade, BidUnit, block, same_unit, among, common_units, bought_at}
 use Rattle.auction_rules.proofs.Ranks.{count-cons}
 use Rattle.auction_rules.proofs.Standing.{same_is}
-use Rattle.auction_core.specs.Laws.{bought_at}
 
 -- ---- sums
 

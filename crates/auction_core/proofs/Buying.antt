@@ -1,26 +1,12 @@
 -- All that stands in a lawful flight or hotel buys.
-use Rattle.std.proofs.Common.{◌≡◌, ℕ, ◌+◌, Bool, true, false, cond, List, [], ◌∷◌, length, map, refl, sym, ap, ◌∙◌, subst, Option, Some, None}
-use Rattle.std.specs.Prelude.{⊤, not, ◌&&◌, ◌||◌, ◌==◌, filter}
-use Rattle.std.specs.List.{flat_map}
-use Rattle.std.proofs.lemmas.Bool.{false≢true, and_parts, or_parts}
-use Rattle.tac_base.specs.declared.bids.Point.{Point}
-use Rattle.tac_base.specs.declared.calls.Call.{Call}
+use Rattle.std.proofs.Common.{◌≡◌, ℕ, ◌+◌, Bool, true, false, cond, List, [], ◌∷◌, length, map, refl, sym, ap, ◌∙◌, subst, Option, Some, None, not, ◌&&◌, ◌||◌, ◌==◌, filter, flat_map}
+use Rattle.std.specs.Prelude.{⊤}
+use Rattle.std.proofs.lemmas.Bool.{false≢true, and_parts, or_parts, not-false}
+use Rattle.auction_core.specs.Prelude.{Point, Call, Reply, size_of, buys_of, Placed, BidUnit, agents, point_units, units_from, among, without, Setup, Rules, looked_at, gone, stand, is_wrong_caller, is_wrong_place, sells, bid_refusal, call_refusal, refusal, IsLawful, entry_of}
 use Rattle.tac_base.specs.declared.calls.Call.TheVariants.{Bid, Withdraw, Own as OwnCall, Update, Publish, Close}
-use Rattle.tac_base.specs.declared.calls.Reply.{Reply}
 use Rattle.tac_base.specs.declared.calls.Reply.TheVariants.{Closed, WrongCall, Sell}
-use Rattle.tac_base.specs.Bids.{size_of, buys_of}
-use Rattle.auction_rules.specs.declared.units.Placed.{Placed}
-use Rattle.auction_rules.specs.declared.units.BidUnit.{BidUnit}
-use Rattle.tac_base.specs.Goods.{agents}
-use Rattle.auction_rules.specs.Units.{point_units, units_from, among, without}
-use Rattle.auction_rules.specs.Setup.{Setup}
-use Rattle.auction_rules.specs.declared.rules.Rules.{Rules}
 use Rattle.auction_rules.specs.declared.rules.Rules.TheVariants.{Flight as FlightRules, Hotel as HotelRules, Tickets as TicketRules}
 use Rattle.auction_rules.specs.History.{Entry, is_admission, is_own, is_closed, bid_after, last_bid, bid_units, units_of_last}
-use Rattle.auction_rules.specs.FlightRule.{looked_at}
-use Rattle.auction_rules.specs.Standing.{gone, stand}
-use Rattle.auction_rules.specs.Refusals.{is_wrong_caller, is_wrong_place, sells, bid_refusal, call_refusal, refusal}
-use Rattle.auction_rules.specs.Legal.{IsLawful, entry_of}
 use Rattle.auction_rules.proofs.Steps.{refusal_refuses, entry_refused}
 use Rattle.auction_rules.proofs.Standing.{Each, each-append, each-filter, each-block}
 
@@ -90,12 +76,8 @@ module _ (setup : Setup) (house : HouseSells setup.rules) where
   units_buy agent position from (point ∷ points) h =
       let parts = or_parts (not (buys_of point.units)) (sells points) h in
       each-append (λ (u : BidUnit). u.buys ≡ true) (point_units agent position from point) (units_from agent position (from + size_of point) points)
-      (each-block (λ (u : BidUnit). u.buys ≡ true) (record { agent = agent; buys = buys_of point.units; price = point.price; position = position; index = from }) (size_of point) (λ i. not_false (buys_of point.units) parts.0))
+      (each-block (λ (u : BidUnit). u.buys ≡ true) (record { agent = agent; buys = buys_of point.units; price = point.price; position = position; index = from }) (size_of point) (λ i. not-false (buys_of point.units) parts.0))
       (units_buy agent position (from + size_of point) points parts.1)
-    where
-      not_false : (b : Bool) → not b ≡ false → b ≡ true
-      not_false true k = refl
-      not_false false k = absurd cc
 
   of_last : (bid : Option Placed) → IsBuying bid → AllBuy (units_of_last bid)
   of_last None h = tt

@@ -1,17 +1,12 @@
 -- A stored history with one entry more, and what is stored at a position.
-use Rattle.std.proofs.Common.{◌≡◌, ℕ, zero, suc, ◌+◌, ◌≤◌, List, [], ◌∷◌, ◌++◌, length, refl, sym, ap, ◌∙◌, subst, arith, take, drop, map, length-take-le, length-append, length-drop, Option, Some, None}
-use Rattle.std.specs.List.{All, AllByRecursion, flat_map}
-use Rattle.std.specs.Prelude.{reverse, slice_get}
+use Rattle.std.proofs.Common.{◌≡◌, ℕ, zero, suc, ◌+◌, ◌≤◌, List, [], ◌∷◌, ◌++◌, length, refl, sym, ap, ◌∙◌, subst, arith, take, drop, map, length-take-le, length-append, length-drop, Option, Some, None, All, flat_map, reverse, slice_get}
+use Rattle.std.specs.List.{AllByRecursion}
 use Rattle.std.proofs.lemmas.List.{length-map, map-append, reverse-append, take-append-le, drop-append-le}
 use Rattle.std.proofs.lemmas.List.Sums.{sum_by-cons, sum_by_push, sum_by-append}
 use Rattle.std.proofs.Math.Seq.{drop-append_seam, take-length}
-use Rattle.tac_base.specs.declared.calls.Call.{Call}
-use Rattle.tac_base.specs.declared.calls.Reply.{Reply}
+use Rattle.auction_core.specs.Prelude.{Call, Reply, Trade, all_trades, traded}
 use Rattle.tac_base.specs.declared.calls.Entry.{Entry as StoredEntry}
-use Rattle.tac_base.specs.declared.calls.Trade.{Trade}
 use Rattle.auction_rules.specs.History.{Entry}
-use Rattle.auction_rules.specs.Effects.{all_trades}
-use Rattle.auction_rules.specs.Traded.{traded}
 use Rattle.auction_rules.proofs.Trading.{length_le}
 use Rattle.auction_core.specs.Stored.{entry_with, stored, AreChained, count_trades, IsStored, entry_behind, IsShown}
 

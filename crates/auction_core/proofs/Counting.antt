@@ -1,14 +1,12 @@
 -- How many entries a caller has, and all callers together.
-use Rattle.std.proofs.Common.{◌≡◌, ℕ, ◌+◌, ◌<◌, ◌≤◌, Bool, true, false, cond, List, [], ◌∷◌, ◌++◌, length, refl, sym, ◌∙◌, subst, arith, ne_eqb, length-append}
-use Rattle.std.specs.Prelude.{◌==◌}
+use Rattle.std.proofs.Common.{◌≡◌, ℕ, ◌+◌, ◌<◌, ◌≤◌, Bool, true, false, cond, List, [], ◌∷◌, ◌++◌, length, refl, sym, ◌∙◌, subst, arith, ne_eqb, length-append, ◌==◌}
 use Rattle.std.specs.List.{AllByRecursion}
 use Rattle.std.proofs.lemmas.List.Sums.{sum_by-cons, sum_by_push, count_by-le-length}
 use mathlib.Core.Logic.{dite}
 use native.Mathlib.Decide.{ℕ_discrete}
-use Rattle.tac_base.specs.Goods.{clock}
+use Rattle.auction_core.specs.Prelude.{clock, entries_of, cap, part_from, part}
 use Rattle.auction_rules.specs.History.{Entry}
-use Rattle.auction_rules.specs.Legal.{entries_of, cap}
-use Rattle.turn_lock.specs.Part.{part_from, part}
+use Rattle.auction_rules.proofs.Ranks.{at_most_one}
 use Rattle.turn_lock.proofs.Parts.{nine_parts}
 
 abbrev pub by : Entry → ℕ
@@ -39,13 +37,9 @@ pub capped_snoc : (history : List Entry) (e : Entry) → AreCapped history → e
 capped_snoc history e capped room caller le =
     let more : entries_of (history ++ e ∷ []) caller ≡ entries_of history caller + cond (e.caller == caller) 1 0 = sum_by_push (λ (x : Entry). cond (x.caller == caller) 1 0) history e in
     dite (ℕ_discrete e.caller caller)
-    (λ is. let room' : entries_of history caller < cap caller = subst (λ (k : ℕ). entries_of history k < cap k) is room in omega (arith, more, at_most (e.caller == caller)))
+    (λ is. let room' : entries_of history caller < cap caller = subst (λ (k : ℕ). entries_of history k < cap k) is room in omega (arith, more, at_most_one (e.caller == caller)))
     (λ ne. omega (arith, more, none (e.caller == caller) (ne_eqb e.caller caller ne), capped caller le))
   where
-    at_most : (b : Bool) → cond b 1 0 ≤ 1
-    at_most true = omega arith
-    at_most false = omega arith
-
     none : (b : Bool) → b ≡ false → cond {A = ℕ} b 1 0 ≡ 0
     none true h = absurd cc
     none false h = refl

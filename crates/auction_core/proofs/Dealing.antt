@@ -1,26 +1,11 @@
 -- Each trade of a call is of the auction's good, and between two of the nine parties.
-use Rattle.std.proofs.Common.{◌≡◌, ℕ, ◌≤◌, Bool, true, false, cond, List, [], ◌∷◌, length, refl, Option, Some, None}
-use Rattle.std.specs.Prelude.{IfSome, ◌==◌}
-use Rattle.std.specs.List.{All, AllByRecursion}
+use Rattle.std.proofs.Common.{◌≡◌, ℕ, ◌≤◌, Bool, true, false, cond, List, [], ◌∷◌, length, refl, Option, Some, None, IfSome, ◌==◌, All}
+use Rattle.std.specs.List.{AllByRecursion}
 use Rattle.std.proofs.lemmas.List.Elements.{All-from_recursion}
-use Rattle.tac_base.specs.declared.calls.Call.{Call}
-use Rattle.tac_base.specs.declared.calls.Reply.{Reply}
-use Rattle.tac_base.specs.declared.calls.Trade.{Trade}
+use Rattle.auction_core.specs.Prelude.{Call, Reply, Trade, BidUnit, agents, house, Setup, Rules, price, price_after, is_sale, standing_points, points_looked_at, flight_trades, arriving, pairs, pair_trade, ticket_trades, stand, winning, closing_trade, closing_trades, refusal, trades_by, entry_by, trades_of}
 use Rattle.auction_rules.specs.declared.units.StandingPoint.{StandingPoint}
-use Rattle.auction_rules.specs.declared.units.BidUnit.{BidUnit}
-use Rattle.tac_base.specs.Goods.{agents, house}
-use Rattle.auction_rules.specs.Setup.{Setup}
-use Rattle.auction_rules.specs.declared.rules.Rules.{Rules}
 use Rattle.auction_rules.specs.declared.rules.Rules.TheVariants.{Flight as FlightRules, Hotel as HotelRules, Tickets as TicketRules}
 use Rattle.auction_rules.specs.History.{Entry, is_close}
-use Rattle.auction_rules.specs.FlightRule.{price, price_after, is_sale}
-use Rattle.auction_rules.specs.FlightSales.{standing_points, points_looked_at, flight_trades}
-use Rattle.auction_rules.specs.TicketMatch.{arriving, pairs, pair_trade, ticket_trades}
-use Rattle.auction_rules.specs.Standing.{stand}
-use Rattle.auction_rules.specs.WinningNumber.{winning}
-use Rattle.auction_rules.specs.HotelClosing.{closing_trade, closing_trades}
-use Rattle.auction_rules.specs.Refusals.{refusal}
-use Rattle.auction_rules.specs.Legal.{trades_by, entry_by, trades_of}
 use Rattle.auction_rules.proofs.Lists.{all-if, all-map, all-filter_map, all_alike}
 use Rattle.auction_rules.proofs.FlightTrades.{each_flight_trade}
 use Rattle.auction_rules.proofs.SelfTrades.{parties_within}

@@ -1,19 +1,11 @@
 -- Flights: no agent buys more units at a price or more than units looked at bid so much.
-use Rattle.std.proofs.Common.{◌≡◌, ℕ, zero, suc, ◌+◌, ◌≤◌, Bool, true, false, cond, List, [], ◌∷◌, length, refl, sym, ap, ◌∙◌, arith, Option, Some, None}
-use Rattle.std.specs.Prelude.{not, ◌&&◌, ◌==◌, nat_lt, nat_le, filter, sum_by, count_by}
-use Rattle.std.specs.List.{AllByRecursion, cons_option, filter_map, flat_map}
+use Rattle.std.proofs.Common.{◌≡◌, ℕ, zero, suc, ◌+◌, ◌≤◌, Bool, true, false, cond, List, [], ◌∷◌, length, refl, sym, ap, ◌∙◌, arith, Option, Some, None, not, ◌&&◌, ◌==◌, nat_lt, nat_le, filter, sum_by, count_by, filter_map, flat_map}
+use Rattle.std.specs.List.{AllByRecursion, cons_option}
 use Rattle.std.proofs.lemmas.Bool.{and_parts}
 use Rattle.std.proofs.lemmas.Bool.Decides.{nat_tests}
 use Rattle.std.proofs.lemmas.List.Sums.{sum_by-cons, sum_by-append, sum_by_push, sum_by-le-sum_by}
-use Rattle.tac_base.specs.declared.bids.Point.{Point}
-use Rattle.tac_base.specs.declared.calls.Trade.{Trade}
-use Rattle.tac_base.specs.declared.calls.Call.{Call}
+use Rattle.auction_core.specs.{Point, Trade, Call, size_of, buys_of, Placed, BidUnit, agents, house, point_units, common_units, bought_at, bid_at}
 use Rattle.tac_base.specs.declared.calls.Call.TheVariants.{Bid, Withdraw, Own as OwnCall, Update, Publish, Close}
-use Rattle.tac_base.specs.Bids.{size_of, buys_of}
-use Rattle.auction_rules.specs.declared.units.Placed.{Placed}
-use Rattle.auction_rules.specs.declared.units.BidUnit.{BidUnit}
-use Rattle.tac_base.specs.Goods.{agents, house}
-use Rattle.auction_rules.specs.Units.{point_units, common_units}
 use Rattle.auction_rules.specs.History.{Entry, last_bid}
 use Rattle.auction_rules.proofs.Ranks.{count-cons, count_le}
 use Rattle.auction_rules.proofs.Counts.{count-filter, none_pass}
@@ -21,7 +13,6 @@ use Rattle.auction_rules.proofs.Trading.{sum_by-filter-le}
 use Rattle.auction_rules.proofs.Standing.{IsBidOf, last_is}
 use Rattle.auction_rules.proofs.HotelUnits.{each_in}
 use Rattle.flight_auction.proofs.UnitTrades.{bids_looked_at, point_trades, positions_below, unit_trades}
-use Rattle.auction_core.specs.Laws.{bought_at, bid_at}
 use Rattle.auction_core.proofs.Bought.{sum-filter, sum-flat_map, sum_nothing, counted_once, count_two, is_within, block_found, paid, bought_is}
 use Rattle.auction_core.proofs.Buying.{AllBuy}
 

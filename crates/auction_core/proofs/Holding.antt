@@ -1,16 +1,11 @@
 -- What trades change in the holdings.
-use Rattle.std.proofs.Common.{◌≡◌, ℕ, ◌+◌, ◌<◌, ◌≤◌, List, [], ◌∷◌, ◌++◌, length, take, get_or, sum_by, refl, sym, ap, ◌∙◌, subst, arith, inl, ℤ, pos, ◌+ℤ◌, ◌-ℤ◌, unsigned_abs}
-use Rattle.std.specs.Prelude.{filter, ◌==◌}
+use Rattle.std.proofs.Common.{◌≡◌, ℕ, ◌+◌, ◌<◌, ◌≤◌, List, [], ◌∷◌, ◌++◌, length, take, get_or, sum_by, refl, sym, ap, ◌∙◌, subst, arith, inl, ℤ, pos, ◌+ℤ◌, ◌-ℤ◌, unsigned_abs, filter, ◌==◌}
 use Rattle.std.proofs.lemmas.Int.{ints}
 use Rattle.std.proofs.lemmas.List.{take_more}
 use Rattle.std.proofs.lemmas.List.Elements.{filter-append}
 use Rattle.std.proofs.lemmas.List.Sums.{sum_by-append, sum_by-take-le}
-use Rattle.tac_base.specs.declared.calls.Trade.{Trade}
-use Rattle.auction_rules.specs.Effects.{bought, sold, net_units}
-use Rattle.auction_rules.specs.Traded.{traded}
+use Rattle.auction_core.specs.Prelude.{Trade, bought, sold, net_units, traded, IsWithin, held_after, NoneLeaves}
 use Rattle.auction_rules.proofs.Trading.{bought_le, sold_le}
-use Rattle.trade_ledger.specs.CashKeeping.{IsWithin}
-use Rattle.trade_ledger.specs.Holdings.{held_after, NoneLeaves}
 use Rattle.trade_ledger.proofs.Trading.{nine_numbers, get_or-nine}
 
 bought-append : (xs ys : List Trade) (party : ℕ) → bought (xs ++ ys) party ≡ bought xs party + bought ys party

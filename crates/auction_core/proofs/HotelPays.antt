@@ -1,21 +1,14 @@
 -- Hotels: no agent buys more units at a price or more than standing units bid so much.
-use Rattle.std.proofs.Common.{◌≡◌, ℕ, ◌≤◌, Bool, true, false, cond, List, refl, ap, arith, Some, None, inl, inr}
-use Rattle.std.specs.Prelude.{◌&&◌, ◌==◌, nat_le}
+use Rattle.std.proofs.Common.{◌≡◌, ℕ, ◌≤◌, Bool, true, false, cond, List, refl, ap, arith, Some, None, inl, inr, ◌&&◌, ◌==◌, nat_le}
 use Rattle.std.proofs.lemmas.Bool.{and_parts}
 use Rattle.std.proofs.lemmas.Bool.Decides.{nat_tests}
-use Rattle.tac_base.specs.declared.calls.Trade.{Trade}
-use Rattle.auction_rules.specs.declared.units.BidUnit.{BidUnit}
-use Rattle.tac_base.specs.Goods.{agents, house}
+use Rattle.auction_core.specs.{Trade, BidUnit, agents, house, ask, winning, closing_trade, closing_trades, bought_at, bid_at}
 use Rattle.auction_rules.specs.Precedence.{wins}
-use Rattle.auction_rules.specs.Ask.{ask}
-use Rattle.auction_rules.specs.WinningNumber.{winning}
-use Rattle.auction_rules.specs.HotelClosing.{closing_trade, closing_trades}
 use Rattle.auction_rules.proofs.Ranks.{count_le}
 use Rattle.auction_rules.proofs.Standing.{number_is}
 use Rattle.auction_rules.proofs.HotelUnits.{each_in}
 use Rattle.auction_rules.proofs.Asks.{IsReached, ask_reached}
 use Rattle.auction_rules.proofs.Outbids.{winner_reaches}
-use Rattle.auction_core.specs.Laws.{bought_at, bid_at}
 use Rattle.auction_core.proofs.Bought.{counted, sum-filter_map, counted_once, paid, bought_is}
 use Rattle.auction_core.proofs.Buying.{AllBuy}
 use Rattle.auction_core.proofs.FlightPays.{agents_once}

@@ -1,37 +1,26 @@
 -- The invariant of an auction, with one entry more.
-use Rattle.std.proofs.Common.{Bool, true, false, cond, ◌==◌, ◌≡◌, ℕ, ◌+◌, ◌<◌, ◌≤◌, List, [], ◌∷◌, ◌++◌, length, reverse, get_or, refl, sym, ap, ◌∙◌, subst, arith, length-append, Option, Some, None, ℤ, pos, ◌+ℤ◌, ◌≤ℤ◌}
+use Rattle.std.proofs.Common.{Bool, true, false, cond, ◌==◌, ◌≡◌, ℕ, ◌+◌, ◌<◌, ◌≤◌, List, [], ◌∷◌, ◌++◌, length, reverse, get_or, refl, sym, ap, ◌∙◌, subst, arith, length-append, Option, Some, None, ℤ, pos, ◌+ℤ◌, ◌≤ℤ◌, All}
 use Rattle.std.proofs.lemmas.Int.{ints}
 use Rattle.std.proofs.lemmas.List.{reverse-append, length-map, length-reverse}
 use Rattle.std.proofs.lemmas.List.Sums.{sum_by-append}
-use Rattle.tac_base.specs.declared.calls.Call.{Call}
-use Rattle.tac_base.specs.declared.calls.Reply.{Reply}
+use Rattle.auction_core.specs.{Call, Reply, Trade, clock, IsCall, IsTrade, HasSmallNumbers, Setup, nets, net_units, all_trades, holding, refusal, entry_by, entry_of, reply_of, trades_of, entries_of, cap, Follows, traded, Spends, IsShort, part, IsWithin, held_after, IsHolding, IsEntry, IsToldInRange, Stands, units_left, held_by, entry_with, stored, entry_behind, struck_of, IsAuctionKept, IsAuctionSound}
 use Rattle.tac_base.specs.declared.calls.Entry.{Entry as StoredEntry}
-use Rattle.tac_base.specs.declared.calls.Trade.{Trade}
-use Rattle.tac_base.specs.Goods.{clock}
-use Rattle.tac_base.specs.Ranges.{IsCall, IsTrade, HasSmallNumbers}
-use Rattle.auction_rules.specs.Setup.{Setup}
 use Rattle.auction_rules.specs.History.{Entry}
-use Rattle.auction_rules.specs.Effects.{nets, net_units, all_trades, endowment, holding}
-use Rattle.auction_rules.specs.Refusals.{refusal}
-use Rattle.auction_rules.specs.Legal.{entry_by, entry_of, reply_of, trades_of, entries_of, cap}
-use Rattle.auction_rules.specs.Follows.{Follows}
-use Rattle.std.specs.List.{All, AllByRecursion}
-use Rattle.auction_rules.specs.Traded.{traded, Spends, IsShort}
-use Rattle.auction_core.specs.{IsEntry, IsToldInRange, Stands, units_left, held_by, entry_with, stored, entry_behind, struck_of, IsAuctionKept, IsAuctionSound}
+use Rattle.std.specs.List.{AllByRecursion}
 use Rattle.auction_core.proofs.Dealing.{IsDealt, all_dealt}
 use Rattle.auction_core.proofs.Telling.{AreBids, reply_ranged, told_in_range}
 use Rattle.auction_rules.proofs.Lists.{all-append}
 use Rattle.auction_rules.proofs.Trading.{length_le}
-use Rattle.turn_lock.specs.Part.{part}
-use Rattle.trade_ledger.specs.CashKeeping.{IsWithin}
-use Rattle.trade_ledger.specs.Holdings.{held_after}
 use Rattle.trade_ledger.proofs.Trading.{get_or-nine, nine_numbers}
 use Rattle.auction_core.specs.declared.book.Book.{Book}
 use Rattle.auction_core.proofs.Answering.{held_is}
-use Rattle.game_text.specs.Accounts.{IsHolding}
 use Rattle.auction_core.proofs.Counting.{by, length-part, called_snoc, capped_snoc, few_entries, room_for}
 use Rattle.auction_core.proofs.Holding.{net_units-append, net_units_within}
 use Rattle.auction_core.proofs.Chains.{stored_more, stores_more}
+
+-- how many units of the good the party holds at first
+abbrev endowment : Setup → ℕ → ℤ
+endowment setup party = cond (party == 8) (pos 0) (get_or setup.endow party (pos 0))
 
 -- the entry of the rules, field by field
 entry_by_is : (setup : Setup) (past : List Entry) (caller : ℕ) (call : Call) (r : Option Reply) →

@@ -1,26 +1,12 @@
 -- The entry of the rules keeps the laws of the auctions.
-use Rattle.std.proofs.Common.{◌≡◌, ℕ, ◌≤◌, ◌<◌, min, Bool, true, false, cond, List, [], ◌∷◌, ◌++◌, length, reverse, refl, sym, ap, ◌∙◌, subst, arith, Option, Some, None, ℤ}
-use Rattle.std.specs.Prelude.{◌&&◌, ◌||◌}
+use Rattle.std.proofs.Common.{◌≡◌, ℕ, ◌≤◌, ◌<◌, min, Bool, true, false, cond, List, [], ◌∷◌, ◌++◌, length, reverse, refl, sym, ap, ◌∙◌, subst, arith, Option, Some, None, ℤ, ◌&&◌, ◌||◌}
 use Rattle.std.specs.List.{AllByRecursion}
 use Rattle.std.proofs.lemmas.Bool.{false≢true, and_parts}
 use Rattle.std.proofs.lemmas.List.{reverse-append}
 use Rattle.std.proofs.lemmas.List.Elements.{All-from_recursion}
-use Rattle.tac_base.specs.declared.calls.Call.{Call}
-use Rattle.tac_base.specs.declared.calls.Reply.{Reply}
-use Rattle.tac_base.specs.declared.calls.Trade.{Trade}
-use Rattle.tac_base.specs.Goods.{clock, house}
-use Rattle.auction_rules.specs.Setup.{Setup}
-use Rattle.auction_rules.specs.declared.rules.Rules.{Rules}
+use Rattle.auction_core.specs.{Call, Reply, Trade, clock, house, Setup, Rules, looked_at, stand, refusal, IsLawful, entry_by, entry_of, trades_by, trades_of, closing_trades, shown_bid, shown_ask, traded, HasTwoParties, held_after, sum_held, held_by, AreInRange, AuctionHistory, auction_past, NoLower, SellsAll, IsPriced, bought_at, bid_at, ArePaid, IsApart, KeepsQuote, TradesWhileOpen, SellsRooms, KeepsSum, HasNoSelfTrade, KeepsPrice, NobodyOverpays, IsUncrossed}
 use Rattle.auction_rules.specs.declared.rules.Rules.TheVariants.{Flight as FlightRules, Hotel as HotelRules, Tickets as TicketRules}
 use Rattle.auction_rules.specs.History.{Entry, is_admission, is_close, is_closed}
-use Rattle.auction_rules.specs.FlightRule.{looked_at}
-use Rattle.auction_rules.specs.Standing.{stand}
-use Rattle.auction_rules.specs.Refusals.{refusal}
-use Rattle.auction_rules.specs.Legal.{IsLawful, entry_by, entry_of, trades_by, trades_of}
-use Rattle.auction_rules.specs.HotelClosing.{closing_trades}
-use Rattle.auction_rules.specs.Board.{shown_bid, shown_ask}
-use Rattle.auction_rules.specs.Traded.{traded}
-use Rattle.auction_rules.specs.Laws.{HasTwoParties}
 use Rattle.auction_rules.proofs.Steps.{refusal_refuses}
 use Rattle.auction_rules.proofs.Histories.{entry_caller, entry_call, lawful_more}
 use Rattle.auction_rules.proofs.Quoted.{published_does_not_fall}
@@ -30,9 +16,7 @@ use Rattle.auction_rules.proofs.ClosingTrades.{closing_moves}
 use Rattle.auction_rules.proofs.SelfTrades.{nobody_trades_with_itself, parties_within}
 use Rattle.auction_rules.proofs.FlightPrices.{flight_price_within}
 use Rattle.auction_rules.proofs.Uncrossed.{board_apart}
-use Rattle.trade_ledger.specs.Holdings.{held_after, sum_held}
 use Rattle.trade_ledger.proofs.Trading.{moved_is, sum_held-moved}
-use Rattle.auction_core.specs.{held_by, AreInRange, AuctionHistory, auction_past, NoLower, SellsAll, IsPriced, bought_at, bid_at, ArePaid, IsApart, KeepsQuote, TradesWhileOpen, SellsRooms, KeepsSum, HasNoSelfTrade, KeepsPrice, NobodyOverpays, IsUncrossed}
 use Rattle.auction_core.proofs.Holding.{held_start, held_more}
 use Rattle.auction_core.proofs.Keeping.{held_next}
 use Rattle.auction_core.proofs.Paying.{nobody_pays_more}

@@ -1,22 +1,11 @@
 -- Nobody pays more than it bid: no agent buys more units at a price or more than units looked at bid so much.
 use Rattle.std.proofs.Common.{◌≡◌, ℕ, ◌+◌, ◌≤◌, Bool, true, false, cond, List, [], length, refl, subst, arith, Option, Some, None, ℤ}
-use Rattle.tac_base.specs.declared.calls.Trade.{Trade}
-use Rattle.tac_base.specs.declared.calls.Call.{Call}
+use Rattle.auction_core.specs.{Trade, Call, Reply, BidUnit, Setup, Rules, price, price_after, is_sale, looked_at, standing_points, points_looked_at, flight_trades, stand, refusal, IsLawful, entry_by, trades_by, trades_of, bought_at, bid_at}
 use Rattle.tac_base.specs.declared.calls.Call.TheVariants.{Bid, Withdraw, Own as OwnCall, Update, Publish, Close}
-use Rattle.tac_base.specs.declared.calls.Reply.{Reply}
-use Rattle.auction_rules.specs.declared.units.BidUnit.{BidUnit}
-use Rattle.auction_rules.specs.Setup.{Setup}
-use Rattle.auction_rules.specs.declared.rules.Rules.{Rules}
 use Rattle.auction_rules.specs.declared.rules.Rules.TheVariants.{Flight as FlightRules, Hotel as HotelRules, Tickets as TicketRules}
 use Rattle.auction_rules.specs.History.{Entry}
-use Rattle.auction_rules.specs.FlightRule.{price, price_after, is_sale, looked_at}
-use Rattle.auction_rules.specs.FlightSales.{standing_points, points_looked_at, flight_trades}
-use Rattle.auction_rules.specs.Standing.{stand}
-use Rattle.auction_rules.specs.Refusals.{refusal}
-use Rattle.auction_rules.specs.Legal.{IsLawful, entry_by, trades_by, trades_of}
 use Rattle.auction_rules.proofs.Standing.{each-weaker, IsPlaced, each-placed}
 use Rattle.flight_auction.proofs.UnitTrades.{by_units}
-use Rattle.auction_core.specs.Laws.{bought_at, bid_at}
 use Rattle.auction_core.proofs.Buying.{HouseSells, AllBuy, looked_buys}
 use Rattle.auction_core.proofs.FlightPays.{flight_paid}
 use Rattle.auction_core.proofs.HotelPays.{hotel_paid}

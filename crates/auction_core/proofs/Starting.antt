@@ -1,23 +1,16 @@
 -- What the parties hold before any call.
-use Rattle.std.proofs.Common.{◌≡◌, ℕ, zero, suc, ◌<◌, ◌≤◌, List, [], ◌∷◌, ◌++◌, length, map, get_or, refl, sym, ap, subst, arith, Bool, true, false, ℤ, pos, ◌+ℤ◌, ◌≤ℤ◌}
-use Rattle.std.specs.Prelude.{nat_lt}
+use Rattle.std.proofs.Common.{◌≡◌, ℕ, zero, suc, ◌<◌, ◌≤◌, List, [], ◌∷◌, ◌++◌, length, map, get_or, refl, sym, ap, subst, arith, Bool, true, false, ℤ, pos, ◌+ℤ◌, ◌≤ℤ◌, nat_lt, All}
 use Rattle.std.proofs.lemmas.Bool.Decides.{nat_tests}
-use Rattle.std.specs.List.{All, AllByRecursion}
+use Rattle.std.specs.List.{AllByRecursion}
 use Rattle.std.proofs.lemmas.Int.{ints}
 use Rattle.std.proofs.lemmas.List.{get_or_past}
 use Rattle.std.proofs.lemmas.List.Elements.{recursion_from_All}
 use Rattle.tac_base.specs.declared.calls.Entry.{Entry as StoredEntry}
-use Rattle.tac_base.specs.declared.calls.Trade.{Trade}
-use Rattle.game_text.specs.Endowments.{IsEndowment}
-use Rattle.auction_rules.specs.Setup.{Setup}
-use Rattle.auction_rules.specs.declared.rules.Rules.{Rules}
-use Rattle.auction_rules.specs.Effects.{all_trades}
-use Rattle.auction_rules.specs.Traded.{traded}
+use Rattle.auction_core.specs.{Trade, IsEndowment, Setup, Rules, all_trades, traded, Stands, units_left, held_by, AreInRange, AreEndowed, IsAuctionSound}
 use Rattle.flight_auction.specs.Book as flights
 use Rattle.hotel_book.specs.Book as hotels
 use Rattle.auction_core.specs.declared.book.Book.{Book}
 use Rattle.auction_core.specs.declared.book.Book.TheVariants.{Flight, Hotel, Tickets}
-use Rattle.auction_core.specs.{Stands, units_left, held_by, AreInRange, AreEndowed, IsAuctionSound}
 
 same : (z : ℤ) → z ≡ z +ℤ pos 0
 same z = omega (arith, ints)

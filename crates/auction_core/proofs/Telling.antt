@@ -1,35 +1,17 @@
 -- The numbers in replies are in range, if every bid of the past is within its limits.
-use Rattle.std.proofs.Common.{◌≡◌, ℕ, ◌+◌, ◌≤◌, Bool, true, false, cond, List, [], ◌∷◌, length, map, arith, ℤ, unsigned_abs, Option, Some, None}
+use Rattle.std.proofs.Common.{◌≡◌, ℕ, ◌+◌, ◌≤◌, Bool, true, false, cond, List, [], ◌∷◌, length, map, arith, ℤ, unsigned_abs, Option, Some, None, IfSome, not, ◌&&◌, ◌||◌, nat_le, max, filter, count_by}
 use Rattle.std.proofs.lemmas.Int.{ints}
-use Rattle.std.specs.Prelude.{IfSome, ⊤, not, ◌&&◌, ◌||◌, nat_le, max, filter}
+use Rattle.std.specs.Prelude.{⊤}
 use Rattle.std.specs.List.{AllByRecursion}
-use Rattle.tac_base.specs.declared.bids.Point.{Point}
-use Rattle.tac_base.specs.Bids.{size_of, buys_of, point_fault, first_fault, fault_of}
-use Rattle.tac_base.specs.declared.limits.TheConstants.{BID_PRICE}
-use Rattle.tac_base.specs.declared.calls.Call.{Call}
+use Rattle.auction_core.specs.{Point, size_of, buys_of, point_fault, first_fault, fault_of, BID_PRICE, Call, Reply, agents, IsCall, IsReply, HasCallNumbers, HasSmallNumbers, Placed, BidUnit, Setup, Rules, point_units, units_from, among, without, gone, stand, ask, publishes, published, holding, is_wrong_caller, is_wrong_place, bid_refusal, call_refusal, refusal, sells, admitted_reply, close_reply, entry_by, reply_of, IsHolding, IsFit, IsToldInRange}
 use Rattle.tac_base.specs.declared.calls.Call.TheVariants.{Bid, Withdraw, Own as OwnCall, Update, Publish, Close}
-use Rattle.tac_base.specs.declared.calls.Reply.{Reply}
 use Rattle.tac_base.specs.declared.calls.Reply.TheVariants as replies
-use Rattle.tac_base.specs.Goods.{agents}
-use Rattle.tac_base.specs.Ranges.{IsCall, IsReply, HasCallNumbers, HasSmallNumbers}
 use Rattle.tac_base.proofs.Faults.{good_point, both_none}
-use Rattle.auction_rules.specs.declared.units.Placed.{Placed}
-use Rattle.auction_rules.specs.declared.units.BidUnit.{BidUnit}
-use Rattle.auction_rules.specs.Setup.{Setup}
-use Rattle.auction_rules.specs.declared.rules.Rules.{Rules}
 use Rattle.auction_rules.specs.declared.rules.Rules.TheVariants.{Flight as FlightRules, Hotel as HotelRules, Tickets as TicketRules}
-use Rattle.auction_rules.specs.Units.{point_units, units_from, among, without}
 use Rattle.auction_rules.specs.History.{Entry, is_admission, is_bid, is_own, is_closed, bid_after, last_bid, bid_units, units_of_last}
-use Rattle.auction_rules.specs.Standing.{gone, stand}
-use Rattle.auction_rules.specs.Ask.{units_at, ask, publishes, published}
-use Rattle.auction_rules.specs.Effects.{holding}
-use Rattle.auction_rules.specs.Refusals.{is_wrong_caller, is_wrong_place, bid_refusal, call_refusal, refusal, sells}
-use Rattle.auction_rules.specs.Legal.{admitted_reply, close_reply, entry_by, reply_of}
 use Rattle.auction_rules.proofs.Lists.{all-flat_map, all-map, all_alike}
 use Rattle.auction_rules.proofs.Quotes.{fold_keeps, max_keeps, prices_of}
 use Rattle.auction_rules.proofs.Standing.{Each, each-append, each-block, each-filter, each-weaker}
-use Rattle.game_text.specs.Accounts.{IsHolding}
-use Rattle.auction_core.specs.{IsFit, IsToldInRange}
 
 -- ---- what the rules and the types of calls and replies keep, together
 
@@ -122,7 +104,7 @@ ask_within rooms units h =
     (prices_of (λ n. n ≤ BID_PRICE) enough units (each-weaker Cheap (λ u. enough u ≡ true → u.price ≤ BID_PRICE) units (λ u le is. le) h))
   where
     enough : BidUnit → Bool
-    enough u = nat_le rooms (units_at units u.price)
+    enough u = nat_le rooms (count_by (λ v. nat_le u.price v.price) units)
 
 published_within : (rooms : ℕ) (live : Bool) (past : List Entry) → AreBids past → published rooms live past ≤ BID_PRICE
 published_within rooms live [] h = omega arith

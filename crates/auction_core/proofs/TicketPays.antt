@@ -1,19 +1,15 @@
 -- Tickets: no agent buys more units at a price or more than arriving or others' standing units bid so much.
-use Rattle.std.proofs.Common.{◌≡◌, ℕ, ◌+◌, ◌≤◌, Bool, true, false, cond, List, [], ◌∷◌, ◌++◌, refl, sym, ◌∙◌, subst, arith, Option, Some, None}
-use Rattle.std.specs.Prelude.{⊤, not, ◌&&◌, ◌==◌, nat_le, filter, sum_by, count_by}
+use Rattle.std.proofs.Common.{◌≡◌, ℕ, ◌+◌, ◌≤◌, Bool, true, false, cond, List, [], ◌∷◌, ◌++◌, map, refl, sym, ◌∙◌, subst, arith, Option, Some, None, not, ◌&&◌, ◌==◌, nat_le, filter, sum_by, count_by}
+use Rattle.std.specs.Prelude.{⊤}
 use Rattle.std.specs.List.{AllByRecursion}
 use Rattle.std.proofs.lemmas.Bool.Decides.{nat_tests}
 use Rattle.std.proofs.lemmas.List.Sums.{sum_by-cons, sum_by-append}
-use Rattle.tac_base.specs.declared.calls.Trade.{Trade}
-use Rattle.auction_rules.specs.declared.units.BidUnit.{BidUnit}
-use Rattle.auction_rules.specs.Units.{same_side, same_unit, among}
-use Rattle.auction_rules.specs.TicketMatch.{faces, crosses, partner, pair_with, not_taken, pairs, pair_trade, trades_of_pairs, ticket_trades}
+use Rattle.auction_core.specs.{Trade, BidUnit, same_side, same_unit, among, faces, crosses, partner, pair_with, not_taken, pairs, pair_trade, ticket_trades, bought_at, bid_at}
 use Rattle.auction_rules.proofs.Agents.{numbers_differ}
 use Rattle.auction_rules.proofs.Ranks.{count-cons}
 use Rattle.auction_rules.proofs.Counts.{count-parts, count-filter}
 use Rattle.auction_rules.proofs.Standing.{Each, all_among_self, same_self}
 use Rattle.auction_rules.proofs.Matching.{each_pair, faces_differ}
-use Rattle.auction_core.specs.Laws.{bought_at, bid_at}
 use Rattle.auction_core.proofs.Bought.{among_counted, paid, bought_is}
 
 -- ---- a partner
@@ -88,7 +84,7 @@ module _ (good caller agent price : ℕ) where
           omega (arith, same)
 
   pairs_bid : (standing arriving : List BidUnit) → Each (λ u. u.agent ≡ caller) arriving →
-      sum_by (paid agent price) (trades_of_pairs good (pairs standing arriving)) ≤ count_by (bids_so agent price) arriving + count_by (others_bid caller agent price) standing
+      sum_by (paid agent price) (map (pair_trade good) (pairs standing arriving)) ≤ count_by (bids_so agent price) arriving + count_by (others_bid caller agent price) standing
   pairs_bid standing [] own = omega arith
   pairs_bid standing (u ∷ us) own = by_partner (partner standing u) refl (λ left. pairs_bid left us own.1)
     where
@@ -96,12 +92,12 @@ module _ (good caller agent price : ℕ) where
       all = count-cons (bids_so agent price) u us
 
       by_partner : (p : Option BidUnit) → partner standing u ≡ p →
-          ((left : List BidUnit) → sum_by (paid agent price) (trades_of_pairs good (pairs left us)) ≤ count_by (bids_so agent price) us + count_by (others_bid caller agent price) left) →
-          sum_by (paid agent price) (trades_of_pairs good (pair_with u p ++ pairs (not_taken p standing) us)) ≤ count_by (bids_so agent price) (u ∷ us) + count_by (others_bid caller agent price) standing
+          ((left : List BidUnit) → sum_by (paid agent price) (map (pair_trade good) (pairs left us)) ≤ count_by (bids_so agent price) us + count_by (others_bid caller agent price) left) →
+          sum_by (paid agent price) (map (pair_trade good) (pair_with u p ++ pairs (not_taken p standing) us)) ≤ count_by (bids_so agent price) (u ∷ us) + count_by (others_bid caller agent price) standing
       by_partner None is more = let rest = more standing in omega (arith, rest, all)
       by_partner (Some w) is more =
           let met = partner_met standing u w is in
-          let first = sum_by-cons (paid agent price) (pair_trade good (u, w)) (trades_of_pairs good (pairs (not_taken (Some w) standing) us)) in
+          let first = sum_by-cons (paid agent price) (pair_trade good (u, w)) (map (pair_trade good) (pairs (not_taken (Some w) standing) us)) in
           let here = pair_bids u w own.0 met.1.0 met.1.1 in
           let kept = taken_counts standing w met.0 in
           let rest = more (not_taken (Some w) standing) in

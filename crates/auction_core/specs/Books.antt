@@ -1,9 +1,7 @@
 -- What the book of an auction means, whatever the kind of its good.
 use Rattle.std.specs.Prelude.{ℕ, List, ℤ, map}
-use Rattle.tac_base.specs.Goods.{parties}
-use Rattle.auction_rules.specs.Setup.{Setup}
+use Rattle.auction_core.specs.Prelude.{parties, Setup, holding}
 use Rattle.auction_rules.specs.History.{Entry}
-use Rattle.auction_rules.specs.Effects.{holding}
 use Rattle.flight_auction.specs.Book as flights
 use Rattle.hotel_book.specs.Book as hotels
 use Rattle.ticket_book.specs.Book as tickets
@@ -12,9 +10,9 @@ use Rattle.auction_core.specs.declared.book.Book.TheVariants.{Flight, Hotel, Tic
 
 -- the book stands for this past of an auction with this setup
 abbrev pub Stands : Book → Setup → List Entry → Type 0
-Stands (Flight book) setup past = flights.StandsFor book setup past
-Stands (Hotel book) setup past = hotels.StandsFor book setup past
-Stands (Tickets book) setup past = tickets.StandsFor book setup past
+Stands (Flight book) setup past = flights.FlightStandsFor book setup past
+Stands (Hotel book) setup past = hotels.HotelStandsFor book setup past
+Stands (Tickets book) setup past = tickets.TicketsStandFor book setup past
 
 -- how many units the calls of the clock alone may still trade
 abbrev pub units_left : Book → ℕ

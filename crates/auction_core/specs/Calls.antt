@@ -1,7 +1,6 @@
 -- Which calls an auction may be asked.
 use Rattle.std.specs.Prelude.{⊤, ◌≤◌}
-use Rattle.tac_base.specs.declared.limits.TheConstants.{UPDATE_TICKS}
-use Rattle.tac_base.specs.declared.calls.Call.{Call}
+use Rattle.auction_core.specs.Prelude.{UPDATE_TICKS, Call}
 use Rattle.tac_base.specs.declared.calls.Call.TheVariants.{Bid, Withdraw, Own, Update, Publish, Close}
 
 -- an update is of one of the ticks 1..53; any caller may make every other call

@@ -1,14 +1,9 @@
 -- The invariant of every auction.
 use Rattle.std.specs.Prelude.{◌≡◌, ℕ, ◌+◌, ◌*◌, ◌≤◌, List, ℤ, length, reverse}
 use Rattle.tac_base.specs.declared.calls.Entry.{Entry as StoredEntry}
-use Rattle.tac_base.specs.declared.calls.Trade.{Trade}
+use Rattle.auction_core.specs.Prelude.{Trade, AUCTION_ENTRIES, BID_UNITS, ENTRY_TRADES, Setup, all_trades, Legal, traded}
 use Rattle.std.specs.List.{AllByRecursion}
-use Rattle.tac_base.specs.declared.limits.TheConstants.{AUCTION_ENTRIES, BID_UNITS, ENTRY_TRADES}
-use Rattle.auction_rules.specs.Setup.{Setup}
 use Rattle.auction_rules.specs.History.{Entry}
-use Rattle.auction_rules.specs.Effects.{all_trades}
-use Rattle.auction_rules.specs.Legal.{Legal}
-use Rattle.auction_rules.specs.Traded.{traded}
 use Rattle.auction_core.specs.declared.book.Book.{Book}
 use Rattle.auction_core.specs.Books.{Stands, units_left, held_by}
 use Rattle.auction_core.specs.Setups.{AreInRange, AreEndowed}

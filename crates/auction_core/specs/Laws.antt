@@ -1,17 +1,8 @@
 -- The laws of the auctions: what every call preserves, whoever makes it. Each compares an auction before the call and after it.
 use Rattle.std.specs.Prelude.{◌≡◌, ℕ, ◌≤◌, ◌<◌, ◌==◌, min, ⊤, true, false, ◌&&◌, nat_le, List, [], ◌∷◌, All, length, reverse, filter, sum_by, count_by}
-use Rattle.tac_base.specs.declared.calls.Trade.{Trade}
-use Rattle.auction_rules.specs.declared.units.BidUnit.{BidUnit}
-use Rattle.auction_rules.specs.declared.rules.Rules.{Rules}
+use Rattle.auction_core.specs.Prelude.{Trade, BidUnit, Rules, price, looked_at, stand, published, board, traded, HasTwoParties, IsFlightPrice, sum_held}
 use Rattle.auction_rules.specs.declared.rules.Rules.TheVariants.{Flight as FlightRules, Hotel as HotelRules, Tickets as TicketRules}
 use Rattle.auction_rules.specs.History.{Entry, is_closed}
-use Rattle.auction_rules.specs.FlightRule.{price, looked_at}
-use Rattle.auction_rules.specs.Standing.{stand}
-use Rattle.auction_rules.specs.Ask.{published}
-use Rattle.auction_rules.specs.Board.{board}
-use Rattle.auction_rules.specs.Traded.{traded}
-use Rattle.auction_rules.specs.Laws.{HasTwoParties, IsFlightPrice}
-use Rattle.trade_ledger.specs.Holdings.{sum_held}
 use Rattle.auction_core.specs.Books.{held_by}
 use Rattle.auction_core.specs.Auctions.{AuctionHistory}
 

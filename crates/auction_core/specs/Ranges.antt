@@ -1,12 +1,7 @@
 -- The ranges of an auction's entries, in which a log shows them.
-use Rattle.std.specs.Prelude.{ℕ, ◌≤◌, ⊤, List, length}
-use Rattle.std.specs.List.{All}
-use Rattle.tac_base.specs.declared.calls.Reply.{Reply}
+use Rattle.std.specs.Prelude.{ℕ, ◌≤◌, ⊤, List, length, All}
+use Rattle.auction_core.specs.Prelude.{Reply, AUCTION_ENTRIES, BID_PRICE, ENTRY_TRADES, SHOWN_PRICE, clock, IsCall, IsReply, IsTrade, IsHolding}
 use Rattle.tac_base.specs.declared.calls.Reply.TheVariants.{Own, Sold, BelowQuote}
-use Rattle.tac_base.specs.declared.limits.TheConstants.{AUCTION_ENTRIES, BID_PRICE, ENTRY_TRADES, SHOWN_PRICE}
-use Rattle.tac_base.specs.Goods.{clock}
-use Rattle.tac_base.specs.Ranges.{IsCall, IsReply, IsTrade}
-use Rattle.game_text.specs.Accounts.{IsHolding}
 use Rattle.auction_rules.specs.History.{Entry}
 
 -- an entry in the auction of a good

@@ -1,29 +1,15 @@
 -- What a game says of an auction.
 use Rattle.std.specs.Prelude.{ℕ, ◌-◌, ◌≤◌, ⊤, List, ℤ, pos, negsuc, ◌≤ℤ◌, map, replicate, slice_index_or}
-use Rattle.tac_base.specs.declared.limits.TheConstants.{AGENTS, NIGHT_ROOMS}
+use Rattle.auction_core.specs.Prelude.{AGENTS, NIGHT_ROOMS, kind_of, GameFile, Setup, Rules}
 use Rattle.tac_base.specs.declared.numbers.Kind.{Kind}
 use Rattle.tac_base.specs.declared.numbers.Kind.TheVariants.{Flight, Hotel, Ticket}
-use Rattle.tac_base.specs.Kinds.{kind_of}
-use Rattle.game_text.specs.Games.{GameFile}
-use Rattle.auction_rules.specs.Setup.{Setup}
-use Rattle.auction_rules.specs.declared.rules.Rules.{Rules}
 use Rattle.auction_rules.specs.declared.rules.Rules.TheVariants.{Flight as FlightRules, Hotel as HotelRules, Tickets as TicketRules}
 
--- the first price and the bound of a flight
-abbrev pub first_price : GameFile → ℕ → ℕ
-first_price game good = slice_index_or (map (λ flight. flight.first) game.flights) good 0
-
-abbrev pub price_bound : GameFile → ℕ → ℤ
-price_bound game good = slice_index_or (map (λ flight. flight.bound) game.flights) good (pos 0)
-
--- the rooms of a hotel night
-abbrev pub rooms_of : GameFile → ℕ → ℕ
-rooms_of game good = slice_index_or game.rooms (good - 8) 0
-
--- the rules of a good, by its kind
+-- the rules of a good, by its kind: the first price and the bound of a flight, the rooms of a hotel night
 abbrev pub rules_by : GameFile → ℕ → Kind → Rules
-rules_by game good Flight = FlightRules (first_price game good) (price_bound game good)
-rules_by game good Hotel = HotelRules (rooms_of game good) game.live
+rules_by game good Flight =
+    FlightRules (slice_index_or (map (λ flight. flight.first) game.flights) good 0) (slice_index_or (map (λ flight. flight.bound) game.flights) good (pos 0))
+rules_by game good Hotel = HotelRules (slice_index_or game.rooms (good - 8) 0) game.live
 rules_by game good Ticket = TicketRules
 
 -- what the agents have of a good at first, by its kind: the endowment of tickets, and none of the others

@@ -1,13 +1,8 @@
 -- A history as it is stored: entries, and the trades of all of them in one list.
-use Rattle.std.specs.Prelude.{◌≡◌, ℕ, ◌+◌, ◌≤◌, ⊤, List, [], ◌∷◌, map, take, drop, length, reverse, sum_by, slice_get, Option, Some, None}
-use Rattle.std.specs.List.{flat_map}
-use Rattle.tac_base.specs.declared.calls.Call.{Call}
-use Rattle.tac_base.specs.declared.calls.Reply.{Reply}
+use Rattle.std.specs.Prelude.{◌≡◌, ℕ, ◌+◌, ◌≤◌, ⊤, List, [], ◌∷◌, map, take, drop, length, reverse, sum_by, slice_get, Option, Some, None, flat_map}
+use Rattle.auction_core.specs.Prelude.{Call, Reply, Trade, all_trades, traded}
 use Rattle.tac_base.specs.declared.calls.Entry.{Entry as StoredEntry}
-use Rattle.tac_base.specs.declared.calls.Trade.{Trade}
 use Rattle.auction_rules.specs.History.{Entry}
-use Rattle.auction_rules.specs.Effects.{all_trades}
-use Rattle.auction_rules.specs.Traded.{traded}
 
 -- a stored entry with its trades
 abbrev pub entry_with : List Trade → StoredEntry → Entry

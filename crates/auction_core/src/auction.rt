@@ -1,9 +1,6 @@
-ghost use Rattle.std.specs.Prelude.{All, ◌≡◌, ◌+◌, ◌<◌, ◌≤◌, ◌++◌, [], ◌∷◌, Some, length, map, reverse, slice_get, IfOk};
-ghost use Rattle.std.specs.Option.{option_copied};
-ghost use Rattle.game_text.specs.Accounts.{IsHolding};
+ghost use Rattle.std.specs.Prelude.{All, ◌≡◌, ◌+◌, ◌<◌, ◌≤◌, ◌++◌, [], ◌∷◌, Some, length, map, reverse, slice_get, IfOk, option_copied};
+ghost use Rattle.auction_core.specs.{IsHolding, Legal, entry_of, setup_of, IsHistory, IsToldInRange, IsShown, struck_of};
 ghost use Rattle.auction_rules.specs.Effects as effects;
-ghost use Rattle.auction_rules.specs.Legal.{Legal, entry_of};
-ghost use Rattle.auction_core.specs.{setup_of, IsHistory, IsToldInRange, IsShown, struck_of};
 
 use crate::auction_setup::AuctionSetup;
 use crate::book::Book;

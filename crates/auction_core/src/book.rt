@@ -1,9 +1,7 @@
 ghost use Rattle.std.specs.Prelude.{◌≡◌, ◌≤◌, [], length, List};
-ghost use Rattle.tac_base.specs.Kinds.{kind_of};
-ghost use Rattle.auction_rules.specs.Setup.{Setup};
+ghost use Rattle.auction_core.specs.{kind_of, Setup, Stands, kind_by, AreInRange};
 ghost use Rattle.auction_rules.specs.History.{Entry};
 ghost use Rattle.auction_rules.specs.Board as boards;
-ghost use Rattle.auction_core.specs.{Stands, kind_by, AreInRange};
 
 use crate::order_book::OrderBook;
 use auction_rules::Rules;

@@ -1,9 +1,6 @@
 ghost use Rattle.std.specs.Prelude.{◌≡◌, ℕ, ◌+◌, ◌*◌, ◌≤◌, length, sum_by, pos, slice_index_or};
-ghost use Rattle.tac_base.specs.Goods.{house};
+ghost use Rattle.auction_core.specs.Prelude.{house, traded, held_after, IsWithin};
 ghost use Rattle.auction_rules.specs.Effects as effects;
-ghost use Rattle.auction_rules.specs.Traded.{traded};
-ghost use Rattle.trade_ledger.specs.Holdings.{held_after};
-ghost use Rattle.trade_ledger.specs.CashKeeping.{IsWithin};
 
 use tac_base::limits::ENTRY_TRADES;
 use tac_base::{Nets, Trade};

@@ -6,7 +6,7 @@ use trade_ledger::GoodBook;
 impl OrderBook for Flight {
     ghost use Rattle.flight_auction.specs.Book as flights;
 
-    ghost stands = { flights.StandsFor };
+    ghost stands = { flights.FlightStandsFor };
 
     ghost units_left = { flights.flight_units_left };
 

@@ -6,7 +6,7 @@ use trade_ledger::GoodBook;
 impl OrderBook for Hotel {
     ghost use Rattle.hotel_book.specs.Book as hotels;
 
-    ghost stands = { hotels.StandsFor };
+    ghost stands = { hotels.HotelStandsFor };
 
     ghost units_left = { hotels.hotel_units_left };
 

@@ -1,10 +1,6 @@
 ghost use Rattle.std.specs.Prelude.{All, ◌≡◌, ◌+◌, ◌==◌, if◌then◌else◌, [], ℕ, length, List, pos, slice_index_or, Some, None};
-ghost use Rattle.tac_base.specs.Goods.{clock};
-ghost use Rattle.auction_rules.specs.Setup.{Setup};
+ghost use Rattle.auction_core.specs.{clock, Setup, Follows, Spends, IsShort, held_by, IsFit};
 ghost use Rattle.auction_rules.specs.History.{Entry};
-ghost use Rattle.auction_rules.specs.Follows.{Follows};
-ghost use Rattle.auction_rules.specs.Traded.{Spends, IsShort};
-ghost use Rattle.auction_core.specs.{held_by, IsFit};
 
 use tac_base::limits::BID_UNITS;
 use tac_base::{Agent, Call, Caller, Fills, Left, Reply};

@@ -6,7 +6,7 @@ use trade_ledger::GoodBook;
 impl OrderBook for Tickets {
     ghost use Rattle.ticket_book.specs.Book as tickets;
 
-    ghost stands = { tickets.StandsFor };
+    ghost stands = { tickets.TicketsStandFor };
 
     ghost units_left = { λ _. 0 };
 

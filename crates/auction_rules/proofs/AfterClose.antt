@@ -1,20 +1,10 @@
 -- A closed auction stays closed and trades no more.
 use Rattle.std.proofs.Common.{◌≡◌, ℕ, false, true, List, [], refl, ap, Option, Some, None}
-use Rattle.tac_base.specs.declared.calls.Call.{Call}
+use Rattle.auction_rules.specs.{Call, Reply, Closed, Entry, is_own, is_closed, refusal, entry_by, trades_of}
 use Rattle.tac_base.specs.declared.calls.Call.TheVariants.{Bid, Withdraw, Own as OwnCall, Update, Publish, Close}
-use Rattle.tac_base.specs.declared.calls.Reply.{Reply}
-use Rattle.tac_base.specs.declared.calls.Reply.TheVariants.{Closed}
 use Rattle.auction_rules.specs.Setup.{Setup}
-use Rattle.auction_rules.specs.declared.rules.Rules.{Rules}
-use Rattle.auction_rules.specs.declared.rules.Rules.TheVariants.{Flight as FlightRules, Hotel as HotelRules, Tickets as TicketRules}
-use Rattle.auction_rules.specs.{Entry, is_own, is_closed, refusal, entry_by, trades_by, trades_of}
 use Rattle.auction_rules.proofs.Steps.{entry_refused}
-
--- a reading trades nothing
-own_trades : (rules : Rules) (good : ℕ) (past : List Entry) (caller : ℕ) → trades_by rules good past caller OwnCall ≡ []
-own_trades (FlightRules first bound) good past caller = refl
-own_trades (HotelRules rooms live) good past caller = refl
-own_trades TicketRules good past caller = refl
+use Rattle.auction_rules.proofs.Idle.{own_trades}
 
 own_nothing : (setup : Setup) (past : List Entry) (caller : ℕ) (refused : Option Reply) → (entry_by setup past caller OwnCall refused).trades ≡ []
 own_nothing setup past caller (Some reply) = refl

@@ -1,14 +1,10 @@
 -- The standing units of one agent, and what one more entry changes in them.
-use Rattle.std.proofs.Common.{◌≡◌, ℕ, ◌≤◌, Bool, true, false, cond, List, [], ◌∷◌, ◌++◌, length, map, refl, sym, ap, ◌∙◌, Option, Some}
-use Rattle.std.specs.Prelude.{not, ◌&&◌, ◌||◌, ◌==◌, filter, if◌then◌else◌}
-use Rattle.std.specs.List.{AllByRecursion, flat_map}
+use Rattle.std.proofs.Common.{◌≡◌, ℕ, ◌≤◌, Bool, true, false, cond, List, [], ◌∷◌, ◌++◌, length, map, refl, sym, ap, ◌∙◌, Option, Some, not, ◌&&◌, ◌||◌, ◌==◌, filter, if◌then◌else◌, flat_map}
+use Rattle.std.specs.List.{AllByRecursion}
 use Rattle.std.proofs.lemmas.List.Folds.{flat_map-map}
-use Rattle.tac_base.specs.declared.bids.Point.{Point}
-use Rattle.tac_base.specs.declared.calls.Call.TheVariants.{Bid}
+use Rattle.auction_rules.specs.{Point, Bid, agents, units_of, among, without, Entry, is_admission, is_closed, last_bid, bid_units, units_of_last, gone_by, gone, stand}
 use Rattle.auction_rules.specs.declared.units.Placed.{Placed}
 use Rattle.auction_rules.specs.declared.units.BidUnit.{BidUnit}
-use Rattle.tac_base.specs.Goods.{agents}
-use Rattle.auction_rules.specs.{units_of, among, without, Entry, is_admission, is_closed, last_bid, bid_units, units_of_last, gone_by, gone, stand}
 use Rattle.auction_rules.specs.declared.rules.Rules.{Rules}
 use Rattle.auction_rules.proofs.Agents.{number_same, another, agents_within, agents_pick, agents_joined}
 use Rattle.auction_rules.proofs.Lists.{filter-filter, filter-flat_map, flat_map_alike, filter_all}

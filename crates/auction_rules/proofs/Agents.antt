@@ -1,7 +1,6 @@
 -- The numbers of agents, and lists of what each agent has.
-use Rattle.std.proofs.Common.{◌≡◌, ℕ, zero, suc, ◌≤◌, false, true, List, [], refl, sym, ◌∙◌, arith, map, set, get_or, append-nil}
-use Rattle.std.specs.Prelude.{if◌then◌else◌, ◌==◌, ◌≢◌}
-use Rattle.std.specs.List.{AllByRecursion, flat_map}
+use Rattle.std.proofs.Common.{◌≡◌, ℕ, zero, suc, ◌≤◌, false, true, List, [], refl, sym, ◌∙◌, arith, map, set, get_or, append-nil, if◌then◌else◌, ◌==◌, ◌≢◌, flat_map}
+use Rattle.std.specs.List.{AllByRecursion}
 use Rattle.std.proofs.lemmas.Bool.Decides.{nat_tests}
 use Rattle.tac_base.specs.Goods.{agents, clock}
 

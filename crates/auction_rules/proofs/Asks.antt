@@ -1,16 +1,14 @@
 -- The ask of units: the units reach it, and it is as high as the units reach.
-use Rattle.std.proofs.Common.{◌≡◌, ℕ, ◌≤◌, Bool, true, false, cond, List, [], ◌∷◌, map, refl, arith, inl, inr, ◌⊎◌}
-use Rattle.std.specs.Prelude.{nat_le, max, filter}
+use Rattle.std.proofs.Common.{◌≡◌, ℕ, ◌≤◌, Bool, true, false, cond, List, [], ◌∷◌, map, refl, arith, inl, inr, ◌⊎◌, nat_le, max, filter, leb-true, le-leb}
 use Rattle.std.specs.List.{AllByRecursion}
-use Rattle.std.proofs.lemmas.Bool.{leb-true, le-leb}
 use Rattle.std.proofs.lemmas.Bool.Decides.{nat_tests}
 use Rattle.auction_rules.specs.declared.units.BidUnit.{BidUnit}
-use Rattle.auction_rules.specs.Ask.{units_at, ask}
+use Rattle.auction_rules.specs.Ask.{ask}
 use Rattle.auction_rules.proofs.Lists.{all_alike}
 use Rattle.auction_rules.proofs.Standing.{Each}
 use Rattle.auction_rules.proofs.Quotes.{fold_keeps, max_keeps, max_reaches, prices_of}
 use Rattle.auction_rules.proofs.Ranks.{In, count_le}
-use Rattle.auction_rules.proofs.Counts.{none_pass}
+use Rattle.auction_rules.proofs.Counts.{none_pass, units_at}
 use Rattle.auction_rules.proofs.HotelUnits.{each_in}
 
 -- as many units as there are rooms have a price or more, or the price is 0
@@ -39,9 +37,6 @@ has_lowest price (x ∷ xs) = by_test (nat_le price x.price) refl (has_lowest pr
   where
     itself : (n : ℕ) → nat_le n n ≡ true
     itself n = grind (arith, nat_tests)
-
-    through : (l m n : ℕ) → nat_le m l ≡ false → nat_le m n ≡ true → nat_le l n ≡ true
-    through l m n h k = grind (arith, nat_tests)
 
     here : nat_le price x.price ≡ true → ((v : BidUnit) → In v xs → nat_le price v.price ≡ true → nat_le x.price v.price ≡ true) → HasLowest price (x ∷ xs)
     here is least = inl (x, (inl refl, is, each))

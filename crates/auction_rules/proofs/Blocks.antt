@@ -1,12 +1,10 @@
 -- The units of a bid, block by block.
-use Rattle.std.proofs.Common.{◌≡◌, ℕ, zero, suc, ◌+◌, ◌<◌, ◌≤◌, List, [], ◌∷◌, ◌++◌, length, refl, sym, ap, arith, append_assoc, length-append, add-one, drop, drop-cons, get_or}
-use Rattle.std.specs.List.{All, AllByRecursion}
+use Rattle.std.proofs.Common.{◌≡◌, ℕ, zero, suc, ◌+◌, ◌<◌, ◌≤◌, List, [], ◌∷◌, ◌++◌, length, refl, sym, ap, arith, append_assoc, length-append, add-one, drop, drop-cons, get_or, All}
+use Rattle.std.specs.List.{AllByRecursion}
 use Rattle.std.proofs.lemmas.List.Elements.{All-append, recursion_from_All, All-from_recursion}
-use Rattle.tac_base.specs.declared.bids.Point.{Point}
-use Rattle.tac_base.specs.Bids.{size_of, buys_of}
+use Rattle.auction_rules.specs.{Point, size_of, buys_of, block, units_from, point_units, units_of}
 use Rattle.auction_rules.specs.declared.units.BidUnit.{BidUnit}
 use Rattle.auction_rules.specs.declared.units.Placed.{Placed}
-use Rattle.auction_rules.specs.Units.{block, units_from, point_units, units_of}
 
 -- one more unit of a block
 pub block_more : (out : List BidUnit) (u : BidUnit) (i : ℕ) → (out ++ block u i) ++ record u { index = u.index + i } ∷ [] ≡ out ++ block u (i + 1)

@@ -1,16 +1,12 @@
 -- The trades of a hotel's closing move as many units as are sold.
-use Rattle.std.proofs.Common.{◌≡◌, ℕ, ◌+◌, Bool, true, false, cond, List, [], ◌∷◌, refl, sym, ap, ◌∙◌, arith}
-use Rattle.std.specs.Prelude.{◌==◌, filter, count_by, sum_by}
-use Rattle.std.specs.List.{filter_map, flat_map}
+use Rattle.std.proofs.Common.{◌≡◌, ℕ, ◌+◌, Bool, true, false, cond, List, [], ◌∷◌, refl, sym, ap, ◌∙◌, arith, ◌==◌, filter, count_by, sum_by, filter_map, flat_map}
 use Rattle.std.proofs.lemmas.List.Sums.{sum_by-cons, sum_by-append}
-use Rattle.std.proofs.lemmas.Bool.Decides.{nat_tests}
-use Rattle.tac_base.specs.declared.calls.Trade.{Trade}
+use Rattle.auction_rules.specs.{Trade, agents, house, Entry, stand, wins, ask, winning, closing_trade, closing_trades, sold_units, traded}
 use Rattle.auction_rules.specs.declared.units.BidUnit.{BidUnit}
-use Rattle.tac_base.specs.Goods.{agents, house}
 use Rattle.auction_rules.specs.declared.rules.Rules.{Rules}
-use Rattle.auction_rules.specs.{Entry, stand, wins, ask, winning, closing_trade, closing_trades, sold_units, traded}
 use Rattle.auction_rules.proofs.AgentUnits.{units_joined}
 use Rattle.auction_rules.proofs.Counts.{count-filter}
+use Rattle.auction_rules.proofs.Standing.{number_is}
 
 count-flat_map : (p : BidUnit → Bool) (f : ℕ → List BidUnit) (owners : List ℕ) → count_by p (flat_map f owners) ≡ sum_by (λ a. count_by p (f a)) owners
 count-flat_map p f [] = refl
@@ -29,13 +25,10 @@ module _ (good rooms : ℕ) (units : List BidUnit) where
   each_buys [] = refl
   each_buys (agent ∷ owners) = by_test (winning rooms units agent == 0) refl (each_buys owners)
     where
-      none : (n : ℕ) → (n == 0) ≡ true → n ≡ 0
-      none n h = grind (arith, nat_tests)
-
       by_test : (b : Bool) → (winning rooms units agent == 0) ≡ b → traded (filter_map (closing_trade good rooms units) owners) ≡ sum_by (winning rooms units) owners →
           traded (filter_map (closing_trade good rooms units) (agent ∷ owners)) ≡ sum_by (winning rooms units) (agent ∷ owners)
       by_test true is ih =
-          let sum = sum_by-cons (winning rooms units) agent owners in let zero_units = none (winning rooms units agent) is in
+          let sum = sum_by-cons (winning rooms units) agent owners in let zero_units = number_is (winning rooms units agent) 0 is in
           rw is (omega (arith, ih, sum, zero_units))
       by_test false is ih =
           let sum = sum_by-cons (winning rooms units) agent owners in

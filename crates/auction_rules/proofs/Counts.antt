@@ -1,12 +1,9 @@
 -- How many elements of a list and of its parts pass a test.
-use Rattle.std.proofs.Common.{◌≡◌, ℕ, zero, suc, ◌+◌, ◌≤◌, Bool, true, false, cond, List, [], ◌∷◌, refl, sym, ◌∙◌, arith, inl, inr}
-use Rattle.std.specs.Prelude.{not, ◌&&◌, nat_le, filter, count_by}
+use Rattle.std.proofs.Common.{◌≡◌, ℕ, zero, suc, ◌+◌, ◌≤◌, Bool, true, false, cond, List, [], ◌∷◌, refl, sym, ◌∙◌, arith, inl, inr, not, ◌&&◌, nat_le, if◌then◌else◌, filter, count_by}
 use Rattle.std.proofs.lemmas.List.Sums.{sum_by-cons, sum_by-append, sum_by_push, sum_by-le-sum_by}
 use Rattle.std.proofs.lemmas.Bool.Decides.{nat_tests}
-use Rattle.tac_base.specs.declared.bids.Point.{Point}
-use Rattle.tac_base.specs.Bids.{size_of, buys_of}
+use Rattle.auction_rules.specs.{Point, size_of, buys_of, block, point_units, units_from, offered}
 use Rattle.auction_rules.specs.declared.units.BidUnit.{BidUnit}
-use Rattle.auction_rules.specs.{block, point_units, units_from, units_at, offered_by, offered}
 use Rattle.auction_rules.proofs.Ranks.{In, count-cons}
 
 -- nothing passes
@@ -35,6 +32,10 @@ count-filter test p (x ∷ xs) = by_test (test x) (count-filter test p xs) ∙ s
 
 -- ---- the units of points at a price
 
+-- how many of the units have the price or more
+abbrev pub units_at : List BidUnit → ℕ → ℕ
+units_at units price = count_by (λ u. nat_le price u.price) units
+
 block_at : (at : ℕ) (first : BidUnit) (n : ℕ) → units_at (block first n) at ≡ cond (nat_le at first.price) n 0
 block_at at first zero = by_test (nat_le at first.price)
   where
@@ -47,6 +48,10 @@ block_at at first (suc n) =
     by_test : (b : Bool) → units_at (block first n) at ≡ cond b n 0 → units_at (block first n) at + cond b 1 0 ≡ cond b (suc n) 0
     by_test true ih = omega (arith, ih)
     by_test false ih = omega (arith, ih)
+
+-- the units that a point offers at a price or more
+abbrev pub offered_by : ℕ → Point → ℕ
+offered_by at point = if nat_le at point.price then size_of point else 0
 
 -- a bid offers as many units at a price as its units have it or more
 pub units_offered : (agent position from at : ℕ) (points : List Point) → units_at (units_from agent position from points) at ≡ offered points at

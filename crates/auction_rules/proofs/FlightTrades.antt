@@ -1,15 +1,11 @@
 -- What each trade of a flight has.
-use Rattle.std.proofs.Common.{◌≡◌, ℕ, List, length, refl}
-use Rattle.std.specs.Prelude.{◌==◌, not, filter}
+use Rattle.std.proofs.Common.{◌≡◌, ℕ, List, length, refl, ◌==◌, not, filter}
 use Rattle.std.specs.List.{AllByRecursion, range_with_len}
-use Rattle.tac_base.specs.declared.bids.Point.{Point}
-use Rattle.tac_base.specs.declared.calls.Trade.{Trade}
-use Rattle.tac_base.specs.declared.calls.Call.{Call}
+use Rattle.auction_rules.specs.{Point, Trade, Call, Entry, stand, placed_bids, by_position, owned_by, standing_of, standing_points, points_looked_at, is_sold, sale, flight_trades}
 use Rattle.tac_base.specs.declared.calls.Call.TheVariants.{Bid, Withdraw, Own as OwnCall, Update, Publish, Close}
 use Rattle.auction_rules.specs.declared.units.Placed.{Placed}
 use Rattle.auction_rules.specs.declared.units.StandingPoint.{StandingPoint}
 use Rattle.auction_rules.specs.declared.rules.Rules.{Rules}
-use Rattle.auction_rules.specs.{Entry, stand, placed_bids, by_position, owned_by, standing_of, standing_points, points_looked_at, is_sold, sale, flight_trades}
 use Rattle.auction_rules.proofs.Lists.{all-append, all-filter, all-flat_map, all-map, all-weaker, all_alike}
 
 -- each trade is the sale of one of the points

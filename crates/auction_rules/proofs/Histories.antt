@@ -1,9 +1,7 @@
 -- What the entry of the rules has of its call, and what one more entry changes.
-use Rattle.std.proofs.Common.{◌≡◌, ℕ, suc, List, [], ◌∷◌, length, refl, ap, Option, Some, None}
-use Rattle.tac_base.specs.declared.calls.Call.{Call}
-use Rattle.tac_base.specs.declared.calls.Reply.{Reply}
+use Rattle.std.proofs.Common.{◌≡◌, ℕ, List, ◌∷◌, refl, Option, Some, None}
+use Rattle.auction_rules.specs.{Call, Reply, Entry, refusal, entry_of, entry_by, IsLawful}
 use Rattle.auction_rules.specs.Setup.{Setup}
-use Rattle.auction_rules.specs.{Entry, refusal, entry_of, entry_by, IsLawful, past_of}
 
 entry_by_caller : (setup : Setup) (past : List Entry) (caller : ℕ) (call : Call) (r : Option Reply) → (entry_by setup past caller call r).caller ≡ caller
 entry_by_caller setup past caller call None = refl
@@ -22,7 +20,3 @@ entry_call setup past caller call = entry_by_call setup past caller call (refusa
 -- a legal past stays legal with the entry of the rules
 pub lawful_more : (setup : Setup) (past : List Entry) (caller : ℕ) (call : Call) → IsLawful setup past → IsLawful setup (entry_of setup past caller call ∷ past)
 lawful_more setup past caller call lawful = (rw (entry_caller setup past caller call, entry_call setup past caller call), lawful)
-
-pub length-past_of : (setup : Setup) (calls : List (ℕ × Call)) → length (past_of setup calls) ≡ length calls
-length-past_of setup [] = refl
-length-past_of setup ((caller, call) ∷ calls) = ap suc (length-past_of setup calls)

@@ -1,16 +1,12 @@
 -- What stands in a hotel: the units of the last bids, any two of them in the order of precedence.
-use Rattle.std.proofs.Common.{◌≡◌, ℕ, zero, suc, ◌+◌, ◌<◌, ◌≤◌, min, Bool, true, false, cond, List, [], ◌∷◌, ◌++◌, length, refl, sym, ap, ◌∙◌, subst, arith, Option, Some, None, inl, inr, ◌⊎◌}
-use Rattle.std.specs.Prelude.{◌&&◌, ◌==◌, ◌≢◌, ⊤, if◌then◌else◌}
-use Rattle.std.specs.List.{AllByRecursion, flat_map}
+use Rattle.std.proofs.Common.{◌≡◌, ℕ, zero, suc, ◌+◌, ◌<◌, ◌≤◌, min, Bool, true, false, cond, List, [], ◌∷◌, ◌++◌, length, refl, sym, ap, ◌∙◌, subst, arith, Option, Some, None, inl, inr, ◌⊎◌, ◌&&◌, ◌==◌, ◌≢◌, if◌then◌else◌, flat_map}
+use Rattle.std.specs.Prelude.{⊤}
+use Rattle.std.specs.List.{AllByRecursion}
 use Rattle.std.proofs.lemmas.Bool.Decides.{nat_tests}
-use Rattle.tac_base.specs.declared.bids.Point.{Point}
-use Rattle.tac_base.specs.Bids.{size_of, buys_of}
-use Rattle.tac_base.specs.declared.calls.Call.{Call}
+use Rattle.auction_rules.specs.{Point, size_of, buys_of, Call, agents, block, point_units, units_from, units_of, Entry, is_admission, is_closed, bid_after, last_bid, bid_units, units_of_last, gone, stand, precedes, sold_units}
 use Rattle.tac_base.specs.declared.calls.Call.TheVariants.{Bid, Withdraw, Own as OwnCall, Update, Publish, Close}
 use Rattle.auction_rules.specs.declared.units.Placed.{Placed}
 use Rattle.auction_rules.specs.declared.units.BidUnit.{BidUnit}
-use Rattle.tac_base.specs.Goods.{agents}
-use Rattle.auction_rules.specs.{block, point_units, units_from, units_of, Entry, is_admission, is_closed, bid_after, last_bid, bid_units, units_of_last, gone, stand, precedes, sold_units}
 use Rattle.auction_rules.specs.declared.rules.Rules.TheVariants.{Hotel as HotelRules}
 use Rattle.auction_rules.proofs.Standing.{Each, each-append, each-weaker, IsPlaced, each-placed, IsBidOf, last_is}
 use Rattle.auction_rules.proofs.AgentUnits.{without_nothing}

@@ -1,17 +1,14 @@
 -- An entry that is refused, or that is an agent's reading, changes nothing of what stands.
-use Rattle.std.proofs.Common.{◌≡◌, ℕ, ◌≤◌, Bool, true, false, cond, List, [], ◌∷◌, refl, ap, Some, None, sym, subst}
-use Rattle.std.specs.Prelude.{not, ◌&&◌, ◌||◌, ◌==◌, ℤ, ⊤, if◌then◌else◌}
-use Rattle.tac_base.specs.declared.bids.Point.{Point}
-use Rattle.tac_base.specs.declared.calls.Trade.{Trade}
-use Rattle.tac_base.specs.declared.calls.Call.{Call}
+use Rattle.std.proofs.Common.{◌≡◌, ℕ, ◌≤◌, Bool, true, false, cond, List, [], ◌∷◌, refl, ap, Some, None, sym, subst, not, ◌&&◌, ◌||◌, ◌==◌, ℤ, if◌then◌else◌}
+use Rattle.std.specs.Prelude.{⊤}
+use Rattle.std.proofs.lemmas.Bool.{and_right}
+use Rattle.auction_rules.specs.{Point, Trade, Call, Reply, Entry, is_admission, is_own, is_closed, last_bid, last_bids, units_of_bids, price, published, gone_by, left_standing, gone, stand, left, holding, is_wrong_caller, is_wrong_place, refusal, trades_by, admitted_trades, admitted_reply, entry_of}
 use Rattle.tac_base.specs.declared.calls.Call.TheVariants.{Bid, Withdraw, Own as OwnCall, Update, Publish, Close}
-use Rattle.tac_base.specs.declared.calls.Reply.{Reply}
 use Rattle.tac_base.specs.declared.calls.Reply.TheVariants.{Own, Closed, WrongCall}
 use Rattle.auction_rules.specs.declared.units.BidUnit.{BidUnit}
 use Rattle.auction_rules.specs.Setup.{Setup}
 use Rattle.auction_rules.specs.declared.rules.Rules.{Rules}
 use Rattle.auction_rules.specs.declared.rules.Rules.TheVariants.{Flight as FlightRules, Hotel as HotelRules, Tickets as TicketRules}
-use Rattle.auction_rules.specs.{Entry, is_admission, is_own, is_closed, last_bid, last_bids, units_of_bids, price, published, gone_by, left_standing, gone, stand, left, holding, is_wrong_caller, is_wrong_place, refusal, trades_by, admitted_trades, admitted_reply, entry_of}
 use Rattle.auction_rules.specs.Follows.{Follows}
 use Rattle.auction_rules.proofs.Agents.{not_clock}
 use Rattle.auction_rules.proofs.Steps.{refused_entry, entry_refused, refusal_refuses, follows, entry_admitted}
@@ -30,10 +27,6 @@ either_same false x = refl
 and_true : (b : Bool) → (b && true) ≡ false → b ≡ false
 and_true true h = cc
 and_true false h = refl
-
-and_false : (b : Bool) → (b && false) ≡ false
-and_false true = refl
-and_false false = refl
 
 nothing : (b : Bool) → cond {A = List BidUnit} b [] [] ≡ []
 nothing true = refl
@@ -54,7 +47,7 @@ module _ (caller : ℕ) (reply : Reply) (trades : List Trade) (past : List Entry
   last_same Close agent h = rw (and_true (is_admission reply) h) refl
 
   closed_same : (call : Call) → IsIdle (entry call) → is_closed (entry call ∷ past) ≡ is_closed past
-  closed_same OwnCall h = rw (and_false (is_admission reply)) refl
+  closed_same OwnCall h = rw (and_right (is_admission reply) false refl) refl
   closed_same (Bid points) h = rw (and_true (is_admission reply) h) refl
   closed_same Withdraw h = rw (and_true (is_admission reply) h) refl
   closed_same (Update tick draw) h = rw (and_true (is_admission reply) h) refl
@@ -70,7 +63,7 @@ module _ (caller : ℕ) (reply : Reply) (trades : List Trade) (past : List Entry
   price_same first bound Close h = rw (and_true (is_admission reply) h) refl
 
   published_same : (rooms : ℕ) (live : Bool) (call : Call) → IsIdle (entry call) → published rooms live (entry call ∷ past) ≡ published rooms live past
-  published_same rooms live OwnCall h = rw (and_false (is_admission reply)) refl
+  published_same rooms live OwnCall h = rw (and_right (is_admission reply) false refl) refl
   published_same rooms live (Bid points) h = rw (and_true (is_admission reply) h) refl
   published_same rooms live Withdraw h = rw (and_true (is_admission reply) h) refl
   published_same rooms live (Update tick draw) h = rw (and_true (is_admission reply) h) refl
@@ -124,7 +117,7 @@ own_admitted rules past agent le = rw (not_clock agent le, place_of_own rules) r
 pub own_idle : (setup : Setup) (past : List Entry) (agent : ℕ) → agent ≤ 7 → IsIdle (entry_of setup past agent OwnCall)
 own_idle setup past agent le = rw (own_admitted setup.rules past agent le) refl
 
-own_trades : (rules : Rules) (good : ℕ) (past : List Entry) (agent : ℕ) → trades_by rules good past agent OwnCall ≡ []
+pub own_trades : (rules : Rules) (good : ℕ) (past : List Entry) (agent : ℕ) → trades_by rules good past agent OwnCall ≡ []
 own_trades (FlightRules first bound) good past agent = refl
 own_trades (HotelRules rooms live) good past agent = refl
 own_trades TicketRules good past agent = refl

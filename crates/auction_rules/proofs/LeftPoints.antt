@@ -1,13 +1,10 @@
 -- What is left of a bid is within the limits of a bid.
-use Rattle.std.proofs.Common.{◌≡◌, ℕ, zero, suc, ◌+◌, ◌≤◌, cond, List, [], ◌∷◌, refl, arith, None, ℤ, pos, negsuc}
-use Rattle.std.specs.Prelude.{◌==◌, false, unsigned_abs}
+use Rattle.std.proofs.Common.{◌≡◌, ℕ, zero, suc, ◌+◌, ◌≤◌, cond, List, [], ◌∷◌, refl, arith, None, ℤ, pos, negsuc, ◌==◌, false, unsigned_abs}
 use Rattle.std.proofs.lemmas.Bool.Decides.{nat_tests}
 use Rattle.std.proofs.lemmas.List.Sums.{count_by-le-length}
-use Rattle.tac_base.specs.declared.bids.Point.{Point}
-use Rattle.tac_base.specs.Bids.{size_of, point_fault, first_fault, fault_of, left_fault}
+use Rattle.auction_rules.specs.{Point, size_of, point_fault, first_fault, fault_of, left_fault, point_units, among, common_units, signed_as, left_points}
 use Rattle.tac_base.proofs.Faults.{IsGood, good_point, both_none}
 use Rattle.auction_rules.specs.declared.units.BidUnit.{BidUnit}
-use Rattle.auction_rules.specs.{point_units, among, common_units, signed_as, left_points}
 use Rattle.auction_rules.proofs.Blocks.{length-point_units}
 
 pub suc_not_zero : (n : ℕ) → (suc n == 0) ≡ false

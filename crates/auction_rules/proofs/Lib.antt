@@ -1,4 +1,3 @@
-pub mod Rows
 pub mod Blocks
 pub mod Steps
 pub mod Histories
@@ -24,3 +23,4 @@ pub mod Quoted
 pub mod FlightPrices
 pub mod ClosingTrades
 pub mod Shown
+pub mod Sorting

@@ -1,11 +1,14 @@
 -- How filters, maps and flat maps commute.
-use Rattle.std.proofs.Common.{◌≡◌, Bool, true, false, cond, List, [], ◌∷◌, ◌++◌, map, refl, ap, ◌∙◌, Option, Some, None}
-use Rattle.std.specs.Prelude.{IfSome, if◌then◌else◌, ◌||◌, filter}
-use Rattle.std.specs.List.{AllByRecursion, cons_option, filter_map, flat_map, list_any}
-use Rattle.std.specs.Option.{option_to_list}
+use Rattle.std.proofs.Common.{◌≡◌, Bool, true, false, cond, List, [], ◌∷◌, ◌++◌, map, refl, ap, ◌∙◌, Option, Some, None, IfSome, if◌then◌else◌, ◌||◌, ◌&&◌, filter, filter_map, flat_map, option_to_list}
+use Rattle.std.specs.List.{AllByRecursion, cons_option, list_any}
 use Rattle.std.proofs.lemmas.List.{map-append}
 use Rattle.std.proofs.lemmas.List.Elements.{filter-append}
 use Rattle.std.proofs.lemmas.List.Concat.{flat_map-append}
+use Rattle.std.proofs.lemmas.Bool.{or_right}
+
+pub and-true : (b : Bool) → (b && true) ≡ b
+and-true true = refl
+and-true false = refl
 
 pub filter-map : {X Y : Type 0} (test : Y → Bool) (f : X → Y) (xs : List X) → filter test (map f xs) ≡ map f (filter (λ x. test (f x)) xs)
 filter-map test f [] = refl
@@ -149,10 +152,6 @@ pub any-weaker : {X : Type 0} (p q : X → Bool) (xs : List X) → ((x : X) → 
 any-weaker p q [] f h = h
 any-weaker p q (x ∷ xs) f h = by_test (p x) refl h (λ later. any-weaker p q xs f later)
   where
-    later_too : (a b : Bool) → b ≡ true → (a || b) ≡ true
-    later_too true b k = refl
-    later_too false b k = k
-
     by_test : (b : Bool) → p x ≡ b → (b || list_any p xs) ≡ true → (list_any p xs ≡ true → list_any q xs ≡ true) → (q x || list_any q xs) ≡ true
     by_test true is found more = rw (f x is) refl
-    by_test false is found more = later_too (q x) (list_any q xs) (more found)
+    by_test false is found more = or_right (q x) (list_any q xs) (more found)

@@ -1,12 +1,12 @@
 -- The ticket match leaves no two units that would trade.
-use Rattle.std.proofs.Common.{◌≡◌, ℕ, ◌≤◌, Bool, true, false, cond, List, [], ◌∷◌, ◌++◌, refl, sym, ap, ◌∙◌, subst, arith, Option, Some, None}
-use Rattle.std.specs.Prelude.{⊤, ◌≢◌, not, ◌&&◌, ◌||◌, ◌==◌, nat_lt, filter, find, if◌then◌else◌}
+use Rattle.std.proofs.Common.{◌≡◌, ℕ, ◌≤◌, Bool, true, false, cond, List, [], ◌∷◌, ◌++◌, map, refl, sym, ap, ◌∙◌, subst, arith, Option, Some, None, ◌≢◌, not, ◌&&◌, ◌||◌, ◌==◌, nat_lt, filter, find, if◌then◌else◌}
+use Rattle.std.specs.Prelude.{⊤}
 use Rattle.std.specs.List.{AllByRecursion, list_all, list_any}
 use Rattle.std.proofs.lemmas.Bool.{and_parts, or_parts, or_right, not-true}
 use Rattle.std.proofs.lemmas.Bool.Decides.{nat_tests}
 use Rattle.tac_base.specs.declared.calls.Trade.{Trade}
 use Rattle.auction_rules.specs.declared.units.BidUnit.{BidUnit}
-use Rattle.auction_rules.specs.{same_side, same_unit, among, faces, goes_before, best, crosses, if_crossing, partner, pair_with, not_taken, pairs, trades_of_pairs, ticket_trades, units_of_pairs, ticket_gone}
+use Rattle.auction_rules.specs.{same_side, same_unit, among, faces, goes_before, best, crosses, if_crossing, partner, pair_with, not_taken, pairs, pair_trade, ticket_trades, units_of_pairs, ticket_gone}
 use Rattle.auction_rules.proofs.Lists.{all_alike, all_passing}
 use Rattle.auction_rules.proofs.Agents.{number_same}
 use Rattle.auction_rules.proofs.Standing.{Each, each-filter, each-weaker, same_is, same_self, among-filter}
@@ -104,7 +104,7 @@ any_first p u (v ∷ vs) h = by_test (goes_before v u) (any_first p (if goes_bef
     by_test true g = last_two (p u) (p v) (list_any p vs) g
     by_test false g = outer_two (p u) (p v) (list_any p vs) g
 
-all_pass : (test : BidUnit → Bool) (us : List BidUnit) → Each (λ u. test u ≡ true) us → list_all test us ≡ true
+pub all_pass : (test : BidUnit → Bool) (us : List BidUnit) → Each (λ u. test u ≡ true) us → list_all test us ≡ true
 all_pass test [] h = refl
 all_pass test (u ∷ us) h = rw (h.0, all_pass test us h.1) refl
 
@@ -126,7 +126,7 @@ each_among P u (v ∷ us) h is = by_test (same_unit u v) refl is (λ later. each
     by_test true same found more = subst P (sym (same_is u v same)) h.0
     by_test false same found more = more found
 
-each_passes : (test : BidUnit → Bool) (us : List BidUnit) → list_all test us ≡ true → Each (λ u. test u ≡ true) us
+pub each_passes : (test : BidUnit → Bool) (us : List BidUnit) → list_all test us ≡ true → Each (λ u. test u ≡ true) us
 each_passes test [] h = tt
 each_passes test (u ∷ us) h = let both = and_parts (test u) (list_all test us) h in (both.0, each_passes test us both.1)
 
@@ -143,7 +143,7 @@ best_is b (u ∷ us) v h is =
 
 -- ---- the partner of an arriving unit
 
-faces_side : (u v : BidUnit) → faces u v ≡ true → v.buys ≡ not u.buys
+pub faces_side : (u v : BidUnit) → faces u v ≡ true → v.buys ≡ not u.buys
 faces_side u v h = by_sides (not (u.agent == v.agent)) u.buys v.buys h
   where
     by_sides : (a b c : Bool) → (a && not (same_side b c)) ≡ true → c ≡ not b
@@ -265,7 +265,7 @@ trades_fair good most standing arriving h = each (pairs standing arriving) (each
     Between : BidUnit × BidUnit → Type 0
     Between pair = (pair.0.agent ≢ pair.1.agent) × (pair.1.price ≤ most)
 
-    each : (matched : List (BidUnit × BidUnit)) → AllByRecursion Between matched → AllByRecursion (IsFair most) (trades_of_pairs good matched)
+    each : (matched : List (BidUnit × BidUnit)) → AllByRecursion Between matched → AllByRecursion (IsFair most) (map (pair_trade good) matched)
     each [] k = tt
     each (pair ∷ matched) k = (one pair.0.buys, each matched k.1)
       where

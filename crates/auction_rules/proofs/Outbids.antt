@@ -1,16 +1,10 @@
 -- A hotel bid that is not below the quote keeps the published price reached.
-use Rattle.std.proofs.Common.{◌≡◌, ℕ, ◌+◌, ◌<◌, ◌≤◌, min, Bool, true, false, List, [], ◌∷◌, length, refl, sym, ap, ◌∙◌, subst, arith, inl, inr, ◌⊎◌}
-use Rattle.std.specs.Prelude.{not, ◌==◌, max, nat_le, filter}
-use Rattle.std.proofs.lemmas.Bool.{cases_lt, ltb-true, ltb-false}
+use Rattle.std.proofs.Common.{◌≡◌, ℕ, ◌+◌, ◌<◌, ◌≤◌, min, Bool, true, false, List, [], ◌∷◌, length, refl, sym, ap, ◌∙◌, subst, arith, inl, inr, ◌⊎◌, not, ◌==◌, max, nat_le, nat_lt, filter, count_by, ltb-true, ltb-false}
+use Rattle.std.proofs.lemmas.Bool.{cases_lt}
 use Rattle.std.proofs.lemmas.Bool.Decides.{nat_tests}
 use Rattle.std.proofs.lemmas.List.Sums.{count_by-le-length}
-use Rattle.tac_base.specs.declared.bids.Point.{Point}
-use Rattle.tac_base.specs.declared.calls.Trade.{Trade}
-use Rattle.tac_base.specs.declared.calls.Call.TheVariants.{Bid}
-use Rattle.tac_base.specs.declared.calls.Reply.TheVariants.{Taken}
+use Rattle.auction_rules.specs.{Point, Trade, Bid, Taken, agents, units_of, Entry, is_closed, last_bid, bid_units, units_of_last, stand, precedes, wins, published, winning, sold_units, need, quote_to_beat, offered}
 use Rattle.auction_rules.specs.declared.units.BidUnit.{BidUnit}
-use Rattle.tac_base.specs.Goods.{agents}
-use Rattle.auction_rules.specs.{units_of, Entry, is_closed, last_bid, bid_units, units_of_last, stand, precedes, predecessors, wins, units_at, published, winning, sold_units, need, quote_to_beat, offered, is_below_quote}
 use Rattle.auction_rules.specs.declared.rules.Rules.{Rules}
 use Rattle.auction_rules.specs.declared.rules.Rules.TheVariants.{Hotel as HotelRules}
 use Rattle.auction_rules.proofs.Agents.{number_same, numbers_differ, agents_joined}
@@ -18,7 +12,7 @@ use Rattle.auction_rules.proofs.Lists.{filter-flat_map}
 use Rattle.auction_rules.proofs.Standing.{Each, last_is, last_units, number_is}
 use Rattle.auction_rules.proofs.AgentUnits.{without_nothing, own_by_bid}
 use Rattle.auction_rules.proofs.Ranks.{count_le}
-use Rattle.auction_rules.proofs.Counts.{count-parts, count-filter, units_offered, offered_below}
+use Rattle.auction_rules.proofs.Counts.{count-parts, count-filter, units_at, units_offered, offered_below}
 use Rattle.auction_rules.proofs.HotelUnits.{open_stand, sells_what_stands}
 use Rattle.auction_rules.proofs.Asks.{IsReached}
 
@@ -34,8 +28,8 @@ winner_reaches rooms units price enough u winning = by_test (nat_le price u.pric
     by_test : (b : Bool) → nat_le price u.price ≡ b → b ≡ true
     by_test true is = refl
     by_test false lower =
-        let many : units_at units price ≤ predecessors units u = count_le (λ v. nat_le price v.price) (λ v. precedes v u) units (λ v is reaches. before v lower reaches) in
-        let few = ltb-true (predecessors units u) rooms winning in
+        let many : units_at units price ≤ count_by (λ v. precedes v u) units = count_le (λ v. nat_le price v.price) (λ v. precedes v u) units (λ v is reaches. before v lower reaches) in
+        let few = ltb-true (count_by (λ v. precedes v u) units) rooms winning in
         absurd (omega arith)
 
 -- the rooms that an agent does not win go to others' units at the price or more
@@ -105,7 +99,7 @@ module _ (rooms : ℕ) (live : Bool) (past : List Entry) (agent : ℕ) (points :
       own_by_bid rules past (bid_entry agent points bought sold trades) agent points le still_open (number_same agent) refl
       ∙ without_nothing (units_of (record { agent = agent; position = length past; points = points }))
 
-  agent_keeps : agent ≤ 7 → is_below_quote (need rooms live past agent) (quote_to_beat rooms live past) points ≡ false → rooms ≤ units_at (stand rules past) price → rooms ≤ units_at (stand rules next) price
+  agent_keeps : agent ≤ 7 → nat_lt (offered points (quote_to_beat rooms live past)) (need rooms live past agent) ≡ false → rooms ≤ units_at (stand rules past) price → rooms ≤ units_at (stand rules next) price
   agent_keeps le beats enough =
       let parts = count-parts (λ u. u.agent == agent) (λ u. nat_le price u.price) (stand rules next) in
       let own : units_at (filter (λ u. u.agent == agent) (stand rules next)) price ≡ offered points price = rw (own_new le) (units_offered agent (length past) 0 price points) in
@@ -120,7 +114,7 @@ module _ (rooms : ℕ) (live : Bool) (past : List Entry) (agent : ℕ) (points :
       subst (λ (us : List BidUnit). rooms ≤ units_at us price)
       (open_stand rooms live past still_open ∙ sym (strangers_bid past agent points bought sold trades le) ∙ sym (open_stand rooms live next still_open)) enough
 
-  pub bid_keeps : is_below_quote (need rooms live past agent) (quote_to_beat rooms live past) points ≡ false → IsReached rooms (stand rules past) price → IsReached rooms (stand rules next) price
+  pub bid_keeps : nat_lt (offered points (quote_to_beat rooms live past)) (need rooms live past agent) ≡ false → IsReached rooms (stand rules past) price → IsReached rooms (stand rules next) price
   bid_keeps beats (inl zero_price) = inl zero_price
   bid_keeps beats (inr enough) = inr (by_agent (cases_lt agent 8))
     where

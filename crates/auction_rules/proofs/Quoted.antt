@@ -1,18 +1,13 @@
 -- A hotel's published price does not fall.
-use Rattle.std.proofs.Common.{◌≡◌, ℕ, ◌≤◌, Bool, true, false, cond, List, [], ◌∷◌, refl, sym, ap, ◌∙◌, subst, arith, Option, Some, None, inl, inr}
-use Rattle.std.specs.Prelude.{not, ◌&&◌, ◌||◌, ◌==◌, if◌then◌else◌}
+use Rattle.std.proofs.Common.{◌≡◌, ℕ, ◌≤◌, Bool, true, false, cond, List, [], ◌∷◌, refl, sym, ap, ◌∙◌, subst, arith, Option, Some, None, inl, inr, not, ◌&&◌, ◌||◌, ◌==◌, nat_lt, if◌then◌else◌}
 use Rattle.std.proofs.lemmas.Bool.{false≢true}
-use Rattle.tac_base.specs.declared.bids.Point.{Point}
-use Rattle.tac_base.specs.declared.calls.Trade.{Trade}
-use Rattle.tac_base.specs.declared.calls.Call.{Call}
+use Rattle.auction_rules.specs.{Point, Trade, Call, Reply, Entry, is_own, is_closed, last_bid, units_of_bids, stand, left, ask, published, need, quote_to_beat, offered, is_wrong_caller, is_wrong_place, sells, call_refusal, refusal, IsLawful, entry_of, entry_by, admitted_reply, admitted_trades, close_reply, sold_units, bought, sold, holding}
 use Rattle.tac_base.specs.declared.calls.Call.TheVariants.{Bid, Withdraw, Own as OwnCall, Update, Publish, Close}
-use Rattle.tac_base.specs.declared.calls.Reply.{Reply}
 use Rattle.tac_base.specs.declared.calls.Reply.TheVariants.{Own, Closed, WrongCall, Sell, BelowQuote, Done, Sold}
 use Rattle.auction_rules.specs.declared.units.BidUnit.{BidUnit}
 use Rattle.auction_rules.specs.Setup.{Setup}
 use Rattle.auction_rules.specs.declared.rules.Rules.{Rules}
 use Rattle.auction_rules.specs.declared.rules.Rules.TheVariants.{Hotel as HotelRules}
-use Rattle.auction_rules.specs.{Entry, is_own, is_closed, last_bid, units_of_bids, stand, left, ask, published, need, quote_to_beat, offered, is_below_quote, is_wrong_caller, is_wrong_place, sells, call_refusal, refusal, IsLawful, entry_of, entry_by, admitted_reply, admitted_trades, close_reply, sold_units, bought, sold, holding}
 use Rattle.auction_rules.proofs.Steps.{refused_entry, refusal_refuses}
 use Rattle.auction_rules.proofs.Idle.{IsIdle, either_same, idle_refused, idle_closed, idle_published, idle_stand}
 use Rattle.auction_rules.proofs.Agents.{agents_alike}
@@ -32,9 +27,9 @@ still_open rules past caller call no_question h =
     by_test false g = refl
 
 -- an admitted bid is not below the quote
-admitted_beats : (rooms : ℕ) (live : Bool) (past : List Entry) (caller : ℕ) (points : List Point) → refusal (HotelRules rooms live) past caller (Bid points) ≡ None → is_below_quote (need rooms live past caller) (quote_to_beat rooms live past) points ≡ false
+admitted_beats : (rooms : ℕ) (live : Bool) (past : List Entry) (caller : ℕ) (points : List Point) → refusal (HotelRules rooms live) past caller (Bid points) ≡ None → nat_lt (offered points (quote_to_beat rooms live past)) (need rooms live past caller) ≡ false
 admitted_beats rooms live past caller points h =
-    by_tests (is_closed past) (is_wrong_caller caller (Bid points) || is_wrong_place (HotelRules rooms live) (Bid points)) (sells points) (is_below_quote (need rooms live past caller) (quote_to_beat rooms live past) points) h
+    by_tests (is_closed past) (is_wrong_caller caller (Bid points) || is_wrong_place (HotelRules rooms live) (Bid points)) (sells points) (nat_lt (offered points (quote_to_beat rooms live past)) (need rooms live past caller)) h
   where
     below : Reply
     below = BelowQuote (need rooms live past caller) (quote_to_beat rooms live past) (offered points (quote_to_beat rooms live past))

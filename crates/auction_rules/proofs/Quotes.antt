@@ -1,6 +1,5 @@
 -- The highest and the lowest price have every property that all prices have.
-use Rattle.std.proofs.Common.{◌≡◌, ℕ, ◌≤◌, Bool, true, false, cond, List, [], ◌∷◌, map, refl, subst, arith}
-use Rattle.std.specs.Prelude.{not, nat_le, max, min, filter, fold}
+use Rattle.std.proofs.Common.{◌≡◌, ℕ, ◌≤◌, Bool, true, false, cond, List, [], ◌∷◌, map, refl, subst, arith, not, nat_le, max, min, filter, fold}
 use Rattle.std.specs.List.{AllByRecursion}
 use Rattle.std.proofs.lemmas.Bool.Decides.{nat_tests}
 use Rattle.auction_rules.specs.declared.units.BidUnit.{BidUnit}

@@ -1,23 +1,16 @@
 -- Nobody trades with itself, and each trade is between two of the nine parties.
-use Rattle.std.proofs.Common.{◌≡◌, ℕ, ◌≤◌, Bool, true, false, cond, List, length, refl, ap, ◌∙◌, sym, arith, Option, Some, None}
-use Rattle.std.specs.Prelude.{IfSome, ◌≢◌, not, ◌&&◌, ◌||◌, ◌==◌, if◌then◌else◌}
+use Rattle.std.proofs.Common.{◌≡◌, ℕ, ◌≤◌, Bool, true, false, cond, List, length, refl, ap, ◌∙◌, sym, arith, Option, Some, None, IfSome, ◌≢◌, not, ◌&&◌, ◌||◌, ◌==◌, if◌then◌else◌}
 use Rattle.std.specs.List.{AllByRecursion}
 use Rattle.std.proofs.lemmas.Bool.{or_parts}
 use Rattle.std.proofs.lemmas.Bool.Decides.{nat_tests}
-use Rattle.tac_base.specs.declared.bids.Point.{Point}
-use Rattle.tac_base.specs.declared.calls.Trade.{Trade}
-use Rattle.tac_base.specs.declared.calls.Call.{Call}
+use Rattle.auction_rules.specs.{Point, Trade, Call, Reply, Closed, WrongCall, agents, clock, house, Entry, is_own, is_closed, last_bid, price, price_after, standing_points, points_looked_at, placed_bids, sale, arriving, faces, crosses, pairs, pair_trade, ticket_trades, stand, ask, winning, closing_trade, closing_trades, is_wrong_caller, is_wrong_place, call_refusal, refusal, HasTwoParties, entry_by, trades_by, trades_of, units_of}
 use Rattle.tac_base.specs.declared.calls.Call.TheVariants.{Bid, Withdraw, Own as OwnCall, Update, Publish, Close}
-use Rattle.tac_base.specs.declared.calls.Reply.{Reply}
-use Rattle.tac_base.specs.declared.calls.Reply.TheVariants.{Closed, WrongCall}
 use Rattle.auction_rules.specs.declared.units.Placed.{Placed}
 use Rattle.auction_rules.specs.declared.units.StandingPoint.{StandingPoint}
 use Rattle.auction_rules.specs.declared.units.BidUnit.{BidUnit}
-use Rattle.tac_base.specs.Goods.{agents, clock, house}
 use Rattle.auction_rules.specs.Setup.{Setup}
 use Rattle.auction_rules.specs.declared.rules.Rules.{Rules}
 use Rattle.auction_rules.specs.declared.rules.Rules.TheVariants.{Flight as FlightRules, Hotel as HotelRules, Tickets as TicketRules}
-use Rattle.auction_rules.specs.{Entry, is_own, is_closed, last_bid, price, price_after, standing_points, points_looked_at, placed_bids, sale, arriving, faces, crosses, pairs, pair_trade, ticket_trades, stand, ask, winning, closing_trade, closing_trades, is_wrong_caller, is_wrong_place, call_refusal, refusal, HasTwoParties, entry_by, trades_by, trades_of, units_of}
 use Rattle.auction_rules.proofs.Agents.{agents_within}
 use Rattle.auction_rules.proofs.AgentUnits.{stand_owned}
 use Rattle.auction_rules.proofs.Lists.{all-filter_map, all-if, all-map, all-weaker}

@@ -1,7 +1,5 @@
 -- Lists with equal sums under every weight of units have the same units, each equally often.
-use Rattle.std.proofs.Common.{◌≡◌, ℕ, ◌+◌, ◌≤◌, Bool, true, false, cond, List, [], ◌∷◌, ◌++◌, map, refl, sym, ap, ◌∙◌, arith, subst}
-use Rattle.std.specs.Prelude.{◌==◌, ◌&&◌, sum_by, count_by}
-use Rattle.std.specs.List.Sorted.{IsPermutation}
+use Rattle.std.proofs.Common.{◌≡◌, ℕ, ◌+◌, ◌≤◌, Bool, true, false, cond, List, [], ◌∷◌, ◌++◌, map, refl, sym, ap, ◌∙◌, arith, subst, ◌==◌, ◌&&◌, sum_by, count_by, IsPermutation}
 use Rattle.std.proofs.lemmas.List.Sorted.{IsPermutation-refl, IsPermutation-sym, IsPermutation-trans, IsPermutation-cons, IsPermutation-middle}
 use Rattle.std.proofs.lemmas.List.Sums.{sum_by-cons, sum_by-append}
 use Rattle.std.proofs.lemmas.Bool.Decides.{nat_tests}
@@ -68,7 +66,7 @@ permuted_units (x ∷ xs) ys alike = from_parts (part_at x ys found) (permuted_u
             let whole : sum_by weight (parts.0 ++ x ∷ parts.1) ≡ sum_by weight (x ∷ xs) = ap (sum_by weight) (sym parts.2) ∙ alike weight in
             omega (arith, whole, sum_by-append weight parts.0 (x ∷ parts.1), sum_by-append weight parts.0 parts.1, sum_by-cons weight x parts.1, sum_by-cons weight x xs)
 
-sum_by-map : {A B : Type 0} (f : A → B) (weight : B → ℕ) (xs : List A) → sum_by weight (map f xs) ≡ sum_by (λ x. weight (f x)) xs
+pub sum_by-map : {A B : Type 0} (f : A → B) (weight : B → ℕ) (xs : List A) → sum_by weight (map f xs) ≡ sum_by (λ x. weight (f x)) xs
 sum_by-map f weight [] = refl
 sum_by-map f weight (x ∷ xs) = sum_by-cons weight (f x) (map f xs) ∙ ap (λ n. weight (f x) + n) (sum_by-map f weight xs) ∙ sym (sum_by-cons (λ y. weight (f y)) x xs)
 

@@ -1,18 +1,14 @@
 -- Which units of the last bids stand, for all rules: those that no call traded away; and what one entry changes in them.
-use Rattle.std.proofs.Common.{◌≡◌, ℕ, zero, suc, ◌+◌, ◌<◌, ◌≤◌, Bool, true, false, cond, List, [], ◌∷◌, ◌++◌, length, map, refl, sym, ap, ◌∙◌, arith, Option, Some, None, subst, get_or}
-use Rattle.std.specs.Prelude.{not, ◌&&◌, ◌||◌, ◌==◌, ◌≢◌, filter, ℤ, pos, negsuc, unsigned_abs}
-use Rattle.std.specs.List.{AllByRecursion, flat_map, find}
+use Rattle.std.proofs.Common.{◌≡◌, ℕ, zero, suc, ◌+◌, ◌<◌, ◌≤◌, Bool, true, false, cond, List, [], ◌∷◌, ◌++◌, length, map, refl, sym, ap, ◌∙◌, arith, Option, Some, None, subst, get_or, not, ◌&&◌, ◌||◌, ◌==◌, ◌≢◌, filter, ℤ, pos, negsuc, unsigned_abs, flat_map, find}
+use Rattle.std.specs.List.{AllByRecursion}
 use Rattle.std.proofs.lemmas.Bool.Decides.{nat_tests}
 use Rattle.std.proofs.lemmas.List.Folds.{list_any-append}
 use Rattle.std.proofs.lemmas.List.Sums.{sum_by-cons}
-use Rattle.tac_base.specs.declared.bids.Point.{Point}
-use Rattle.tac_base.specs.Bids.{size_of, buys_of}
-use Rattle.tac_base.specs.declared.calls.Call.{Call}
+use Rattle.std.proofs.lemmas.Bool.{and_parts, and_right, or_left, or_right}
+use Rattle.auction_rules.specs.{Point, size_of, buys_of, Call, agents, block, point_units, units_from, units_of, same_side, same_unit, among, without, common_units, Entry, is_admission, is_closed, bid_after, last_bid, last_bids, bid_units, units_of_last, units_of_bids, looked_at, arriving, faces, best, if_crossing, partner, pair_with, not_taken, pairs, units_of_pairs, ticket_gone, gone_by, left_standing, gone, stand, signed_as, left_points}
 use Rattle.tac_base.specs.declared.calls.Call.TheVariants.{Bid, Withdraw, Own as OwnCall, Update, Publish, Close}
 use Rattle.auction_rules.specs.declared.units.Placed.{Placed}
 use Rattle.auction_rules.specs.declared.units.BidUnit.{BidUnit}
-use Rattle.tac_base.specs.Goods.{agents}
-use Rattle.auction_rules.specs.{block, point_units, units_from, units_of, same_side, same_unit, among, without, common_units, Entry, is_admission, is_closed, bid_after, last_bid, last_bids, bid_units, units_of_last, units_of_bids, looked_at, arriving, faces, best, if_crossing, partner, pair_with, not_taken, pairs, units_of_pairs, ticket_gone, gone_by, left_standing, gone, stand, signed_as, left_points}
 use Rattle.auction_rules.specs.declared.rules.Rules.{Rules}
 use Rattle.auction_rules.specs.declared.rules.Rules.TheVariants.{Flight as FlightRules, Hotel as HotelRules, Tickets as TicketRules}
 use Rattle.auction_rules.proofs.Blocks.{length-point_units}
@@ -67,6 +63,9 @@ each-placed agent position from (point ∷ points) =
     (each-block (IsPlaced agent position) (record { agent = agent; buys = buys_of point.units; price = point.price; position = position; index = from }) (size_of point) (λ i. (refl, refl)))
     (each-placed agent position (from + size_of point) points)
 
+pub bid_owned : (bid : Placed) → Each (λ u. u.agent ≡ bid.agent) (units_of bid)
+bid_owned bid = each-weaker (IsPlaced bid.agent bid.position) (λ u. u.agent ≡ bid.agent) (units_of bid) (λ u k. k.0) (each-placed bid.agent bid.position 0 bid.points)
+
 -- all positions are below n
 abbrev pub Below : ℕ → List BidUnit → Type 0
 Below n units = Each (λ (u : BidUnit). u.position < n) units
@@ -117,11 +116,7 @@ last_units P agent n (Some bid) h f =
 
 -- ---- units among others
 
-and_true : (a b : Bool) → (a && b) ≡ true → (a ≡ true) × (b ≡ true)
-and_true true b h = (refl, h)
-and_true false b h = absurd cc
-
-side_is : (b c : Bool) → same_side b c ≡ true → b ≡ c
+pub side_is : (b c : Bool) → same_side b c ≡ true → b ≡ c
 side_is true true h = refl
 side_is true false h = cc
 side_is false true h = cc
@@ -139,27 +134,16 @@ same_self u = by_side u.buys refl
 
 pub same_is : (u v : BidUnit) → same_unit u v ≡ true → u ≡ v
 same_is u v h =
-    let one = and_true (u.agent == v.agent) _ h in
-    let two = and_true (same_side u.buys v.buys) _ one.1 in
-    let three = and_true (u.price == v.price) _ two.1 in
-    let four = and_true (u.position == v.position) (u.index == v.index) three.1 in
+    let one = and_parts (u.agent == v.agent) _ h in
+    let two = and_parts (same_side u.buys v.buys) _ one.1 in
+    let three = and_parts (u.price == v.price) _ two.1 in
+    let four = and_parts (u.position == v.position) (u.index == v.index) three.1 in
     let agent = number_is u.agent v.agent one.0 in
     let buys = side_is u.buys v.buys two.0 in
     let price = number_is u.price v.price three.0 in
     let position = number_is u.position v.position four.0 in
     let index = number_is u.index v.index four.1 in
     λ i. record { agent = agent i; buys = buys i; price = price i; position = position i; index = index i }
-
-and_false : (a : Bool) → (a && false) ≡ false
-and_false true = refl
-and_false false = refl
-
-or_true : (b : Bool) → (b || true) ≡ true
-or_true true = refl
-or_true false = refl
-
-true_or : (a b : Bool) → a ≡ true → (a || b) ≡ true
-true_or a b h = rw h
 
 pub among-filter : (u : BidUnit) (test : BidUnit → Bool) (xs : List BidUnit) → among u (filter test xs) ≡ (among u xs && test u)
 among-filter u test [] = refl
@@ -168,7 +152,7 @@ among-filter u test (x ∷ xs) = by_tests (same_unit u x) (test x) refl refl (am
     by_tests : (s b : Bool) → same_unit u x ≡ s → test x ≡ b → among u (filter test xs) ≡ (among u xs && test u) →
         among u (cond b (x ∷ filter test xs) (filter test xs)) ≡ ((s || among u xs) && test u)
     by_tests true true s b ih = rw (s, ap test (same_is u x s), b) refl
-    by_tests true false s b ih = ih ∙ rw (ap test (same_is u x s), b) (and_false (among u xs))
+    by_tests true false s b ih = ih ∙ rw (ap test (same_is u x s), b) (and_right (among u xs) false refl)
     by_tests false true s b ih = rw s ih
     by_tests false false s b ih = ih
 
@@ -189,14 +173,14 @@ abbrev pub AllAmong : List BidUnit → List BidUnit → Type 0
 AllAmong others units = Each (λ (u : BidUnit). among u others ≡ true) units
 
 pub all_among_right : (us xs ys : List BidUnit) → AllAmong ys us → AllAmong (xs ++ ys) us
-all_among_right us xs ys h = each-weaker (λ (u : BidUnit). among u ys ≡ true) (λ (u : BidUnit). among u (xs ++ ys) ≡ true) us (λ u k. among-append u xs ys ∙ rw k (or_true (among u xs))) h
+all_among_right us xs ys h = each-weaker (λ (u : BidUnit). among u ys ≡ true) (λ (u : BidUnit). among u (xs ++ ys) ≡ true) us (λ u k. among-append u xs ys ∙ or_right (among u xs) (among u ys) k) h
 
 pub all_among_left : (us xs ys : List BidUnit) → AllAmong xs us → AllAmong (xs ++ ys) us
-all_among_left us xs ys h = each-weaker (λ (u : BidUnit). among u xs ≡ true) (λ (u : BidUnit). among u (xs ++ ys) ≡ true) us (λ u k. among-append u xs ys ∙ true_or (among u xs) (among u ys) k) h
+all_among_left us xs ys h = each-weaker (λ (u : BidUnit). among u xs ≡ true) (λ (u : BidUnit). among u (xs ++ ys) ≡ true) us (λ u k. among-append u xs ys ∙ or_left (among u xs) (among u ys) k) h
 
 pub all_among_self : (us : List BidUnit) → AllAmong us us
 all_among_self [] = tt
-all_among_self (u ∷ us) = (true_or (same_unit u u) (among u us) (same_self u), all_among_right us (u ∷ []) us (all_among_self us))
+all_among_self (u ∷ us) = (or_left (same_unit u u) (among u us) (same_self u), all_among_right us (u ∷ []) us (all_among_self us))
 
 -- the units of one bid are among those of all
 pub all_among_bids : (bids : List (Option Placed)) (i : ℕ) (d : Option Placed) → i < length bids → AllAmong (units_of_bids bids) (units_of_last (get_or bids i d))

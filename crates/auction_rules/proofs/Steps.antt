@@ -1,16 +1,10 @@
 -- One call of a book: what has to be shown so that it follows the rules.
-use Rattle.std.proofs.Common.{◌≡◌, ℕ, Bool, true, false, List, [], ◌∷◌, refl, sym, ap, ◌∙◌, subst, Option, Some, None}
-use Rattle.std.specs.Prelude.{IfSome, if◌then◌else◌, not, ◌&&◌, ◌||◌}
-use Rattle.tac_base.specs.declared.bids.Point.{Point}
-use Rattle.tac_base.specs.declared.calls.Trade.{Trade}
-use Rattle.tac_base.specs.declared.calls.Call.{Call}
+use Rattle.std.proofs.Common.{◌≡◌, ℕ, Bool, true, false, List, [], ◌∷◌, refl, sym, ap, ◌∙◌, subst, Option, Some, None, IfSome, if◌then◌else◌, not, ◌&&◌, ◌||◌, nat_lt}
+use Rattle.auction_rules.specs.{Point, Trade, Call, Reply, Closed, WrongCall, NoBid, Sell, SelfCross, BelowQuote, Entry, is_admission, is_own, is_closed, need, quote_to_beat, offered, is_wrong_caller, is_wrong_place, sells, crosses_itself, has_standing, bid_refusal, call_refusal, refusal, entry_of, admitted_reply, admitted_trades}
 use Rattle.tac_base.specs.declared.calls.Call.TheVariants.{Bid, Withdraw, Own as OwnCall, Update, Publish, Close}
-use Rattle.tac_base.specs.declared.calls.Reply.{Reply}
-use Rattle.tac_base.specs.declared.calls.Reply.TheVariants.{Closed, WrongCall, NoBid, Sell, SelfCross, BelowQuote}
 use Rattle.auction_rules.specs.Setup.{Setup}
 use Rattle.auction_rules.specs.declared.rules.Rules.{Rules}
 use Rattle.auction_rules.specs.declared.rules.Rules.TheVariants.{Flight as FlightRules, Hotel as HotelRules, Tickets as TicketRules}
-use Rattle.auction_rules.specs.{Entry, is_admission, is_own, is_closed, need, quote_to_beat, offered, is_below_quote, is_wrong_caller, is_wrong_place, sells, crosses_itself, has_standing, bid_refusal, call_refusal, refusal, entry_of, admitted_reply, admitted_trades}
 use Rattle.auction_rules.specs.Follows.{Follows}
 
 -- the entry of a refused call
@@ -48,7 +42,7 @@ bid_refuses : (rules : Rules) (past : List Entry) (caller : ℕ) (points : List 
 bid_refuses (FlightRules first bound) past caller points = either (sells points) (Some Sell) None refl tt
 bid_refuses (HotelRules rooms live) past caller points =
     either (sells points) (Some Sell) _ refl
-    (either (is_below_quote (need rooms live past caller) (quote_to_beat rooms live past) points)
+    (either (nat_lt (offered points (quote_to_beat rooms live past)) (need rooms live past caller))
     (Some (BelowQuote (need rooms live past caller) (quote_to_beat rooms live past) (offered points (quote_to_beat rooms live past)))) None refl tt)
 bid_refuses TicketRules past caller points = either (crosses_itself points) (Some SelfCross) None refl tt
 

@@ -1,25 +1,19 @@
 -- After a legal past no board of a ticket auction is crossed: each unit that buys has a lower price than each that sells.
-use Rattle.std.proofs.Common.{◌≡◌, ℕ, ◌+◌, ◌<◌, ◌≤◌, Bool, true, false, List, [], ◌∷◌, length, map, refl, sym, ap, ◌∙◌, subst, arith, Option, Some, None}
-use Rattle.std.specs.Prelude.{not, ◌&&◌, ◌||◌, ◌==◌, nat_le, max, filter, if◌then◌else◌}
+use Rattle.std.proofs.Common.{◌≡◌, ℕ, ◌+◌, ◌<◌, ◌≤◌, Bool, true, false, List, [], ◌∷◌, length, map, refl, sym, ap, ◌∙◌, subst, arith, Option, Some, None, not, ◌&&◌, ◌||◌, ◌==◌, nat_le, max, filter, if◌then◌else◌}
 use Rattle.std.specs.List.{list_any}
 use Rattle.std.proofs.lemmas.Bool.{false≢true, and_parts, or_parts, or_right, not-true}
 use Rattle.std.proofs.lemmas.Bool.Decides.{nat_tests}
-use Rattle.tac_base.specs.declared.bids.Point.{Point}
-use Rattle.tac_base.specs.Bids.{buys_of, size_of}
-use Rattle.tac_base.specs.declared.calls.Call.{Call}
+use Rattle.auction_rules.specs.{Point, buys_of, size_of, Call, Reply, Closed, WrongCall, SelfCross, point_units, units_from, units_of, same_side, among, without, Entry, is_admission, is_bid, is_close, is_closed, last_bid, units_of_last, faces, crosses, ticket_gone, gone, stand, is_wrong_caller, is_wrong_place, crosses_itself, refusal, IsLawful, entry_of, highest_buy, lowest_sell, shown_bid, shown_ask}
 use Rattle.tac_base.specs.declared.calls.Call.TheVariants.{Bid, Withdraw, Own as OwnCall, Update, Publish, Close}
-use Rattle.tac_base.specs.declared.calls.Reply.{Reply}
-use Rattle.tac_base.specs.declared.calls.Reply.TheVariants.{Closed, WrongCall, SelfCross}
 use Rattle.auction_rules.specs.declared.units.BidUnit.{BidUnit}
 use Rattle.auction_rules.specs.declared.units.Placed.{Placed}
-use Rattle.auction_rules.specs.{point_units, units_from, units_of, same_side, among, without, Entry, is_admission, is_bid, is_close, is_closed, last_bid, units_of_last, faces, crosses, ticket_gone, gone, stand, is_wrong_caller, is_wrong_place, meets_own, crosses_itself, refusal, IsLawful, entry_of, highest_buy, lowest_sell, shown_bid, shown_ask}
 use Rattle.auction_rules.specs.Setup.{Setup}
 use Rattle.auction_rules.specs.declared.rules.Rules.{Rules}
 use Rattle.auction_rules.specs.declared.rules.Rules.TheVariants.{Tickets as TicketRules}
 use Rattle.auction_rules.proofs.Lists.{any-weaker}
 use Rattle.auction_rules.proofs.Quotes.{fold_keeps, max_keeps, lowest_keeps, prices_of}
 use Rattle.auction_rules.proofs.Steps.{entry_refused, refusal_refuses}
-use Rattle.auction_rules.proofs.Standing.{Each, each-append, each-block, each-weaker, IsPlaced, each-placed, number_is, among-filter, all_among_self}
+use Rattle.auction_rules.proofs.Standing.{Each, each-append, each-block, each-weaker, IsPlaced, each-placed, number_is, among-filter, all_among_self, side_is}
 use Rattle.auction_rules.proofs.Agents.{number_same}
 use Rattle.auction_rules.proofs.AgentUnits.{stand_owned, own_units, gone_now, own_by_other, own_by_bid}
 use Rattle.auction_rules.proofs.Matching.{each_among, unmatched}
@@ -50,12 +44,6 @@ each_has_point agent position from (point ∷ points) =
     same true = refl
     same false = refl
 
-side_of : (b c : Bool) → same_side b c ≡ true → b ≡ c
-side_of true true h = refl
-side_of true false h = cc
-side_of false true h = cc
-side_of false false h = refl
-
 -- the units of a bid that does not cross itself
 one_bid_apart : (bid : Placed) → crosses_itself bid.points ≡ false → Apart (units_of bid)
 one_bid_apart bid apart u v among_u among_v buys sells = by_test (nat_le v.price u.price) refl
@@ -65,19 +53,19 @@ one_bid_apart bid apart u v among_u among_v buys sells = by_test (nat_le v.price
 
     reached : nat_le v.price u.price ≡ true → (p : Point) → point_of v p ≡ true → (not (buys_of p.units) && nat_le p.price u.price) ≡ true
     reached h p is =
-        let side : buys_of p.units ≡ false = side_of (buys_of p.units) v.buys (and_parts (same_side (buys_of p.units) v.buys) _ is).0 ∙ sells in
+        let side : buys_of p.units ≡ false = side_is (buys_of p.units) v.buys (and_parts (same_side (buys_of p.units) v.buys) _ is).0 ∙ sells in
         let price : p.price ≡ v.price = number_is p.price v.price (and_parts (same_side (buys_of p.units) v.buys) _ is).1 in
         rw (side, price, h) refl
 
-    reaching : nat_le v.price u.price ≡ true → (p : Point) → point_of u p ≡ true → (buys_of p.units && meets_own bid.points p.price) ≡ true
+    reaching : nat_le v.price u.price ≡ true → (p : Point) → point_of u p ≡ true → (buys_of p.units && list_any (λ sell. not (buys_of sell.units) && nat_le sell.price p.price) bid.points) ≡ true
     reaching h p is =
-        let side : buys_of p.units ≡ true = side_of (buys_of p.units) u.buys (and_parts (same_side (buys_of p.units) u.buys) _ is).0 ∙ buys in
+        let side : buys_of p.units ≡ true = side_is (buys_of p.units) u.buys (and_parts (same_side (buys_of p.units) u.buys) _ is).0 ∙ buys in
         let price : p.price ≡ u.price = number_is p.price u.price (and_parts (same_side (buys_of p.units) u.buys) _ is).1 in
-        let meets : meets_own bid.points u.price ≡ true = any-weaker (point_of v) (λ sell. not (buys_of sell.units) && nat_le sell.price u.price) bid.points (reached h) (has v among_v) in
+        let meets : list_any (λ sell. not (buys_of sell.units) && nat_le sell.price u.price) bid.points ≡ true = any-weaker (point_of v) (λ sell. not (buys_of sell.units) && nat_le sell.price u.price) bid.points (reached h) (has v among_v) in
         rw (side, price, meets) refl
 
     by_test : (t : Bool) → nat_le v.price u.price ≡ t → u.price < v.price
-    by_test true h = let crossed : crosses_itself bid.points ≡ true = any-weaker (point_of u) (λ buy. buys_of buy.units && meets_own bid.points buy.price) bid.points (reaching h) (has u among_u) in absurd cc
+    by_test true h = let crossed : crosses_itself bid.points ≡ true = any-weaker (point_of u) (λ buy. buys_of buy.units && list_any (λ sell. not (buys_of sell.units) && nat_le sell.price buy.price) bid.points) bid.points (reaching h) (has u among_u) in absurd cc
     by_test false h = price_below u v h
 
 -- ---- the owner of a standing unit, and where it comes from

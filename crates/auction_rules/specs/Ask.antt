@@ -1,20 +1,15 @@
 -- The ask of a hotel, which by the game description is the price that all winning units pay, and its published price. That a
 -- closing publishes too, and that quotes may be live, are our own rules.
 use Rattle.std.specs.Prelude.{ℕ, max, Bool, true, false, ◌&&◌, nat_le, if◌then◌else◌, List, [], ◌∷◌, map, filter, fold, count_by}
-use Rattle.tac_base.specs.declared.calls.Call.{Call}
-use Rattle.tac_base.specs.declared.calls.Call.TheVariants.{Publish, Close}
+use Rattle.auction_rules.specs.Prelude.{Call, Publish, Close}
 use Rattle.auction_rules.specs.declared.units.BidUnit.{BidUnit}
 use Rattle.auction_rules.specs.declared.rules.Rules.TheVariants.{Hotel as HotelRules}
 use Rattle.auction_rules.specs.History.{Entry, is_admission, is_bid}
 use Rattle.auction_rules.specs.Standing.{stand}
 
--- how many of the units have the price or more
-abbrev pub units_at : List BidUnit → ℕ → ℕ
-units_at units price = count_by (λ u. nat_le price u.price) units
-
 -- the greatest price of a unit such that at least as many units as there are rooms have that price or more; 0 if there are fewer units
 abbrev pub ask : ℕ → List BidUnit → ℕ
-ask rooms units = fold max 0 (map (λ u. u.price) (filter (λ u. nat_le rooms (units_at units u.price)) units))
+ask rooms units = fold max 0 (map (λ u. u.price) (filter (λ u. nat_le rooms (count_by (λ v. nat_le u.price v.price) units)) units))
 
 -- whether a call publishes the ask of the units that it finds
 abbrev pub publishes : Call → Bool

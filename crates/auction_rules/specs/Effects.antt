@@ -1,8 +1,6 @@
 -- What trades give and cost a party.
-use Rattle.std.specs.Prelude.{ℕ, ◌*◌, ◌==◌, if◌then◌else◌, List, ℤ, pos, ◌+ℤ◌, ◌-ℤ◌, map, sum_by, filter, slice_index_or}
-use Rattle.std.specs.List.{flat_map}
-use Rattle.tac_base.specs.declared.calls.Trade.{Trade}
-use Rattle.tac_base.specs.Goods.{house, parties}
+use Rattle.std.specs.Prelude.{ℕ, ◌*◌, ◌==◌, if◌then◌else◌, List, ℤ, pos, ◌+ℤ◌, ◌-ℤ◌, map, sum_by, filter, slice_index_or, flat_map}
+use Rattle.auction_rules.specs.Prelude.{Trade, house, parties}
 use Rattle.auction_rules.specs.Setup.{Setup}
 use Rattle.auction_rules.specs.History.{Entry}
 
@@ -36,10 +34,6 @@ nets trades = map (dollars trades) parties
 abbrev pub all_trades : List Entry → List Trade
 all_trades past = flat_map (λ e. e.trades) past
 
--- how many units of the good the party holds at first: the house none
-abbrev pub endowment : Setup → ℕ → ℤ
-endowment setup party = if party == house then pos 0 else slice_index_or setup.endow party (pos 0)
-
--- how many units of the good the party holds: those that it held at first, plus its net units over all trades
+-- how many units of the good the party holds: those that it held at first, of which the house has none, plus its net units over all trades
 abbrev pub holding : Setup → List Entry → ℕ → ℤ
-holding setup past party = endowment setup party +ℤ net_units (all_trades past) party
+holding setup past party = (if party == house then pos 0 else slice_index_or setup.endow party (pos 0)) +ℤ net_units (all_trades past) party

@@ -1,10 +1,8 @@
 -- Flights: the price, the calls in which the house may sell, and the units that it then sells. That a price stays in 150..800 is the
 -- game description's; how a draw changes it is our own rule.
-use Rattle.std.specs.Prelude.{ℕ, ◌+◌, ◌%◌, ◌==◌, min, max, Bool, true, false, not, nat_le, if◌then◌else◌, List, [], ◌∷◌, ◌++◌, ℤ, pos, negsuc, neg_ℤ, ◌+ℤ◌, ◌-ℤ◌, ◌*ℤ◌, int_lt, unsigned_abs, filter}
+use Rattle.std.specs.Prelude.{ℕ, ◌+◌, ◌%◌, ◌==◌, min, max, Bool, true, false, not, if◌then◌else◌, List, [], ◌∷◌, ◌++◌, ℤ, pos, negsuc, neg_ℤ, ◌+ℤ◌, ◌-ℤ◌, ◌*ℤ◌, int_lt, unsigned_abs, filter}
 use Rattle.std.specs.Int.{int_div_euclid}
-use Rattle.tac_base.specs.declared.limits.TheConstants.{TICKS}
-use Rattle.tac_base.specs.declared.calls.Call.{Call}
-use Rattle.tac_base.specs.declared.calls.Call.TheVariants.{Bid, Update}
+use Rattle.auction_rules.specs.Prelude.{TICKS, Call, Bid, Update}
 use Rattle.auction_rules.specs.declared.units.BidUnit.{BidUnit}
 use Rattle.auction_rules.specs.Units.{units_of}
 use Rattle.auction_rules.specs.History.{Entry, is_admission}
@@ -54,7 +52,3 @@ abbrev pub looked_at : List BidUnit → ℕ → ℕ → Call → List BidUnit
 looked_at standing position caller (Bid points) =
     filter (λ u. not (u.agent == caller)) standing ++ units_of (record { agent = caller; position = position; points = points })
 looked_at standing position caller call = standing
-
--- the units that are sold
-abbrev pub flight_gone : ℕ → List BidUnit → List BidUnit
-flight_gone current units = filter (λ u. nat_le current u.price) units

@@ -1,12 +1,7 @@
 -- What the house sells in a flight: of the points that stand, those at or above the price, each whole and in one trade.
-use Rattle.std.specs.Prelude.{ℕ, ◌==◌, ◌&&◌, Bool, not, nat_lt, nat_le, List, ◌++◌, length, map, filter, Some}
-use Rattle.std.specs.List.{filter_map, flat_map, range_with_len}
-use Rattle.tac_base.specs.declared.bids.Point.{Point}
-use Rattle.tac_base.specs.declared.calls.Trade.{Trade}
-use Rattle.tac_base.specs.declared.calls.Call.{Call}
-use Rattle.tac_base.specs.declared.calls.Call.TheVariants.{Bid}
-use Rattle.tac_base.specs.Bids.{size_of}
-use Rattle.tac_base.specs.Goods.{agents, house}
+use Rattle.std.specs.Prelude.{ℕ, ◌==◌, ◌&&◌, Bool, not, nat_lt, nat_le, List, ◌++◌, length, map, filter, Some, filter_map, flat_map}
+use Rattle.std.specs.List.{range_with_len}
+use Rattle.auction_rules.specs.Prelude.{Point, Trade, Call, Bid, size_of, agents, house}
 use Rattle.auction_rules.specs.declared.units.BidUnit.{BidUnit}
 use Rattle.auction_rules.specs.declared.units.Placed.{Placed}
 use Rattle.auction_rules.specs.declared.units.StandingPoint.{StandingPoint}

@@ -1,9 +1,7 @@
 -- What the closing of a hotel sells, by the game description.
-use Rattle.std.specs.Prelude.{ℕ, ◌==◌, if◌then◌else◌, List, Option, Some, None, count_by}
-use Rattle.std.specs.List.{filter_map}
-use Rattle.tac_base.specs.declared.calls.Trade.{Trade}
+use Rattle.std.specs.Prelude.{ℕ, ◌==◌, if◌then◌else◌, List, Option, Some, None, count_by, filter_map}
+use Rattle.auction_rules.specs.Prelude.{Trade, agents, house}
 use Rattle.auction_rules.specs.declared.units.BidUnit.{BidUnit}
-use Rattle.tac_base.specs.Goods.{agents, house}
 use Rattle.auction_rules.specs.Precedence.{wins}
 use Rattle.auction_rules.specs.Ask.{ask}
 use Rattle.auction_rules.specs.WinningNumber.{winning}

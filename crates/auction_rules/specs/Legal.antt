@@ -1,13 +1,9 @@
 -- The entry that the rules give for a call, and the histories that consist of such entries.
 use Rattle.std.specs.Prelude.{◌≡◌, ℕ, ◌==◌, ◌≤◌, ⊤, if◌then◌else◌, List, [], ◌∷◌, length, reverse, Option, Some, None, count_by}
 use Rattle.std.specs.List.{AllByRecursion}
-use Rattle.tac_base.specs.declared.calls.Trade.{Trade}
-use Rattle.tac_base.specs.declared.calls.Call.{Call}
+use Rattle.auction_rules.specs.Prelude.{Trade, Call, Reply, AGENT_CALLS, CLOCK_CALLS, clock}
 use Rattle.tac_base.specs.declared.calls.Call.TheVariants.{Bid, Own as OwnCall, Close}
-use Rattle.tac_base.specs.declared.calls.Reply.{Reply}
 use Rattle.tac_base.specs.declared.calls.Reply.TheVariants.{Taken, Own, Sold, Done}
-use Rattle.tac_base.specs.declared.limits.TheConstants.{AGENT_CALLS, CLOCK_CALLS}
-use Rattle.tac_base.specs.Goods.{clock}
 use Rattle.auction_rules.specs.Setup.{Setup}
 use Rattle.auction_rules.specs.declared.rules.Rules.{Rules}
 use Rattle.auction_rules.specs.declared.rules.Rules.TheVariants.{Flight as FlightRules, Hotel as HotelRules, Tickets as TicketRules}
@@ -25,8 +21,7 @@ use Rattle.auction_rules.specs.Refusals.{refusal}
 abbrev pub trades_by : Rules → ℕ → List Entry → ℕ → Call → List Trade
 trades_by (FlightRules first bound) good past caller call =
     if is_sale call then flight_trades good (price_after bound (price first bound past) call) (points_looked_at (standing_points (FlightRules first bound) past) caller call) else []
-trades_by (HotelRules rooms live) good past caller call =
-    if is_close call then closing_trades good rooms (stand (HotelRules rooms live) past) else []
+trades_by (HotelRules rooms live) good past caller call = if is_close call then closing_trades good rooms (stand (HotelRules rooms live) past) else []
 trades_by TicketRules good past caller call = ticket_trades good (stand TicketRules past) (arriving (length past) caller call)
 
 abbrev pub admitted_trades : Setup → List Entry → ℕ → Call → List Trade

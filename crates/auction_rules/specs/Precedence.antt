@@ -5,14 +5,8 @@ use Rattle.auction_rules.specs.declared.units.BidUnit.{BidUnit}
 
 -- the first unit precedes the second: its price is higher, or at equal prices its bid is earlier, or in one bid its index is lower
 abbrev pub precedes : BidUnit → BidUnit → Bool
-precedes u v =
-    nat_lt v.price u.price
-    || ((u.price == v.price) && (nat_lt u.position v.position || ((u.position == v.position) && nat_lt u.index v.index)))
+precedes u v = nat_lt v.price u.price || ((u.price == v.price) && (nat_lt u.position v.position || ((u.position == v.position) && nat_lt u.index v.index)))
 
--- how many of the units precede this one
-abbrev pub predecessors : List BidUnit → BidUnit → ℕ
-predecessors units v = count_by (λ u. precedes u v) units
-
--- whether a unit has fewer predecessors than there are rooms
+-- whether fewer of the units precede a unit than there are rooms
 abbrev pub wins : ℕ → List BidUnit → BidUnit → Bool
-wins rooms units u = nat_lt (predecessors units u) rooms
+wins rooms units u = nat_lt (count_by (λ v. precedes v u) units) rooms

@@ -1,18 +1,13 @@
 -- The six refusals of a call, in their order, which is our own rule.
-use Rattle.std.specs.Prelude.{ℕ, ◌==◌, Bool, true, false, not, ◌&&◌, ◌||◌, nat_le, if◌then◌else◌, List, Option, Some, None}
+use Rattle.std.specs.Prelude.{ℕ, ◌==◌, Bool, true, false, not, ◌&&◌, ◌||◌, nat_le, nat_lt, if◌then◌else◌, List, Option, Some, None}
 use Rattle.std.specs.List.{list_any}
-use Rattle.tac_base.specs.declared.bids.Point.{Point}
-use Rattle.tac_base.specs.declared.calls.Call.{Call}
+use Rattle.auction_rules.specs.Prelude.{Point, Call, Reply, Closed, WrongCall, NoBid, Sell, SelfCross, BelowQuote, buys_of, clock}
 use Rattle.tac_base.specs.declared.calls.Call.TheVariants.{Bid, Withdraw, Own as OwnCall, Update, Publish}
-use Rattle.tac_base.specs.declared.calls.Reply.{Reply}
-use Rattle.tac_base.specs.declared.calls.Reply.TheVariants.{Closed, WrongCall, NoBid, Sell, SelfCross, BelowQuote}
-use Rattle.tac_base.specs.Bids.{buys_of}
-use Rattle.tac_base.specs.Goods.{clock}
 use Rattle.auction_rules.specs.declared.rules.Rules.{Rules}
 use Rattle.auction_rules.specs.declared.rules.Rules.TheVariants.{Flight as FlightRules, Hotel as HotelRules, Tickets as TicketRules}
 use Rattle.auction_rules.specs.History.{Entry, is_own, is_closed}
 use Rattle.auction_rules.specs.Standing.{stand}
-use Rattle.auction_rules.specs.BeatQuote.{need, quote_to_beat, offered, is_below_quote}
+use Rattle.auction_rules.specs.BeatQuote.{need, quote_to_beat, offered}
 
 -- whether the call is not one of the caller's: the clock updates, publishes and closes, agents do the rest
 abbrev pub is_wrong_caller : ℕ → Call → Bool
@@ -38,20 +33,15 @@ has_standing rules past agent = list_any (λ u. u.agent == agent) (stand rules p
 abbrev pub sells : List Point → Bool
 sells points = list_any (λ point. not (buys_of point.units)) points
 
--- whether a price is at least that of some selling point
-abbrev pub meets_own : List Point → ℕ → Bool
-meets_own points price = list_any (λ sell. not (buys_of sell.units) && nat_le sell.price price) points
-
 -- whether some buying point has at least the price of a selling one
 abbrev pub crosses_itself : List Point → Bool
-crosses_itself points = list_any (λ buy. buys_of buy.units && meets_own points buy.price) points
+crosses_itself points = list_any (λ buy. buys_of buy.units && list_any (λ sell. not (buys_of sell.units) && nat_le sell.price buy.price) points) points
 
--- the refusals that only a hotel bid has, of which so many units are due at a price or more
+-- the refusals that only a hotel bid has, of which so many units are due at a price or more: it sells, or it offers fewer units there
 abbrev pub hotel_refusal : ℕ → ℕ → List Point → Option Reply
 hotel_refusal due at points =
     if sells points then Some Sell
-    else if is_below_quote due at points then Some (BelowQuote due at (offered points at))
-    else None
+    else if nat_lt (offered points at) due then Some (BelowQuote due at (offered points at)) else None
 
 -- the refusals that only a bid has
 abbrev pub bid_refusal : Rules → List Entry → ℕ → List Point → Option Reply

@@ -4,17 +4,15 @@
 -- in each later history, and one that traded never stands again. In a flight at 300, say, agent 2 bids for a unit at 310 and for two at
 -- 200, at position 0: the first is sold at once (`gone`), and the two others stand, with the indices 1 and 2. If agent 2 then bids for
 -- one unit at 250, at position 1, that unit alone stands: the two are of no last bid any more. After a closing nothing stands.
-use Rattle.std.specs.Prelude.{ℕ, ◌+◌, ◌==◌, if◌then◌else◌, List, [], ◌∷◌, ◌++◌, length, ℤ, pos, neg_ℤ, Option, Some, None}
-use Rattle.tac_base.specs.declared.bids.Point.{Point}
-use Rattle.tac_base.specs.declared.calls.Call.{Call}
-use Rattle.tac_base.specs.Bids.{buys_of, size_of}
+use Rattle.std.specs.Prelude.{ℕ, ◌+◌, ◌==◌, if◌then◌else◌, List, [], ◌∷◌, ◌++◌, length, filter, nat_le, ℤ, pos, neg_ℤ, Option, Some, None}
+use Rattle.auction_rules.specs.Prelude.{Point, Call, buys_of, size_of}
 use Rattle.auction_rules.specs.declared.units.BidUnit.{BidUnit}
 use Rattle.auction_rules.specs.declared.units.Placed.{Placed}
 use Rattle.auction_rules.specs.declared.rules.Rules.{Rules}
 use Rattle.auction_rules.specs.declared.rules.Rules.TheVariants.{Flight as FlightRules, Hotel as HotelRules, Tickets as TicketRules}
 use Rattle.auction_rules.specs.Units.{point_units, without, common_units}
 use Rattle.auction_rules.specs.History.{Entry, is_admission, is_closed, last_bid, bid_units}
-use Rattle.auction_rules.specs.FlightRule.{price, price_after, is_sale, looked_at, flight_gone}
+use Rattle.auction_rules.specs.FlightRule.{price, price_after, is_sale, looked_at}
 use Rattle.auction_rules.specs.TicketMatch.{arriving, ticket_gone}
 
 -- what stands if some units are gone: nothing after a closing, and otherwise what is left of the last bids
@@ -24,7 +22,7 @@ left_standing past gone = if is_closed past then [] else without (bid_units past
 -- the units that an admitted call trades away, if `standing` are those that stand after the past
 abbrev pub gone_by : Rules → List Entry → List BidUnit → ℕ → Call → List BidUnit
 gone_by (FlightRules first bound) past standing caller call =
-    if is_sale call then flight_gone (price_after bound (price first bound past) call) (looked_at standing (length past) caller call) else []
+    if is_sale call then filter (λ u. nat_le (price_after bound (price first bound past) call) u.price) (looked_at standing (length past) caller call) else []
 gone_by (HotelRules rooms live) past standing caller call = []
 gone_by TicketRules past standing caller call = ticket_gone standing (arriving (length past) caller call)
 

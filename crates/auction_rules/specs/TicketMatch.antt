@@ -1,9 +1,7 @@
 -- Tickets: which standing unit an arriving unit meets, and what trades. The rule is after TAC.
-use Rattle.std.specs.Prelude.{ℕ, ◌==◌, Bool, not, ◌&&◌, ◌||◌, nat_lt, nat_le, if◌then◌else◌, List, [], ◌∷◌, ◌++◌, Option, Some, None, map, filter, find}
-use Rattle.std.specs.List.{list_all, flat_map}
-use Rattle.tac_base.specs.declared.calls.Trade.{Trade}
-use Rattle.tac_base.specs.declared.calls.Call.{Call}
-use Rattle.tac_base.specs.declared.calls.Call.TheVariants.{Bid}
+use Rattle.std.specs.Prelude.{ℕ, ◌==◌, Bool, not, ◌&&◌, ◌||◌, nat_lt, nat_le, if◌then◌else◌, List, [], ◌∷◌, ◌++◌, Option, Some, None, map, filter, find, flat_map}
+use Rattle.std.specs.List.{list_all}
+use Rattle.auction_rules.specs.Prelude.{Trade, Call, Bid}
 use Rattle.auction_rules.specs.declared.units.BidUnit.{BidUnit}
 use Rattle.auction_rules.specs.Units.{units_of, same_side, same_unit}
 
@@ -62,12 +60,9 @@ pair_trade good (arriving, standing) =
     if arriving.buys then record { buyer = arriving.agent; seller = standing.agent; good = good; units = 1; price = standing.price }
     else record { buyer = standing.agent; seller = arriving.agent; good = good; units = 1; price = standing.price }
 
-abbrev pub trades_of_pairs : ℕ → List (BidUnit × BidUnit) → List Trade
-trades_of_pairs good matched = map (pair_trade good) matched
-
 -- the trades of units that arrive
 abbrev pub ticket_trades : ℕ → List BidUnit → List BidUnit → List Trade
-ticket_trades good standing units = trades_of_pairs good (pairs standing units)
+ticket_trades good standing units = map (pair_trade good) (pairs standing units)
 
 -- the two units of each pair
 abbrev pub units_of_pairs : List (BidUnit × BidUnit) → List BidUnit

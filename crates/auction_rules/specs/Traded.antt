@@ -1,7 +1,6 @@
 -- How many units trades move, and how many are then left to trade.
 use Rattle.std.specs.Prelude.{ℕ, ◌+◌, ◌≤◌, List, All, sum_by}
-use Rattle.tac_base.specs.declared.calls.Trade.{Trade}
-use Rattle.tac_base.specs.declared.limits.TheConstants.{BID_UNITS, BID_PRICE}
+use Rattle.auction_rules.specs.Prelude.{Trade, BID_UNITS, BID_PRICE}
 
 -- the units of all trades
 abbrev pub traded : List Trade → ℕ

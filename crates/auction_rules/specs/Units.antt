@@ -1,8 +1,7 @@
 -- Units of bids.
 use Rattle.std.specs.Prelude.{ℕ, zero, suc, ◌+◌, ◌==◌, Bool, not, ◌&&◌, ◌||◌, List, [], ◌∷◌, ◌++◌, filter, count_by}
 use Rattle.std.specs.List.{list_any}
-use Rattle.tac_base.specs.declared.bids.Point.{Point}
-use Rattle.tac_base.specs.Bids.{buys_of, size_of}
+use Rattle.auction_rules.specs.Prelude.{Point, buys_of, size_of}
 use Rattle.auction_rules.specs.declared.units.Placed.{Placed}
 use Rattle.auction_rules.specs.declared.units.BidUnit.{BidUnit}
 
@@ -19,8 +18,7 @@ point_units agent position from point =
 -- the units of the points in order, numbered from an index
 abbrev pub units_from : ℕ → ℕ → ℕ → List Point → List BidUnit
 units_from agent position from [] = []
-units_from agent position from (point ∷ points) =
-    point_units agent position from point ++ units_from agent position (from + size_of point) points
+units_from agent position from (point ∷ points) = point_units agent position from point ++ units_from agent position (from + size_of point) points
 
 -- the units of a bid, numbered from 0
 abbrev pub units_of : Placed → List BidUnit
@@ -32,8 +30,7 @@ same_side b c = (b && c) || (not b && not c)
 
 -- whether two units are the same
 abbrev pub same_unit : BidUnit → BidUnit → Bool
-same_unit u v =
-    (u.agent == v.agent) && (same_side u.buys v.buys && ((u.price == v.price) && ((u.position == v.position) && (u.index == v.index))))
+same_unit u v = (u.agent == v.agent) && (same_side u.buys v.buys && ((u.price == v.price) && ((u.position == v.position) && (u.index == v.index))))
 
 -- whether a unit is among others
 abbrev pub among : BidUnit → List BidUnit → Bool

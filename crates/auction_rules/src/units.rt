@@ -1,6 +1,5 @@
 ghost use Rattle.std.specs.Prelude.{◌≡◌, ◌+◌, ◌<◌, ◌≤◌, ◌++◌, length, All};
-ghost use Rattle.tac_base.specs.Bids.{size_of};
-ghost use Rattle.tac_base.specs.declared.limits.TheConstants.{BID_PRICE, BID_UNITS};
+ghost use Rattle.auction_rules.specs.Prelude.{size_of, BID_PRICE, BID_UNITS};
 ghost use Rattle.auction_rules.specs.Units as spec;
 ghost use Rattle.auction_rules.specs.Shown.{shown_unit};
 ghost use Rattle.auction_rules.specs.Refusals as refusals;

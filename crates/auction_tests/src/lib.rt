@@ -1,9 +1,11 @@
-//! Tests of the public calls on auctions, cash and scripts: worked rows, one after another.
+//! Tests of the public calls on auctions, cash, scripts and made games: worked rows, one after another.
 #![tactic(auto)]
 
 #[cfg(test)]
 mod auctions;
 #[cfg(test)]
 mod cash;
+#[cfg(test)]
+mod made_games;
 #[cfg(test)]
 mod scripts;

@@ -1,10 +1,6 @@
 -- Points one after the other.
-use Rattle.std.proofs.Common.{◌≡◌, ℕ, ◌<◌, List, [], ◌∷◌, ◌++◌, Option, Some, None, Result, Err, length, refl, sym, ap, ◌∙◌, append_assoc, arith}
-use Rattle.std.specs.Prelude.{option_map}
-use Rattle.std.proofs.lemmas.List.{length-append}
-use Rattle.tac_base.specs.declared.bids.Point.{Point}
-use Rattle.tac_base.specs.declared.bids.BidFault.{BidFault}
-use Rattle.tac_base.specs.Bids.{left_fault, fault_of}
+use Rattle.std.proofs.Common.{◌≡◌, ℕ, ◌<◌, List, [], ◌∷◌, ◌++◌, Option, Some, None, Result, Err, length, refl, sym, ap, ◌∙◌, append_assoc, arith, option_map, length-append}
+use Rattle.bid_strings.specs.Prelude.{Point, BidFault, left_fault, fault_of}
 use Rattle.tac_base.proofs.Faults.{fault_is, fault_stays}
 use Rattle.bid_strings.specs.BidForm.{point_of, point_then, points_from, verdict, judged, form_fault}
 

@@ -1,27 +1,22 @@
 -- What is read was spelled so, and what is spelled so is read.
-use Rattle.std.proofs.Common.{◌≡◌, ℕ, suc, ◌+◌, ◌-◌, ◌^◌, ◌<◌, ◌≤◌, Bool, true, false, cond, ◌&&◌, eqb, leb, List, [], ◌∷◌, ◌++◌, Option, Some, None, Result, Ok, Err, length, get_or, take, drop, refl, sym, ap, subst, ◌∙◌, arith, ℤ, decimal, lit<, lit≤}
-use Rattle.std.specs.Prelude.{unsigned_abs, IfOk}
-use Rattle.tac_base.specs.declared.bids.BidFault.{BidFault}
-use Rattle.tac_base.specs.Bids.{size_of, point_fault, first_fault, fault_of}
+use Rattle.std.proofs.Common.{◌≡◌, ℕ, suc, ◌+◌, ◌-◌, ◌^◌, ◌<◌, ◌≤◌, Bool, true, false, cond, ◌&&◌, eqb, leb, List, [], ◌∷◌, ◌++◌, Option, Some, None, Result, Ok, Err, length, get_or, take, drop, refl, sym, ap, subst, ◌∙◌, arith, ℤ, decimal, lit<, lit≤, unsigned_abs, IfOk, flat_map, All, eqb-true, leb-true, le-leb, length-append, take_at}
+use Rattle.bid_strings.specs.Prelude.{BidFault, size_of, point_fault, first_fault, fault_of, Point, numeral, signed_numeral, words_of}
 use Rattle.tac_base.proofs.Faults.{good_point, both_none}
-use Rattle.std.specs.List.{flat_map, join_with_byte, All, AllByRecursion}
+use Rattle.std.specs.List.{join_with_byte, AllByRecursion}
 use Rattle.std.proofs.lemmas.List.Elements.{All-from_recursion, recursion_from_All}
-use Rattle.std.proofs.lemmas.Bool.{eqb-true, leb-true, le-leb}
 use Rattle.std.proofs.lemmas.Bool.Decides.{nat_tests}
-use Rattle.std.proofs.lemmas.List.{length-append, take_at, take_more}
+use Rattle.std.proofs.lemmas.List.{take_more}
 use Rattle.std.proofs.Math.Seq.{take-length, get_or-append_seam}
 use Rattle.std.proofs.lemmas.Option.{same_Some}
 use Rattle.std.proofs.lemmas.List.Concat.{flat_map-cons}
 use Rattle.std.proofs.lemmas.List.Splits.{join_with_byte-slice_split, length-slice_split}
 use Rattle.std.proofs.lemmas.Fmt.{length-decimal-le}
-use Rattle.tac_base.specs.declared.bids.Point.{Point}
-use Rattle.tac_base.specs.Numerals.{numeral, signed_numeral}
-use Rattle.text_forms.specs.Words.{words_of}
 use Rattle.tac_base.proofs.NumeralLaws.{both_true, numeral_is, numeral_again, numeral_limit}
 use Rattle.tac_base.proofs.Signed.{Lacks, signed_is, signed_again, signed_limit, decimal_lacks, signed_lacks}
 use Rattle.text_forms.proofs.Joins.{joined_parts}
 use Rattle.bid_strings.specs.BidForm.{front, last, paired, point_of, point_then, points_from, points_of, verdict, judged}
-use Rattle.bid_strings.specs.Spelling.{left_word, right_word, point_words, spelling, HasFiveDigits, IsBidString}
+use Rattle.bid_strings.specs.Spelling.{point_words, spelling, HasFiveDigits, IsBidString}
+use Rattle.bid_strings.proofs.PointWords.{left_word, right_word}
 
 -- a list by its last item
 nonempty : (bytes : List ℕ) → 0 < length bytes → bytes ≡ front bytes ++ last bytes ∷ []

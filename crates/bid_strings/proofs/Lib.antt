@@ -1,4 +1,4 @@
 pub mod Fronts
 pub mod Laws
+pub mod PointWords
 pub mod PrintedPoints
-pub mod Worked

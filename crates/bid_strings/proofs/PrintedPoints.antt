@@ -1,14 +1,14 @@
 -- Printing one point after the other.
-use Rattle.std.proofs.Common.{◌≡◌, ℕ, ◌+◌, ◌<◌, ◌≤◌, List, [], ◌∷◌, ◌++◌, length, get_or, take, refl, sym, ap, ◌∙◌, append_assoc, arith, ℤ, decimal, lit<, SFits, w8, w64, to_z, of_z, ltb, true}
+use Rattle.std.proofs.Common.{◌≡◌, ℕ, ◌+◌, ◌<◌, ◌≤◌, List, [], ◌∷◌, ◌++◌, length, get_or, take, refl, sym, ap, ◌∙◌, append_assoc, arith, ℤ, decimal, lit<, SFits, w8, w64, to_z, of_z, ltb, true, flat_map, length-take-le, lt-ltb}
 use Rattle.std.specs.Fmt.{signed_decimal}
-use Rattle.std.specs.List.{flat_map, join_with_byte}
-use Rattle.std.proofs.lemmas.List.{take_more, length-take-le}
+use Rattle.std.specs.List.{join_with_byte}
+use Rattle.std.proofs.lemmas.List.{take_more}
 use Rattle.std.proofs.lemmas.List.Concat.{flat_map-append}
 use Rattle.std.proofs.lemmas.Fmt.{length-decimal-le, length_signed_le}
 use Rattle.std.proofs.lemmas.Int.{ints, to_z-of_z}
-use Rattle.std.proofs.lemmas.Bool.{lt-ltb}
 use Rattle.tac_base.specs.declared.bids.Point.{Point}
-use Rattle.bid_strings.specs.Spelling.{left_word, right_word, point_words, point_text, next_text}
+use Rattle.bid_strings.specs.Spelling.{point_words, point_text, next_text}
+use Rattle.bid_strings.proofs.PointWords.{left_word, right_word}
 
 pub short_units : (units : ℤ) → SFits w8 units → length (signed_decimal units) ≤ 4
 short_units units fits = length_signed_le 3 units (search (arith, ints)) (search (arith, ints))

@@ -1,20 +1,12 @@
 -- The one spelling of a list of points.
-use Rattle.std.specs.Prelude.{◌≡◌, ℕ, ◌<◌, List, [], ◌∷◌, ◌++◌, decimal, unsigned_abs, nat_lt, if◌then◌else◌, length, All}
+use Rattle.std.specs.Prelude.{◌≡◌, ℕ, ◌<◌, List, [], ◌∷◌, ◌++◌, decimal, unsigned_abs, nat_lt, if◌then◌else◌, length, All, flat_map}
 use Rattle.std.specs.Fmt.{signed_decimal}
-use Rattle.std.specs.List.{flat_map, join_with_byte}
+use Rattle.std.specs.List.{join_with_byte}
 use Rattle.tac_base.specs.declared.bids.Point.{Point}
 
--- `(` and the units
-abbrev pub left_word : Point → List ℕ
-left_word point = 40 ∷ signed_decimal point.units
-
--- the price and `)`
-abbrev pub right_word : Point → List ℕ
-right_word point = decimal point.price ++ 41 ∷ []
-
--- the two words of a point
+-- the two words of a point: `(` and the units, the price and `)`
 abbrev pub point_words : Point → List (List ℕ)
-point_words point = left_word point ∷ right_word point ∷ []
+point_words point = (40 ∷ signed_decimal point.units) ∷ (decimal point.price ++ 41 ∷ []) ∷ []
 
 -- `(`, the points separated by single spaces, `)`
 abbrev pub spelling : List Point → List ℕ
@@ -33,7 +25,7 @@ pub record IsBidString (text : List ℕ) (points : List Point) : Type 0 where
 
 -- the text of a point
 abbrev pub point_text : Point → List ℕ
-point_text point = left_word point ++ 32 ∷ right_word point
+point_text point = join_with_byte 32 (point_words point)
 
 -- the text that a point adds to the points before it
 abbrev pub next_text : ℕ → Point → List ℕ

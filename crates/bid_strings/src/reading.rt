@@ -1,6 +1,5 @@
 ghost use Rattle.std.specs.Prelude.{◌≡◌, ◌+◌, ◌-◌, ◌<◌, ◌≤◌, ◌==◌, ◌&&◌, nat_le, List, ℕ, Some, None, Ok, IfOk, IfErr, OnOk, [], ◌∷◌, ◌++◌, is_some, length, slice_index};
-ghost use Rattle.tac_base.specs.Bids.{fault_of, left_fault};
-ghost use Rattle.tac_base.specs.declared.bids.Point.{Point};
+ghost use Rattle.bid_strings.specs.Prelude.{fault_of, left_fault, Point};
 ghost use Rattle.bid_strings.specs.BidForm as bid_form;
 ghost use Rattle.bid_strings.specs.Spelling.{spelling, IsBidString};
 

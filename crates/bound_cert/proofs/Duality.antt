@@ -1,21 +1,14 @@
 -- Weak duality: prices bound every feasible allocation.
-use Rattle.std.proofs.Common.{◌≡◌, ℕ, zero, suc, ◌+◌, ◌*◌, ◌<◌, ◌≤◌, ℤ, pos, ◌+ℤ◌, ◌-ℤ◌, ◌≤ℤ◌, Bool, true, false, List, [], ◌∷◌, Option, Some, None, map, length, get_or, int_le, refl, sym, ap, subst, ◌∙◌, arith}
-use Rattle.std.specs.List.{filter}
+use Rattle.std.proofs.Common.{◌≡◌, ℕ, zero, suc, ◌+◌, ◌*◌, ◌<◌, ◌≤◌, ℤ, pos, ◌+ℤ◌, ◌-ℤ◌, ◌≤ℤ◌, Bool, true, false, List, [], ◌∷◌, Option, Some, None, map, length, get_or, int_le, refl, sym, ap, subst, ◌∙◌, arith, filter, mul-le-mul_left}
 use Rattle.std.specs.Int.{int_max}
 use Rattle.std.proofs.lemmas.Int.{ints}
-use Rattle.std.proofs.Math.Nat.{mul-le-mul_left}
 use Rattle.std.proofs.lemmas.List.Sums.{sum_by-cons}
 use Rattle.tac_base.specs.Clients.{Preferences}
-use Rattle.game_text.specs.Accounts.{AccountFile, IsAccount}
+use Rattle.bound_cert.specs.{AccountFile, IsAccount, Package, is_package, use_of, utility_of, IsFeasible, total_of, used_by, Narrowing, sum_below, cost_of, stock_value, margin_of, greater, greatest, plus, best_margin, margins, leaf_bound, IsLeft, is_within}
 use Rattle.packages.specs.Stocks.{stock_of}
-use Rattle.packages.specs.declared.travel_packages.Package.{Package}
 use Rattle.packages.specs.declared.travel_packages.Package.TheVariants as kinds
-use Rattle.packages.specs.Packages.{is_package, use_of, utility_of}
 use Rattle.packages.specs.Listing.{packages}
-use Rattle.packages.specs.BestTotal.{IsFeasible, total_of, used_by}
-use Rattle.packages.specs.Bounds.{Narrowing, sum_below, cost_of, stock_value, margin_of, greater, greatest, plus, best_margin, margins, leaf_bound}
 use Rattle.packages.proofs.Found.{package_found}
-use Rattle.bound_cert.specs.Certificate.{IsLeft, is_within}
 
 below_max_left : (a b : ℤ) → a ≤ℤ int_max a b
 below_max_left a b = grind (arith, ints)

@@ -4,13 +4,8 @@ use Rattle.std.proofs.lemmas.Bool.{and_parts, cases_lt}
 use Rattle.std.proofs.lemmas.List.{get_or_past}
 use Rattle.packages.proofs.Found.{ranges_of, night_ranges}
 use Rattle.std.proofs.lemmas.Bool.Decides.{nat_tests}
-use Rattle.game_text.specs.Accounts.{AccountFile, IsAccount}
-use Rattle.packages.specs.declared.travel_packages.Package.{Package}
+use Rattle.bound_cert.specs.Prelude.{AccountFile, IsAccount, Package, is_package, Narrowing, feature_of, rank_of, values_of, narrowed, IsFeasible, total_of}
 use Rattle.packages.specs.declared.travel_packages.Package.TheVariants as kinds
-use Rattle.packages.specs.Packages.{is_package}
-use Rattle.packages.specs.Bounds.{Narrowing}
-use Rattle.packages.specs.Features.{feature_of, rank_of, values_of, narrowed}
-use Rattle.packages.specs.BestTotal.{IsFeasible, total_of}
 use Rattle.bound_cert.specs.Trees.{Tree, leaf, split, Trees, no_trees, more, tree_count}
 use Rattle.bound_cert.specs.Certificate.{holds, all_hold, all_left, IsLeft, BoundsAll}
 use Rattle.bound_cert.proofs.Duality.{leaf_law}

@@ -1,7 +1,6 @@
 -- The prices of a leaf's line.
-use Rattle.std.proofs.Common.{◌≡◌, ℕ, ◌≤◌, true, List, [], ◌∷◌, length, map, Ok, refl, ◌∙◌, arith, ℤ}
-use Rattle.std.specs.Prelude.{unsigned_abs, codes}
-use Rattle.std.specs.List.{list_all, All}
+use Rattle.std.proofs.Common.{◌≡◌, ℕ, ◌≤◌, true, List, [], ◌∷◌, length, map, Ok, refl, ◌∙◌, arith, ℤ, unsigned_abs, codes, All}
+use Rattle.std.specs.List.{list_all}
 use Rattle.std.proofs.lemmas.List.{length-map}
 use Rattle.std.proofs.lemmas.List.Elements.{All-nil, All-cons, All-head, All-tail}
 use Rattle.text_forms.specs.Rows.{row, within, is_in, all_in, AllBetween, IsBetween}

@@ -1,17 +1,12 @@
 -- Reading a node, case by case.
-use Rattle.std.proofs.Common.{◌≡◌, ℕ, zero, suc, ◌+◌, ◌-◌, ◌<◌, List, [], ◌∷◌, ◌++◌, Result, Ok, Err, refl, sym, ap, subst, arith}
-use Rattle.std.specs.Result.{IsErrAnd}
-use Rattle.text_forms.specs.Lines.{Remaining}
-use Rattle.text_forms.specs.Steps.{◌>>=◌}
-use Rattle.packages.specs.Features.{values_of}
+use Rattle.std.proofs.Common.{◌≡◌, ℕ, zero, suc, ◌+◌, ◌-◌, ◌<◌, List, [], ◌∷◌, ◌++◌, Result, Ok, Err, refl, sym, ap, subst, arith, IsErrAnd}
+use Rattle.bound_cert.specs.{Remaining, ◌>>=◌, values_of, IsCertRefusal, IsCertReading, tree_of, forest_of, Reader, forest_by, node_line_in, tree_in}
 use Rattle.bound_cert.specs.declared.faults.CertFault.{CertFault}
 use Rattle.bound_cert.specs.declared.faults.CertFault.TheVariants as faults
 use Rattle.bound_cert.specs.declared.node_lines.NodeLine.{NodeLine}
 use Rattle.bound_cert.specs.declared.node_lines.NodeLine.TheVariants.{Leaf, Split}
 use Rattle.bound_cert.specs.declared.trees.CertNode.{CertNode}
-use Rattle.bound_cert.specs.{IsCertRefusal, IsCertReading, tree_of, forest_of}
 use Rattle.bound_cert.specs.Trees.{Tree, leaf, split, Trees, no_trees, more}
-use Rattle.bound_cert.specs.Reading.{Step, forest_by, node_line_in, tree_in}
 
 -- What a line of a node says, for the crates above: a leaf or a split.
 abbrev pub SaidNode : Type 0
@@ -83,7 +78,7 @@ join-push : (nodes : List CertNode) (node : CertNode) (read : Result (Trees × R
 join-push nodes node (Err fault) = refl
 join-push nodes node (Ok trees) = ap (λ (ts : Trees). Ok (ts, trees.1)) (sym (onto-push nodes node trees.0))
 
-module _ (tree_at : Step Tree) where
+module _ (tree_at : Reader Tree) where
   -- one more node was read
   pub forest_step : (n m : ℕ) (left after : Remaining) (nodes : List CertNode) (node : CertNode) → n ≡ m + 1 → tree_at left ≡ Ok (tree_of node, after)
       → (forest_by tree_at m after >>= join (nodes ++ node ∷ [])) ≡ (forest_by tree_at n left >>= join nodes)

@@ -1,17 +1,11 @@
 -- Reading a whole text, case by case.
 use Rattle.std.proofs.Common.{◌≡◌, ℕ, zero, suc, ◌<◌, ◌≤◌, true, false, ltb, List, length, Result, Ok, Err, arith}
 use Rattle.std.proofs.lemmas.Bool.Decides.{nat_tests}
-use Rattle.text_forms.specs.declared.lines.BadLine.{BadLine}
-use Rattle.text_forms.specs.Lines.{Remaining, lines_from, due_of, at_line, nothing_left}
-use Rattle.text_forms.specs.Steps.{◌>>=◌}
-use Rattle.text_forms.specs.Words.{parts_of}
-use Rattle.packages.specs.Features.{values_of}
+use Rattle.bound_cert.specs.{BadLine, Remaining, lines_from, due_of, at_line, nothing_left, ◌>>=◌, parts_of, values_of, cert_fault, or_cert_fault, IsCertReading, node_line_of, Tree, split, more, Reader, forest_by, node_by, last_node, node_line_in, tree_in, root_in, cert_of}
 use Rattle.bound_cert.specs.declared.faults.CertFault.{CertFault}
 use Rattle.bound_cert.specs.declared.faults.CertFault.TheVariants as faults
 use Rattle.bound_cert.specs.declared.node_lines.NodeLine.{NodeLine}
 use Rattle.bound_cert.specs.declared.node_lines.NodeLine.TheVariants.{Leaf, Split}
-use Rattle.bound_cert.specs.{cert_fault, or_cert_fault, IsCertReading, node_line_of, Tree, split, more}
-use Rattle.bound_cert.specs.Reading.{Step, forest_by, node_by, last_node, node_line_in, tree_in, root_in, cert_of}
 
 pub no_root : (left : Remaining) (fault : CertFault) → tree_in 32 left ≡ Err fault → root_in left ≡ Err fault
 unfolding root_in
@@ -57,13 +51,13 @@ node_short left h =
     then_short (or_cert_fault (due_of left)) (λ line. or_cert_fault (at_line line.0.number (node_line_of line.0.bytes)) >>= λ node. Ok (line.0.number, node, line.1)) (line_short (due_of left))
     (λ line. then_short (or_cert_fault (at_line line.0.number (node_line_of line.0.bytes))) (λ node. Ok (line.0.number, node, line.1)) (line_short (at_line line.0.number (node_line_of line.0.bytes))) (λ node. ok_short (line.0.number, node, line.1))) h
 
-forest_short : (tree_at : Step Tree) → ((left : Remaining) → IsLong (tree_at left) → ⊥) → (count : ℕ) (left : Remaining) → IsLong (forest_by tree_at count left) → ⊥
+forest_short : (tree_at : Reader Tree) → ((left : Remaining) → IsLong (tree_at left) → ⊥) → (count : ℕ) (left : Remaining) → IsLong (forest_by tree_at count left) → ⊥
 forest_short tree_at each zero left h = cc
 forest_short tree_at each (suc count) left h =
     then_short (tree_at left) (λ tree. forest_by tree_at count tree.1 >>= λ trees. Ok (more tree.0 trees.0, trees.1)) (each left)
     (λ tree. then_short (forest_by tree_at count tree.1) (λ trees. Ok (more tree.0 trees.0, trees.1)) (forest_short tree_at each count tree.1) (λ trees. ok_short (more tree.0 trees.0, trees.1))) h
 
-node_by_short : (tree_at : Step Tree) → ((left : Remaining) → IsLong (tree_at left) → ⊥) → (node : NodeLine) (left : Remaining) → IsLong (node_by tree_at node left) → ⊥
+node_by_short : (tree_at : Reader Tree) → ((left : Remaining) → IsLong (tree_at left) → ⊥) → (node : NodeLine) (left : Remaining) → IsLong (node_by tree_at node left) → ⊥
 node_by_short tree_at each (Leaf prices) left h = cc
 node_by_short tree_at each (Split client feature) left h =
     then_short (forest_by tree_at (values_of feature) left) (λ trees. Ok (split client feature trees.0, trees.1)) (forest_short tree_at each (values_of feature) left) (λ trees. ok_short (split client feature trees.0, trees.1)) h

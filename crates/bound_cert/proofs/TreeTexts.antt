@@ -1,6 +1,5 @@
 -- What is read of a certificate's text is printed as it was, and is a certificate.
-use Rattle.std.proofs.Common.{◌≡◌, ℕ, zero, suc, ◌+◌, ◌<◌, ◌&&◌, Bool, true, false, cond, eqb, leb, ltb, List, [], ◌∷◌, ◌++◌, Result, Ok, Err, length, map, get_or, refl, sym, ap, subst, ◌∙◌, append_assoc, arith, ℤ, pos}
-use Rattle.std.specs.Prelude.{unsigned_abs, codes}
+use Rattle.std.proofs.Common.{◌≡◌, ℕ, zero, suc, ◌+◌, ◌<◌, ◌&&◌, Bool, true, false, cond, eqb, leb, ltb, List, [], ◌∷◌, ◌++◌, Result, Ok, Err, length, map, get_or, refl, sym, ap, subst, ◌∙◌, append_assoc, arith, ℤ, pos, unsigned_abs, codes}
 use Rattle.std.specs.List.{list_all, join_with_byte}
 use Rattle.std.proofs.lemmas.Bool.Decides.{nat_tests}
 use Rattle.std.proofs.lemmas.List.{length-map}
@@ -8,21 +7,14 @@ use Rattle.std.proofs.lemmas.List.Concat.{flat_map-cons}
 use Rattle.std.proofs.lemmas.List.Elements.{All-head, All-tail}
 use Rattle.std.proofs.lemmas.List.Splits.{join_with_byte-slice_split, length-slice_split}
 use Rattle.tac_base.proofs.NumeralLaws.{both_true}
-use Rattle.text_forms.specs.declared.lines.BadLine.{BadLine}
-use Rattle.text_forms.specs.Lines.{NumberedLine, Remaining, AreLinesLeft, lines_from, due_of, at_line, nothing_left, text_of}
-use Rattle.text_forms.specs.Rows.{within, is_in, all_in, row, row_text, AllBetween, IsBetween}
-use Rattle.text_forms.specs.Steps.{◌>>=◌, read_by}
-use Rattle.text_forms.specs.Words.{words_of, parts_of}
+use Rattle.bound_cert.specs.{BadLine, NumberedLine, Remaining, AreLinesLeft, lines_from, due_of, at_line, nothing_left, text_of, within, is_in, all_in, row, row_text, AllBetween, IsBetween, ◌>>=◌, read_by, words_of, parts_of, values_of, or_cert_fault, leaf_columns, split_columns, is_leaf, leaf_of, split_of, node_line_of, leaf_text, split_text, tree_lines, forest_lines, cert_text, Reader, forest_by, node_by, last_node, node_line_in, tree_in, root_in, cert_of}
 use Rattle.text_forms.proofs.Columns.{is_within, columns_within}
 use Rattle.text_forms.proofs.RowLaws.{row_is}
 use Rattle.text_forms.proofs.Reading.{Took, took_then, took_line, took_all, ok_is, bind_ok, read_took}
-use Rattle.packages.specs.Features.{values_of}
 use Rattle.bound_cert.specs.declared.faults.CertFault.{CertFault}
 use Rattle.bound_cert.specs.declared.faults.CertFault.TheVariants.{TooLong}
 use Rattle.bound_cert.specs.declared.node_lines.NodeLine.{NodeLine}
 use Rattle.bound_cert.specs.declared.node_lines.NodeLine.TheVariants.{Leaf, Split}
-use Rattle.bound_cert.specs.{or_cert_fault, leaf_columns, split_columns, is_leaf, leaf_of, split_of, node_line_of, leaf_text, split_text, tree_lines, forest_lines, cert_text}
-use Rattle.bound_cert.specs.Reading.{Step, forest_by, node_by, last_node, node_line_in, tree_in, root_in, cert_of}
 use Rattle.bound_cert.specs.Trees.{Tree, leaf, split, Trees, no_trees, more, tree_count, are_prices, is_tree, are_trees, IsCertificate}
 
 -- ---- one line
@@ -113,7 +105,7 @@ record TookTrees (depth count : ℕ) (left : Remaining) (x : Trees × Remaining)
   fit : are_trees depth x.0 ≡ true
   count_is : tree_count x.0 ≡ count
 
-forest_took : (tree_at : Step Tree) (depth : ℕ) → ((left : Remaining) (x : Tree × Remaining) → tree_at left ≡ Ok x → TookTree depth left x)
+forest_took : (tree_at : Reader Tree) (depth : ℕ) → ((left : Remaining) (x : Tree × Remaining) → tree_at left ≡ Ok x → TookTree depth left x)
     → (count : ℕ) (left : Remaining) (x : Trees × Remaining) → forest_by tree_at count left ≡ Ok x → TookTrees depth count left x
 forest_took tree_at depth each zero left x e =
     subst (TookTrees depth 0 left) (ok_is {E = CertFault} (no_trees, left) x e) (record { took = record { parts = refl; same = refl }; fit = refl; count_is = refl })

@@ -1,27 +1,19 @@
 -- What is printed of a certificate is read as the certificate again.
-use Rattle.std.proofs.Common.{◌≡◌, ℕ, zero, suc, ◌+◌, ◌<◌, ◌≤◌, ◌&&◌, true, false, eqb, leb, ltb, List, [], ◌∷◌, ◌++◌, append-nil, append_assoc, length-append, Ok, length, map, drop, get_or, refl, sym, ap, subst, ◌∙◌, arith, lit<, ℤ, pos}
-use Rattle.std.specs.Prelude.{codes, unsigned_abs}
+use Rattle.std.proofs.Common.{◌≡◌, ℕ, zero, suc, ◌+◌, ◌<◌, ◌≤◌, ◌&&◌, true, false, eqb, leb, ltb, List, [], ◌∷◌, ◌++◌, append-nil, append_assoc, length-append, Ok, length, map, drop, get_or, refl, sym, ap, subst, ◌∙◌, arith, lit<, ℤ, pos, codes, unsigned_abs, eqb-true}
 use Rattle.std.specs.Fmt.{signed_decimal}
 use Rattle.std.specs.List.{list_all, AllByRecursion}
-use Rattle.std.proofs.lemmas.Bool.{eqb-true}
 use Rattle.std.proofs.lemmas.Bool.Decides.{nat_tests}
 use Rattle.std.proofs.lemmas.List.{length-map}
 use Rattle.std.proofs.lemmas.List.Concat.{flat_map-cons}
 use Rattle.std.proofs.lemmas.List.Elements.{All-nil, All-cons}
 use Rattle.tac_base.proofs.NumeralLaws.{both_true}
 use Rattle.tac_base.proofs.Signed.{Lacks}
-use Rattle.text_forms.specs.declared.rows.Column.{Column}
-use Rattle.text_forms.specs.Lines.{Remaining, lines_from, text_of}
-use Rattle.text_forms.specs.Rows.{all_in, row_text, AllBetween, IsBetween}
-use Rattle.text_forms.specs.Words.{words_of, parts_of}
+use Rattle.bound_cert.specs.{Column, Remaining, lines_from, text_of, all_in, row_text, AllBetween, IsBetween, words_of, parts_of, values_of, leaf_columns, split_columns, node_line_of, leaf_text, split_text, tree_lines, forest_lines, cert_text, forest_by, tree_in, root_in, cert_of}
 use Rattle.text_forms.proofs.Columns.{in_within, within_columns, abs_pos}
 use Rattle.text_forms.proofs.Joins.{joined_parts, parts_more}
 use Rattle.text_forms.proofs.RowLaws.{is_column, numbers_lack, row_again}
 use Rattle.text_forms.proofs.PrintedLines.{lacks_from, join_lacks, ahead, at_end}
-use Rattle.packages.specs.Features.{values_of}
 use Rattle.bound_cert.specs.declared.node_lines.NodeLine.TheVariants.{Leaf, Split}
-use Rattle.bound_cert.specs.{leaf_columns, split_columns, node_line_of, leaf_text, split_text, tree_lines, forest_lines, cert_text}
-use Rattle.bound_cert.specs.Reading.{forest_by, tree_in, root_in, cert_of}
 use Rattle.bound_cert.specs.Trees.{Tree, leaf, split, Trees, no_trees, more, tree_count, are_prices, is_tree, are_trees, IsCertificate}
 use Rattle.bound_cert.proofs.RootCases.{short_text}
 
@@ -72,13 +64,13 @@ split_again client feature in_client in_feature = split_read (pos client ∷ pos
 -- ---- trees
 
 -- the tests that a split passes
-record IsSplit (depth client feature : ℕ) (trees : Trees) : Type 0 where
-  in_client : client < 8
-  in_feature : feature < 4
-  count : tree_count trees ≡ values_of feature
-  fit : are_trees depth trees ≡ true
+pub record IsSplit (depth client feature : ℕ) (trees : Trees) : Type 0 where
+  pub in_client : client < 8
+  pub in_feature : feature < 4
+  pub count : tree_count trees ≡ values_of feature
+  pub fit : are_trees depth trees ≡ true
 
-split_parts : (depth client feature : ℕ) (trees : Trees) → is_tree (suc depth) (split client feature trees) ≡ true → IsSplit depth client feature trees
+pub split_parts : (depth client feature : ℕ) (trees : Trees) → is_tree (suc depth) (split client feature trees) ≡ true → IsSplit depth client feature trees
 split_parts depth client feature trees h =
     let last = both_true (ltb client 8 && ltb feature 4 && eqb (tree_count trees) (values_of feature)) (are_trees depth trees) h in
     let middle = both_true (ltb client 8 && ltb feature 4) (eqb (tree_count trees) (values_of feature)) last.0 in

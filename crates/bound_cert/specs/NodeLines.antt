@@ -1,12 +1,7 @@
 -- The line of a node.
-use Rattle.std.specs.Prelude.{ℕ, List, [], ◌∷◌, Bool, false, pos, Result, Ok, map, replicate, codes, slice_index_or, unsigned_abs, if◌then◌else◌}
-use Rattle.std.specs.Str.{bytes_eq}
-use Rattle.tac_base.specs.declared.limits.TheConstants.{DUAL_PRICE, GOODS}
+use Rattle.std.specs.Prelude.{ℕ, List, [], ◌∷◌, Bool, false, pos, Result, Ok, map, replicate, codes, slice_index_or, unsigned_abs, if◌then◌else◌, bytes_eq}
+use Rattle.bound_cert.specs.Prelude.{DUAL_PRICE, GOODS, Column, within, row, row_text, ◌>>=◌, words_of}
 use Rattle.text_forms.specs.declared.lines.Reason.{Reason}
-use Rattle.text_forms.specs.declared.rows.Column.{Column}
-use Rattle.text_forms.specs.Rows.{within, row, row_text}
-use Rattle.text_forms.specs.Steps.{◌>>=◌}
-use Rattle.text_forms.specs.Words.{words_of}
 use Rattle.bound_cert.specs.declared.node_lines.NodeLine.{NodeLine}
 use Rattle.bound_cert.specs.declared.node_lines.NodeLine.TheVariants.{Leaf, Split}
 

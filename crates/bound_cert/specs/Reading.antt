@@ -1,10 +1,6 @@
 -- The certificate of a text, read line by line, or the first bad line with its first reason.
 use Rattle.std.specs.Prelude.{ℕ, zero, suc, List, length, Result, Ok, Err, false, nat_lt, if◌then◌else◌}
-use Rattle.tac_base.specs.declared.limits.TheConstants.{CERTIFICATE_DEPTH, TEXT_BYTES}
-use Rattle.text_forms.specs.Lines.{Remaining, lines_from, due_of, at_line, nothing_left}
-use Rattle.text_forms.specs.Steps.{◌>>=◌}
-use Rattle.text_forms.specs.Words.{parts_of}
-use Rattle.packages.specs.Features.{values_of}
+use Rattle.bound_cert.specs.Prelude.{CERTIFICATE_DEPTH, TEXT_BYTES, Remaining, lines_from, due_of, at_line, nothing_left, ◌>>=◌, parts_of, values_of}
 use Rattle.bound_cert.specs.declared.faults.CertFault.{CertFault}
 use Rattle.bound_cert.specs.declared.faults.CertFault.TheVariants.{Line, TooLong}
 use Rattle.bound_cert.specs.declared.node_lines.NodeLine.{NodeLine}
@@ -14,11 +10,11 @@ use Rattle.bound_cert.specs.NodeLines.{node_line_of}
 use Rattle.bound_cert.specs.Trees.{Tree, leaf, split, Trees, no_trees, more}
 
 -- what is read from the lines that are left, and the lines after it
-abbrev pub Step : Type 0 → Type 0
-Step A = Remaining → Result (A × Remaining) CertFault
+abbrev pub Reader : Type 0 → Type 0
+Reader A = Remaining → Result (A × Remaining) CertFault
 
 -- this many trees, one after the other
-abbrev pub forest_by : Step Tree → ℕ → Step Trees
+abbrev pub forest_by : Reader Tree → ℕ → Reader Trees
 forest_by tree_at zero left = Ok (no_trees, left)
 forest_by tree_at (suc count) left = do
   tree ← tree_at left
@@ -26,14 +22,14 @@ forest_by tree_at (suc count) left = do
   Ok (more tree.0 trees.0, trees.1)
 
 -- a node, and below a split its children, each read by `tree_at`
-abbrev pub node_by : Step Tree → NodeLine → Step Tree
+abbrev pub node_by : Reader Tree → NodeLine → Reader Tree
 node_by tree_at (Leaf prices) left = Ok (leaf prices, left)
 node_by tree_at (Split client feature) left = do
   trees ← forest_by tree_at (values_of feature) left
   Ok (split client feature trees.0, trees.1)
 
 -- a node that has to be a leaf
-abbrev pub last_node : ℕ → NodeLine → Step Tree
+abbrev pub last_node : ℕ → NodeLine → Reader Tree
 last_node number (Leaf prices) left = Ok (leaf prices, left)
 last_node number (Split client feature) left = Err (Line number 8)
 
@@ -45,7 +41,7 @@ node_line_in left = do
   Ok (line.0.number, node, line.1)
 
 -- a tree of at most this many levels of splits
-unfoldable pub tree_in : ℕ → Step Tree
+unfoldable pub tree_in : ℕ → Reader Tree
 tree_in zero left = node_line_in left >>= λ node. last_node node.0 node.1 node.2
 tree_in (suc level) left = node_line_in left >>= λ node. node_by (tree_in level) node.1 node.2
 

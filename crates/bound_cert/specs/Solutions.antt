@@ -1,8 +1,6 @@
 -- A best allocation with a certificate.
 use Rattle.std.specs.Prelude.{◌≡◌, ℕ, List, IsTrue}
-use Rattle.game_text.specs.Accounts.{AccountFile}
-use Rattle.packages.specs.declared.travel_packages.Package.{Package}
-use Rattle.packages.specs.BestTotal.{IsBest, IsFeasible, total_of}
+use Rattle.bound_cert.specs.Prelude.{AccountFile, Package, IsBest, IsFeasible, total_of}
 use Rattle.bound_cert.specs.Certificate.{holds, all_left}
 use Rattle.bound_cert.specs.Trees.{Tree, IsCertificate}
 

@@ -1,8 +1,7 @@
 -- The tree of a certificate.
 use Rattle.std.specs.Prelude.{ℕ, zero, suc, ◌+◌, ◌==◌, ◌&&◌, nat_lt, nat_le, Bool, true, false, List, length, IsTrue}
 use Rattle.std.specs.List.{list_all}
-use Rattle.tac_base.specs.declared.limits.TheConstants.{CERTIFICATE_DEPTH, DUAL_PRICE, GOODS}
-use Rattle.packages.specs.Features.{values_of}
+use Rattle.bound_cert.specs.Prelude.{CERTIFICATE_DEPTH, DUAL_PRICE, GOODS, values_of}
 
 mutual
   pub data Tree : Type 0 where

@@ -1,6 +1,5 @@
 -- What the splits on the way to a node leave.
-use Rattle.packages.specs.Bounds.{Narrowing}
-use Rattle.packages.specs.Features.{narrowed}
+use Rattle.bound_cert.specs.Prelude.{Narrowing, narrowed}
 use Rattle.bound_cert.specs.declared.ways.Way.{Way, Start, Turn'}
 use Rattle.bound_cert.specs.Certificate.{all_left}
 

@@ -1,8 +1,5 @@
 ghost use Rattle.std.specs.Prelude.{◌≡◌, ◌+◌, ◌++◌, ◌≤◌, [], ◌∷◌, pos, map, length, OnOk, IfOk, Ok};
-ghost use Rattle.tac_base.specs.declared.limits.TheConstants.{TEXT_BYTES};
-ghost use Rattle.text_forms.specs.Lines.{text_of};
-ghost use Rattle.text_forms.specs.Words.{parts_of};
-ghost use Rattle.bound_cert.specs.{leaf_text, split_text, cert_of, tree_lines, forest_lines, cert_text, tree_of, forest_of};
+ghost use Rattle.bound_cert.specs.{TEXT_BYTES, text_of, parts_of, leaf_text, split_text, cert_of, tree_lines, forest_lines, cert_text, tree_of, forest_of};
 
 use crate::trees::{Cert, CertNode};
 use packages::Prices;

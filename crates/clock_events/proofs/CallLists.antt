@@ -1,16 +1,21 @@
 -- Reading elements of the lists of calls.
-use Rattle.std.proofs.Common.{◌≡◌, ℕ, zero, suc, ◌+◌, ◌-◌, ◌/◌, ◌%◌, ◌==◌, ◌≢◌, true, false, ◌≤◌, ◌<◌, List, [], ◌∷◌, ◌++◌, length, map, get_or, slice_get, slice_index_or, Some, None, refl, sym, ap, ◌∙◌, arith, subst}
-use Rattle.std.specs.Option.{option_map}
+use Rattle.std.proofs.Common.{◌≡◌, ℕ, zero, suc, ◌+◌, ◌-◌, ◌/◌, ◌%◌, ◌==◌, ◌≢◌, true, false, if◌then◌else◌, ◌≤◌, ◌<◌, List, [], ◌∷◌, ◌++◌, length, map, get_or, slice_get, slice_index_or, Some, None, refl, sym, ap, ◌∙◌, arith, subst, option_map}
 use Rattle.std.proofs.lemmas.Option.{slice_get-map, slice_get-get_or}
 use Rattle.std.specs.List.{enumerate_from}
 use Rattle.std.proofs.lemmas.List.FromFn.{length-enumerate_from, get_or-enumerate_from}
 use Rattle.std.proofs.lemmas.List.{length-map}
-use Rattle.tac_base.specs.declared.calls.Call.{Call}
-use Rattle.tac_base.specs.declared.calls.Call.TheVariants.{Update}
-use Rattle.game_text.specs.Flights.{FlightTerms}
-use Rattle.game_text.specs.Games.{GameFile}
+use Rattle.clock_events.specs.Prelude.{Call, Update, Publish, Close, FlightTerms, GameFile, update_of, closed_last, open_after, hotel_calls, calls_at}
 use Rattle.std.proofs.lemmas.Bool.Decides.{nat_tests}
-use Rattle.game_text.specs.Schedule.{draw_at, update_of, publication_of, closing_of, closed_last, open_after, hotel_calls, hotel_calls_at, calls_at}
+
+abbrev pub publication_of : ℕ → ℕ × Call
+publication_of good = (good, Publish)
+
+abbrev pub closing_of : ℕ → ℕ × Call
+closing_of good = (good, Close)
+
+-- the calls of a tick after the updates
+abbrev pub hotel_calls_at : List ℕ → ℕ → List (ℕ × Call)
+hotel_calls_at order tick = if tick % 6 == 0 then hotel_calls order (tick / 6) else []
 
 pub publication_at : (order : List ℕ) (turn n good d : ℕ) → 1 ≤ n → n - 1 < length (open_after order turn) → good ≡ slice_index_or (open_after order turn) (n - 1) d → Some (publication_of good) ≡ slice_get (hotel_calls order turn) n
 publication_at order turn zero good d first within at = absurd (omega (arith, first))
@@ -39,14 +44,14 @@ module _ (flights : List FlightTerms) (tick : ℕ) (rest : List (ℕ × Call)) w
   one_for_each = length-map (enumerate_from 0 flights) (update_of tick) ∙ length-enumerate_from 0 flights
 
   -- the n-th call is the update of flight n
-  pub update_at : (n : ℕ) (d : FlightTerms) → n < length flights → slice_get (updates ++ rest) n ≡ Some (n, Update tick (draw_at (get_or flights n d) tick))
+  pub update_at : (n : ℕ) (d : FlightTerms) → n < length flights → slice_get (updates ++ rest) n ≡ Some (n, Update tick (get_or (get_or flights n d).draws (tick - 1) 0))
   update_at n d within =
       let zero_plus : 0 + n ≡ n = omega arith in
       get_in_front updates rest n (subst (λ k. n < k) (sym one_for_each) within)
       ∙ slice_get-map (update_of tick) (enumerate_from 0 flights) n
       ∙ ap (option_map (update_of tick)) (slice_get-get_or (enumerate_from 0 flights) n (0, d) (subst (λ k. n < k) (sym (length-enumerate_from 0 flights)) within)
       ∙ ap Some (get_or-enumerate_from 0 flights n (0, d) within))
-      ∙ ap (λ k. Some (k, Update tick (draw_at (get_or flights n d) tick))) zero_plus
+      ∙ ap (λ k. Some (k, Update tick (get_or (get_or flights n d).draws (tick - 1) 0))) zero_plus
 
   -- what comes after the updates
   pub past_updates : (n : ℕ) → length flights ≤ n → slice_get (updates ++ rest) n ≡ slice_get rest (n - length flights)
@@ -60,7 +65,7 @@ module _ (game : GameFile) (tick n : ℕ) where
   unfolding calls_at
   last_calls last = let e : (tick == 54) ≡ true = grind (arith, nat_tests, last) in rw (e) refl
 
-  pub flight_call : (d : FlightTerms) → tick ≢ 54 → n < length game.flights → Some (n, Update tick (draw_at (get_or game.flights n d) tick)) ≡ slice_get (calls_at game tick) n
+  pub flight_call : (d : FlightTerms) → tick ≢ 54 → n < length game.flights → Some (n, Update tick (get_or (get_or game.flights n d).draws (tick - 1) 0)) ≡ slice_get (calls_at game tick) n
   unfolding calls_at
   flight_call d early within = let e : (tick == 54) ≡ false = grind (arith, nat_tests, early) in rw (e) (sym (update_at game.flights tick (hotel_calls_at game.order tick) n d within))
 

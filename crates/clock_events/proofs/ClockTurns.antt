@@ -1,21 +1,16 @@
 -- The clock's turns, one after another.
-use Rattle.std.proofs.Common.{ℕ, ◌<◌, List, [], ◌∷◌, ◌++◌, get_or, refl, sym, ap, ◌∙◌, append_assoc, append-nil, arith}
-use Rattle.std.specs.Prelude.{◌==◌, if◌then◌else◌, Option, Some, None, map}
+use Rattle.std.proofs.Common.{ℕ, ◌<◌, List, [], ◌∷◌, ◌++◌, get_or, refl, sym, ap, ◌∙◌, append_assoc, append-nil, arith, ◌==◌, if◌then◌else◌, Option, Some, None, map}
 use Rattle.std.proofs.lemmas.List.{map-append}
 use Rattle.std.proofs.lemmas.List.Elements.{filter_map-append}
 use Rattle.std.proofs.lemmas.Grind.{flat_map-append}
-use Rattle.tac_base.specs.declared.calls.Call.{Call}
+use Rattle.clock_events.specs.{Call, Entry, Desk, IsCallAnswered, IsStepTaken, desk_cash, desk_entries, entries_at, Step, CashEntry, due_post, MakesCalls}
 use Rattle.tac_base.specs.declared.calls.Reply.{Reply}
-use Rattle.auction_rules.specs.History.{Entry}
-use Rattle.floor.specs.declared.desk.Desk.{Desk}
-use Rattle.floor.specs.Answers.{IsCallAnswered, IsStepTaken}
-use Rattle.floor.specs.Desks.{desk_cash, desk_entries, entries_at}
-use Rattle.floor.specs.Steps.{Step}
 use Rattle.floor.proofs.Rows.{row_more}
-use Rattle.trade_ledger.specs.declared.cash_calls.CashEntry.{CashEntry}
-use Rattle.trade_ledger.specs.Posts.{due_post}
-use Rattle.clock_events.specs.ClockTurns.{ClockTurn, call_made, clock_entries, clock_posts}
-use Rattle.clock_events.specs.MadeCalls.{MakesCalls}
+use Rattle.clock_events.specs.ClockTurns.{ClockTurn, clock_entries, clock_posts}
+
+-- the good and the call of a turn
+abbrev pub call_made : ClockTurn → ℕ × Call
+call_made turn = (turn.good, turn.entry.call)
 
 -- the entry of a turn, if it is of the good
 abbrev clock_entry : ℕ → ClockTurn → Option (ℕ × Entry)

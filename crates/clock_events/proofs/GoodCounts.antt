@@ -1,17 +1,17 @@
 -- How often a number occurs in a list, and how many numbers of a list are among others.
-use Rattle.std.proofs.Common.{◌≡◌, ℕ, zero, suc, ◌+◌, ◌-◌, ◌==◌, ◌≤◌, ◌<◌, Bool, true, false, cond, List, [], ◌∷◌, length, take, get_or, refl, sym, ap, ◌∙◌, arith, subst}
-use Rattle.std.specs.Prelude.{not, ◌||◌, ◌&&◌, nat_le, filter, count_by}
-use Rattle.std.specs.List.{All, list_all}
-use Rattle.std.proofs.lemmas.List.Sums.{sum_by-cons, AllPass-from_list_all}
+use Rattle.std.proofs.Common.{◌≡◌, ℕ, zero, suc, ◌+◌, ◌-◌, ◌==◌, ◌≤◌, ◌<◌, Bool, true, false, cond, List, [], ◌∷◌, length, take, get_or, refl, sym, ap, ◌∙◌, arith, subst, not, ◌||◌, ◌&&◌, nat_le, filter, count_by, All}
+use Rattle.std.specs.List.{list_all, list_any}
+use Rattle.std.proofs.lemmas.List.Sums.{AllPass-from_list_all}
 use Rattle.std.proofs.lemmas.List.Elements.{All-head, All-tail, All-weaker}
 use Rattle.std.proofs.lemmas.List.Filters.{sum_by-filter_both}
 use Rattle.std.proofs.lemmas.Bool.Decides.{nat_tests}
-use Rattle.text_forms.specs.Rows.{IsBetween, AllBetween}
-use Rattle.game_text.specs.ClosingOrders.{is_distinct}
-use Rattle.game_text.specs.Schedule.{is_among, hotel_nights}
+use Rattle.std.proofs.lemmas.Bool.{not-true, and_parts}
+use Rattle.clock_events.specs.Prelude.{IsBetween, AllBetween, is_distinct, hotel_nights}
+use Rattle.auction_rules.proofs.Ranks.{count-cons}
 
-pub count-cons : {X : Type 0} (p : X → Bool) (x : X) (xs : List X) → count_by p (x ∷ xs) ≡ cond (p x) 1 0 + count_by p xs
-count-cons p x xs = sum_by-cons (λ y. cond (p y) 1 0) x xs
+-- whether a good is one of these
+abbrev pub is_among : List ℕ → ℕ → Bool
+is_among goods good = list_any (λ other. other == good) goods
 
 -- a part has no more of what passes
 pub count-filter : {X : Type 0} (p test : X → Bool) (xs : List X) → count_by p (filter test xs) ≤ count_by p xs
@@ -79,22 +79,14 @@ among_fewer n (m ∷ ns) (suc turn) out = by_test (m == n) (among_fewer n ns tur
     by_test true ih out = out
     by_test false ih out = ih out
 
-both : (a b : Bool) → (a && b) ≡ true → (a ≡ true) × (b ≡ true)
-both true b e = (refl, e)
-both false b e = absurd cc
-
-is_not : (b : Bool) → not b ≡ true → b ≡ false
-is_not true e = absurd cc
-is_not false e = refl
-
 -- different hotel nights are as many among the hotel nights as they are
 pub count_among : (turn : ℕ) (order : List ℕ) → turn ≤ length order → AllBetween 8 15 order → is_distinct order ≡ true → count_by (is_among (take turn order)) hotel_nights ≡ turn
 count_among zero [] within range apart = refl
 count_among zero (n ∷ order) within range apart = refl
 count_among (suc turn) [] within range apart = absurd (omega (arith, within))
 count_among (suc turn) (n ∷ order) within range apart =
-    let parts = both (not (is_among order n)) (is_distinct order) apart in
-    let out = among_fewer n order turn (is_not (is_among order n) parts.0) in
+    let parts = and_parts (not (is_among order n)) (is_distinct order) apart in
+    let out = among_fewer n order turn (not-true (is_among order n) parts.0) in
     let rest = count_among turn order (omega (arith, within)) (All-tail (IsBetween 8 15) n order range) parts.1 in
     let between = All-head (IsBetween 8 15) n order range in
     let one = one_night n between.0 between.1 in
@@ -125,9 +117,9 @@ none_among n (m ∷ ns) out = count-cons (λ k. k == n) m ns ∙ by_test (m == n
 pub distinct_once : (ns : List ℕ) → is_distinct ns ≡ true → (good : ℕ) → count_by (λ m. m == good) ns ≤ 1
 distinct_once [] apart good = omega arith
 distinct_once (n ∷ ns) apart good =
-    let parts = both (not (is_among ns n)) (is_distinct ns) apart in
+    let parts = and_parts (not (is_among ns n)) (is_distinct ns) apart in
     let first = count-cons (λ m. m == good) n ns in
-    let rest = by_test (n == good) refl (is_not (is_among ns n) parts.0) (distinct_once ns parts.1 good) in
+    let rest = by_test (n == good) refl (not-true (is_among ns n) parts.0) (distinct_once ns parts.1 good) in
     omega (arith, first, rest)
   where
     by_test : (b : Bool) → (n == good) ≡ b → is_among ns n ≡ false → count_by (λ m. m == good) ns ≤ 1 → cond b 1 0 + count_by (λ m. m == good) ns ≤ 1

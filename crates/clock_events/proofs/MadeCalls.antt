@@ -1,17 +1,12 @@
 -- The entries of a desk that made a list of calls, each of a good.
-use Rattle.std.proofs.Common.{◌≡◌, ℕ, suc, ◌+◌, ◌==◌, ◌≤◌, ◌<◌, Bool, cond, List, [], ◌∷◌, ◌++◌, length, map, get_or, slice_index_or, sym, ap, ◌∙◌, arith}
-use Rattle.std.specs.Prelude.{filter, count_by, nat_le}
-use Rattle.std.specs.List.{sum_by}
+use Rattle.std.proofs.Common.{◌≡◌, ℕ, suc, ◌+◌, ◌==◌, ◌≤◌, ◌<◌, Bool, cond, List, [], ◌∷◌, ◌++◌, length, map, get_or, slice_index_or, sym, ap, ◌∙◌, arith, filter, count_by, nat_le, sum_by}
 use Rattle.std.proofs.lemmas.List.{length-map}
 use Rattle.std.proofs.lemmas.List.Sums.{sum_by-cons, length-filter, count_by-le-length}
 use Rattle.std.proofs.lemmas.Bool.Decides.{nat_tests}
-use Rattle.tac_base.specs.declared.calls.Call.{Call}
-use Rattle.auction_rules.specs.History.{Entry}
-use Rattle.floor.specs.declared.desk.Desk.{Desk}
-use Rattle.floor.specs.Desks.{desk_calls, desk_entries}
+use Rattle.clock_events.specs.Prelude.{Call, Entry, Desk, desk_calls, desk_entries}
 pub use Rattle.floor.specs.Keeping.{calls_of_good}
 use Rattle.floor.proofs.CallLists.{calls_of_good-append}
-use Rattle.clock_events.proofs.GoodCounts.{count-cons}
+use Rattle.auction_rules.proofs.Ranks.{count-cons}
 
 abbrev of : ℕ → ℕ × Call → Bool
 of good call = call.0 == good

@@ -1,23 +1,18 @@
 -- At each tick the clock has few calls, at most one of each good; how many a whole game has.
-use Rattle.std.proofs.Common.{◌≡◌, ◌≢◌, ℕ, ◌+◌, ◌-◌, ◌/◌, ◌%◌, ◌==◌, ◌≤◌, ◌<◌, Bool, true, false, cond, List, [], ◌∷◌, ◌++◌, length, map, take, get_or, refl, sym, ap, ◌∙◌, arith, subst}
-use Rattle.std.specs.Prelude.{not, filter, count_by}
-use Rattle.std.specs.List.{All, enumerate_from, flat_map, sum_by}
-use Rattle.std.proofs.lemmas.List.{length-map, length-append}
+use Rattle.std.proofs.Common.{◌≡◌, ◌≢◌, ℕ, ◌+◌, ◌-◌, ◌/◌, ◌%◌, ◌==◌, ◌≤◌, ◌<◌, Bool, true, false, cond, List, [], ◌∷◌, ◌++◌, length, map, take, get_or, refl, sym, ap, ◌∙◌, arith, subst, not, filter, count_by, All, flat_map, sum_by, length-append}
+use Rattle.std.specs.List.{enumerate_from}
+use Rattle.std.proofs.lemmas.List.{length-map}
 use Rattle.std.proofs.lemmas.List.Concat.{length-flat_map}
 use Rattle.std.proofs.lemmas.List.Sums.{sum_by-cons, sum_by-append, sum_by-le, length-filter}
 use Rattle.std.proofs.lemmas.List.Elements.{All-nil, All-cons, All-head, All-tail, All-append, All-map, All-filter, All-get_or, All-weaker}
 use Rattle.std.proofs.lemmas.List.FromFn.{length-enumerate_from}
 use Rattle.std.proofs.lemmas.List.Filters.{length-filter_both}
 use Rattle.std.proofs.lemmas.Bool.Decides.{nat_tests}
-use Rattle.tac_base.specs.declared.calls.Call.{Call}
-use Rattle.tac_base.specs.declared.calls.Call.TheVariants.{Publish, Close}
-use Rattle.text_forms.specs.Rows.{IsBetween, AllBetween}
-use Rattle.game_text.specs.Flights.{FlightTerms}
-use Rattle.game_text.specs.ClosingOrders.{IsOrder}
-use Rattle.game_text.specs.Games.{GameFile, IsGame}
-use Rattle.game_text.specs.Schedule.{update_of, publication_of, closing_of, closed_last, hotel_nights, is_among, open_after, hotel_calls, hotel_calls_at, calls_at, ticks, schedule, clock_calls}
+use Rattle.clock_events.specs.Prelude.{Call, Publish, Close, IsBetween, AllBetween, FlightTerms, IsOrder, GameFile, IsGame, update_of, closed_last, hotel_nights, open_after, hotel_calls, calls_at, ticks, schedule, clock_calls}
+use Rattle.auction_rules.proofs.Ranks.{count-cons}
 use Rattle.clock_events.specs.Laws.{tick_calls_of, IsDueCall}
-use Rattle.clock_events.proofs.GoodCounts.{count-cons, count-filter, count_left_out, count_among, among_first, distinct_once, none_below, all_between}
+use Rattle.clock_events.proofs.CallLists.{publication_of, closing_of, hotel_calls_at}
+use Rattle.clock_events.proofs.GoodCounts.{is_among, count-filter, count_left_out, count_among, among_first, distinct_once, none_below, all_between}
 
 abbrev of : ℕ → ℕ × Call → Bool
 of good call = call.0 == good

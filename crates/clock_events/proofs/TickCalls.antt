@@ -1,34 +1,16 @@
 -- The calls of the ticks so far, among those of a game.
-use Rattle.std.proofs.Common.{◌≡◌, ℕ, zero, suc, ◌+◌, ◌-◌, ◌==◌, ◌≤◌, ◌<◌, List, [], ◌∷◌, ◌++◌, length, take, drop, get_or, slice_get, Some, None, refl, sym, ap, ◌∙◌, arith, subst, cond, append_assoc, append-nil}
-use Rattle.std.specs.Prelude.{filter, count_by}
-use Rattle.std.specs.List.{All, flat_map}
-use Rattle.std.proofs.Math.Seq.{take-suc}
+use Rattle.std.proofs.Common.{◌≡◌, ℕ, zero, suc, ◌+◌, ◌-◌, ◌==◌, ◌≤◌, ◌<◌, List, [], ◌∷◌, ◌++◌, length, take, drop, get_or, slice_get, Some, None, refl, sym, ap, ◌∙◌, arith, subst, cond, append_assoc, append-nil, filter, count_by, All, flat_map, take-suc, length-append, length-drop, take-append-drop}
 use Rattle.std.proofs.lemmas.Grind.{flat_map-append}
 use Rattle.std.proofs.lemmas.Option.{get_or_from_slice_get, slice_get_within}
-use Rattle.std.proofs.lemmas.List.{length-map, length-append, length-drop, take-append-drop}
+use Rattle.std.proofs.lemmas.List.{length-map}
 use Rattle.std.proofs.lemmas.List.Elements.{All-get_or}
+use Rattle.std.proofs.lemmas.List.FromFn.{get_or-range_with_len}
 use Rattle.std.proofs.lemmas.List.Sums.{sum_by-append, length-filter}
-use Rattle.tac_base.specs.declared.calls.Call.{Call}
-use Rattle.tac_base.specs.declared.calls.Call.TheVariants.{Bid, Withdraw, Own, Update, Publish, Close}
-use Rattle.game_text.specs.Games.{GameFile}
-use Rattle.floor.specs.Answers.{IsClockCall}
-use Rattle.game_text.specs.Schedule.{calls_at, clock_calls, schedule, ticks}
+use Rattle.clock_events.specs.Prelude.{Call, Bid, Withdraw, Own, Update, Publish, Close, GameFile, IsClockCall, calls_at, clock_calls, schedule, ticks}
 use Rattle.clock_events.specs.Laws.{IsDueCall, IsFor}
 
--- this many numbers, from the first on
-count_up : ℕ → ℕ → List ℕ
-count_up first zero = []
-count_up first (suc many) = first ∷ count_up (first + 1) many
-
-get-count_up : (first many place : ℕ) → place < many → get_or (count_up first many) place 0 ≡ first + place
-unfolding count_up
-get-count_up first zero place within = absurd (omega (arith, within))
-get-count_up first (suc many) zero within = omega arith
-get-count_up first (suc many) (suc place) within = let ih = get-count_up (first + 1) many place (omega (arith, within)) in omega (arith, ih)
-
 tick_is : (tick : ℕ) → 1 ≤ tick → tick ≤ 54 → get_or ticks (tick - 1) 0 ≡ tick
-unfolding count_up
-tick_is tick first last = let found : get_or ticks (tick - 1) 0 ≡ 1 + (tick - 1) = get-count_up 1 54 (tick - 1) (omega (arith, first, last)) in omega (arith, found, first)
+tick_is tick first last = let found : get_or ticks (tick - 1) 0 ≡ 1 + (tick - 1) = get_or-range_with_len 1 54 (tick - 1) 0 (omega (arith, first, last)) in omega (arith, found, first)
 
 -- the ticks up to one
 pub next_tick : (tick : ℕ) → 1 ≤ tick → tick ≤ 54 → take tick ticks ≡ take (tick - 1) ticks ++ tick ∷ []

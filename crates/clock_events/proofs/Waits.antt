@@ -1,17 +1,11 @@
 -- Waiting tick by tick.
-use Rattle.std.proofs.Common.{◌≡◌, ℕ, zero, suc, ◌+◌, ◌-◌, ◌<◌, ◌≤◌, Bool, true, false, cond, List, [], ◌∷◌, ◌++◌, map, take, Option, refl, sym, ap, ◌∙◌, arith, subst, append_assoc, append-nil}
-use Rattle.std.specs.Prelude.{All, MatchBool, count_by}
+use Rattle.std.proofs.Common.{◌≡◌, ℕ, zero, suc, ◌+◌, ◌-◌, ◌<◌, ◌≤◌, Bool, true, false, cond, List, [], ◌∷◌, ◌++◌, map, take, Option, refl, sym, ap, ◌∙◌, arith, subst, append_assoc, append-nil, All, MatchBool, count_by}
 use Rattle.std.specs.Int.{from_bool}
 use Rattle.std.proofs.lemmas.List.{map-append}
 use Rattle.std.proofs.lemmas.List.Elements.{All-nil, All-push}
 use Rattle.std.proofs.lemmas.List.Sums.{sum_by-append}
-use Rattle.tac_io.specs.Counts.{Rose}
-use Rattle.tac_io.specs.States.{TickWait, TickerState}
-use Rattle.tac_io.specs.Known.{known_then}
+use Rattle.clock_events.specs.Prelude.{Rose, TickWait, TickerState, known_then, Step, WaitsNoted, GameFile, ticks}
 use Rattle.tac_io.proofs.KnownPieces.{known_then-nothing, known_then-twice}
-use Rattle.floor.specs.Steps.{Step, WaitsNoted}
-use Rattle.game_text.specs.Games.{GameFile}
-use Rattle.game_text.specs.Schedule.{ticks}
 use Rattle.clock_events.specs.Clocking.{WaitsForAll}
 use Rattle.clock_events.specs.Steps.{steps_at, steps_over}
 use Rattle.clock_events.proofs.TickCalls.{next_tick}

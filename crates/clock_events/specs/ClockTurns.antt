@@ -1,10 +1,6 @@
 -- The clock's turns: each is a call that it made, with what it left in the auctions and in the cash history.
-use Rattle.std.specs.Prelude.{ℕ, ◌==◌, if◌then◌else◌, List, Some, None, map}
-use Rattle.std.specs.List.{filter_map, flat_map}
-use Rattle.tac_base.specs.declared.calls.Call.{Call}
-use Rattle.auction_rules.specs.History.{Entry}
-use Rattle.trade_ledger.specs.declared.cash_calls.CashEntry.{CashEntry}
-use Rattle.trade_ledger.specs.Posts.{due_post}
+use Rattle.std.specs.Prelude.{ℕ, ◌==◌, if◌then◌else◌, List, Some, None, map, filter_map, flat_map}
+use Rattle.clock_events.specs.Prelude.{Entry, CashEntry, due_post}
 
 -- a call of a good: its entry has the position; the post that is due to the entry, if one is, has the position `posted`
 pub record ClockTurn : Type 0 where
@@ -12,10 +8,6 @@ pub record ClockTurn : Type 0 where
   pub position : ℕ
   pub entry : Entry
   pub posted : ℕ
-
--- the good and the call of a turn
-abbrev pub call_made : ClockTurn → ℕ × Call
-call_made turn = (turn.good, turn.entry.call)
 
 -- the entries at a good, in order, each with its position
 abbrev pub clock_entries : ℕ → List ClockTurn → List (ℕ × Entry)

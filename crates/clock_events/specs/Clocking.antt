@@ -1,10 +1,6 @@
 -- What the clock waited for.
-use Rattle.std.specs.Prelude.{◌≡◌, ℕ, ◌<◌, List, All, map}
-use Rattle.std.specs.List.{count_by}
-use Rattle.tac_io.specs.Counts.{Rose}
-use Rattle.tac_io.specs.States.{TickWait, TickerState}
-use Rattle.tac_io.specs.Known.{known_then}
-use Rattle.game_text.specs.Schedule.{ticks}
+use Rattle.std.specs.Prelude.{◌≡◌, ℕ, ◌<◌, List, All, map, count_by}
+use Rattle.clock_events.specs.Prelude.{Rose, TickWait, TickerState, known_then, ticks}
 
 -- the 54 ticks were waited for, in order, each at the pace that was set before the first wait, and this many of them lapsed: some
 -- did exactly if the count of faults rose

@@ -1,10 +1,6 @@
 -- What the calls of a tick are, whatever the game.
 use Rattle.std.specs.Prelude.{◌≡◌, ◌≤◌, ◌==◌, ℕ, count_by}
-use Rattle.tac_base.specs.declared.limits.TheConstants.{UPDATE_TICKS}
-use Rattle.tac_base.specs.declared.calls.Call.{Call}
-use Rattle.tac_base.specs.declared.calls.Call.TheVariants.{Bid, Withdraw, Own, Update, Publish, Close}
-use Rattle.game_text.specs.Games.{GameFile}
-use Rattle.game_text.specs.Schedule.{calls_at}
+use Rattle.clock_events.specs.Prelude.{UPDATE_TICKS, Call, Bid, Withdraw, Own, Update, Publish, Close, GameFile, calls_at}
 
 -- how many calls of a tick are of a good
 abbrev pub tick_calls_of : GameFile → ℕ → ℕ → ℕ

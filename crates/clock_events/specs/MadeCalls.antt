@@ -1,14 +1,7 @@
 -- What the clock's desk made of the schedule.
-use Rattle.std.specs.Prelude.{◌≡◌, ℕ, ◌<◌, List, ◌++◌, map, take}
-use Rattle.std.specs.List.{flat_map}
-use Rattle.tac_base.specs.declared.calls.Call.{Call}
-use Rattle.tac_base.specs.declared.limits.TheConstants.{GOODS}
-use Rattle.game_text.specs.Games.{GameFile}
-use Rattle.floor.specs.declared.desk.Desk.{Desk}
-use Rattle.floor.specs.Desks.{entries_at, desk_cash}
-use Rattle.floor.specs.Keeping.{calls_of_good}
-use Rattle.game_text.specs.Schedule.{calls_at, ticks}
-use Rattle.clock_events.specs.ClockTurns.{ClockTurn, call_made, clock_entries, clock_posts}
+use Rattle.std.specs.Prelude.{◌≡◌, ℕ, ◌<◌, List, ◌++◌, map, take, flat_map}
+use Rattle.clock_events.specs.Prelude.{Call, GOODS, GameFile, Desk, entries_at, desk_cash, calls_of_good, calls_at, ticks}
+use Rattle.clock_events.specs.ClockTurns.{ClockTurn, clock_entries, clock_posts}
 
 -- the calls of a good at the first `count` ticks
 abbrev pub calls_until : GameFile → ℕ → ℕ → List Call
@@ -21,6 +14,6 @@ HasMade game count desk = (good : ℕ) → good < GOODS → map (λ p. p.1.call)
 -- The desk made these calls in order, and, in the same order, a post for each entry with trades.
 pub record MakesCalls (calls : List (ℕ × Call)) (before after : Desk) : Type 0 where
   pub turns : List ClockTurn
-  pub asked : map call_made turns ≡ calls
+  pub asked : map (λ turn. (turn.good, turn.entry.call)) turns ≡ calls
   pub entries : (good : ℕ) → good < GOODS → entries_at after good ≡ entries_at before good ++ clock_entries good turns
   pub cash : desk_cash after ≡ desk_cash before ++ clock_posts turns

@@ -1,10 +1,6 @@
 -- The steps of the clock's desk.
 use Rattle.std.specs.Prelude.{ℕ, List, [], ◌∷◌, ◌++◌, Option, map}
-use Rattle.tac_io.specs.Known.{known_then}
-use Rattle.tac_io.specs.States.{TickWait}
-use Rattle.floor.specs.Steps.{Step, CallMade, DueTaken, WaitsNoted}
-use Rattle.game_text.specs.Games.{GameFile}
-use Rattle.game_text.specs.Schedule.{calls_at}
+use Rattle.clock_events.specs.Prelude.{known_then, TickWait, Step, CallMade, DueTaken, WaitsNoted, GameFile, calls_at}
 
 -- the steps of a tick, whose ticker has the mark: its due is taken, and then its calls are made in order
 abbrev pub steps_at : (mark : ℕ) → GameFile → (tick : ℕ) → List Step

@@ -1,4 +1,6 @@
 ghost use Rattle.std.specs.Prelude.{◌≡◌, ◌+◌, ◌≤◌, ◌<◌, ◌==◌, ◌∷◌, [], slice_get, length, map};
+ghost use Rattle.std.specs.List.{list_any};
+ghost use Rattle.tac_base.specs.declared.calls.Call.TheVariants.{Close};
 ghost use Rattle.game_text.specs.Schedule as spec;
 
 use arrayvec::ArrayVec;
@@ -16,7 +18,7 @@ fn good(number: u8) -> Good
 
 /// Whether the good is among the goods.
 fn is_among(goods: &[Good], good: Good) -> bool
-    ensures { result ≡ spec.is_among goods.now good }
+    ensures { result ≡ list_any (λ other. other == good) goods.now }
 {
     goods.iter().any(|other| *other == good)
 }
@@ -52,7 +54,7 @@ fn hotel_call(order: &[Good], turn: usize, n: usize) -> Option<(Good, Call)>
 
 /// The n-th call of the last tick.
 fn last_call(n: usize) -> Option<(Good, Call)>
-    ensures { result ≡ slice_get (map spec.closing_of spec.closed_last) n }
+    ensures { result ≡ slice_get (map (λ good. (good, Close)) spec.closed_last) n }
 {
     if n < 8 {
         Some((good(n as u8), Call::Close))

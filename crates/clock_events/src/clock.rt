@@ -1,16 +1,10 @@
 // The clock of a game, over a ticker.
 ghost use Rattle.std.specs.Prelude.{◌≡◌, ◌<◌, [], ◌∷◌, ◌++◌, ◌-◌, ℕ, length, map, replicate, IfSome, MatchBool};
 ghost use Rattle.tac_base.specs.Goods.{clock};
-ghost use Rattle.floor.specs.Answers.{IsSameDesk};
-ghost use Rattle.floor.specs.Desks.{boards_of, desk_calls, desk_cash, desk_caller, desk_ids, entries_at, desk_entries, desk_steps};
-ghost use Rattle.floor.specs.Floors.{floor_ids};
-ghost use Rattle.tac_io.specs.Counts.{Rose};
-ghost use Rattle.tac_io.specs.Known.{known_then};
+ghost use Rattle.clock_events.specs.{IsSameDesk, boards_of, desk_calls, desk_cash, desk_caller, desk_ids, entries_at, desk_entries, desk_steps, floor_ids, Rose, known_then, clock_calls, HasMade, MakesCalls};
 ghost use Rattle.clock_events.specs.Clocking.{WaitsForAll};
-ghost use Rattle.clock_events.specs.MadeCalls.{HasMade, MakesCalls};
 ghost use Rattle.clock_events.specs.Steps.{steps_at, steps_over};
 ghost use Rattle.game_text.specs.Schedule as spec;
-ghost use Rattle.game_text.specs.Schedule.{clock_calls};
 
 use crate::{schedule, schedule_law};
 use floor::{Desk, Floor};

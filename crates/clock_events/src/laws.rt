@@ -1,5 +1,4 @@
-ghost use Rattle.std.specs.Prelude.{◌≡◌, ◌≤◌, ℕ, length};
-ghost use Rattle.std.specs.List.{All};
+ghost use Rattle.std.specs.Prelude.{◌≡◌, ◌≤◌, ℕ, length, All};
 ghost use Rattle.game_text.specs.Schedule as spec;
 ghost use Rattle.clock_events.specs.Laws as laws;
 ghost use Rattle.tac_base.specs.declared.limits.TheConstants.{CLOCK_CASH_ENTRIES, TICKS};

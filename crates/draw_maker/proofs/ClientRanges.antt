@@ -1,9 +1,6 @@
 -- A client that is made of five words is in the ranges of the game.
-use Rattle.std.proofs.Common.{◌≡◌, ℕ, ◌%◌, ◌≤◌, ◌<◌, List, length, drop, get_or, lit<, lit≤, arith}
-use Rattle.std.specs.Prelude.{slice_index}
-use Rattle.std.specs.List.{All}
-use Rattle.std.proofs.Math.Nat.{mod-lt}
-use Rattle.std.proofs.lemmas.List.{length-map, length-drop}
+use Rattle.std.proofs.Common.{◌≡◌, ℕ, ◌%◌, ◌≤◌, ◌<◌, List, length, drop, get_or, lit<, lit≤, arith, slice_index, All, mod-lt, length-drop}
+use Rattle.std.proofs.lemmas.List.{length-map}
 use Rattle.std.proofs.lemmas.List.Elements.{All-from_recursion, All-get_or, All-map}
 use Rattle.tac_base.specs.Clients.{IsClient}
 use Rattle.draw_maker.specs.Clients.{drawn_trips, drawn_trip, made_client}

@@ -1,18 +1,13 @@
 -- What is made of words that are drawn in turn.
-use Rattle.std.proofs.Common.{◌≡◌, ℕ, ◌+◌, ◌%◌, ◌<◌, List, map, take, drop, refl, sym, ap, ◌∙◌, lit<, arith, ℤ, pos, ◌-ℤ◌, to_z, of_z, w8}
-use Rattle.std.specs.Prelude.{false, replicate, slice_index}
-use Rattle.std.proofs.Math.Nat.{mod-lt}
+use Rattle.std.proofs.Common.{◌≡◌, ℕ, ◌+◌, ◌%◌, ◌<◌, List, map, take, drop, refl, sym, ap, ◌∙◌, lit<, arith, ℤ, pos, ◌-ℤ◌, to_z, of_z, w8, false, replicate, slice_index, mod-lt}
 use Rattle.std.proofs.lemmas.Int.{ints, to_z-of_z, to_z_pos}
 use Rattle.rand_pcg.specs.Lcg.{Lcg}
-use Rattle.game_text.specs.Flights.{FlightTerms}
-use Rattle.game_text.specs.Games.{GameFile, IsGame}
-use Rattle.tac_base.specs.Clients.{Preferences}
+use Rattle.draw_maker.specs.Prelude.{FlightTerms, GameFile, IsGame, Preferences, numbered_seats}
 use Rattle.draw_maker.specs.Words.{generator, next_words, after, parts}
 use Rattle.draw_maker.specs.Flights.{made_flight}
 use Rattle.draw_maker.specs.ClosingOrders.{made_order}
 use Rattle.draw_maker.specs.Endowments.{made_endowment}
 use Rattle.draw_maker.specs.Clients.{drawn_trip, made_client, made_clients}
-use Rattle.game_text.specs.SeatWords.{numbered_seats}
 use Rattle.draw_maker.specs.Games.{game_of_words, made_game}
 use Rattle.draw_maker.proofs.DrawnWords.{after-add, take-words, drop-words, length-words, two_before, parts_within}
 use Rattle.draw_maker.proofs.WordRanges.{words_range}

@@ -1,13 +1,13 @@
 -- A script, request by request.
-use Rattle.std.proofs.Common.{◌≡◌, ℕ, ◌+◌, ◌*◌, List, [], ◌∷◌, ◌++◌, refl, sym, ap, ◌∙◌, arith}
-use Rattle.std.specs.List.{flat_map, range_with_len}
-use Rattle.std.proofs.lemmas.List.{map-id, flat_map_more}
+use Rattle.std.proofs.Common.{◌≡◌, ℕ, ◌+◌, ◌*◌, List, [], ◌∷◌, ◌++◌, refl, sym, ap, ◌∙◌, arith, flat_map, map-id}
+use Rattle.std.specs.List.{range_with_len}
+use Rattle.std.proofs.lemmas.List.{flat_map_more}
 use Rattle.std.proofs.lemmas.List.Concat.{flat_map-append}
 use Rattle.std.proofs.lemmas.List.FromFn.{map-range_with_len_more}
 use Rattle.rand_pcg.specs.Lcg.{Lcg}
 use Rattle.text_forms.specs.Lines.{text_of}
 use Rattle.draw_maker.specs.Words.{generator, next_words, after}
-use Rattle.draw_maker.specs.Scripts.{made_lines, request_words, made_script}
+use Rattle.draw_maker.specs.Scripts.{made_lines, request_draws, made_script}
 use Rattle.draw_maker.proofs.DrawnWords.{after-add}
 
 range_more : (n : ℕ) → range_with_len 0 (n + 1) ≡ range_with_len 0 n ++ n ∷ []
@@ -22,12 +22,12 @@ numbers_more made n = ap (flat_map made) (range_more n) ∙ sym (flat_map_more m
 
 -- the text of the first requests of a script
 abbrev pub first_requests : ℕ → ℕ → ℕ → List ℕ
-first_requests seed count n = text_of (flat_map (λ i. made_lines count i (request_words seed i)) (range_with_len 0 n))
+first_requests seed count n = text_of (flat_map (λ i. made_lines count i (request_draws seed i)) (range_with_len 0 n))
 
-requests_more : (seed count n : ℕ) → first_requests seed count (n + 1) ≡ first_requests seed count n ++ text_of (made_lines count n (request_words seed n))
+requests_more : (seed count n : ℕ) → first_requests seed count (n + 1) ≡ first_requests seed count n ++ text_of (made_lines count n (request_draws seed n))
 requests_more seed count n =
-    ap text_of (numbers_more (λ i. made_lines count i (request_words seed i)) n)
-    ∙ flat_map-append (λ (line : List ℕ). line ++ 10 ∷ []) (flat_map (λ i. made_lines count i (request_words seed i)) (range_with_len 0 n)) (made_lines count n (request_words seed n))
+    ap text_of (numbers_more (λ i. made_lines count i (request_draws seed i)) n)
+    ∙ flat_map-append (λ (line : List ℕ). line ++ 10 ∷ []) (flat_map (λ i. made_lines count i (request_draws seed i)) (range_with_len 0 n)) (made_lines count n (request_draws seed n))
 
 pub request_more : (seed count n : ℕ) (old : Lcg) (words text new : List ℕ) → old ≡ after (5 * n) (generator seed 55) → words ≡ next_words 5 old → text ≡ first_requests seed count n → new ≡ text ++ text_of (made_lines count n words)
     → new ≡ first_requests seed count (n + 1)

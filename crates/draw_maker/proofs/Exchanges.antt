@@ -1,9 +1,7 @@
 -- Swaps keep the goods of a closing order different and in their range.
-use Rattle.std.proofs.Common.{◌≡◌, ℕ, ◌+◌, ◌%◌, ◌≤◌, ◌<◌, Bool, true, false, not, ◌&&◌, ◌||◌, eqb, cond, List, [], ◌∷◌, length, refl, sym, ap, ◌∙◌, subst, lit<, lit≤, eq-eqb, arith}
-use Rattle.std.specs.Prelude.{fold, IsPermutation}
-use Rattle.std.specs.List.{All, zip, list_any, sum_by}
-use Rattle.std.proofs.Math.Nat.{mod-lt}
-use Rattle.std.proofs.lemmas.Bool.{eqb-true}
+use Rattle.std.proofs.Common.{◌≡◌, ℕ, ◌+◌, ◌%◌, ◌≤◌, ◌<◌, Bool, true, false, not, ◌&&◌, ◌||◌, eqb, cond, List, [], ◌∷◌, length, refl, sym, ap, ◌∙◌, subst, lit<, lit≤, eq-eqb, arith, fold, IsPermutation, All, zip, sum_by, mod-lt, eqb-true}
+use Rattle.std.specs.List.{list_any}
+use Rattle.std.proofs.lemmas.Bool.{not-true}
 use Rattle.std.proofs.lemmas.List.Edits.{length-swap}
 use Rattle.std.proofs.lemmas.List.Elements.{All-from_recursion, All-head, All-tail}
 use Rattle.std.proofs.lemmas.List.Sorted.{IsPermutation-refl, IsPermutation-swap, IsPermutation-trans, length_permutation, All-permutation, sum_by-IsPermutation}
@@ -57,16 +55,12 @@ few_more true n m ms e none few =
     omega (arith, zero)
 few_more false n m ms e none few = omega (arith, few)
 
-not_true : (b : Bool) → not b ≡ true → b ≡ false
-not_true true h = absurd cc
-not_true false h = refl
-
 few : (ns : List ℕ) → is_distinct ns ≡ true → (n : ℕ) → times n ns ≤ 1
 unfolding times
 few [] h n = lit≤ tt
 few (m ∷ ms) h n =
     let both = both_true (not (list_any (λ k. eqb k m) ms)) (is_distinct ms) h in
-    let more = few_more (eqb m n) n m ms refl (not_true (list_any (λ k. eqb k m) ms) both.0) (few ms both.1 n) in
+    let more = few_more (eqb m n) n m ms refl (not-true (list_any (λ k. eqb k m) ms) both.0) (few ms both.1 n) in
     omega (arith, times_first n m ms, more)
 
 not_there : (b : Bool) (m : ℕ) (ms : List ℕ) → list_any (λ k. eqb k m) ms ≡ b → times m ms ≤ 0 → b ≡ false

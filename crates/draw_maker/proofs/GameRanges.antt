@@ -1,17 +1,13 @@
 -- A game that is made of words is in the ranges of the game file.
-use Rattle.std.proofs.Common.{◌≡◌, ℕ, ◌%◌, ◌<◌, List, length, drop, take, get_or, refl, lit<, lit≤, arith}
-use Rattle.std.specs.Prelude.{slice_index}
-use Rattle.std.proofs.Math.Nat.{mod-lt}
+use Rattle.std.proofs.Common.{◌≡◌, ℕ, ◌%◌, ◌<◌, List, length, drop, take, get_or, refl, lit<, lit≤, arith, slice_index, mod-lt, length-drop}
 use Rattle.std.proofs.lemmas.Int.{ints}
-use Rattle.std.proofs.lemmas.List.{length-map, length-drop}
+use Rattle.std.proofs.lemmas.List.{length-map}
 use Rattle.std.proofs.lemmas.List.Elements.{All-map, All-weaker, All-drop}
 use Rattle.text_forms.specs.Rows.{IsBetween, AllBetween}
-use Rattle.game_text.specs.Flights.{IsFlight}
+use Rattle.draw_maker.specs.Prelude.{IsFlight, IsClient, IsGame, agents_of}
 use Rattle.game_text.specs.Endowments.{IsEndowment}
-use Rattle.tac_base.specs.Clients.{IsClient}
 use Rattle.game_text.specs.AgentLines.{AreClients, AreAgents}
 use Rattle.game_text.proofs.HotelNightLaws.{plain_are}
-use Rattle.game_text.specs.Games.{IsGame, agents_of}
 use Rattle.draw_maker.specs.Words.{parts}
 use Rattle.draw_maker.specs.Flights.{made_flight}
 use Rattle.draw_maker.specs.Endowments.{made_endowment}

@@ -6,4 +6,3 @@ pub mod GameRanges
 pub mod DrawnGames
 pub mod DrawnScripts
 pub mod ScriptLines
-pub mod Worked

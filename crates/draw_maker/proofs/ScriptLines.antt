@@ -1,20 +1,15 @@
 -- A made script has its bids, and at most 54 ticks.
-use Rattle.std.proofs.Common.{◌≡◌, ℕ, zero, suc, ◌+◌, ◌-◌, ◌*◌, ◌/◌, ◌%◌, ◌<◌, ◌≤◌, Bool, false, not, cond, List, [], ◌∷◌, ◌++◌, None, inl, inr, ◌⊎◌, replicate, refl, sym, ap, subst, ◌∙◌, lit<, arith}
-use Rattle.std.specs.Prelude.{codes, slice_index}
-use Rattle.std.specs.List.{All, count_by, sum_by, flat_map, range_with_len}
-use Rattle.std.proofs.Math.Nat.{mod-lt, div-mul-le_self, div-le_of_le-mul}
+use Rattle.std.proofs.Common.{◌≡◌, ℕ, zero, suc, ◌+◌, ◌-◌, ◌*◌, ◌/◌, ◌%◌, ◌<◌, ◌≤◌, Bool, false, not, cond, List, [], ◌∷◌, ◌++◌, None, inl, inr, ◌⊎◌, replicate, refl, sym, ap, subst, ◌∙◌, lit<, arith, codes, slice_index, All, count_by, sum_by, flat_map, mod-lt, div-mul-le_self}
+use Rattle.std.specs.List.{range_with_len}
+use Rattle.std.proofs.Math.Nat.{div-le_of_le-mul}
 use Rattle.std.proofs.lemmas.Nat.{le-div}
 use Rattle.std.proofs.lemmas.Bool.Decides.{nat_tests}
 use Rattle.std.proofs.lemmas.Fmt.{decimal_digit}
 use Rattle.std.proofs.lemmas.List.Sums.{sum_by-append}
 use Rattle.std.proofs.lemmas.List.Folds.{sum_by-replicate}
 use Rattle.std.proofs.lemmas.List.Elements.{All-nil, All-cons, All-append, All-replicate}
-use Rattle.tac_base.specs.declared.numbers.Kind.{Kind}
-use Rattle.tac_base.specs.declared.numbers.Kind.TheVariants.{Flight, Hotel, Ticket}
-use Rattle.tac_base.specs.declared.bids.Point.{Point}
-use Rattle.tac_base.specs.Bids.{fault_of}
-use Rattle.tac_base.specs.Kinds.{kind_of}
-use Rattle.draw_maker.specs.Scripts.{made_point, bid_line, made_request, ticks_before, made_lines, request_words, made_script}
+use Rattle.draw_maker.specs.Prelude.{Kind, Flight, Hotel, Ticket, Point, fault_of, kind_of}
+use Rattle.draw_maker.specs.Scripts.{made_point, bid_line, made_request, ticks_before, made_lines, request_draws, made_script}
 use Rattle.draw_maker.specs.BidScripts.{is_tick, IsBidLine, IsBidScript}
 use Rattle.draw_maker.proofs.DrawnScripts.{numbers_more}
 
@@ -57,11 +52,11 @@ IsScriptLine line = (line ≡ codes "tick") ⊎ IsBidLine line
 
 -- the lines of the first requests of a script
 abbrev first_lines : ℕ → ℕ → ℕ → List (List ℕ)
-first_lines seed count n = flat_map (λ i. made_lines count i (request_words seed i)) (range_with_len 0 n)
+first_lines seed count n = flat_map (λ i. made_lines count i (request_draws seed i)) (range_with_len 0 n)
 
-first_lines_more : (seed count n : ℕ) → first_lines seed count (suc n) ≡ first_lines seed count n ++ made_lines count n (request_words seed n)
+first_lines_more : (seed count n : ℕ) → first_lines seed count (suc n) ≡ first_lines seed count n ++ made_lines count n (request_draws seed n)
 first_lines_more seed count n =
-    ap (first_lines seed count) (let e : suc n ≡ n + 1 = omega arith in e) ∙ numbers_more (λ i. made_lines count i (request_words seed i)) n
+    ap (first_lines seed count) (let e : suc n ≡ n + 1 = omega arith in e) ∙ numbers_more (λ i. made_lines count i (request_draws seed i)) n
 
 made_lines_either : (count n : ℕ) (words : List ℕ) → All IsScriptLine (made_lines count n words)
 made_lines_either count n words =
@@ -72,7 +67,7 @@ made_lines_either count n words =
 first_lines_either : (seed count n : ℕ) → All IsScriptLine (first_lines seed count n)
 first_lines_either seed count zero = All-nil IsScriptLine
 first_lines_either seed count (suc n) =
-    rw (first_lines_more seed count n) (All-append IsScriptLine (first_lines seed count n) _ (first_lines_either seed count n) (made_lines_either count n (request_words seed n)))
+    rw (first_lines_more seed count n) (All-append IsScriptLine (first_lines seed count n) _ (first_lines_either seed count n) (made_lines_either count n (request_draws seed n)))
 
 -- ---- how many lines pass a test
 
@@ -83,15 +78,15 @@ lines_counted test k tick bid =
     ∙ (let e : k * cond (test tick) 1 0 + (0 + cond (test bid) 1 0) ≡ k * cond (test tick) 1 0 + cond (test bid) 1 0 = omega arith in e)
 
 -- what the lines of one more request add to a count, where `tick` adds so many and the request so many
-counted_more : (test : List ℕ → Bool) (seed count n ticks bids : ℕ) → cond (test (codes "tick")) 1 0 ≡ ticks → cond (test (made_request (request_words seed n))) 1 0 ≡ bids
+counted_more : (test : List ℕ → Bool) (seed count n ticks bids : ℕ) → cond (test (codes "tick")) 1 0 ≡ ticks → cond (test (made_request (request_draws seed n))) 1 0 ≡ bids
     → count_by test (first_lines seed count (suc n)) ≡ count_by test (first_lines seed count n) + ((ticks_before count n - ticks_before count (n - 1)) * ticks + bids)
 counted_more test seed count n ticks bids ticks-are bids-are =
     let new = ticks_before count n - ticks_before count (n - 1) in
     let before = count_by test (first_lines seed count n) in
     ap (count_by test) (first_lines_more seed count n)
-    ∙ sum_by-append (λ (line : List ℕ). cond (test line) 1 0) (first_lines seed count n) (made_lines count n (request_words seed n))
-    ∙ ap (λ (k : ℕ). before + k) (lines_counted test new (codes "tick") (made_request (request_words seed n)))
-    ∙ ap (λ (k : ℕ). before + (new * k + cond (test (made_request (request_words seed n))) 1 0)) ticks-are
+    ∙ sum_by-append (λ (line : List ℕ). cond (test line) 1 0) (first_lines seed count n) (made_lines count n (request_draws seed n))
+    ∙ ap (λ (k : ℕ). before + k) (lines_counted test new (codes "tick") (made_request (request_draws seed n)))
+    ∙ ap (λ (k : ℕ). before + (new * k + cond (test (made_request (request_draws seed n))) 1 0)) ticks-are
     ∙ ap (λ (k : ℕ). before + (new * ticks + k)) bids-are
 
 -- the number of ticks never falls
@@ -109,7 +104,7 @@ ticks_counted seed count zero some = let none : 54 * (0 - 1) / count ≤ 0 = div
 ticks_counted seed count (suc n) some =
     let now = ticks_before count n in
     let before = ticks_before count (n - 1) in
-    counted_more is_tick seed count n 1 0 refl (ap (λ (b : Bool). cond b 1 0) (request_is_no_tick (request_words seed n)))
+    counted_more is_tick seed count n 1 0 refl (ap (λ (b : Bool). cond b 1 0) (request_is_no_tick (request_draws seed n)))
     ∙ ap (λ (k : ℕ). k + ((now - before) * 1 + 0)) (ticks_counted seed count n some)
     ∙ risen before now (ticks_rise count n some)
     ∙ ap (ticks_before count) (let e : n ≡ suc n - 1 = omega arith in e)
@@ -121,7 +116,7 @@ bids_counted : (seed count n : ℕ) → count_by (λ line. not (is_tick line)) (
 bids_counted seed count zero = refl
 bids_counted seed count (suc n) =
     let new = ticks_before count n - ticks_before count (n - 1) in
-    counted_more (λ line. not (is_tick line)) seed count n 0 1 refl (ap (λ (b : Bool). cond (not b) 1 0) (request_is_no_tick (request_words seed n)))
+    counted_more (λ line. not (is_tick line)) seed count n 0 1 refl (ap (λ (b : Bool). cond (not b) 1 0) (request_is_no_tick (request_draws seed n)))
     ∙ ap (λ (k : ℕ). k + (new * 0 + 1)) (bids_counted seed count n)
     ∙ one_bid_more new n
 

@@ -1,10 +1,6 @@
 -- Scripts of ticks and bids.
-use Rattle.std.specs.Prelude.{◌≡◌, ℕ, ◌≤◌, List, [], ◌∷◌, Bool, not, None, ◌⊎◌, All, codes, count_by}
-use Rattle.std.specs.Str.{bytes_eq}
-use Rattle.tac_base.specs.declared.bids.Point.{Point}
-use Rattle.tac_base.specs.declared.limits.TheConstants.{TICKS}
-use Rattle.tac_base.specs.Bids.{fault_of}
-use Rattle.text_forms.specs.Lines.{text_of}
+use Rattle.std.specs.Prelude.{◌≡◌, ℕ, ◌≤◌, List, [], ◌∷◌, Bool, not, None, ◌⊎◌, All, codes, count_by, bytes_eq}
+use Rattle.draw_maker.specs.Prelude.{Point, TICKS, fault_of, text_of}
 use Rattle.draw_maker.specs.Scripts.{bid_line}
 
 abbrev pub is_tick : List ℕ → Bool

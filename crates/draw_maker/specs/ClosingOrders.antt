@@ -1,6 +1,5 @@
 -- The closing order of a made game.
-use Rattle.std.specs.Prelude.{ℕ, ◌+◌, ◌%◌, List, [], ◌∷◌, fold, swap}
-use Rattle.std.specs.List.{zip}
+use Rattle.std.specs.Prelude.{ℕ, ◌+◌, ◌%◌, List, [], ◌∷◌, fold, swap, zip}
 
 -- a draw for place i, counted from 0: the item there is swapped with the one at place `word mod (i + 1)`
 abbrev pub exchanged : List ℕ → ℕ × ℕ → List ℕ

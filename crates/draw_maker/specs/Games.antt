@@ -1,8 +1,6 @@
 -- The game made from a seed.
 use Rattle.std.specs.Prelude.{ℕ, List, false, map, replicate, take, drop}
-use Rattle.tac_base.specs.declared.limits.TheConstants.{AGENTS}
-use Rattle.game_text.specs.SeatWords.{numbered_seats}
-use Rattle.game_text.specs.Games.{GameFile}
+use Rattle.draw_maker.specs.Prelude.{AGENTS, numbered_seats, GameFile}
 use Rattle.draw_maker.specs.Words.{generator, next_words, parts}
 use Rattle.draw_maker.specs.Flights.{made_flight}
 use Rattle.draw_maker.specs.ClosingOrders.{made_order}

@@ -1,3 +1,4 @@
+pub mod Prelude
 pub mod Words
 pub mod Flights
 pub mod ClosingOrders

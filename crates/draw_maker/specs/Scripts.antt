@@ -1,13 +1,7 @@
 -- The game script made from a seed, with a given number of requests.
-use Rattle.std.specs.Prelude.{ℕ, ◌+◌, ◌*◌, ◌-◌, ◌/◌, ◌%◌, ◌==◌, if◌then◌else◌, List, [], ◌∷◌, ◌++◌, ℤ, pos, negsuc, decimal, codes, replicate, slice_index}
-use Rattle.std.specs.List.{flat_map, range_with_len}
-use Rattle.tac_base.specs.declared.bids.Point.{Point}
-use Rattle.tac_base.specs.declared.numbers.Kind.{Kind}
-use Rattle.tac_base.specs.declared.numbers.Kind.TheVariants.{Flight, Hotel, Ticket}
-use Rattle.tac_base.specs.declared.limits.TheConstants.{AGENTS, GOODS, TICKS}
-use Rattle.tac_base.specs.Bids.{point_at}
-use Rattle.tac_base.specs.Kinds.{kind_of}
-use Rattle.text_forms.specs.Lines.{text_of}
+use Rattle.std.specs.Prelude.{ℕ, ◌+◌, ◌*◌, ◌-◌, ◌/◌, ◌%◌, ◌==◌, if◌then◌else◌, List, [], ◌∷◌, ◌++◌, ℤ, pos, negsuc, decimal, codes, replicate, slice_index, flat_map}
+use Rattle.std.specs.List.{range_with_len}
+use Rattle.draw_maker.specs.Prelude.{Point, Kind, Flight, Hotel, Ticket, AGENTS, GOODS, TICKS, point_at, kind_of, text_of}
 use Rattle.bid_strings.specs.Spelling.{spelling}
 use Rattle.draw_maker.specs.Words.{generator, next_words, after}
 
@@ -40,9 +34,9 @@ abbrev pub made_lines : ℕ → ℕ → List ℕ → List (List ℕ)
 made_lines count i words = replicate (ticks_before count i - ticks_before count (i - 1)) (codes "tick") ++ made_request words ∷ []
 
 -- the words of the request of this number, on stream 55: five for each request
-abbrev pub request_words : ℕ → ℕ → List ℕ
-request_words seed i = next_words 5 (after (5 * i) (generator seed 55))
+abbrev pub request_draws : ℕ → ℕ → List ℕ
+request_draws seed i = next_words 5 (after (5 * i) (generator seed 55))
 
 -- the text of this many requests
 unfoldable pub made_script : ℕ → ℕ → List ℕ
-made_script seed count = text_of (flat_map (λ i. made_lines count i (request_words seed i)) (range_with_len 0 count))
+made_script seed count = text_of (flat_map (λ i. made_lines count i (request_draws seed i)) (range_with_len 0 count))

@@ -1,8 +1,7 @@
 ghost use Rattle.std.specs.Prelude.{◌≡◌, ◌+◌, ◌-◌, ◌%◌, ◌<◌, ◌≤◌, [], ◌∷◌, ◌++◌, codes, replicate, IfOk, OnOk};
-ghost use Rattle.text_forms.specs.Lines.{text_of};
+ghost use Rattle.draw_maker.specs.Prelude.{text_of, MADE_REQUESTS};
 ghost use Rattle.draw_maker.specs.BidScripts.{IsBidScript};
 ghost use Rattle.draw_maker.specs.Scripts as scripts;
-ghost use Rattle.tac_base.specs.declared.limits.TheConstants.{MADE_REQUESTS};
 
 use crate::drawing::draw_words;
 use bid_strings::print_points;

@@ -1,26 +1,15 @@
 -- What tables of worths and costs bound.
-use Rattle.std.proofs.Common.{◌≡◌, ℕ, zero, suc, false, length-append, ◌+◌, ◌<◌, ◌||◌, ℤ, pos, ◌+ℤ◌, ◌-ℤ◌, ◌≤ℤ◌, ◌<ℤ◌, ◌++◌, true, List, [], ◌∷◌, Option, Some, drop, length, get_or, eqb, int_le, not, refl, sym, ap, subst, ◌∙◌, arith}
-use Rattle.std.specs.List.{All, slice_get}
+use Rattle.std.proofs.Common.{◌≡◌, ℕ, zero, suc, false, length-append, ◌+◌, ◌<◌, ◌||◌, ℤ, pos, ◌+ℤ◌, ◌-ℤ◌, ◌≤ℤ◌, ◌<ℤ◌, ◌++◌, true, List, [], ◌∷◌, Option, Some, drop, length, get_or, eqb, int_le, not, refl, sym, ap, subst, ◌∙◌, arith, All, slice_get}
 use Rattle.std.proofs.lemmas.List.Elements.{All-push}
 use Rattle.std.proofs.lemmas.Int.{ints}
 use Rattle.std.proofs.lemmas.Bool.{and_parts}
 use Rattle.std.proofs.lemmas.Bool.Decides.{nat_tests}
 use Rattle.std.proofs.lemmas.Option.{get_or_from_slice_get, slice_get_within}
-use Rattle.tac_base.specs.Clients.{Preferences}
-use Rattle.game_text.specs.Accounts.{AccountFile, IsAccount}
-use Rattle.packages.specs.declared.travel_packages.Package.{Package}
-use Rattle.packages.specs.Packages.{utility_of}
-use Rattle.packages.specs.Listing.{packages}
+use Rattle.dual_bound.specs.{Preferences, AccountFile, IsAccount, Package, utility_of, packages, feature_of, narrowed, Narrowing, cost_of, margin_of, best_margin, margins, leaf_bound, all_left, HasWorths, KeepsOthers, dollars_at, margins_at, IsCeiling, AreCosts, HasMore, KeepsLeft}
 use Rattle.packages.specs.Decoding.{package_at}
-use Rattle.packages.specs.Features.{feature_of, narrowed}
-use Rattle.packages.specs.Bounds.{Narrowing, cost_of, margin_of, best_margin, margins, leaf_bound}
 use Rattle.packages.proofs.Decoded.{length-packages, package_is}
 use Rattle.packages.proofs.Margins.{drop_at}
-use Rattle.bound_cert.specs.Certificate.{all_left}
 use Rattle.packages.specs.declared.travel_packages.Package.TheVariants as kinds
-use Rattle.relaxation.specs.Tables.{HasWorths, KeepsOthers, dollars_at}
-use Rattle.dual_bound.specs.Ceilings.{margins_at, IsCeiling, AreCosts, HasMore}
-use Rattle.dual_bound.specs.Restrictions.{KeepsLeft}
 use Rattle.dual_bound.proofs.Greatest.{greatest_at_most, parts_of}
 
 value_is : (k client a value : ℕ) → (not (eqb k client) || eqb a value) ≡ true → k ≡ client → a ≡ value

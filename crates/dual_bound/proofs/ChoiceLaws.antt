@@ -1,15 +1,11 @@
 -- What one more fixed feature does to a choice.
-use Rattle.std.proofs.Common.{◌≡◌, ◌≢◌, ℕ, zero, suc, ◌+◌, ◌<◌, ◌≤◌, ◌&&◌, Bool, true, false, cond, List, [], ◌∷◌, length, get_or, Option, Some, None, is_some, set, eqb, inl, inr, refl, sym, ap, subst, length-set, arith}
-use Rattle.std.specs.List.{All, count_by}
+use Rattle.std.proofs.Common.{◌≡◌, ◌≢◌, ℕ, zero, suc, ◌+◌, ◌<◌, ◌≤◌, ◌&&◌, Bool, true, false, cond, List, [], ◌∷◌, length, get_or, Option, Some, None, is_some, set, eqb, inl, inr, refl, sym, ap, subst, length-set, arith, All, count_by, get_or-set_same, get_or-set_other}
 use Rattle.std.proofs.Math.Bool.{and_comm}
 use Rattle.std.proofs.lemmas.Bool.{cases_eq}
 use Rattle.std.proofs.lemmas.Bool.Decides.{nat_tests}
-use Rattle.std.proofs.lemmas.List.{get_or-set_same, get_or-set_other, get_or_default}
+use Rattle.std.proofs.lemmas.List.{get_or_default}
 use Rattle.std.proofs.lemmas.List.Sums.{sum_by-set, sum_by-le, count_by-le-length}
-use Rattle.packages.specs.declared.travel_packages.Package.{Package}
-use Rattle.packages.specs.Features.{feature_of, narrowed}
-use Rattle.relaxation.specs.Splits.{fixed_at}
-use Rattle.dual_bound.specs.Choices.{fits, has_fixed, chosen, fixed_count, with_fixed, IsChoice}
+use Rattle.dual_bound.specs.{Package, feature_of, narrowed, fixed_at, fits, has_fixed, chosen, fixed_count, with_fixed, IsChoice}
 
 second : (a x y z : Bool) → (a && (x && (y && z))) ≡ ((a && (true && (y && z))) && x)
 second true x y z = and_comm x (y && z)

@@ -1,10 +1,8 @@
 -- The greatest of numbers, and the parts of a sum.
-use Rattle.std.proofs.Common.{◌≡◌, ℕ, suc, ℤ, ◌+ℤ◌, ◌≤ℤ◌, Bool, true, false, cond, List, [], ◌∷◌, Option, Some, None, map, refl, subst, arith}
-use Rattle.std.specs.List.{filter, slice_get}
+use Rattle.std.proofs.Common.{◌≡◌, ℕ, suc, ℤ, ◌+ℤ◌, ◌≤ℤ◌, Bool, true, false, cond, List, [], ◌∷◌, Option, Some, None, map, refl, subst, arith, filter, slice_get}
 use Rattle.std.specs.Int.{int_max}
 use Rattle.std.proofs.lemmas.Int.{ints}
-use Rattle.packages.specs.declared.travel_packages.Package.{Package}
-use Rattle.packages.specs.Bounds.{greater, greatest, plus}
+use Rattle.dual_bound.specs.Prelude.{Package, greater, greatest, plus}
 
 max_at_most : (a n x : ℤ) → a ≤ℤ x → n ≤ℤ x → int_max a n ≤ℤ x
 max_at_most a n x ha hn = grind (arith, ints)

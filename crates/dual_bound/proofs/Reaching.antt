@@ -1,13 +1,8 @@
 -- Prices whose bound an allocation reaches bound as low as any prices do.
 use Rattle.std.proofs.Common.{◌≡◌, ℕ, ◌<◌, ◌≤◌, ℤ, pos, ◌+ℤ◌, ◌≤ℤ◌, true, false, List, Option, Some, None, length, get_or, set, sym, subst, ◌∙◌, refl, arith}
 use Rattle.std.proofs.lemmas.Int.{ints}
-use Rattle.game_text.specs.Accounts.{AccountFile, IsAccount}
-use Rattle.packages.specs.declared.travel_packages.Package.{Package}
+use Rattle.dual_bound.specs.Prelude.{AccountFile, IsAccount, Package, is_package, IsFeasible, total_of, Narrowing, stock_value, leaf_bound, IsLeft, is_within}
 use Rattle.packages.specs.declared.travel_packages.Package.TheVariants as kinds
-use Rattle.packages.specs.Packages.{is_package}
-use Rattle.packages.specs.BestTotal.{IsFeasible, total_of}
-use Rattle.packages.specs.Bounds.{Narrowing, stock_value, leaf_bound}
-use Rattle.bound_cert.specs.Certificate.{IsLeft, is_within}
 use Rattle.bound_cert.proofs.Duality.{all_cost, margins_law, plus_some, cost_within}
 use Rattle.dual_bound.specs.Settled.{is_lower, IsSettled}
 

@@ -1,15 +1,8 @@
 -- Tables that are narrowed by what a choice fixes, place by place.
-use Rattle.std.proofs.Common.{◌≡◌, ◌≢◌, ℕ, ◌+◌, ◌*◌, ◌<◌, ◌≤◌, ◌&&◌, ◌⊎◌, ℤ, pos, ◌<ℤ◌, Bool, true, false, List, [], Option, Some, None, get_or, inl, inr, refl, sym, subst, ◌∙◌, arith}
-use Rattle.std.specs.List.{slice_get}
+use Rattle.std.proofs.Common.{◌≡◌, ◌≢◌, ℕ, ◌+◌, ◌*◌, ◌<◌, ◌≤◌, ◌&&◌, ◌⊎◌, ℤ, pos, ◌<ℤ◌, Bool, true, false, List, [], Option, Some, None, get_or, inl, inr, refl, sym, subst, ◌∙◌, arith, slice_get}
 use Rattle.std.proofs.lemmas.Bool.{cases_eq}
 use Rattle.std.proofs.lemmas.Bool.Decides.{nat_tests}
-use Rattle.packages.specs.declared.travel_packages.Package.{Package}
-use Rattle.packages.specs.Features.{feature_of}
-use Rattle.packages.specs.Listing.{packages}
-use Rattle.relaxation.specs.Tables.{dollars_at, IsNarrowed, KeepsOthers}
-use Rattle.relaxation.specs.Splits.{fixed_at}
-use Rattle.dual_bound.specs.Choices.{chosen, fits, has_fixed}
-use Rattle.dual_bound.specs.Restrictions.{IsNarrowedBy, IsRestricted, KeepsLeft}
+use Rattle.dual_bound.specs.{Package, feature_of, packages, dollars_at, IsNarrowed, KeepsOthers, fixed_at, chosen, fits, has_fixed, IsNarrowedBy, IsRestricted, KeepsLeft}
 use Rattle.dual_bound.proofs.ChoiceLaws.{fixed_fits}
 
 -- a table that keeps what has a fixed value keeps what is left

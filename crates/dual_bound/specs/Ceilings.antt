@@ -1,14 +1,7 @@
 -- What tables of worths and costs bound.
-use Rattle.std.specs.Prelude.{◌≡◌, ℕ, ◌+◌, ◌<◌, ◌≤ℤ◌, ◌<ℤ◌, ◌+ℤ◌, ◌-ℤ◌, ℤ, pos, true, length, List, [], ◌∷◌, Some, slice_get, slice_index_or}
-use Rattle.std.specs.List.{All}
-use Rattle.tac_base.specs.Clients.{Preferences}
-use Rattle.game_text.specs.Accounts.{AccountFile}
-use Rattle.packages.specs.declared.travel_packages.Package.{Package}
+use Rattle.std.specs.Prelude.{◌≡◌, ℕ, ◌+◌, ◌<◌, ◌≤ℤ◌, ◌<ℤ◌, ◌+ℤ◌, ◌-ℤ◌, ℤ, pos, true, length, List, [], ◌∷◌, Some, slice_get, slice_index_or, All}
+use Rattle.dual_bound.specs.Prelude.{Preferences, AccountFile, Package, utility_of, packages, Narrowing, cost_of, AreEntries, dollars_at}
 use Rattle.packages.specs.declared.travel_packages.Package.TheVariants as kinds
-use Rattle.packages.specs.Packages.{utility_of}
-use Rattle.packages.specs.Listing.{packages}
-use Rattle.packages.specs.Bounds.{Narrowing, cost_of}
-use Rattle.relaxation.specs.Tables.{AreEntries, dollars_at}
 
 -- no package that is left to a client is worth more to it than the table says
 abbrev pub IsCeiling : AccountFile → Narrowing → List ℤ → Type 0

@@ -1,10 +1,6 @@
 -- What is left of the packages where features of them are fixed.
-use Rattle.std.specs.Prelude.{◌≡◌, ℕ, ◌<◌, ◌==◌, ◌&&◌, nat_lt, Bool, true, List, [], length, Option, Some, None, is_some, count_by, set, replicate, slice_index_or, IsTrue}
-use Rattle.std.specs.List.{sum_by}
-use Rattle.packages.specs.declared.travel_packages.Package.{Package}
-use Rattle.packages.specs.Bounds.{Narrowing}
-use Rattle.packages.specs.Features.{feature_of, values_of}
-use Rattle.relaxation.specs.Splits.{fixed_at}
+use Rattle.std.specs.Prelude.{◌≡◌, ℕ, ◌<◌, ◌==◌, ◌&&◌, nat_lt, Bool, true, List, [], length, Option, Some, None, is_some, count_by, set, replicate, slice_index_or, IsTrue, sum_by}
+use Rattle.dual_bound.specs.Prelude.{Package, Narrowing, feature_of, values_of, fixed_at}
 
 -- a value is the fixed one, or none is fixed
 abbrev pub fits : Option ℕ → ℕ → Bool

@@ -1,10 +1,6 @@
 -- Tables of worths that are restricted to the packages that a choice leaves.
 use Rattle.std.specs.Prelude.{◌≡◌, ℕ, ◌<◌, ◌<ℤ◌, ℤ, pos, true, false, List, Option, Some, None, slice_get}
-use Rattle.packages.specs.declared.travel_packages.Package.{Package}
-use Rattle.packages.specs.Listing.{packages}
-use Rattle.packages.specs.Bounds.{Narrowing}
-use Rattle.packages.specs.Features.{feature_of}
-use Rattle.relaxation.specs.Tables.{IsNarrowed, dollars_at}
+use Rattle.dual_bound.specs.Prelude.{Package, packages, Narrowing, feature_of, IsNarrowed, dollars_at}
 
 -- a table keeps the dollars of all packages that are left
 abbrev pub KeepsLeft : Narrowing → List ℤ → List ℤ → Type 0

@@ -1,9 +1,6 @@
 -- When no single price is worth moving.
-use Rattle.std.specs.Prelude.{◌≡◌, ℕ, ◌+◌, ◌<◌, ◌≤◌, ◌⊎◌, ℤ, Bool, false, List, Option, Some, None, set, slice_index}
-use Rattle.std.specs.Int.RustNames.{int_lt}
-use Rattle.tac_base.specs.declared.limits.TheConstants.{DUAL_PRICE, GOODS}
-use Rattle.game_text.specs.Accounts.{AccountFile}
-use Rattle.packages.specs.Bounds.{Narrowing, leaf_bound}
+use Rattle.std.specs.Prelude.{◌≡◌, ℕ, ◌+◌, ◌<◌, ◌≤◌, ◌⊎◌, ℤ, Bool, false, List, Option, Some, None, set, slice_index, int_lt}
+use Rattle.dual_bound.specs.Prelude.{DUAL_PRICE, GOODS, AccountFile, Narrowing, leaf_bound}
 
 -- a bound is lower than another, where both are there
 abbrev pub is_lower : Option ℤ → Option ℤ → Bool
@@ -12,13 +9,13 @@ is_lower (Some bound) None = false
 is_lower (Some bound) (Some other) = int_lt bound other
 
 -- a price is another one raised or lowered by 50
-abbrev pub IsStep : ℕ → ℕ → Type 0
-IsStep price other = (price ≡ other + 50) ⊎ (price + 50 ≡ other)
+abbrev pub IsPriceStep : ℕ → ℕ → Type 0
+IsPriceStep price other = (price ≡ other + 50) ⊎ (price + 50 ≡ other)
 
 -- no price of a good, raised or lowered by 50 within the range, gives a lower leaf bound than so much
 abbrev pub IsSettledAt : AccountFile → Narrowing → List ℕ → Option ℤ → ℕ → Type 0
 IsSettledAt account left prices bound good =
-    (price : ℕ) → price ≤ DUAL_PRICE → IsStep price (slice_index prices good) → is_lower (leaf_bound account left (set prices good price)) bound ≡ false
+    (price : ℕ) → price ≤ DUAL_PRICE → IsPriceStep price (slice_index prices good) → is_lower (leaf_bound account left (set prices good price)) bound ≡ false
 
 -- no single price, raised or lowered by 50 within the range, gives a lower leaf bound
 abbrev pub IsSettled : AccountFile → Narrowing → List ℕ → Type 0

@@ -1,8 +1,6 @@
 ghost use Rattle.std.specs.Prelude.{◌≡◌, ℕ, ◌+◌, ◌<◌, None};
-ghost use Rattle.packages.specs.Features.{feature_of, narrowed, values_of};
-ghost use Rattle.relaxation.specs.Splits.{fixed_at};
+ghost use Rattle.dual_bound.specs.Prelude.{feature_of, narrowed, values_of, fixed_at, IsPackage};
 ghost use Rattle.dual_bound.specs.Choices as choices;
-ghost use Rattle.packages.specs.Packages.{IsPackage};
 
 use packages::{Narrowing, Package, feature_value};
 use std::marker::Model;

@@ -1,11 +1,7 @@
 // Prices with what they say of all packages.
 ghost use Rattle.std.specs.Prelude.{◌≡◌, ℕ, ◌+◌, ◌*◌, ◌<◌, ◌≤◌, ◌^◌, ◌⊎◌, pos, negsuc, ◌+ℤ◌, ◌-ℤ◌, ◌≤ℤ◌, true, false, slice_index};
-ghost use Rattle.tac_base.specs.declared.limits.TheConstants.{GOODS};
-ghost use Rattle.game_text.specs.Accounts.{AccountFile, IsAccount};
+ghost use Rattle.dual_bound.specs.{GOODS, AccountFile, IsAccount, is_within, dollars_at, AreCosts, HasMore, IsCeiling};
 ghost use Rattle.packages.specs.Bounds as bounds;
-ghost use Rattle.bound_cert.specs.Certificate.{is_within};
-ghost use Rattle.relaxation.specs.Tables.{dollars_at};
-ghost use Rattle.dual_bound.specs.Ceilings.{AreCosts, HasMore, IsCeiling};
 
 use game_text::Account;
 use packages::{Prices, cost, package, stock_value};

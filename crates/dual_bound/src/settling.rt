@@ -1,15 +1,8 @@
 // Prices of which none is worth moving by 50.
-ghost use Rattle.std.specs.Prelude.{◌≡◌, ℕ, ◌/◌, ◌%◌, ◌<◌, ◌≤◌, true, false, set, length, IfSome, IfNone};
-ghost use Rattle.std.specs.List.{All};
-ghost use Rattle.bound_cert.specs.Certificate.{IsLeft};
-ghost use Rattle.packages.specs.Packages.{IsPackage};
-ghost use Rattle.packages.specs.Bounds.{leaf_bound, stock_value};
+ghost use Rattle.std.specs.Prelude.{◌≡◌, ℕ, ◌/◌, ◌%◌, ◌<◌, ◌≤◌, true, false, set, length, IfSome, IfNone, All};
+ghost use Rattle.dual_bound.specs.{IsLeft, IsPackage, leaf_bound, stock_value, fixed_at, chosen, IsCeiling, IsNarrowedBy, IsRestricted};
 ghost use Rattle.packages.specs.Prices.{ArePrices};
-ghost use Rattle.relaxation.specs.Splits.{fixed_at};
-ghost use Rattle.dual_bound.specs.Choices.{chosen};
 ghost use Rattle.dual_bound.specs.Settled as settled;
-ghost use Rattle.dual_bound.specs.Ceilings.{IsCeiling};
-ghost use Rattle.dual_bound.specs.Restrictions.{IsNarrowedBy, IsRestricted};
 
 use crate::choices::Choice;
 use crate::quotes::Quote;

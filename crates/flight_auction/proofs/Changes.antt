@@ -1,27 +1,12 @@
 -- What one more entry changes in the standing points of a flight.
-use Rattle.std.proofs.Common.{◌≡◌, ℕ, zero, suc, ◌+◌, ◌<◌, ◌≤◌, Bool, true, false, cond, List, [], ◌∷◌, ◌++◌, length, map, refl, sym, ap, ◌∙◌, subst, arith, append-nil, Option, Some, None, ℤ}
-use Rattle.std.specs.Prelude.{not, ◌&&◌, ◌||◌, ◌==◌, ◌≢◌, nat_le, nat_lt, filter, if◌then◌else◌}
-use Rattle.std.specs.List.{AllByRecursion, flat_map}
+use Rattle.std.proofs.Common.{◌≡◌, ℕ, zero, suc, ◌+◌, ◌<◌, ◌≤◌, Bool, true, false, cond, List, [], ◌∷◌, ◌++◌, length, map, refl, sym, ap, ◌∙◌, subst, arith, append-nil, Option, Some, None, ℤ, not, ◌&&◌, ◌||◌, ◌==◌, ◌≢◌, nat_le, nat_lt, filter, if◌then◌else◌, flat_map}
+use Rattle.std.specs.List.{AllByRecursion}
 use Rattle.std.proofs.lemmas.Bool.Decides.{nat_tests}
 use Rattle.std.proofs.lemmas.List.Concat.{flat_map-append}
-use Rattle.tac_base.specs.declared.bids.Point.{Point}
-use Rattle.tac_base.specs.declared.calls.Trade.{Trade}
-use Rattle.tac_base.specs.declared.calls.Call.TheVariants.{Bid, Withdraw, Update}
-use Rattle.tac_base.specs.declared.calls.Reply.TheVariants.{Taken, Done}
-use Rattle.tac_base.specs.Bids.{size_of}
-use Rattle.auction_rules.specs.declared.units.Placed.{Placed}
-use Rattle.auction_rules.specs.declared.units.BidUnit.{BidUnit}
-use Rattle.tac_base.specs.Goods.{clock}
-use Rattle.auction_rules.specs.Units.{point_units, units_of, among, common_units}
-use Rattle.auction_rules.specs.declared.rules.Rules.{Rules}
-use Rattle.auction_rules.specs.declared.rules.Rules.TheVariants.{Flight as FlightRules}
-use Rattle.auction_rules.specs.History.{Entry, is_closed, last_bid, units_of_last}
-use Rattle.auction_rules.specs.FlightRule.{price, next_price, flight_gone}
-use Rattle.auction_rules.specs.Standing.{gone, stand, signed_as, left_points}
-use Rattle.auction_rules.proofs.Idle.{IsIdle, idle_stand, idle_last}
+use Rattle.std.proofs.lemmas.Bool.{not-true}
+use Rattle.flight_auction.specs.Prelude.{Point, Trade, Bid, Withdraw, Update, Taken, Done, size_of, Placed, BidUnit, clock, point_units, units_of, among, common_units, Rules, Flight as FlightRules, Entry, is_closed, last_bid, units_of_last, price, next_price, gone, stand, signed_as, left_points, StandingPoint, points_looked_at, is_sold, sale, flight_trades, owned_by, by_position, placed_bids, standing_of, standing_points}
+use Rattle.auction_rules.proofs.Idle.{IsIdle, idle_stand, idle_last, either_same}
 use Rattle.auction_rules.proofs.Standing.{last_units, Each, each-weaker, each-both, IsPlaced, each-placed, last_is, all_among_right, all_among_self, among-append, among-filter, not_among, new_not_gone, stands_unless_gone, left_whole, left_none}
-use Rattle.auction_rules.specs.declared.units.StandingPoint.{StandingPoint}
-use Rattle.auction_rules.specs.FlightSales.{points_looked_at, is_sold, sale, flight_trades, owned_by, by_position, placed_bids, standing_of, standing_points}
 use Rattle.flight_auction.specs.Book.{reaches, is_points_agent, others_than, sales, unsold}
 use Rattle.auction_rules.proofs.LeftPoints.{suc_not_zero, signed_size}
 use Rattle.auction_rules.proofs.Lists.{filter_same, all-append, all-filter, all-flat_map, all-map, all_alike, filter-flat_map, flat_map-filter, flat_map_same, flat_map_alike, all-weaker, all_passing}
@@ -46,7 +31,7 @@ cut false false st lk g' s l k = rw (s, k, l) refl
 
 -- after a sale among units of which those stood that were not yet gone, the unsold points stand
 after_sale : (rules : Rules) (past : List Entry) (e : Entry) (looked : List BidUnit) (current : ℕ) → is_closed (e ∷ past) ≡ false →
-    gone rules (e ∷ past) ≡ flight_gone current looked ++ gone rules past →
+    gone rules (e ∷ past) ≡ filter (λ u. nat_le current u.price) looked ++ gone rules past →
     ((a : ℕ) → a ≤ 7 → Each (λ u. among u looked ≡ not (among u (gone rules past))) (units_of_last (last_bid a (e ∷ past)))) →
     standing_points rules (e ∷ past) ≡ unsold current (flat_map (standing_of looked) (by_position (placed_bids (e ∷ past)) (suc (length past))))
 after_sale rules past e looked current still_open goes stood =
@@ -67,13 +52,9 @@ after_sale rules past e looked current still_open goes stood =
     one : (u : BidUnit) → Stands u → Looked u → Left u
     one u s l =
         cut (nat_le current u.price) (among u (gone rules past)) (among u (stand rules (e ∷ past))) (among u looked) (among u (gone rules (e ∷ past))) s l
-        (ap (among u) goes ∙ among-append u (flight_gone current looked) (gone rules past) ∙ ap (λ (b : Bool). b || among u (gone rules past)) (among-filter u (λ (v : BidUnit). nat_le current v.price) looked))
+        (ap (among u) goes ∙ among-append u (filter (λ u. nat_le current u.price) looked) (gone rules past) ∙ ap (λ (b : Bool). b || among u (gone rules past)) (among-filter u (λ (v : BidUnit). nat_le current v.price) looked))
 
 -- ---- an update
-
-either_same : {T : Type 0} (b : Bool) (x : T) → cond b x x ≡ x
-either_same true x = refl
-either_same false x = refl
 
 abbrev pub update_entry : ℕ → ℕ → List Trade → Entry
 update_entry tick draw trades = record { caller = clock; call = Update tick draw; reply = Done; trades = trades }
@@ -195,12 +176,8 @@ others_stand rules past agent points =
     alike : (bid : Placed) → of_others agent bid ≡ true → standing_of units bid ≡ standing_of (stand rules past) bid
     alike bid other =
         standing_same (stand rules past) units bid
-        (each-weaker (IsPlaced bid.agent bid.position) _ (units_of bid) (λ u placed. others_looked (stand rules past) new u (ap (λ (n : ℕ). n == agent) placed.0 ∙ differs (bid.agent == agent) other))
+        (each-weaker (IsPlaced bid.agent bid.position) _ (units_of bid) (λ u placed. others_looked (stand rules past) new u (ap (λ (n : ℕ). n == agent) placed.0 ∙ not-true (bid.agent == agent) other))
         (each-placed bid.agent bid.position 0 bid.points))
-      where
-        differs : (b : Bool) → not b ≡ true → b ≡ false
-        differs true h = cc
-        differs false h = refl
 
     others : flat_map (standing_of units) (filter (of_others agent) order) ≡ others_than agent (standing_points rules past)
     others =

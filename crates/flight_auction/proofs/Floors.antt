@@ -1,6 +1,5 @@
 -- The drift for each bound and tick is the floor of its quotient.
-use Rattle.std.proofs.Common.{◌≡◌, ℕ, ◌&&◌, Bool, true, refl, pos}
-use Rattle.std.specs.Prelude.{ℤ, ◌-ℤ◌, ◌*ℤ◌, int_le, int_lt}
+use Rattle.std.proofs.Common.{◌≡◌, ℕ, ◌&&◌, Bool, true, refl, pos, ℤ, ◌-ℤ◌, ◌*ℤ◌, int_le, int_lt}
 use Rattle.std.specs.List.{list_all, range_with_len}
 use Rattle.auction_rules.specs.FlightRule.{drift}
 

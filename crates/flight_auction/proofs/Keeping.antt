@@ -1,32 +1,13 @@
 -- The calls of a flight follow the rules.
-use Rattle.std.proofs.Common.{◌≡◌, ℕ, ◌≤◌, Bool, true, false, List, [], ◌∷◌, ◌++◌, length, map, refl, sym, ap, ◌∙◌, subst, arith, Some, None, ℤ}
-use Rattle.std.specs.Prelude.{◌||◌, ◌==◌, ◌≢◌, filter, sum_by, if◌then◌else◌, not, ◌&&◌, pos}
+use Rattle.std.proofs.Common.{◌≡◌, ℕ, ◌≤◌, Bool, true, false, List, [], ◌∷◌, ◌++◌, length, map, refl, sym, ap, ◌∙◌, subst, arith, Some, None, ℤ, ◌||◌, ◌==◌, ◌≢◌, filter, sum_by, if◌then◌else◌, not, ◌&&◌, pos}
 use Rattle.std.specs.List.{AllByRecursion, list_any}
 use Rattle.std.proofs.lemmas.Bool.Decides.{nat_tests}
-use Rattle.tac_base.specs.declared.bids.Point.{Point}
-use Rattle.tac_base.specs.declared.calls.Trade.{Trade}
-use Rattle.tac_base.specs.declared.calls.Call.{Call}
-use Rattle.tac_base.specs.declared.calls.Call.TheVariants.{Bid, Withdraw, Update, Close}
+use Rattle.flight_auction.specs.Prelude.{Point, Trade, Call, Bid, Withdraw, Update, Close, Taken, Done, Closed, WrongCall, NoBid, Sell, size_of, clock, house, bought, sold, sales_by, Setup, Rules, Flight as FlightRules, Entry, is_own, is_closed, price, next_price, left, refusal, sells, has_standing, is_wrong_caller, is_wrong_place, entry_of, admitted_trades, Follows, StandingPoint, owned_by, sale, standing_points}
 use Rattle.tac_base.specs.declared.calls.Reply.{Reply}
-use Rattle.tac_base.specs.declared.calls.Reply.TheVariants.{Taken, Done, Closed, WrongCall, NoBid, Sell}
-use Rattle.tac_base.specs.Bids.{size_of}
-use Rattle.tac_base.specs.Goods.{clock, house}
-use Rattle.auction_rules.specs.Effects.{bought, sold, sales_by}
-use Rattle.auction_rules.specs.Setup.{Setup}
-use Rattle.auction_rules.specs.declared.rules.Rules.{Rules}
-use Rattle.auction_rules.specs.declared.rules.Rules.TheVariants.{Flight as FlightRules}
-use Rattle.auction_rules.specs.History.{Entry, is_own, is_closed}
-use Rattle.auction_rules.specs.FlightRule.{price, next_price}
-use Rattle.auction_rules.specs.Standing.{left}
-use Rattle.auction_rules.specs.Refusals.{refusal, sells, has_standing, is_wrong_caller, is_wrong_place}
-use Rattle.auction_rules.specs.Legal.{entry_of, admitted_trades}
-use Rattle.auction_rules.specs.Follows.{Follows}
 use Rattle.auction_rules.proofs.Idle.{IsIdle, idle_refused, idle_price, idle_closed, wrong_follows}
 use Rattle.auction_rules.proofs.Agents.{not_clock}
 use Rattle.auction_rules.proofs.Steps.{refused_entry, entry_refused, entry_admitted, refusal_refuses, follows}
-use Rattle.auction_rules.specs.declared.units.StandingPoint.{StandingPoint}
-use Rattle.auction_rules.specs.FlightSales.{owned_by, sale, standing_points}
-use Rattle.flight_auction.specs.Book.{is_points_agent, agents_points, others_than, reaches, sales, unsold, FlightBook, StandsFor}
+use Rattle.flight_auction.specs.Book.{is_points_agent, agents_points, others_than, reaches, sales, unsold, FlightBook, FlightStandsFor}
 use Rattle.flight_auction.proofs.Changes.{update_entry, update_left, update_trades, bid_entry, bid_left, bid_trades, withdraw_entry, withdraw_left, closed_left, idle_left}
 use Rattle.flight_auction.proofs.Owning.{own_points, has_standing_is}
 
@@ -55,7 +36,7 @@ house_sells good price standing = each (filter (reaches price) standing)
 
 -- ---- what a book that stands for a past has of it
 
-module _ (setup : Setup) (past : List Entry) (book : FlightBook) (stood : StandsFor book setup past) where
+module _ (setup : Setup) (past : List Entry) (book : FlightBook) (stood : FlightStandsFor book setup past) where
   good_is : book.good ≡ setup.good
   good_is = ap (λ (b : FlightBook). b.good) stood.kept
 
@@ -72,7 +53,7 @@ module _ (setup : Setup) (past : List Entry) (book : FlightBook) (stood : Stands
   still_open h = sym closed_is ∙ h
 
   -- an idle entry changes nothing that a flight keeps
-  pub idle_keeps : (e : Entry) → IsIdle e → StandsFor book setup (e ∷ past)
+  pub idle_keeps : (e : Entry) → IsIdle e → FlightStandsFor book setup (e ∷ past)
   idle_keeps e idle = record {
     first = stood.first;
     rules = stood.rules;
@@ -80,21 +61,21 @@ module _ (setup : Setup) (past : List Entry) (book : FlightBook) (stood : Stands
   }
 
   follows_refused : (caller : ℕ) (call : Call) (reply : Reply) (trades : List Trade) → refusal setup.rules past caller call ≡ Some reply → trades ≡ [] →
-      Follows setup past caller call reply trades (StandsFor book setup)
+      Follows setup past caller call reply trades (FlightStandsFor book setup)
   follows_refused caller call reply trades refused none =
-      follows setup past caller call (refused_entry caller call reply) reply trades (StandsFor book setup) (entry_refused setup past caller call reply refused) refl none
+      follows setup past caller call (refused_entry caller call reply) reply trades (FlightStandsFor book setup) (entry_refused setup past caller call reply refused) refl none
       (idle_keeps (refused_entry caller call reply) (idle_refused (refused_entry caller call reply) (refusal_refuses setup.rules past caller call reply refused)))
 
   -- a call on a closed flight
-  pub follows_on_closed : (caller : ℕ) (call : Call) (trades : List Trade) → is_own call ≡ false → book.closed ≡ true → trades ≡ [] → Follows setup past caller call Closed trades (StandsFor book setup)
+  pub follows_on_closed : (caller : ℕ) (call : Call) (trades : List Trade) → is_own call ≡ false → book.closed ≡ true → trades ≡ [] → Follows setup past caller call Closed trades (FlightStandsFor book setup)
   follows_on_closed caller call trades not_own closed none =
       let h : is_closed past ≡ true = sym closed_is ∙ closed in follows_refused caller call Closed trades (rw (not_own, h) refl) none
 
   -- a call that flights do not have, or that its caller may not make
   pub follows_wrong : (caller : ℕ) (call : Call) (reply : Reply) → (is_wrong_caller caller call || is_wrong_place (FlightRules 300 (pos 0)) call) ≡ true →
-      reply ≡ (if not (is_own call) && book.closed then Closed else WrongCall) → Follows setup past caller call reply [] (StandsFor book setup)
+      reply ≡ (if not (is_own call) && book.closed then Closed else WrongCall) → Follows setup past caller call reply [] (FlightStandsFor book setup)
   follows_wrong caller call reply wrong replied =
-      wrong_follows setup past caller call (FlightRules 300 (pos 0)) book.closed reply (StandsFor book setup) (rw stood.rules tt) wrong closed_is replied idle_keeps
+      wrong_follows setup past caller call (FlightRules 300 (pos 0)) book.closed reply (FlightStandsFor book setup) (rw stood.rules tt) wrong closed_is replied idle_keeps
 
   -- ---- a bid
 
@@ -103,7 +84,7 @@ module _ (setup : Setup) (past : List Entry) (book : FlightBook) (stood : Stands
       let h = still_open open_now in let agents_call = not_clock agent le in rw (stood.rules, h, agents_call) refl
 
   pub follows_seller : (agent : ℕ) (points : List Point) (trades : List Trade) → agent ≤ 7 → book.closed ≡ false → sells points ≡ true → trades ≡ [] →
-      Follows setup past agent (Bid points) Sell trades (StandsFor book setup)
+      Follows setup past agent (Bid points) Sell trades (FlightStandsFor book setup)
   follows_seller agent points trades le open_now selling none =
       follows_refused agent (Bid points) Sell trades (refusal_of_bid agent points le open_now ∙ rw selling refl) none
 
@@ -111,9 +92,9 @@ module _ (setup : Setup) (past : List Entry) (book : FlightBook) (stood : Stands
       at ≡ length past → agent ≤ 7 → book.closed ≡ false → sells points ≡ false → AllByRecursion (λ (p : Point). size_of p ≢ 0) points →
       standing ≡ unsold book.price (others_than agent book.standing ++ owned_by agent points) →
       trades ≡ sales book.good book.price (others_than agent book.standing ++ owned_by agent points) → buys ≡ bought trades agent →
-      Follows setup past agent (Bid points) (Taken buys 0) trades (StandsFor (record book { standing = standing }) setup)
+      Follows setup past agent (Bid points) (Taken buys 0) trades (FlightStandsFor (record book { standing = standing }) setup)
   follows_taken at agent points standing buys trades here le open_now buying full left_is trades_is buys_is =
-      follows setup past agent (Bid points) (bid_entry agent points buys trades) (Taken buys 0) trades (StandsFor (record book { standing = standing }) setup)
+      follows setup past agent (Bid points) (bid_entry agent points buys trades) (Taken buys 0) trades (FlightStandsFor (record book { standing = standing }) setup)
       entry refl refl
       (record {
         first = stood.first;
@@ -148,14 +129,14 @@ module _ (setup : Setup) (past : List Entry) (book : FlightBook) (stood : Stands
           (if closed then Some Closed else if clocks || false then Some WrongCall else if stands then None else Some NoBid) ≡ (if stands then None else Some NoBid)
       by_tests closed clocks stands h k = rw (h, k) refl
 
-  pub follows_without_bid : (agent : ℕ) → agent ≤ 7 → book.closed ≡ false → list_any (is_points_agent agent) book.standing ≡ false → Follows setup past agent Withdraw NoBid [] (StandsFor book setup)
+  pub follows_without_bid : (agent : ℕ) → agent ≤ 7 → book.closed ≡ false → list_any (is_points_agent agent) book.standing ≡ false → Follows setup past agent Withdraw NoBid [] (FlightStandsFor book setup)
   follows_without_bid agent le open_now nothing =
       follows_refused agent Withdraw NoBid [] (refusal_of_withdrawal agent le open_now ∙ ap (λ (b : Bool). if b then None else Some NoBid) nothing) refl
 
   pub follows_withdrawn : (agent : ℕ) (standing : List StandingPoint) → agent ≤ 7 → book.closed ≡ false → list_any (is_points_agent agent) book.standing ≡ true → standing ≡ others_than agent book.standing →
-      Follows setup past agent Withdraw Done [] (StandsFor (record book { standing = standing }) setup)
+      Follows setup past agent Withdraw Done [] (FlightStandsFor (record book { standing = standing }) setup)
   follows_withdrawn agent standing le open_now something left_is =
-      follows setup past agent Withdraw (withdraw_entry agent) Done [] (StandsFor (record book { standing = standing }) setup)
+      follows setup past agent Withdraw (withdraw_entry agent) Done [] (FlightStandsFor (record book { standing = standing }) setup)
       (entry_admitted setup past agent Withdraw (refusal_of_withdrawal agent le open_now ∙ ap (λ (b : Bool). if b then None else Some NoBid) something) ∙ rw stood.rules refl) refl refl
       (record {
         first = stood.first;
@@ -170,9 +151,9 @@ module _ (setup : Setup) (past : List Entry) (book : FlightBook) (stood : Stands
 
   pub follows_updated : (tick draw new : ℕ) (standing : List StandingPoint) (trades : List Trade) → book.closed ≡ false → new ≡ next_price book.price book.bound tick draw →
       standing ≡ unsold new book.standing → trades ≡ sales book.good new book.standing →
-      Follows setup past clock (Update tick draw) Done trades (StandsFor (record book { price = new; standing = standing }) setup)
+      Follows setup past clock (Update tick draw) Done trades (FlightStandsFor (record book { price = new; standing = standing }) setup)
   follows_updated tick draw new standing trades open_now new_is left_is trades_is =
-      follows setup past clock (Update tick draw) (update_entry tick draw trades) Done trades (StandsFor (record book { price = new; standing = standing }) setup)
+      follows setup past clock (Update tick draw) (update_entry tick draw trades) Done trades (FlightStandsFor (record book { price = new; standing = standing }) setup)
       (entry_admitted setup past clock (Update tick draw) admitted ∙ rw (← traded) refl) refl refl
       (record {
         first = stood.first;
@@ -200,9 +181,9 @@ module _ (setup : Setup) (past : List Entry) (book : FlightBook) (stood : Stands
   -- ---- a closing
 
   pub follows_closed : (standing : List StandingPoint) (trades : List Trade) → book.closed ≡ false → standing ≡ [] → trades ≡ [] →
-      Follows setup past clock Close Done trades (StandsFor (record book { standing = standing; closed = true }) setup)
+      Follows setup past clock Close Done trades (FlightStandsFor (record book { standing = standing; closed = true }) setup)
   follows_closed standing trades open_now nothing none =
-      follows setup past clock Close (close_entry) Done trades (StandsFor (record book { standing = standing; closed = true }) setup)
+      follows setup past clock Close (close_entry) Done trades (FlightStandsFor (record book { standing = standing; closed = true }) setup)
       (entry_admitted setup past clock Close admitted ∙ rw stood.rules refl) refl none
       (record {
         first = stood.first;

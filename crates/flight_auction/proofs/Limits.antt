@@ -1,21 +1,14 @@
 -- What each agent has standing stays within the limits of a bid, so that all of it has room.
-use Rattle.std.proofs.Common.{◌≡◌, ℕ, zero, suc, ◌+◌, ◌≤◌, Bool, true, false, cond, List, [], ◌∷◌, ◌++◌, length, map, refl, sym, ap, ◌∙◌, subst, arith, append-nil, None, length-append, ℤ}
-use Rattle.std.specs.Prelude.{not, ◌==◌, filter, sum_by, if◌then◌else◌}
-use Rattle.std.specs.List.{All, AllByRecursion}
+use Rattle.std.proofs.Common.{◌≡◌, ℕ, zero, suc, ◌+◌, ◌≤◌, Bool, true, false, cond, List, [], ◌∷◌, ◌++◌, length, map, refl, sym, ap, ◌∙◌, subst, arith, append-nil, None, length-append, ℤ, not, ◌==◌, filter, sum_by, if◌then◌else◌, All}
+use Rattle.std.specs.List.{AllByRecursion}
 use Rattle.std.proofs.lemmas.List.{length-map}
 use Rattle.std.proofs.lemmas.List.Elements.{filter-append, All-filter, All-append, All-from_recursion, recursion_from_All}
 use Rattle.std.proofs.lemmas.List.{map-append}
 use Rattle.std.proofs.lemmas.List.Sums.{sum_by-cons}
-use Rattle.tac_base.specs.declared.bids.Point.{Point}
-use Rattle.tac_base.specs.declared.calls.Trade.{Trade}
-use Rattle.tac_base.specs.Bids.{size_of, total_size, point_fault, first_fault, fault_of, left_fault}
-use Rattle.tac_base.proofs.Faults.{IsGood, good_point, both_none, few_units, list_points}
-use Rattle.auction_rules.specs.Effects.{bought}
+use Rattle.flight_auction.specs.{Point, Trade, size_of, total_size, point_fault, first_fault, fault_of, left_fault, bought, StandingPoint, owned_by, sale, is_points_agent, agents_points, others_than, reaches, sales, unsold, IsFlightSound}
+use Rattle.tac_base.proofs.Faults.{IsGood, good_point, both_none, few_units, list_points, bid_left}
 use Rattle.auction_rules.proofs.Agents.{another}
 use Rattle.auction_rules.proofs.Standing.{number_is}
-use Rattle.auction_rules.specs.declared.units.StandingPoint.{StandingPoint}
-use Rattle.auction_rules.specs.FlightSales.{owned_by, sale}
-use Rattle.flight_auction.specs.Book.{is_points_agent, agents_points, others_than, reaches, sales, unsold, IsFlightSound}
 use Rattle.auction_rules.proofs.LeftPoints.{no_fault}
 use Rattle.auction_rules.proofs.Lists.{filter-map, filter-filter, filter_all, all_passing}
 use Rattle.flight_auction.proofs.Sold.{stays}
@@ -40,10 +33,6 @@ fewer_points test count used count' used' (point ∷ points) few small le h =
         first_fault count' used' (cond b (point ∷ filter test points) (filter test points)) ≡ None
     keep true one kept dropped = rw one kept
     keep false one kept dropped = dropped
-
-pub left_of_bid : (points : List Point) → fault_of points ≡ None → left_fault points ≡ None
-left_of_bid [] h = refl
-left_of_bid (point ∷ points) h = h
 
 -- ---- what each agent has
 
@@ -173,7 +162,7 @@ sound_placed bound price standing agent points le h sound = record {
     mine (p ∷ ps) = (le, mine ps)
 
     by_test : (b : ℕ) (c : Bool) → left_fault (cond c [] (agents_points b standing) ++ cond c points []) ≡ None
-    by_test b true = left_of_bid points h
+    by_test b true = bid_left points h
     by_test b false = ap left_fault (append-nil (agents_points b standing)) ∙ sound.limited b
 
 pub sound_unsold : (bound : ℤ) (price current : ℕ) (standing : List StandingPoint) → IsFlightSound bound price standing → IsFlightSound bound price (unsold current standing)

@@ -1,19 +1,12 @@
 -- The last bids in the order of their positions, and how one entry changes it.
-use Rattle.std.proofs.Common.{◌≡◌, ℕ, zero, suc, ◌+◌, ◌<◌, ◌≤◌, Bool, true, false, cond, List, [], ◌∷◌, ◌++◌, length, refl, sym, ap, ◌∙◌, arith, append-nil, add-zero, Option, Some, None}
-use Rattle.std.specs.Prelude.{not, ◌==◌, filter, if◌then◌else◌}
-use Rattle.std.specs.List.{AllByRecursion, cons_option, filter_map, flat_map, range_with_len}
-use Rattle.std.specs.Option.{option_to_list}
+use Rattle.std.proofs.Common.{◌≡◌, ℕ, zero, suc, ◌+◌, ◌<◌, ◌≤◌, Bool, true, false, cond, List, [], ◌∷◌, ◌++◌, length, refl, sym, ap, ◌∙◌, arith, append-nil, add-zero, Option, Some, None, not, ◌==◌, filter, if◌then◌else◌, filter_map, flat_map, option_to_list}
+use Rattle.std.specs.List.{AllByRecursion, cons_option, range_with_len}
 use Rattle.std.proofs.lemmas.Bool.Decides.{nat_tests}
 use Rattle.std.proofs.lemmas.List.Elements.{filter-append}
 use Rattle.std.proofs.lemmas.List.Concat.{flat_map-append}
-use Rattle.auction_rules.specs.declared.units.Placed.{Placed}
-use Rattle.auction_rules.specs.declared.units.BidUnit.{BidUnit}
-use Rattle.tac_base.specs.Goods.{agents}
-use Rattle.auction_rules.specs.Units.{units_of}
-use Rattle.auction_rules.specs.History.{Entry, last_bid, units_of_last}
+use Rattle.flight_auction.specs.Prelude.{Placed, BidUnit, agents, units_of, Entry, last_bid, units_of_last, by_position, placed_bids}
 use Rattle.auction_rules.proofs.Agents.{number_same, numbers_differ, another, agents_pick}
 use Rattle.auction_rules.proofs.Standing.{Each, IsBidOf, last_is, number_is}
-use Rattle.auction_rules.specs.FlightSales.{by_position, placed_bids}
 use Rattle.auction_rules.proofs.Lists.{filter-filter, filter-flat_map, flat_map_alike, filter-filter_map, all-filter, all-append}
 
 abbrev pub made_at : ℕ → Placed → Bool

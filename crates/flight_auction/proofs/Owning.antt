@@ -1,23 +1,10 @@
 -- What an agent has standing in a flight.
-use Rattle.std.proofs.Common.{◌≡◌, ℕ, ◌+◌, ◌≤◌, Bool, true, false, cond, List, [], ◌∷◌, length, map, refl, sym, ap, ◌∙◌, append-nil, Option, Some, None}
-use Rattle.std.specs.Prelude.{not, ◌||◌, ◌==◌, filter, if◌then◌else◌}
-use Rattle.std.specs.List.{flat_map, list_any}
-use Rattle.std.specs.Option.{option_to_list}
+use Rattle.std.proofs.Common.{◌≡◌, ℕ, ◌+◌, ◌≤◌, Bool, true, false, cond, List, [], ◌∷◌, length, map, refl, sym, ap, ◌∙◌, append-nil, Option, Some, None, not, ◌||◌, ◌==◌, filter, if◌then◌else◌, flat_map, option_to_list}
+use Rattle.std.specs.List.{list_any}
 use Rattle.std.proofs.lemmas.List.Elements.{filter-append}
 use Rattle.std.proofs.lemmas.List.Sums.{length-filter}
-use Rattle.tac_base.specs.declared.bids.Point.{Point}
-use Rattle.tac_base.specs.Bids.{size_of}
-use Rattle.auction_rules.specs.declared.units.Placed.{Placed}
-use Rattle.auction_rules.specs.declared.units.BidUnit.{BidUnit}
-use Rattle.auction_rules.specs.Units.{point_units, units_from, among, without, common_units}
-use Rattle.auction_rules.specs.declared.rules.Rules.{Rules}
-use Rattle.auction_rules.specs.History.{Entry, is_closed, last_bid, units_of_last}
-use Rattle.auction_rules.specs.Standing.{gone, stand, signed_as, left_points, left_of, left}
-use Rattle.auction_rules.specs.Refusals.{has_standing}
+use Rattle.flight_auction.specs.{Point, size_of, Placed, BidUnit, point_units, units_from, among, without, common_units, Rules, Entry, is_closed, last_bid, units_of_last, gone, stand, signed_as, left_points, left_of, left, has_standing, StandingPoint, owned_by, by_position, placed_bids, standing_of, standing_points, is_points_agent, agents_points}
 use Rattle.auction_rules.proofs.Standing.{Each, each-front, each-back, stands_unless_gone}
-use Rattle.auction_rules.specs.declared.units.StandingPoint.{StandingPoint}
-use Rattle.auction_rules.specs.FlightSales.{owned_by, by_position, placed_bids, standing_of, standing_points}
-use Rattle.flight_auction.specs.Book.{is_points_agent, agents_points}
 use Rattle.auction_rules.proofs.LeftPoints.{suc_not_zero}
 use Rattle.auction_rules.proofs.Lists.{filter_same, filter-flat_map, map-flat_map, flat_map-filter, flat_map_alike, some_of, some-append, any_is_some}
 use Rattle.auction_rules.proofs.AgentUnits.{own_units}

@@ -1,14 +1,9 @@
 -- Nobody pays more than the price of the point that is sold.
-use Rattle.std.proofs.Common.{◌≡◌, ℕ, zero, suc, ◌≤◌, Bool, true, false, cond, List, [], ◌∷◌, ◌++◌, map, refl, sym, subst, arith}
-use Rattle.std.specs.Prelude.{not, filter, nat_le}
-use Rattle.std.specs.List.{All, AllByRecursion, Any}
+use Rattle.std.proofs.Common.{◌≡◌, ℕ, zero, suc, ◌≤◌, Bool, true, false, cond, List, [], ◌∷◌, ◌++◌, map, refl, sym, subst, arith, not, filter, nat_le, All, Any}
+use Rattle.std.specs.List.{AllByRecursion}
 use Rattle.std.proofs.lemmas.Bool.Decides.{nat_tests}
 use Rattle.std.proofs.lemmas.List.Elements.{All-from_recursion, All-weaker}
-use Rattle.tac_base.specs.declared.calls.Trade.{Trade}
-use Rattle.tac_base.specs.Bids.{size_of}
-use Rattle.auction_rules.specs.declared.units.StandingPoint.{StandingPoint}
-use Rattle.auction_rules.specs.FlightSales.{sale}
-use Rattle.flight_auction.specs.Book.{is_points_agent, reaches, sales, others_than, IsPaid}
+use Rattle.flight_auction.specs.{Trade, size_of, StandingPoint, sale, is_points_agent, reaches, sales, others_than, IsPaid}
 use Rattle.auction_rules.proofs.Lists.{all-weaker}
 
 any_here : (P : StandingPoint → Type 0) (s : StandingPoint) (standing : List StandingPoint) → P s → Any P (s ∷ standing)

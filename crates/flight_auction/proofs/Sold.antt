@@ -1,20 +1,10 @@
 -- What a sale leaves of a bid's points, and its trades.
-use Rattle.std.proofs.Common.{◌≡◌, ℕ, zero, suc, ◌+◌, Bool, true, false, cond, List, [], ◌∷◌, refl, sym, ap, ◌∙◌}
-use Rattle.std.specs.Prelude.{not, ◌&&◌, ◌==◌, nat_le, filter, if◌then◌else◌}
-use Rattle.std.specs.List.{flat_map}
+use Rattle.std.proofs.Common.{◌≡◌, ℕ, zero, suc, ◌+◌, Bool, true, false, cond, List, [], ◌∷◌, refl, sym, ap, ◌∙◌, not, ◌&&◌, ◌==◌, nat_le, filter, if◌then◌else◌, flat_map}
 use Rattle.std.proofs.lemmas.List.Sums.{sum_by-cons}
-use Rattle.tac_base.specs.declared.bids.Point.{Point}
-use Rattle.tac_base.specs.Bids.{size_of, buys_of}
-use Rattle.auction_rules.specs.declared.units.Placed.{Placed}
-use Rattle.auction_rules.specs.declared.units.BidUnit.{BidUnit}
-use Rattle.auction_rules.specs.Units.{point_units, units_from, units_of, among, common_units}
-use Rattle.auction_rules.specs.Standing.{signed_as, left_points}
+use Rattle.flight_auction.specs.{Point, size_of, buys_of, Placed, BidUnit, point_units, units_from, units_of, among, common_units, signed_as, left_points, StandingPoint, owned_by, standing_of, reaches, unsold}
 use Rattle.auction_rules.proofs.Standing.{Each, each-front, each-back, each-block, each-both}
-use Rattle.auction_rules.specs.declared.units.StandingPoint.{StandingPoint}
-use Rattle.auction_rules.specs.FlightSales.{owned_by, standing_of}
-use Rattle.flight_auction.specs.Book.{reaches, unsold}
 use Rattle.auction_rules.proofs.LeftPoints.{suc_not_zero}
-use Rattle.auction_rules.proofs.Lists.{filter-map, filter-flat_map}
+use Rattle.auction_rules.proofs.Lists.{filter-map, filter-flat_map, and-true}
 
 -- ---- points by their units
 
@@ -25,11 +15,7 @@ count_same xs ys (u ∷ us) h =
     sum_by-cons (λ (v : BidUnit). cond (among v ys) 1 0) u us ∙ rw (h.0, count_same xs ys us h.1) (sym (sum_by-cons (λ (v : BidUnit). cond (among v xs) 1 0) u us))
 
 count_cut : (keeps : Bool) (xs ys us : List BidUnit) → Each (λ (u : BidUnit). among u ys ≡ (among u xs && keeps)) us → common_units us ys ≡ (if keeps then common_units us xs else 0)
-count_cut true xs ys us h = count_same xs ys us (each-both _ _ (λ (u : BidUnit). among u ys ≡ among u xs) us (λ u k _. k ∙ and_true (among u xs)) h h)
-  where
-    and_true : (b : Bool) → (b && true) ≡ b
-    and_true true = refl
-    and_true false = refl
+count_cut true xs ys us h = count_same xs ys us (each-both _ _ (λ (u : BidUnit). among u ys ≡ among u xs) us (λ u k _. k ∙ and-true (among u xs)) h h)
 count_cut false xs ys [] h = refl
 count_cut false xs ys (u ∷ us) h =
     sum_by-cons (λ (v : BidUnit). cond (among v ys) 1 0) u us ∙ rw (h.0, count_cut false xs ys us h.1) (none (among u xs))

@@ -1,32 +1,19 @@
 -- How many units of standing points are left to sell after sales.
-use Rattle.std.proofs.Common.{None, ℤ, ◌≡◌, ◌≢◌, ℕ, ◌+◌, ◌≤◌, Bool, true, false, cond, List, [], ◌∷◌, ◌++◌, map, refl, sym, subst, arith}
-use Rattle.std.specs.Prelude.{not, filter}
-use Rattle.std.specs.List.{All, AllByRecursion}
+use Rattle.std.proofs.Common.{ℤ, ◌≡◌, ◌≢◌, ℕ, ◌+◌, ◌≤◌, Bool, true, false, cond, List, [], ◌∷◌, ◌++◌, map, refl, sym, subst, arith, not, filter, All}
+use Rattle.std.specs.List.{AllByRecursion}
 use Rattle.std.proofs.lemmas.List.Elements.{All-from_recursion}
 use Rattle.std.proofs.lemmas.List.Sums.{sum_by-cons, sum_by-append}
 use Rattle.std.proofs.lemmas.List.Filters.{sum_by-filter_both}
-use Rattle.tac_base.specs.declared.bids.Point.{Point}
-use Rattle.tac_base.specs.declared.calls.Trade.{Trade}
-use Rattle.tac_base.specs.Bids.{size_of, total_size, first_fault, point_fault}
-use Rattle.tac_base.proofs.Faults.{good_point, both_none, few_units}
-use Rattle.auction_rules.specs.Traded.{traded, Spends, IsShort}
+use Rattle.flight_auction.specs.{Point, Trade, size_of, total_size, traded, Spends, IsShort, StandingPoint, owned_by, sale, is_points_agent, agents_points, others_than, reaches, sales, unsold, units_standing, IsFlightSound}
+use Rattle.tac_base.proofs.Faults.{few_units, full_points}
 use Rattle.auction_rules.proofs.Agents.{number_same}
 use Rattle.auction_rules.proofs.Trading.{sum_by-filter-le}
 use Rattle.auction_rules.proofs.Lists.{all-filter}
-use Rattle.auction_rules.specs.declared.units.StandingPoint.{StandingPoint}
-use Rattle.auction_rules.specs.FlightSales.{owned_by, sale}
-use Rattle.flight_auction.specs.Book.{is_points_agent, agents_points, others_than, reaches, sales, unsold, units_standing, IsFlightSound}
 
 HasUnits : StandingPoint → Type 0
 HasUnits s = 1 ≤ size_of s.point
 
 -- ---- each point that stands has units
-
-no_empty : (count used : ℕ) (points : List Point) → first_fault count used points ≡ None → AllByRecursion (λ (p : Point). size_of p ≢ 0) points
-no_empty count used [] h = tt
-no_empty count used (point ∷ points) h =
-    let parts = both_none (point_fault count used point) (first_fault (count + 1) (used + size_of point) points) h in
-    ((good_point count used point parts.0).some, no_empty (count + 1) (used + size_of point) points parts.1)
 
 each_some : (standing : List StandingPoint) → ((agent : ℕ) → AllByRecursion (λ (p : Point). size_of p ≢ 0) (agents_points agent standing)) → AllByRecursion HasUnits standing
 unfolding HasUnits
@@ -47,7 +34,7 @@ each_some (s ∷ standing) h = (first, each_some standing later)
     later agent = rest (is_points_agent agent s) agent (h agent)
 
 sound_some : (bound : ℤ) (price : ℕ) (standing : List StandingPoint) → IsFlightSound bound price standing → AllByRecursion HasUnits standing
-sound_some bound price standing sound = each_some standing (λ agent. no_empty 0 0 (agents_points agent standing) (sound.limited agent))
+sound_some bound price standing sound = each_some standing (λ agent. full_points 0 0 (agents_points agent standing) (sound.limited agent))
 
 -- ---- what sales leave
 

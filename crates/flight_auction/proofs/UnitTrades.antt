@@ -1,26 +1,10 @@
 -- The trades of a flight by its units: the bids that a call looks at are joined again with the units of them that it looks at. The rule,
 -- which goes by the points that stand, gives the same trades after all pasts.
-use Rattle.std.proofs.Common.{◌≡◌, ℕ, zero, suc, ◌+◌, Bool, true, false, cond, List, [], ◌∷◌, ◌++◌, length, map, refl, sym, ap, ◌∙◌, arith, add-one}
-use Rattle.std.specs.Prelude.{not, ◌&&◌, ◌==◌, nat_le, nat_lt, filter, if◌then◌else◌}
-use Rattle.std.specs.List.{flat_map, range_with_len}
-use Rattle.std.proofs.lemmas.Bool.Decides.{nat_tests}
+use Rattle.std.proofs.Common.{◌≡◌, ℕ, zero, suc, ◌+◌, Bool, true, false, cond, List, [], ◌∷◌, ◌++◌, length, map, refl, sym, ap, ◌∙◌, arith, add-one, not, ◌&&◌, ◌==◌, nat_le, nat_lt, filter, if◌then◌else◌, flat_map, lt-ltb}
+use Rattle.std.specs.List.{range_with_len}
 use Rattle.std.proofs.lemmas.List.{map-append}
 use Rattle.std.proofs.lemmas.List.Elements.{filter-append}
-use Rattle.tac_base.specs.declared.bids.Point.{Point}
-use Rattle.tac_base.specs.declared.calls.Trade.{Trade}
-use Rattle.tac_base.specs.declared.calls.Call.{Call}
-use Rattle.tac_base.specs.declared.calls.Call.TheVariants.{Bid, Withdraw, Own as OwnCall, Update, Publish, Close}
-use Rattle.tac_base.specs.Bids.{size_of}
-use Rattle.tac_base.specs.Goods.{house}
-use Rattle.auction_rules.specs.declared.units.BidUnit.{BidUnit}
-use Rattle.auction_rules.specs.declared.units.Placed.{Placed}
-use Rattle.auction_rules.specs.declared.units.StandingPoint.{StandingPoint}
-use Rattle.auction_rules.specs.declared.rules.Rules.{Rules}
-use Rattle.auction_rules.specs.History.{Entry}
-use Rattle.auction_rules.specs.Units.{point_units, units_from, units_of, among, common_units}
-use Rattle.auction_rules.specs.FlightRule.{looked_at}
-use Rattle.auction_rules.specs.FlightSales.{placed_bids, by_position, owned_by, standing_of, standing_points, points_looked_at, is_sold, sale, flight_trades}
-use Rattle.auction_rules.specs.Standing.{stand, signed_as, left_points}
+use Rattle.flight_auction.specs.Prelude.{Point, Trade, Call, Bid, Withdraw, Own as OwnCall, Update, Publish, Close, size_of, house, BidUnit, Placed, StandingPoint, Rules, Entry, point_units, units_from, units_of, among, common_units, looked_at, placed_bids, by_position, owned_by, standing_of, standing_points, points_looked_at, is_sold, sale, flight_trades, stand, signed_as, left_points}
 use Rattle.auction_rules.proofs.Blocks.{length-point_units}
 use Rattle.auction_rules.proofs.LeftPoints.{suc_not_zero, signed_size}
 use Rattle.auction_rules.proofs.Lists.{filter-flat_map, map-flat_map, flat_map-flat_map, flat_map_alike}
@@ -58,9 +42,6 @@ unit_trades good current units bids end =
 
 -- ---- bid by bid
 
-zero_below : (n : ℕ) → nat_lt 0 (suc n) ≡ true
-zero_below n = grind (arith, nat_tests)
-
 module _ (good current : ℕ) where
   -- a trade of so many units
   abbrev trade_of : ℕ → ℕ → Trade
@@ -69,7 +50,7 @@ module _ (good current : ℕ) where
   sold_first : (s : StandingPoint) (rest : List StandingPoint) (n : ℕ) → size_of s.point ≡ suc n → nat_le current s.point.price ≡ true →
       flight_trades good current (s ∷ rest) ≡ trade_of s.agent (suc n) ∷ flight_trades good current rest
   sold_first s rest n size dear =
-      let is : is_sold current s ≡ true = ap (λ m. nat_lt 0 m && nat_le current s.point.price) size ∙ rw (zero_below n, dear) refl in
+      let is : is_sold current s ≡ true = ap (λ m. nat_lt 0 m && nat_le current s.point.price) size ∙ rw (lt-ltb 0 (suc n) (omega arith), dear) refl in
       ap (λ b. map (sale good current) (cond b (s ∷ filter (is_sold current) rest) (filter (is_sold current) rest))) is
       ∙ ap (λ m. trade_of s.agent m ∷ flight_trades good current rest) size
 
@@ -77,7 +58,7 @@ module _ (good current : ℕ) where
   unsold_first s rest is = ap (λ b. map (sale good current) (cond b (s ∷ filter (is_sold current) rest) (filter (is_sold current) rest))) is
 
   cheap : (n : ℕ) (s : StandingPoint) → size_of s.point ≡ suc n → nat_le current s.point.price ≡ false → is_sold current s ≡ false
-  cheap n s size low = ap (λ m. nat_lt 0 m && nat_le current s.point.price) size ∙ rw (zero_below n, low) refl
+  cheap n s size low = ap (λ m. nat_lt 0 m && nat_le current s.point.price) size ∙ rw (lt-ltb 0 (suc n) (omega arith), low) refl
 
 -- the trades of a bid are those of its points that stand
 point_trades_are : (good current : ℕ) (units : List BidUnit) (bid : Placed) (from : ℕ) (points : List Point) →
@@ -100,7 +81,7 @@ point_trades_are good current units bid from (point ∷ points) =
         ≡ flight_trades good current (owned_by bid.agent (cond (n == 0) rest (record { units = signed_as point.units n; price = point.price } ∷ rest)))
     by_tests true k zero ih = ih
     by_tests true k (suc n) ih =
-        rw (suc_not_zero n, zero_below n)
+        rw (suc_not_zero n, lt-ltb 0 (suc n) (omega arith))
         (ap (λ ts. trade_of good current bid.agent (suc n) ∷ ts) ih ∙ sym (sold_first good current (one (suc n)) (owned_by bid.agent rest) n (signed_size point.units (suc n)) k))
     by_tests false k zero ih = ih
     by_tests false k (suc n) ih =

@@ -1,14 +1,6 @@
 -- What a contract sees of a flight auction, and the pasts that it stands for.
 use Rattle.std.specs.Prelude.{◌≡◌, ℕ, ◌==◌, Bool, not, nat_le, ◌≤◌, List, All, Any, ℤ, pos, negsuc, ◌≤ℤ◌, None, map, filter, sum_by}
-use Rattle.tac_base.specs.declared.bids.Point.{Point}
-use Rattle.tac_base.specs.declared.calls.Trade.{Trade}
-use Rattle.auction_rules.specs.Setup.{Setup}
-use Rattle.auction_rules.specs.declared.rules.Rules.TheVariants.{Flight as FlightRules}
-use Rattle.auction_rules.specs.History.{Entry, is_closed}
-use Rattle.auction_rules.specs.FlightRule.{price}
-use Rattle.auction_rules.specs.FlightSales.{sale, standing_points}
-use Rattle.tac_base.specs.Bids.{size_of, left_fault}
-use Rattle.auction_rules.specs.declared.units.StandingPoint.{StandingPoint}
+use Rattle.flight_auction.specs.Prelude.{Point, Trade, Setup, Flight as FlightRules, Entry, is_closed, price, sale, standing_points, size_of, left_fault, StandingPoint}
 
 -- ---- standing points
 
@@ -76,7 +68,7 @@ flight_book good first bound past = record {
 }
 
 -- the book stands for this past of an auction with this setup
-pub record StandsFor (book : FlightBook) (setup : Setup) (past : List Entry) : Type 0 where
+pub record FlightStandsFor (book : FlightBook) (setup : Setup) (past : List Entry) : Type 0 where
   pub first : ℕ
   pub rules : setup.rules ≡ FlightRules first book.bound
   pub kept : book ≡ flight_book setup.good first book.bound past

@@ -1,15 +1,7 @@
 ghost use Rattle.std.specs.Prelude.{◌≡◌, ◌+◌, ◌≤◌, ◌||◌, [], ◌∷◌, ◌++◌, IsTrue, length, List, All, pos, negsuc, ◌≤ℤ◌};
 ghost use Rattle.tac_base.specs.Kinds.{kind_of};
-ghost use Rattle.auction_rules.specs.Setup.{Setup};
-ghost use Rattle.auction_rules.specs.History.{Entry};
-ghost use Rattle.auction_rules.specs.Standing.{left};
+ghost use Rattle.flight_auction.specs.{Setup, Entry, left, is_wrong_caller, is_wrong_place, entry_of, Follows, Spends, IsShort, owned_by, FlightStandsFor, IsPaid, flight_units_left};
 ghost use Rattle.auction_rules.specs.Board.{board};
-ghost use Rattle.auction_rules.specs.Refusals.{is_wrong_caller, is_wrong_place};
-ghost use Rattle.auction_rules.specs.Legal.{entry_of};
-ghost use Rattle.auction_rules.specs.Follows.{Follows};
-ghost use Rattle.auction_rules.specs.Traded.{Spends, IsShort};
-ghost use Rattle.auction_rules.specs.FlightSales.{owned_by};
-ghost use Rattle.flight_auction.specs.Book.{StandsFor, IsPaid, flight_units_left};
 
 use crate::prices::next_price;
 use crate::sales::{forget, has_points, place, points_of, sell};
@@ -51,7 +43,7 @@ impl Flight {
         requires first_to { first ≤ 400 }
         requires bound_from { negsuc 9 ≤ℤ bound }
         requires bound_to { bound ≤ℤ pos 30 }
-        ensures { (setup : Setup) → setup.good ≡ good → setup.rules ≡ Rules.Flight first bound → StandsFor result setup [] }
+        ensures { (setup : Setup) → setup.good ≡ good → setup.rules ≡ Rules.Flight first bound → FlightStandsFor result setup [] }
     {
         Flight {
             good,
@@ -66,8 +58,8 @@ impl Flight {
     /// or above are sold at once: `fills` then holds the trades. If it is refused, in a closed flight
     /// or for a point that sells, it changes nothing and has no trades.
     pub fn bid(&mut self, at: u32, agent: Agent, points: &Points, fills: &mut Fills) -> Reply
-        ensures follows { (setup : Setup) (past : List Entry) → StandsFor self.old setup past → at ≡ length past →
-            Follows setup past agent (Call.Bid points.now) result fills.new (StandsFor self.new setup) }
+        ensures follows { (setup : Setup) (past : List Entry) → FlightStandsFor self.old setup past → at ≡ length past →
+            Follows setup past agent (Call.Bid points.now) result fills.new (FlightStandsFor self.new setup) }
         ensures paid { All (IsPaid (self.old.standing ++ owned_by agent points.now)) fills.new }
         ensures units { Spends (flight_units_left self.old + BID_UNITS) (flight_units_left self.new) fills.new }
         ensures short { All IsShort fills.new }
@@ -93,8 +85,8 @@ impl Flight {
     /// An agent's withdrawal of what stands of its bid. If nothing stands, or in a
     /// closed flight, it is refused and changes nothing.
     pub fn withdraw(&mut self, at: u32, agent: Agent) -> Reply
-        ensures follows { (setup : Setup) (past : List Entry) → StandsFor self.old setup past → at ≡ length past →
-            Follows setup past agent Call.Withdraw result [] (StandsFor self.new setup) }
+        ensures follows { (setup : Setup) (past : List Entry) → FlightStandsFor self.old setup past → at ≡ length past →
+            Follows setup past agent Call.Withdraw result [] (FlightStandsFor self.new setup) }
         ensures units { flight_units_left self.new ≤ flight_units_left self.old }
     {
         let number = agent.get();
@@ -111,10 +103,10 @@ impl Flight {
     /// The standing points of an agent, in the order of its bid: none in a closed flight.
     #[tactic(auto, using(crate::proofs::Keeping::idle_keeps, auction_rules::proofs::Idle::own_idle))]
     pub fn own(&self, agent: Agent) -> Left
-        ensures left { (setup : Setup) (past : List Entry) → StandsFor self.now setup past → result ≡ left setup.rules past agent }
+        ensures left { (setup : Setup) (past : List Entry) → FlightStandsFor self.now setup past → result ≡ left setup.rules past agent }
         // Reading changes nothing.
-        ensures stands { (setup : Setup) (past : List Entry) → StandsFor self.now setup past →
-            StandsFor self.now setup (entry_of setup past agent Call.Own ∷ past) }
+        ensures stands { (setup : Setup) (past : List Entry) → FlightStandsFor self.now setup past →
+            FlightStandsFor self.now setup (entry_of setup past agent Call.Own ∷ past) }
     {
         Left::new(&points_of(&self.standing, agent.get()))
     }
@@ -124,8 +116,8 @@ impl Flight {
     #[tactic(auto, using(crate::proofs::Keeping::follows_wrong))]
     pub fn refuse(&self, caller: Caller, call: &Call) -> Reply
         requires { IsTrue (is_wrong_caller caller call.now || is_wrong_place (Rules.Flight 300 (pos 0)) call.now) }
-        ensures { (setup : Setup) (past : List Entry) → StandsFor self.now setup past →
-            Follows setup past caller call.now result [] (StandsFor self.now setup) }
+        ensures { (setup : Setup) (past : List Entry) → FlightStandsFor self.now setup past →
+            Follows setup past caller call.now result [] (FlightStandsFor self.now setup) }
     {
         wrong_reply(self.closed, call)
     }
@@ -135,8 +127,8 @@ impl Flight {
     /// nothing.
     pub fn update(&mut self, at: u32, tick: Tick, draw: u32, fills: &mut Fills) -> Reply
         requires { tick ≤ UPDATE_TICKS }
-        ensures follows { (setup : Setup) (past : List Entry) → StandsFor self.old setup past → at ≡ length past →
-            Follows setup past 8 (Call.Update tick draw) result fills.new (StandsFor self.new setup) }
+        ensures follows { (setup : Setup) (past : List Entry) → FlightStandsFor self.old setup past → at ≡ length past →
+            Follows setup past 8 (Call.Update tick draw) result fills.new (FlightStandsFor self.new setup) }
         ensures paid { All (IsPaid self.old.standing) fills.new }
         ensures units { Spends (flight_units_left self.old) (flight_units_left self.new) fills.new }
         ensures short { All IsShort fills.new }
@@ -153,8 +145,8 @@ impl Flight {
     /// The clock's closing, after which nothing stands. `fills` is left empty. In a closed flight it is
     /// refused and changes nothing.
     pub fn close(&mut self, at: u32, fills: &mut Fills) -> Reply
-        ensures follows { (setup : Setup) (past : List Entry) → StandsFor self.old setup past → at ≡ length past →
-            Follows setup past 8 Call.Close result fills.new (StandsFor self.new setup) }
+        ensures follows { (setup : Setup) (past : List Entry) → FlightStandsFor self.old setup past → at ≡ length past →
+            Follows setup past 8 Call.Close result fills.new (FlightStandsFor self.new setup) }
         ensures none { fills.new ≡ [] }
         ensures units { Spends (flight_units_left self.old) (flight_units_left self.new) fills.new }
     {
@@ -169,7 +161,7 @@ impl Flight {
 
     /// The board of the flight after `count` entries. Its bid is 0, and its ask the price.
     pub fn board(&self, count: u32) -> Board
-        ensures board { (setup : Setup) (past : List Entry) → StandsFor self.now setup past → count ≡ length past → result ≡ board setup.rules past }
+        ensures board { (setup : Setup) (past : List Entry) → FlightStandsFor self.now setup past → count ≡ length past → result ≡ board setup.rules past }
         ensures no_bid { result.bid ≡ 0 }
         ensures ask_from { 150 ≤ result.ask }
         ensures ask_to { result.ask ≤ 800 }

@@ -1,39 +1,16 @@
 -- What the desks knew holds of the closed game.
-use Rattle.std.proofs.Common.{◌≡◌, ℕ, zero, suc, ◌+◌, ◌<◌, ◌≤◌, List, [], ◌∷◌, ◌++◌, map, length, take, reverse, get_or, replicate, refl, sym, ap, ◌∙◌, subst, arith, Some, None, slice_get}
-use Rattle.std.specs.Prelude.{All}
+use Rattle.std.proofs.Common.{◌≡◌, ℕ, zero, suc, ◌+◌, ◌≤◌, List, [], ◌∷◌, ◌++◌, map, length, take, reverse, get_or, replicate, refl, sym, ap, ◌∙◌, subst, arith, Some, None, slice_get, append_assoc}
 use Rattle.std.specs.List.{AllZip, AllByRecursion, range_with_len}
-use Rattle.std.proofs.lemmas.List.{append_assoc, reverse-append}
+use Rattle.std.proofs.lemmas.List.{reverse-append}
 use mathlib.Core.Option.{some, some-injective, some-ne-none}
 use lib.ListN.{get_elem?}
-use Rattle.tac_base.specs.declared.calls.Board.{Board}
-use Rattle.tac_base.specs.declared.bids.Points.{Points}
-use Rattle.tac_base.specs.declared.calls.Call.TheVariants.{Bid}
-use Rattle.tac_base.specs.declared.calls.Reply.TheVariants.{Taken}
-use Rattle.auction_rules.specs.History.{Entry}
-use Rattle.auction_rules.specs.Setup.{Setup}
-use Rattle.auction_rules.specs.Effects.{bought, sold}
-use Rattle.auction_rules.specs.Legal.{Legal, IsLawful, entry_of, entry_by, admitted_trades}
-use Rattle.auction_rules.specs.Refusals.{refusal}
-use Rattle.auction_core.specs.Auctions.{AuctionHistory}
-use Rattle.turn_lock.specs.Notes.{AreNotes}
+use Rattle.floor.specs.{Board, Points, Bid, Taken, Entry, Setup, bought, sold, Legal, IsLawful, entry_of, entry_by, admitted_trades, refusal, AuctionHistory, AreNotes, desk_caller, AreSeenBoards, TakesLawfulBids, board_of}
 use Rattle.floor.specs.declared.desk.Desk.{Desk}
 use Rattle.floor.specs.declared.outcomes.Outcome.{Outcome}
 use Rattle.floor.specs.declared.outcomes.Outcome.TheVariants.{At, Spent}
-use Rattle.floor.specs.Desks.{desk_caller}
 use Rattle.floor.specs.Answers.{IsOutcome, TakesLawfulBid}
-use Rattle.floor.specs.Closing.{AreBoards, TakesLawfulBids}
-use Rattle.floor.specs.ClosedBoards.{board_of}
 
 module _ {A : Type 0} where
-  pub place_of : (xs : List A) (k : ℕ) (d : A) → k < length xs → get_elem? xs k ≡ some (get_or xs k d)
-  place_of [] k d inside = absurd (omega arith)
-  place_of (x ∷ xs) zero d inside = refl
-  place_of (x ∷ xs) (suc k) d inside = place_of xs k d (omega arith)
-
-  -- what holds at each place holds of all
-  pub all_by_place : (P : A → Type 0) (xs : List A) → ((k : ℕ) (x : A) → get_elem? xs k ≡ some x → P x) → All P xs
-  all_by_place P xs at k d inside = at k (get_or xs k d) (place_of xs k d inside)
-
   pub get_or_place : (xs : List A) (k : ℕ) (x d : A) → get_elem? xs k ≡ some x → get_or xs k d ≡ x
   get_or_place [] k x d at = absurd (some-ne-none x (sym at))
   get_or_place (y ∷ xs) zero x d at = some-injective y x at
@@ -73,7 +50,7 @@ module _ {A : Type 0} where
 
 pub boards_by_place : (auctions : List AuctionHistory) (boards : List (List (ℕ × Board))) → length auctions ≡ length boards
     → ((k : ℕ) (a : AuctionHistory) (seen : List (ℕ × Board)) → get_elem? auctions k ≡ some a → get_elem? boards k ≡ some seen → AreNotes (board_of a) a.history (length a.history) seen)
-    → AreBoards auctions boards
+    → AreSeenBoards auctions boards
 boards_by_place auctions boards long each = all_zip (λ a seen. AreNotes (board_of a) a.history (length a.history) seen) auctions boards long each
 
 pub called_by_place : (auctions : List AuctionHistory) → ((k : ℕ) (a : AuctionHistory) → get_elem? auctions k ≡ some a → AllByRecursion (λ (e : Entry). e.caller ≤ 8) a.history)

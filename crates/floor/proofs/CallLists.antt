@@ -1,13 +1,9 @@
 -- The list of a desk's calls and its entries: at first, with one call more, and if there is no entry.
-use Rattle.std.proofs.Common.{◌≡◌, ◌≢◌, ℕ, ◌==◌, ◌<◌, Bool, true, false, cond, List, [], ◌∷◌, ◌++◌, map, length, get_or, set, replicate, None, refl, sym, ap, ◌∙◌, subst, arith, append-nil}
-use Rattle.std.specs.Prelude.{filter}
-use Rattle.std.proofs.lemmas.List.{map-append, get_or-set_same, get_or-set_other, get_or-replicate}
+use Rattle.std.proofs.Common.{◌≡◌, ◌≢◌, ℕ, ◌==◌, ◌<◌, Bool, true, false, cond, List, [], ◌∷◌, ◌++◌, map, length, get_or, set, replicate, None, refl, sym, ap, ◌∙◌, subst, arith, append-nil, filter, get_or-set_same, get_or-set_other}
+use Rattle.std.proofs.lemmas.List.{map-append, get_or-replicate}
 use Rattle.std.proofs.lemmas.List.Elements.{filter-append, filter_map-append, All-nil, All-push, All-head}
 use Rattle.std.proofs.lemmas.Bool.Decides.{nat_tests}
-use Rattle.tac_base.specs.declared.calls.Call.{Call}
-use Rattle.auction_rules.specs.History.{Entry}
-use Rattle.floor.specs.Keeping.{AreListed, calls_of_good}
-use Rattle.floor.specs.Steps.{Step, CallMade, DueTaken, WaitsNoted, call_of_step, calls_of_steps}
+use Rattle.floor.specs.{Call, Entry, AreListed, calls_of_good, Step, CallMade, DueTaken, WaitsNoted, call_of_step, calls_of_steps}
 
 abbrev of : ℕ → ℕ × Call → Bool
 of good call = call.0 == good
@@ -33,9 +29,6 @@ listed_more {entries = entries} {calls = calls} listed good asked position e ins
   each = λ other low. by_test other low (good == other) refl ∙ ap (λ l. calls_of_good calls other ++ l) (sym (one_call good asked other)) ∙ sym (calls_of_good-append calls ((good, asked) ∷ []) other);
 }
   where
-    row : List (ℕ × Entry)
-    row = get_or entries good [] ++ (position, e) ∷ []
-
     by_test : (other : ℕ) → other < 28 → (b : Bool) → (good == other) ≡ b → calls_in (get_or (set entries good (get_or entries good [] ++ (position, e) ∷ [])) other []) ≡ calls_of_good calls other ++ cond b (asked ∷ []) []
     by_test other low true here =
         let same : good ≡ other = grind (arith, nat_tests, here) in

@@ -1,10 +1,6 @@
 -- What is answered to the last call of a legal cash history.
 use Rattle.std.proofs.Common.{◌≡◌, ℕ, List, [], ◌∷◌, ◌++◌, length, take, refl, ap, ◌∙◌, Some, slice_get, ℤ}
-use Rattle.tac_base.specs.declared.calls.Nets.{Nets}
-use Rattle.trade_ledger.specs.declared.cash_calls.CashCall.TheVariants.{Post, Read}
-use Rattle.trade_ledger.specs.declared.cash_calls.CashReply.TheVariants.{Done, Cash}
-use Rattle.trade_ledger.specs.declared.cash_calls.CashEntry.{CashEntry}
-use Rattle.trade_ledger.specs.CashHistory.{cash_total, cash_reply_of, IsLegalCash}
+use Rattle.floor.specs.Prelude.{Nets, Post, Read, Done, Cash, CashEntry, cash_total, cash_reply_of, IsLegalCash}
 
 last_of : (before : List CashEntry) (e : CashEntry) → slice_get (before ++ e ∷ []) (length before) ≡ Some e
 last_of [] e = refl

@@ -1,17 +1,10 @@
 -- The invariant of a desk, at its start, with one entry more, and with one reading more.
-use Rattle.std.proofs.Common.{◌≡◌, ℕ, zero, suc, ◌+◌, ◌*◌, ◌<◌, ◌≤◌, List, [], ◌∷◌, ◌++◌, map, length, get_or, set, replicate, sum_by, sym, refl, ap, ◌∙◌, subst, arith, length-set, length-append, ne_eqb}
-use Rattle.std.proofs.lemmas.List.{get_or-set_same, get_or-set_other, get_or-replicate}
+use Rattle.std.proofs.Common.{◌≡◌, ℕ, zero, suc, ◌+◌, ◌*◌, ◌<◌, ◌≤◌, List, [], ◌∷◌, ◌++◌, map, length, get_or, set, replicate, sum_by, sym, refl, ap, ◌∙◌, subst, arith, length-set, length-append, ne_eqb, get_or-set_same, get_or-set_other}
+use Rattle.std.proofs.lemmas.List.{get_or-replicate}
 use Rattle.std.proofs.lemmas.List.Sums.{sum_by-append, sum_by-cons}
 use mathlib.Core.Logic.{dite}
 use native.Mathlib.Decide.{ℕ_discrete}
-use Rattle.auction_rules.specs.History.{Entry}
-use Rattle.auction_rules.specs.Effects.{nets}
-use Rattle.auction_rules.specs.Legal.{cap}
-use Rattle.trade_ledger.specs.declared.cash_calls.CashReply.TheVariants.{Done}
-use Rattle.trade_ledger.specs.declared.cash_calls.CashEntry.{CashEntry}
-use Rattle.trade_ledger.specs.CashHistory.{cash_cap}
-use Rattle.trade_ledger.specs.Posts.{posts_of, due_post}
-use Rattle.floor.specs.Keeping.{IsDeskKept, count_entries}
+use Rattle.floor.specs.{Entry, nets, cap, Done, CashEntry, cash_cap, posts_of, due_post, IsDeskKept, count_entries}
 use Rattle.floor.proofs.Posts.{bare, due_posts-more, few_due, with_posts, posts_and_readings}
 
 -- ---- caps

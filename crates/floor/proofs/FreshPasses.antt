@@ -3,22 +3,11 @@ use Rattle.std.proofs.Common.{◌≡◌, ℕ, zero, suc, ◌<◌, List, [], ◌�
 use Rattle.std.proofs.lemmas.List.{map_push, replicate_more, length_push}
 use mathlib.Core.Option.{some, some-injective, some-ne-none}
 use lib.ListN.{get_elem?}
-use Rattle.auction_core.specs.Auctions.{AuctionHistory}
-use Rattle.auction_rules.specs.History.{Entry}
-use Rattle.auction_rules.specs.Legal.{cap}
-use Rattle.trade_ledger.specs.declared.cash_calls.CashEntry.{CashEntry}
-use Rattle.trade_ledger.specs.CashHistory.{cash_cap}
-use Rattle.turn_lock.specs.declared.kept.Kept.{Ghosts}
-use Rattle.turn_lock.specs.declared.pass.Pass.{Pass}
-use Rattle.turn_lock.specs.Passes.{LockId, lock_of, caller_of, turns_left, made_by, noted_by, seen_by}
-use Rattle.floor.specs.Rows.{with_each}
-use Rattle.floor.specs.Dealing.{IsFresh, AreFresh, MakeDesk}
+use Rattle.floor.specs.{AuctionHistory, Entry, cap, CashEntry, cash_cap, Ghosts, Pass, LockId, lock_of, caller_of, turns_left, made_by, noted_by, seen_by, with_each, IsFresh, AreFresh, MakeDesk, desk_steps, IsNewDesk, calls_of_steps}
 use Rattle.floor.specs.declared.desk.Desk.{Desk}
-use Rattle.floor.specs.Desks.{desk_steps, IsNewDesk}
 use Rattle.floor.proofs.Tables.{with_each_at}
 use Rattle.floor.proofs.Desks.{kept_first, kept_as}
 use Rattle.floor.proofs.Orders.{order_as, order_first}
-use Rattle.floor.specs.Steps.{calls_of_steps}
 use Rattle.floor.proofs.CallLists.{listed_as, listed_first}
 
 -- how many calls each caller may make

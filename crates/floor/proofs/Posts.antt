@@ -1,20 +1,13 @@
 -- The posts that are due to entries, and those among entries of the cash history.
-use Rattle.std.proofs.Common.{◌≡◌, ◌≢◌, ℕ, zero, suc, ◌+◌, ◌<◌, ◌≤◌, Bool, true, false, not, cond, List, [], ◌∷◌, ◌++◌, map, length, get_or, set, sum_by, sym, refl, ap, ◌∙◌, arith, append-nil, length-append}
-use Rattle.std.specs.List.{flat_map, enumerate_from}
+use Rattle.std.proofs.Common.{◌≡◌, ◌≢◌, ℕ, zero, suc, ◌+◌, ◌<◌, ◌≤◌, Bool, true, false, not, cond, List, [], ◌∷◌, ◌++◌, map, length, get_or, set, sum_by, sym, refl, ap, ◌∙◌, arith, append-nil, length-append, flat_map}
+use Rattle.std.specs.List.{enumerate_from}
 use Rattle.std.proofs.lemmas.List.{map_push}
 use Rattle.std.proofs.lemmas.List.Concat.{flat_map-append}
 use Rattle.std.proofs.lemmas.List.Elements.{filter-append}
 use Rattle.std.proofs.lemmas.List.Sums.{sum_by-append, sum_by-cons, sum_by_push}
 use Rattle.tac_base.specs.declared.calls.Trade.{Trade}
-use Rattle.tac_base.specs.declared.calls.Nets.{Nets}
-use Rattle.auction_rules.specs.History.{Entry}
-use Rattle.auction_rules.specs.Effects.{nets as nets_of_trades}
-use Rattle.trade_ledger.specs.declared.cash_calls.CashCall.TheVariants.{Post}
+use Rattle.floor.specs.{Nets, Entry, nets as nets_of_trades, Post, Done, CashEntry, is_post, posts_of, post_for, due_post, due_to, due_posts, count_readings, count_entries}
 use Rattle.trade_ledger.specs.declared.cash_calls.CashReply.{CashReply}
-use Rattle.trade_ledger.specs.declared.cash_calls.CashReply.TheVariants.{Done}
-use Rattle.trade_ledger.specs.declared.cash_calls.CashEntry.{CashEntry}
-use Rattle.trade_ledger.specs.Posts.{is_post, posts_of, post_for, due_post, due_to, due_posts}
-use Rattle.floor.specs.Keeping.{count_readings, count_entries}
 
 pub no_post : (trades : List Trade) (post : CashEntry) → length trades ≡ 0 → post_for trades post ≡ []
 no_post [] post none = refl

@@ -1,29 +1,15 @@
 -- What the desks' passes left at the locks, and that it holds of the closed game.
-use Rattle.std.proofs.Common.{◌≡◌, ℕ, zero, suc, ◌<◌, ◌≤◌, List, [], ◌∷◌, ◌++◌, map, fold, length, get_or, replicate, refl, sym, ap, ◌∙◌, subst, arith}
+use Rattle.std.proofs.Common.{◌≡◌, ℕ, zero, suc, ◌<◌, ◌≤◌, List, [], ◌∷◌, ◌++◌, map, fold, length, get_or, replicate, refl, sym, ap, ◌∙◌, subst, arith, Contains, IsPermutation}
 use Rattle.std.proofs.lemmas.List.{length-map, get_or-replicate}
-use Rattle.std.specs.List.{AllByRecursion, Contains}
-use Rattle.std.specs.List.Sorted.{IsPermutation}
+use Rattle.std.specs.List.{AllByRecursion}
 use Rattle.std.proofs.lemmas.List.Sorted.{Contains-permutation}
 use mathlib.Core.Option.{some, some-injective}
 use lib.ListN.{get_elem?}
 use Rattle.atomic_table.proofs.Lists.{at_map}
-use Rattle.auction_rules.specs.History.{Entry}
-use Rattle.auction_rules.specs.Legal.{Legal}
-use Rattle.auction_core.specs.Auctions.{AuctionHistory}
-use Rattle.turn_lock.specs.declared.view.Returned.{Returned}
-use Rattle.turn_lock.specs.Part.{part}
-use Rattle.turn_lock.specs.Passes.{caller_of, made_by, noted_by, returned_by}
-use Rattle.turn_lock.specs.Notes.{AreNotes}
-use Rattle.turn_lock.specs.TurnRule.{AreKnown}
+use Rattle.floor.specs.{Entry, Legal, AuctionHistory, Returned, part, caller_of, made_by, noted_by, returned_by, AreNotes, AreKnown, CashEntry, HoldSame, posts_of, due_posts, Matched, desk_caller, desk_entries, desk_cash, boards_of, with_each, IsGivenBack, IsBorneOut, board_of}
 use Rattle.turn_lock.proofs.Places.{place_below}
-use Rattle.trade_ledger.specs.declared.cash_calls.CashEntry.{CashEntry}
-use Rattle.trade_ledger.specs.Posts.{HoldSame, posts_of, due_posts, Matched}
 use Rattle.trade_ledger.proofs.Matching.{parts_of, matched_by_parts}
 use Rattle.floor.specs.declared.desk.Desk.{Desk}
-use Rattle.floor.specs.Desks.{desk_caller, desk_entries, desk_cash, boards_of}
-use Rattle.floor.specs.Rows.{with_each}
-use Rattle.floor.specs.Closing.{IsGivenBack, IsBorneOut}
-use Rattle.floor.specs.ClosedBoards.{board_of}
 use Rattle.floor.proofs.Tables.{gathered_at}
 use Rattle.floor.proofs.BornOut.{get_or_place, maps_agree, boards_by_place, called_by_place}
 use Rattle.floor.proofs.FreshPasses.{at_replicate}

@@ -1,21 +1,7 @@
 -- What each call of a desk answers and adds.
 use Rattle.std.specs.Prelude.{⊤, ◌≡◌, ℕ, ◌+◌, ◌<◌, ◌≤◌, List, [], ◌∷◌, ◌++◌, length, reverse, slice_set, Some, None}
-use Rattle.tac_base.specs.declared.limits.TheConstants.{AGENT_CALLS, CASH_READINGS, UPDATE_TICKS}
-use Rattle.tac_base.specs.declared.calls.Call.{Call}
-use Rattle.tac_base.specs.declared.calls.Call.TheVariants.{Bid, Update, Publish, Close}
-use Rattle.tac_base.specs.declared.bids.Points.{Points}
+use Rattle.floor.specs.Prelude.{AGENT_CALLS, CASH_READINGS, UPDATE_TICKS, Call, Bid, Update, Publish, Close, Points, Taken, Board, Entry, Setup, Legal, entry_of, refusal, part, CashEntry, Read, Cash, due_post}
 use Rattle.tac_base.specs.declared.calls.Reply.{Reply}
-use Rattle.tac_base.specs.declared.calls.Reply.TheVariants.{Taken}
-use Rattle.tac_base.specs.declared.calls.Board.{Board}
-use Rattle.auction_rules.specs.History.{Entry}
-use Rattle.auction_rules.specs.Setup.{Setup}
-use Rattle.auction_rules.specs.Legal.{Legal, entry_of}
-use Rattle.auction_rules.specs.Refusals.{refusal}
-use Rattle.turn_lock.specs.Part.{part}
-use Rattle.trade_ledger.specs.declared.cash_calls.CashEntry.{CashEntry}
-use Rattle.trade_ledger.specs.declared.cash_calls.CashCall.TheVariants.{Read}
-use Rattle.trade_ledger.specs.declared.cash_calls.CashReply.TheVariants.{Cash}
-use Rattle.trade_ledger.specs.Posts.{due_post}
 use Rattle.floor.specs.declared.desk.Desk.{Desk}
 use Rattle.floor.specs.declared.outcomes.Outcome.{Outcome}
 use Rattle.floor.specs.declared.outcomes.Outcome.TheVariants.{At, Spent}

@@ -1,19 +1,7 @@
 -- What holds of a game whose calls are over.
 use Rattle.std.specs.Prelude.{◌≡◌, ℕ, ◌≤◌, List, [], map, length, reverse, take, slice_get, Some, None}
 use Rattle.std.specs.List.{AllZip}
-use Rattle.tac_base.specs.declared.calls.Board.{Board}
-use Rattle.tac_base.specs.declared.bids.Points.{Points}
-use Rattle.tac_base.specs.declared.calls.Call.TheVariants.{Bid}
-use Rattle.tac_base.specs.declared.calls.Reply.TheVariants.{Taken}
-use Rattle.auction_rules.specs.History.{Entry}
-use Rattle.auction_rules.specs.Legal.{Legal}
-use Rattle.auction_rules.specs.Refusals.{refusal}
-use Rattle.auction_core.specs.Auctions.{AuctionHistory}
-use Rattle.auction_core.specs.ClosedGame.{ClosedGame}
-use Rattle.turn_lock.specs.declared.view.Returned.{Returned}
-use Rattle.turn_lock.specs.Part.{part}
-use Rattle.turn_lock.specs.Notes.{AreNotes}
-use Rattle.turn_lock.specs.TurnRule.{AreKnown}
+use Rattle.floor.specs.Prelude.{Board, Points, Bid, Taken, Entry, Legal, refusal, AuctionHistory, ClosedGame, Returned, part, AreNotes, AreKnown}
 use Rattle.floor.specs.declared.desk.Desk.{Desk}
 use Rattle.floor.specs.Desks.{desk_caller, desk_entries, desk_cash, boards_of}
 use Rattle.floor.specs.ClosedBoards.{board_of}
@@ -27,14 +15,14 @@ pub record IsGivenBack (start : AuctionHistory) (passes : ℕ) (returned : List 
   pub nobody_else : (c : ℕ) → passes ≤ c → part (λ e. e.caller) auction.history c ≡ []
 
 -- each board that was seen of a good is that of the prefix of its history of the length that it states
-abbrev pub AreBoards : List AuctionHistory → List (List (ℕ × Board)) → Type 0
-AreBoards auctions boards = AllZip (λ auction seen. AreNotes (board_of auction) auction.history (length auction.history) seen) auctions boards
+abbrev pub AreSeenBoards : List AuctionHistory → List (List (ℕ × Board)) → Type 0
+AreSeenBoards auctions boards = AllZip (λ auction seen. AreNotes (board_of auction) auction.history (length auction.history) seen) auctions boards
 
 -- what a desk knew holds of the closed game: its own entries are its caller's part of each history, and its boards are of prefixes
 pub record IsBorneOut (closed : ClosedGame) (d : Desk) : Type 0 where
   pub entries : desk_entries d ≡ map (λ auction. part (λ e. e.caller) auction.history (desk_caller d)) closed.auctions
   pub cash : desk_cash d ≡ part (λ e. e.caller) closed.cash (desk_caller d)
-  pub boards : AreBoards closed.auctions (boards_of d)
+  pub boards : AreSeenBoards closed.auctions (boards_of d)
 
 -- each bid to which no refusal applied after the entries before it is taken
 abbrev pub TakesLawfulBids : AuctionHistory → Type 0

@@ -2,12 +2,8 @@
 use Rattle.std.specs.Prelude.{◌≡◌, ℕ, List, [], map, length, replicate}
 use mathlib.Core.Option.{some}
 use lib.ListN.{get_elem?}
-use Rattle.turn_lock.specs.declared.kept.Kept.{Ghosts}
-use Rattle.turn_lock.specs.declared.pass.Pass.{Pass}
-use Rattle.auction_rules.specs.History.{Entry}
-use Rattle.trade_ledger.specs.declared.cash_calls.CashEntry.{CashEntry}
+use Rattle.floor.specs.Prelude.{Ghosts, Pass, Entry, CashEntry, LockId, lock_of, caller_of, turns_left, made_by, noted_by, seen_by}
 use Rattle.floor.specs.Keeping.{IsDeskKept, AreGoodsInOrder, AreListed}
-use Rattle.turn_lock.specs.Passes.{LockId, lock_of, caller_of, turns_left, made_by, noted_by, seen_by}
 
 module _ {S C R G E : Type 0} {K : Ghosts S C R G E} where
   -- one pass of the caller for each of these locks, with no call made and no board seen

@@ -1,14 +1,6 @@
 -- What clauses say of a desk.
-use Rattle.std.specs.Prelude.{◌≡◌, ℕ, List, [], map, replicate, slice_index_or, slice_get, Option, option_and_then}
-use Rattle.std.specs.Option.{option_map}
-use Rattle.tac_base.specs.declared.calls.Board.{Board}
-use Rattle.tac_base.specs.declared.calls.Call.{Call}
-use Rattle.tac_base.specs.declared.limits.TheConstants.{GOODS}
-use Rattle.auction_rules.specs.History.{Entry}
-use Rattle.auction_rules.specs.Setup.{Setup}
-use Rattle.auction_core.specs.Auctions.{AuctionHistory}
-use Rattle.trade_ledger.specs.declared.cash_calls.CashEntry.{CashEntry}
-use Rattle.turn_lock.specs.Passes.{LockId, lock_of, caller_of, made_by, noted_by, seen_by}
+use Rattle.std.specs.Prelude.{◌≡◌, ℕ, List, [], map, replicate, slice_index_or, slice_get, Option, option_and_then, option_map}
+use Rattle.floor.specs.Prelude.{Board, Call, GOODS, Entry, Setup, AuctionHistory, CashEntry, LockId, lock_of, caller_of, made_by, noted_by, seen_by}
 use Rattle.floor.specs.declared.desk.Desk.{Desk}
 use Rattle.floor.specs.Steps.{Step, calls_of_steps}
 

@@ -1,9 +1,6 @@
 -- What clauses say of a floor.
 use Rattle.std.specs.Prelude.{◌≡◌, List, [], ◌∷◌, map, replicate, IsPermutation}
-use Rattle.tac_base.specs.declared.limits.TheConstants.{CALLERS}
-use Rattle.auction_core.specs.Auctions.{AuctionHistory}
-use Rattle.trade_ledger.specs.declared.cash_calls.CashEntry.{CashEntry}
-use Rattle.turn_lock.specs.Passes.{LockId, lock_id, start_of}
+use Rattle.floor.specs.Prelude.{CALLERS, AuctionHistory, CashEntry, LockId, lock_id, start_of}
 use Rattle.floor.specs.declared.floor.Floor.{Floor}
 use Rattle.floor.specs.declared.desk.Desk.{Desk}
 use Rattle.floor.specs.Desks.{desk_ids, desk_caller}

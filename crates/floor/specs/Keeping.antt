@@ -1,16 +1,7 @@
 -- The invariants of every desk and every floor.
 use Rattle.std.specs.Prelude.{◌≡◌, ℕ, ◌+◌, ◌==◌, ◌<◌, ◌≤◌, not, List, filter, map, length, replicate, count_by, sum_by, slice_index_or, [], ◌++◌, All}
 use Rattle.std.specs.List.Sorted.{IsStrictlyIncreasing}
-use Rattle.tac_base.specs.declared.limits.TheConstants.{CASH_READINGS, GOODS}
-use Rattle.tac_base.specs.declared.calls.Board.{Board}
-use Rattle.tac_base.specs.declared.calls.Call.{Call}
-use Rattle.auction_rules.specs.History.{Entry}
-use Rattle.tac_base.specs.Goods.{clock}
-use Rattle.auction_rules.specs.Legal.{cap}
-use Rattle.auction_core.specs.Auctions.{AuctionHistory}
-use Rattle.trade_ledger.specs.declared.cash_calls.CashEntry.{CashEntry}
-use Rattle.trade_ledger.specs.CashHistory.{cash_cap}
-use Rattle.trade_ledger.specs.Posts.{HoldSame, is_post, posts_of, due_posts}
+use Rattle.floor.specs.Prelude.{CASH_READINGS, GOODS, Board, Call, Entry, clock, cap, AuctionHistory, CashEntry, cash_cap, HoldSame, is_post, posts_of, due_posts}
 
 -- entries were added to the cash history, all at one position: one entry, or none
 abbrev pub AddsCash : List (ℕ × CashEntry) → List (ℕ × CashEntry) → List CashEntry → Type 0

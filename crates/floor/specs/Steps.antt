@@ -1,6 +1,5 @@
 -- What a desk did at the auctions, and what it noted of the clock's ticker, in order.
-use Rattle.std.specs.Prelude.{ℕ, List, Option, Some, None}
-use Rattle.std.specs.List.{filter_map}
+use Rattle.std.specs.Prelude.{ℕ, List, Option, Some, None, filter_map}
 use Rattle.tac_base.specs.declared.calls.Call.{Call}
 use Rattle.tac_io.specs.States.{TickWait}
 

@@ -1,11 +1,8 @@
 ghost use Rattle.std.specs.Prelude.{◌≡◌, ◌+◌, ◌≤◌, [], ◌∷◌, ◌++◌, length};
 ghost use Rattle.trade_ledger.specs.declared.cash_calls.CashCall.TheVariants as calls;
 ghost use Rattle.trade_ledger.specs.declared.cash_calls.CashReply.TheVariants as replies;
-ghost use Rattle.auction_rules.specs.History.{Entry};
+ghost use Rattle.floor.specs.{Entry, due_post, lock_of, lock_id, caller_of, turns_left, made_by, AddsCash};
 ghost use Rattle.auction_core.specs.Struck.{struck_of};
-ghost use Rattle.trade_ledger.specs.Posts.{due_post};
-ghost use Rattle.turn_lock.specs.Passes.{lock_of, lock_id, caller_of, turns_left, made_by};
-ghost use Rattle.floor.specs.Keeping.{AddsCash};
 
 use auction_core::Struck;
 use std::sync::Wait;

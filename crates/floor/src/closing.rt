@@ -3,8 +3,7 @@ ghost use Rattle.std.specs.Prelude.{◌≡◌, ℕ, ◌≤◌, [], length, map, 
 ghost use mathlib.Core.Option.{some};
 ghost use lib.ListN.{get_elem?};
 ghost use Rattle.turn_lock.specs.Passes.{lock_of, lock_id, start_of, passes_of, returned_to, returned_by};
-ghost use Rattle.floor.specs.Rows.{with_each};
-ghost use Rattle.floor.specs.Closing.{IsGivenBack};
+ghost use Rattle.floor.specs.{with_each, IsGivenBack};
 
 use auction_core::Auction;
 use turn_lock::{Pass, TurnLock};

@@ -1,6 +1,5 @@
 ghost use Rattle.std.specs.Prelude.{◌≡◌, ◌≤◌, map};
-ghost use Rattle.tac_base.specs.Goods.{clock};
-ghost use Rattle.turn_lock.specs.Passes.{caller_of, turns_left, made_by, noted_by, seen_by};
+ghost use Rattle.floor.specs.Prelude.{clock, caller_of, turns_left, made_by, noted_by, seen_by};
 ghost use Rattle.floor.specs.Keeping.{IsDeskKept, AreGoodsInOrder, AreListed};
 ghost use Rattle.floor.specs.Steps.{calls_of_steps};
 

@@ -1,9 +1,6 @@
 ghost use Rattle.std.specs.Prelude.{◌≡◌, ◌≤◌, [], length, map, replicate, vec_capacity};
-ghost use Rattle.tac_base.specs.Goods.{clock, house};
-ghost use Rattle.tac_base.specs.declared.limits.TheConstants.{CALLERS, GOODS};
-ghost use Rattle.auction_core.specs.ClosedGame.{all_goods};
+ghost use Rattle.floor.specs.Prelude.{clock, house, CALLERS, GOODS, all_goods, start_of, passes_of, returned_to};
 ghost use Rattle.floor.specs.Keeping.{goods_of};
-ghost use Rattle.turn_lock.specs.Passes.{start_of, passes_of, returned_to};
 
 use crate::closing::{close_all, return_passes};
 use crate::desk::Desk;

@@ -2,14 +2,7 @@
 ghost use Rattle.std.specs.Prelude.{◌≡◌, ℕ, List, [], ◌∷◌, ◌++◌, length, map, replicate, All, IfOk, OnOk};
 ghost use mathlib.Core.Option.{some};
 ghost use lib.ListN.{get_elem?};
-ghost use Rattle.auction_core.specs.Setups.{setup_of};
-ghost use Rattle.auction_rules.specs.Legal.{cap};
-ghost use Rattle.trade_ledger.specs.CashHistory.{cash_cap};
-ghost use Rattle.auction_core.specs.Auctions.{AuctionHistory};
-ghost use Rattle.turn_lock.specs.Passes.{LockId, lock_of, lock_id, caller_of, turns_left, made_by, noted_by, seen_by, start_of, passes_of, returned_to};
-ghost use Rattle.floor.specs.Rows.{with_each};
-ghost use Rattle.floor.specs.Desks.{desk_steps};
-ghost use Rattle.floor.specs.Dealing.{AreFresh, MakeDesk};
+ghost use Rattle.floor.specs.{setup_of, cap, cash_cap, AuctionHistory, LockId, lock_of, lock_id, caller_of, turns_left, made_by, noted_by, seen_by, start_of, passes_of, returned_to, with_each, desk_steps, AreFresh, MakeDesk};
 
 use crate::desk::Desk;
 use crate::growing::add;

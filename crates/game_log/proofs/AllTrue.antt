@@ -1,6 +1,5 @@
 -- If a test answers true of all items of a list, what it says then holds of each.
-use Rattle.std.proofs.Common.{◌≡◌, Bool, true, false, List, length, arith}
-use Rattle.std.specs.Prelude.{MatchBool}
+use Rattle.std.proofs.Common.{◌≡◌, Bool, true, false, List, length, arith, MatchBool}
 use Rattle.std.specs.List.{AllByRecursion, AllWithin}
 use Rattle.std.proofs.lemmas.List.Elements.{recursion_from_All}
 

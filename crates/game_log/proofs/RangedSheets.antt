@@ -1,26 +1,19 @@
 -- Any sheet of a game is in the ranges of logs, except for the lines of its certificates.
-use Rattle.std.proofs.Common.{◌≡◌, ℕ, ◌*◌, ◌<◌, ◌≤◌, ◌^◌, Bool, true, false, cond, List, [], ◌∷◌, length, drop, get_or, sum_by, ℤ, pos, negsuc, ◌+ℤ◌, ◌-ℤ◌, unsigned_abs, sym, subst, arith}
-use Rattle.std.specs.Prelude.{◌==◌}
-use Rattle.std.specs.List.{All, AllByRecursion}
+use Rattle.std.proofs.Common.{◌≡◌, ℕ, ◌*◌, ◌<◌, ◌≤◌, ◌^◌, Bool, true, false, cond, List, [], ◌∷◌, length, drop, get_or, sum_by, ℤ, pos, negsuc, ◌+ℤ◌, ◌-ℤ◌, unsigned_abs, sym, subst, arith, ◌==◌, All, length-drop}
+use Rattle.std.specs.List.{AllByRecursion}
 use Rattle.std.proofs.lemmas.Int.{ints}
-use Rattle.std.proofs.lemmas.List.{length-drop}
 use Rattle.std.proofs.lemmas.List.Elements.{All-get_or, All-drop, recursion_from_All}
 use Rattle.std.proofs.lemmas.List.Sums.{sum_by-cons}
 use Rattle.std.proofs.lemmas.Option.{slice_get-get_or}
 use Rattle.tac_base.specs.Clients.{Preferences, IsClient}
 use Rattle.game_text.specs.AgentLines.{AreClients}
 use Rattle.game_text.specs.Accounts.{AccountFile, IsHolding}
-use Rattle.game_text.specs.Games.{GameFile, IsGame}
+use Rattle.game_log.specs.Prelude.{GameFile, IsGame, IsWithin, ClosedGame, settlement_of, AreHoldings, IsSettlement, Scored, IsScored}
 use Rattle.packages.specs.declared.travel_packages.Package.{Package}
 use Rattle.packages.specs.declared.travel_packages.Package.TheVariants.{None, Trip}
 use Rattle.packages.specs.Packages.{utility_of, fun_of}
 use Rattle.packages.specs.BestTotal.{total_of}
-use Rattle.trade_ledger.specs.CashKeeping.{IsWithin}
-use Rattle.auction_core.specs.ClosedGame.{ClosedGame}
 use Rattle.score_sheet.specs.Score.{lacking, short_of}
-use Rattle.score_sheet.specs.Settlement.{settlement_of}
-use Rattle.score_sheet.specs.SettledRanges.{AreHoldings, IsSettlement}
-use Rattle.score_sheet.specs.Sheets.{Scored, IsScored}
 use Rattle.game_log.specs.LogRanges.{IsRangedScore}
 use Rattle.game_log.specs.ScoredGames.{IsSheetOf}
 

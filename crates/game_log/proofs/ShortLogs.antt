@@ -1,35 +1,11 @@
 -- A log that is in its ranges except for the lines of its certificates is in all of them if it is not too long.
-use Rattle.std.proofs.Common.{ℕ, ◌+◌, ◌≤◌, List, [], ◌∷◌, ◌++◌, length, ap, arith}
-use Rattle.std.specs.Prelude.{codes}
+use Rattle.std.proofs.Common.{ℕ, ◌+◌, ◌≤◌, List, [], ◌∷◌, ◌++◌, length, arith, codes, length-append}
 use Rattle.std.specs.List.{AllByRecursion}
-use Rattle.std.proofs.lemmas.List.{length-append}
-use Rattle.std.proofs.lemmas.List.Concat.{flat_map-cons}
 use Rattle.std.proofs.lemmas.List.Elements.{All-from_recursion}
-use Rattle.text_forms.specs.Lines.{text_of}
-use Rattle.text_forms.specs.Steps.{lines_of_parts, one_line}
-use Rattle.bound_cert.specs.Texts.{tree_lines}
-use Rattle.score_sheet.specs.Sheets.{Scored}
-use Rattle.log_text.specs.LogText.{first_lines, histories_text}
-use Rattle.log_text.specs.SheetText.{package_line, cert_line, agent_lines, sheet_lines, sheet_part}
-use Rattle.log_text.specs.LoggedGames.{LoggedGame, IsLogged, logged_text}
+use Rattle.text_forms.specs.Steps.{lines_of_parts}
+use Rattle.game_log.specs.Prelude.{tree_lines, Scored, first_lines, histories_text, agent_lines, sheet_part, LoggedGame, IsLogged, logged_text}
+use Rattle.log_text.proofs.SheetsAgain.{lines_short, agent_long}
 use Rattle.game_log.specs.LogRanges.{IsRanged}
-
--- ---- how many lines a text has
-
-lines_short : (lines : List (List ℕ)) → length lines ≤ length (text_of lines)
-lines_short [] = omega arith
-lines_short (line ∷ lines) =
-    let first = ap length (flat_map-cons (λ (l : List ℕ). l ++ 10 ∷ []) line lines) in
-    let apart = length-append (line ++ 10 ∷ []) (text_of lines) in
-    let one = length-append line (10 ∷ []) in
-    let rest = lines_short lines in
-    omega (arith, first, apart, one, rest)
-
-agent_long : (agent : ℕ) (scored : Scored) → length (tree_lines scored.tree) ≤ length (agent_lines agent scored)
-agent_long agent scored =
-    let packages = lines_of_parts (one_line (package_line agent)) 0 scored.allocation in
-    let apart = length-append packages (cert_line agent (length (tree_lines scored.tree)) ∷ tree_lines scored.tree) in
-    omega (arith, apart)
 
 agents_long : (from : ℕ) (scores : List Scored) (m : ℕ) → length (lines_of_parts agent_lines from scores) ≤ m → AllByRecursion (λ (scored : Scored). length (tree_lines scored.tree) ≤ m) scores
 agents_long from [] m le = tt
@@ -42,7 +18,7 @@ trees_short : (log : LoggedGame) → AllByRecursion (λ (scored : Scored). lengt
 trees_short log =
     let one = length-append (first_lines log.head) (histories_text log.histories log.cash ++ sheet_part log.scores) in
     let two = length-append (histories_text log.histories log.cash) (sheet_part log.scores) in
-    let lines = lines_short (sheet_lines log.scores) in
+    let lines = lines_short (codes "sheet" ∷ [] ++ (lines_of_parts agent_lines 0 log.scores ++ codes "end" ∷ [])) in
     let apart = length-append (lines_of_parts agent_lines 0 log.scores) (codes "end" ∷ []) in
     agents_long 0 log.scores (length (logged_text log)) (omega (arith, one, two, lines, apart))
 

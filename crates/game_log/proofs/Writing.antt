@@ -1,20 +1,14 @@
 -- Texts that are gathered one after another.
-use Rattle.std.proofs.Common.{◌≡◌, refl, ℕ, ◌+◌, ◌<◌, ◌≤◌, List, [], ◌∷◌, ◌++◌, length, take, drop, get_or, ap, sym, subst, ◌∙◌, append_assoc, arith, Result, Ok, Err, inl, inr}
+use Rattle.std.proofs.Common.{◌≡◌, refl, ℕ, ◌+◌, ◌<◌, ◌≤◌, List, [], ◌∷◌, ◌++◌, length, take, drop, get_or, ap, sym, subst, ◌∙◌, append_assoc, arith, Result, Ok, Err, inl, inr, length-append, take_all, take-append-drop, append-nil, Some, slice_get, IsErr, flat_map, Option}
 use Rattle.std.proofs.Math.Seq.{take-append-add}
-use Rattle.std.proofs.lemmas.List.{length-append, take-append-le, take_more, take_all, take-append-drop, append-nil}
+use Rattle.std.proofs.lemmas.List.{take-append-le, take_more}
 use Rattle.std.proofs.lemmas.List.Concat.{flat_map-cons}
 use Rattle.std.proofs.lemmas.Grind.{flat_map-append}
 use Rattle.std.proofs.lemmas.Option.{slice_get_cases}
-use Rattle.std.specs.Prelude.{Some, slice_get, IsErr}
-use Rattle.std.specs.List.{flat_map}
-use Rattle.std.specs.declared.option.Option.{Option}
 use Rattle.tac_io.specs.Counts.{Rose}
-use Rattle.tac_io.specs.States.{SinkState}
+use Rattle.game_log.specs.Prelude.{SinkState, Failed, TookWhole, TookPart, WritesPiece}
 use Rattle.tac_io.specs.Known.{known_then, failed_at, TakesSome}
-use Rattle.tac_io.specs.declared.failed.Failed.{Failed}
-use Rattle.tac_io.proofs.KnownPieces.{known_then-nothing, known_then-twice}
-use Rattle.tac_io.specs.Taken.{TookWhole, TookPart}
-use Rattle.tac_io.specs.Written.{WritesPiece}
+use Rattle.tac_io.proofs.KnownPieces.{known_then-twice}
 use Rattle.game_log.specs.Gathering.{GathersWhole, GathersPart, Gathers}
 
 pub wrote_both : (t0 t1 t2 : Option (List ℕ)) (p q : List ℕ) → t1 ≡ known_then t0 p → t2 ≡ known_then t1 q → t2 ≡ known_then t0 (p ++ q)
@@ -70,9 +64,6 @@ then_some p q s0 s1 s2 v w = (some_after s0.taken s1.taken s2.taken p q v.0 w.0,
 joined : (held p written between q more held' : List ℕ) → held ++ p ≡ written ++ between → between ++ q ≡ more ++ held' → held ++ (p ++ q) ≡ (written ++ more) ++ held'
 joined held p written between q more held' e f =
     sym (append_assoc held p q) ∙ ap (λ (t : List ℕ). t ++ q) e ∙ append_assoc written between q ∙ ap (λ (t : List ℕ). written ++ t) f ∙ sym (append_assoc written more held')
-
-pub gathers_nothing : (held : List ℕ) (s : SinkState) → GathersWhole [] held held s s
-gathers_nothing held s = record { written = []; split = append-nil held; took = (sym (known_then-nothing s.taken), refl, refl) }
 
 pub whole_both : (p q h0 h1 h2 : List ℕ) (s0 s1 s2 : SinkState) → GathersWhole p h0 h1 s0 s1 → GathersWhole q h1 h2 s1 s2 → GathersWhole (p ++ q) h0 h2 s0 s2
 whole_both p q h0 h1 h2 s0 s1 s2 v w = record {

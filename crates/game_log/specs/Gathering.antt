@@ -1,8 +1,6 @@
 -- The effect of adding a text to a piece that is gathered, and written to a sink when it is full.
 use Rattle.std.specs.Prelude.{◌≡◌, ℕ, List, ◌++◌, Result, MatchResult}
-use Rattle.tac_io.specs.States.{SinkState}
-use Rattle.tac_io.specs.Taken.{TookWhole, TookPart}
-use Rattle.tac_io.specs.declared.failed.Failed.{Failed}
+use Rattle.game_log.specs.Prelude.{SinkState, TookWhole, TookPart, Failed}
 
 -- The sink took the first of the bytes that were held and of the text, and the rest is held. No write failed.
 pub record GathersWhole (text held held' : List ℕ) (sink sink' : SinkState) : Type 0 where

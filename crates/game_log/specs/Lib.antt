@@ -1,3 +1,4 @@
+pub mod Prelude
 pub use Rattle.log_text.specs.LogText
 pub use Rattle.log_text.specs.Logged
 pub use Rattle.log_text.specs.SheetText

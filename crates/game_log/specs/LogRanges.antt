@@ -1,10 +1,6 @@
 -- Which logs are in their ranges except for the lines of their certificates.
-use Rattle.std.specs.Prelude.{◌≡◌, ◌≤◌, length}
-use Rattle.std.specs.List.{All}
-use Rattle.tac_base.specs.declared.limits.TheConstants.{AGENTS, CASH_ENTRIES, GOODS}
-use Rattle.bound_cert.specs.Texts.{tree_lines}
-use Rattle.score_sheet.specs.Sheets.{Scored}
-use Rattle.log_text.specs.LoggedGames.{LoggedGame, IsLoggedHead, AreHistories, IsLoggedCashEntry, IsLoggedScore}
+use Rattle.std.specs.Prelude.{◌≡◌, ◌≤◌, length, All}
+use Rattle.game_log.specs.Prelude.{AGENTS, CASH_ENTRIES, GOODS, tree_lines, Scored, LoggedGame, IsLoggedHead, AreHistories, IsLoggedCashEntry, IsLoggedScore}
 
 -- a score in its ranges, if its certificate has no more lines than 32 bits can count
 abbrev pub IsRangedScore : Scored → Type 0

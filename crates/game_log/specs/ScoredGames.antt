@@ -1,9 +1,6 @@
 -- The scores of a game.
 use Rattle.std.specs.Prelude.{List}
-use Rattle.game_text.specs.Games.{GameFile}
-use Rattle.auction_core.specs.ClosedGame.{ClosedGame}
-use Rattle.score_sheet.specs.Settlement.{settlement_of}
-use Rattle.score_sheet.specs.Sheets.{Scored, IsSheet}
+use Rattle.game_log.specs.Prelude.{GameFile, ClosedGame, settlement_of, Scored, IsSheet}
 
 -- the scores of a game: of the goods and the dollars that its histories leave to each agent
 abbrev pub IsSheetOf : GameFile → ClosedGame → List Scored → Type 0

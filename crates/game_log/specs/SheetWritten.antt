@@ -1,12 +1,7 @@
 -- The effect on a sink of writing a piece that is first built in memory, the scores of a game among them.
 use Rattle.std.specs.Prelude.{◌≡◌, ℕ, List, Result, Ok, Err}
-use Rattle.tac_io.specs.States.{SinkState}
-use Rattle.game_text.specs.Games.{GameFile}
-use Rattle.auction_core.specs.ClosedGame.{ClosedGame}
-use Rattle.score_sheet.specs.Sheets.{Scored}
-use Rattle.log_text.specs.SheetText.{sheet_part}
+use Rattle.game_log.specs.Prelude.{SinkState, GameFile, ClosedGame, Scored, sheet_part, TookWhole, TookPart}
 use Rattle.game_log.specs.ScoredGames.{IsSheetOf}
-use Rattle.tac_io.specs.Taken.{TookWhole, TookPart}
 use Rattle.game_log.specs.declared.fault.LogWriteFault.{LogWriteFault}
 use Rattle.game_log.specs.declared.fault.LogWriteFault.TheVariants.{Failed, Memory}
 

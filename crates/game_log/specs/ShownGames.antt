@@ -1,14 +1,6 @@
 -- What holds of the numbers of every game that was played, by the ranges of logs.
-use Rattle.std.specs.Prelude.{◌≤◌, ⊤, List, length}
-use Rattle.std.specs.List.{All}
-use Rattle.tac_base.specs.declared.limits.TheConstants.{CASH_ENTRIES}
-use Rattle.auction_core.specs.Ranges.{IsHistory}
-use Rattle.game_text.specs.Games.{GameFile}
-use Rattle.trade_ledger.specs.CashKeeping.{IsLoggableCash}
-use Rattle.auction_core.specs.ClosedGame.{ClosedGame}
-use Rattle.score_sheet.specs.Sheets.{Scored}
-use Rattle.line_protocol.specs.Heads.{Head, Play, Serve}
-use Rattle.log_text.specs.LoggedGames.{IsLoggedVerdict}
+use Rattle.std.specs.Prelude.{◌≤◌, ⊤, List, length, All}
+use Rattle.game_log.specs.Prelude.{CASH_ENTRIES, IsHistory, GameFile, IsLoggableCash, ClosedGame, Scored, Head, Play, Serve, IsLoggedVerdict}
 use Rattle.game_log.specs.ScoredGames.{IsSheetOf}
 use Rattle.game_log.specs.LogRanges.{IsRangedScore}
 

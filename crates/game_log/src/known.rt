@@ -1,11 +1,7 @@
 // What the types of the parts of a game keep of the numbers in its log.
-ghost use Rattle.std.specs.Prelude.{◌≡◌, ◌≤◌, true, length};
-ghost use Rattle.std.specs.List.{All, AllByRecursion};
-ghost use Rattle.trade_ledger.specs.CashKeeping.{IsLoggableCash};
-ghost use Rattle.auction_core.specs.Ranges.{IsHistory};
-ghost use Rattle.line_protocol.specs.Heads.{head_of};
-ghost use Rattle.log_text.specs.Logged.{IsVerdict, IsEnd, IsHead, IsAuction, IsCash};
-ghost use Rattle.log_text.specs.LoggedGames.{IsLoggedVerdict};
+ghost use Rattle.std.specs.Prelude.{◌≡◌, ◌≤◌, true, length, All};
+ghost use Rattle.std.specs.List.{AllByRecursion};
+ghost use Rattle.game_log.specs.Prelude.{IsLoggableCash, IsHistory, head_of, IsVerdict, IsEnd, IsHead, IsAuction, IsCash, IsLoggedVerdict};
 ghost use Rattle.game_log.specs.ShownGames.{HasSeats};
 
 use crate::LogHead;

@@ -1,12 +1,8 @@
 // The first part of a log, piece by piece.
-ghost use Rattle.std.specs.Prelude.{◌≡◌, ◌<◌, length, Some, slice_get};
-ghost use Rattle.std.specs.List.{flat_map};
+ghost use Rattle.std.specs.Prelude.{◌≡◌, ◌<◌, length, Some, slice_get, flat_map};
 ghost use Rattle.auction_rules.specs.History.{Entry};
-ghost use Rattle.trade_ledger.specs.declared.cash_calls.CashEntry.{CashEntry};
-ghost use Rattle.line_protocol.specs.Heads.{head_of};
+ghost use Rattle.game_log.specs.Prelude.{CashEntry, head_of, IsPlayed, IsHead, WritesPiece};
 ghost use Rattle.log_text.specs.LogText as log;
-ghost use Rattle.log_text.specs.Logged.{IsPlayed, IsHead};
-ghost use Rattle.tac_io.specs.Written.{WritesPiece};
 ghost use Rattle.game_log.specs.Gathering.{Gathers};
 
 use crate::LogHead;

@@ -1,8 +1,6 @@
 // The ranges of the numbers that a log shows of a game.
 ghost use Rattle.std.specs.Prelude.{◌≡◌, true};
-ghost use Rattle.score_sheet.specs.Settlement.{settlement_of};
-ghost use Rattle.score_sheet.specs.SettledRanges.{IsSettlement};
-ghost use Rattle.line_protocol.specs.Heads.{head_of};
+ghost use Rattle.game_log.specs.Prelude.{settlement_of, IsSettlement, head_of};
 ghost use Rattle.game_log.specs.ShownGames.{IsShowable};
 
 use crate::LogHead;

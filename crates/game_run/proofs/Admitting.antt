@@ -1,8 +1,6 @@
 -- Links and their verdicts, one by one: what holds of each, and of one more.
 use Rattle.std.proofs.Common.{suc, ◌≡◌, List, [], ◌∷◌, ◌++◌, fold, length, refl, ap}
-use Rattle.line_protocol.specs.declared.admission.Verdict.{Verdict}
-use Rattle.agent_gate.specs.Gates.{Seats, seats_after}
-use Rattle.game_run.specs.Arriving.{HoldsInTurn}
+use Rattle.game_run.specs.{Verdict, Seats, seats_after, HoldsInTurn}
 
 module _ {A B : Type 0} where
   -- one link more, whose verdict is by the seats after all before it

@@ -1,31 +1,13 @@
 -- What became of each agent, by its seat.
-use Rattle.std.proofs.Common.{zero, suc, ◌≡◌, ℕ, ◌<◌, ◌+◌, ◌-◌, ◌^◌, List, [], ◌∷◌, ◌++◌, map, length, refl, ap, sym, ◌∙◌, subst, true, Bool, Some, None, arith, add-zero, filter}
-use Rattle.std.specs.Prelude.{cond, Contains, is_some, slice_get, IfSome}
-use Rattle.std.specs.declared.option.Option.{Option}
-use Rattle.std.specs.Option.{option_map}
-use Rattle.std.specs.List.{cons_option, filter_map, range_with_len}
+use Rattle.std.proofs.Common.{zero, suc, ◌≡◌, ℕ, ◌<◌, ◌+◌, ◌-◌, ◌^◌, List, [], ◌∷◌, ◌++◌, map, length, refl, ap, sym, ◌∙◌, subst, true, Bool, Some, None, arith, add-zero, filter, cond, Contains, is_some, slice_get, IfSome, Option, option_map, filter_map}
+use Rattle.std.specs.List.{cons_option, range_with_len}
 use mathlib.Core.Option.{some}
 use lib.ListN.{get_elem?}
-use Rattle.game_text.specs.Games.{GameFile}
-use Rattle.auction_core.specs.ClosedGame.{ClosedGame}
-use Rattle.tac_io.specs.AllAnswers.{all_answers}
-use Rattle.tac_io.specs.LineAnswers.{goes_on}
-use Rattle.tac_io.specs.Lines.{count_of, held_of, last_of, link_of}
-use Rattle.tac_io.specs.declared.lines.Lines.{Lines}
-use Rattle.line_protocol.specs.declared.admission.Cause.{Cause}
-use Rattle.floor.specs.declared.desk.Desk.{Desk}
-use Rattle.floor.specs.Answers.{IsSameDesk}
-use Rattle.floor.specs.Closing.{IsBorneOut}
-use Rattle.floor.specs.Desks.{desk_ids, desk_caller, IsNewDesk}
-use Rattle.agent_gate.specs.Served.{IsServed}
-use Rattle.agent_gate.specs.Welcome.{welcome_text}
+use Rattle.game_run.specs.{GameFile, ClosedGame, all_answers, goes_on, count_of, held_of, last_of, link_of, Lines, Cause, Desk, IsSameDesk, IsBorneOut, desk_ids, desk_caller, IsNewDesk, IsServed, welcome_text, LinkState, Dialect, FloorIds, eight_of, played_end, IsReadySeat, IsReadyClock, AreEightReady, IsPlayedOut, IsServedBy, IsAgentsPart, IsServedAs}
 use Rattle.game_run.specs.declared.sessions.AgentSeat.{AgentSeat}
 use Rattle.game_run.specs.declared.sessions.PlayedSeat.{PlayedSeat}
 use Rattle.game_run.specs.declared.sessions.Two.{Two}
-use Rattle.tac_io.specs.States.{LinkState}
-use Rattle.game_run.specs.{FloorIds, eight_of, played_end, IsReadySeat, IsReadyClock, AreEightReady, IsPlayedOut, IsServedBy, IsAgentsPart, IsServedAs}
 use Rattle.game_run.proofs.Transcripts.{transcript_of, absent_of}
-use Rattle.agent_gate.specs.Dialects.{Dialect}
 
 -- what holds of each number below eight
 pub below_eight : (P : ℕ → Type 0) → P 0 → P 1 → P 2 → P 3 → P 4 → P 5 → P 6 → P 7 → (n : ℕ) → n < 8 → P n

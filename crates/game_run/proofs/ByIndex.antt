@@ -1,13 +1,7 @@
 -- What holds of each link in turn holds of each by its index, and the other way round.
-use Rattle.std.proofs.Common.{zero, suc, ◌≡◌, ℕ, List, [], ◌∷◌, fold, length, map, take, refl, ap, sym, ◌∙◌, subst, Some}
-use Rattle.std.specs.Prelude.{slice_get}
+use Rattle.std.proofs.Common.{zero, suc, ◌≡◌, ℕ, List, [], ◌∷◌, fold, length, map, take, refl, ap, sym, ◌∙◌, subst, Some, slice_get}
 use Rattle.std.proofs.lemmas.List.{length-map}
-use Rattle.tac_io.specs.Known.{known_then, then_known}
-use Rattle.tac_io.specs.States.{LinkState, LinksState}
-use Rattle.line_protocol.specs.declared.admission.Verdict.{Verdict}
-use Rattle.agent_gate.specs.Gates.{Seats, seats_after}
-use Rattle.game_run.specs.Hosted.{HostedGame}
-use Rattle.game_run.specs.{free_seats, CameTo, HoldsInTurn, TakesLinks}
+use Rattle.game_run.specs.{known_then, then_known, LinkState, LinksState, Verdict, Seats, seats_after, HostedGame, free_seats, CameTo, HoldsInTurn, TakesLinks}
 use Rattle.game_run.proofs.KeptSeats.{get_map}
 
 module _ {A B : Type 0} (Holds : Seats → Verdict → A → B → Type 0) where

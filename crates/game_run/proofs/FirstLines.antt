@@ -1,26 +1,11 @@
 -- The first line of a link and its verdict.
-use Rattle.std.proofs.Common.{suc, ◌≡◌, ◌≢◌, ℕ, ◌+◌, ◌-◌, ◌^◌, ◌<◌, ◌≤◌, List, [], ◌∷◌, ◌++◌, length, refl, ap, sym, ◌∙◌, subst, true, false, Bool, Some, None, arith, append_assoc, append-nil, length-append, inl, inr}
-use Rattle.std.specs.Prelude.{position, if◌then◌else◌, slice_index_or}
-use Rattle.std.specs.declared.option.Option.{Option}
-use Rattle.std.specs.Str.{bytes_eq}
-use Rattle.tac_io.specs.AllAnswers.{all_answers, ended_line}
+use Rattle.std.proofs.Common.{suc, ◌≡◌, ◌≢◌, ℕ, ◌+◌, ◌-◌, ◌^◌, ◌<◌, ◌≤◌, List, [], ◌∷◌, ◌++◌, length, refl, ap, sym, ◌∙◌, subst, true, false, Bool, Some, None, arith, append_assoc, append-nil, length-append, inl, inr, position, if◌then◌else◌, slice_index_or, Option, bytes_eq}
+use Rattle.game_run.specs.{all_answers, ended_line, Answers, HasLineCause, goes_on, has_end, BeginsWithLine, count_of, held_of, last_of, link_of, link_place, GaveBytes, NoReadFails, ReadsNothing, SendsNothing, known_then, then_known, IsAtEnd, TakesSome, LineGot, Lines, Verdict, Seated, Syntax, WrongWord, Taken, Lost, Seats, verdict_of, word_verdict, seat_verdict, greeting_of, seats_after, LinkState, refusal_line, IsSentOrCut, IsLost, BeginsWith, IsRefused, seat_of, IsUnseated, IsOnlySent, IsTurnedAway, IsFirstRead}
 use Rattle.tac_io.specs.HeldBytes.{LinkPlace}
-use Rattle.tac_io.specs.LineAnswers.{Answers, HasLineCause, goes_on}
-use Rattle.tac_io.specs.LineText.{has_end, BeginsWithLine}
-use Rattle.tac_io.specs.Lines.{count_of, held_of, last_of, link_of, link_place}
-use Rattle.tac_io.specs.LinkCalls.{GaveBytes, NoReadFails, ReadsNothing, SendsNothing}
-use Rattle.tac_io.specs.Known.{known_then, then_known, IsAtEnd, TakesSome}
-use Rattle.tac_io.specs.declared.line_got.LineGot.{LineGot}
 use Rattle.tac_io.specs.declared.line_got.LineGot.TheVariants as gots
-use Rattle.tac_io.specs.declared.lines.Lines.{Lines}
 use Rattle.tac_io.proofs.ByBytes.{all_answers-line, all_answers-end, all_answers-budget}
 use Rattle.tac_io.proofs.KnownPieces.{known_then-nothing, last_read_fails_still, last_write_fails_then, no_read_fails_twice, no_write_fails_twice, send_nothing_twice}
 use Rattle.std.proofs.lemmas.Bool.Decides.{nat_tests}
-use Rattle.line_protocol.specs.declared.admission.Verdict.{Verdict}
-use Rattle.line_protocol.specs.declared.admission.Verdict.TheVariants.{Seated, Syntax, WrongWord, Taken, Lost}
-use Rattle.agent_gate.specs.Gates.{Seats, verdict_of, word_verdict, seat_verdict, greeting_of, seats_after}
-use Rattle.game_run.specs.{refusal_line, IsSentOrCut, IsLost, BeginsWith, IsRefused, seat_of, IsUnseated, IsOnlySent, IsTurnedAway, IsFirstRead}
-use Rattle.tac_io.specs.States.{LinkState}
 
 -- ---- the first answer by the bytes
 

@@ -1,17 +1,9 @@
 -- The links at the seats of agents, and their holders.
-use Rattle.std.proofs.Common.{zero, suc, ◌≡◌, ◌≢◌, ℕ, ◌<◌, List, [], ◌∷◌, map, length, refl, ap, sym, ◌∙◌, subst, true, false, Bool, Some, None, arith, length-set}
-use Rattle.std.specs.Prelude.{position, if◌then◌else◌, slice_get, slice_set, slice_index_or}
-use Rattle.std.specs.Str.{bytes_eq}
-use Rattle.std.specs.declared.option.Option.{Option}
-use Rattle.std.proofs.lemmas.List.{get_or-set_same}
+use Rattle.std.proofs.Common.{zero, suc, ◌≡◌, ◌≢◌, ℕ, ◌<◌, List, [], ◌∷◌, map, length, refl, ap, sym, ◌∙◌, subst, true, false, Bool, Some, None, arith, length-set, position, if◌then◌else◌, slice_get, slice_set, slice_index_or, bytes_eq, Option, get_or-set_same}
 use Rattle.std.proofs.lemmas.Option.{slice_get_within}
-use Rattle.line_protocol.specs.declared.admission.Verdict.{Verdict}
-use Rattle.line_protocol.specs.declared.admission.Verdict.TheVariants.{Seated, Syntax, WrongWord, Taken, Lost}
-use Rattle.agent_gate.specs.Gates.{Seats, verdict_of, word_verdict, seat_verdict, greeting_of, seats_after}
+use Rattle.game_run.specs.{Verdict, Seated, Syntax, WrongWord, Taken, Lost, Seats, verdict_of, word_verdict, seat_verdict, greeting_of, seats_after, LinkState, HoldsInTurn, IsTurnedAway, Keeps, AreFilled, AreLinksOf}
 use Rattle.game_run.specs.declared.arrivals.Holder.{Holder}
 use Rattle.game_run.specs.declared.arrivals.Holder.TheVariants.{Seat, Unseated}
-use Rattle.game_run.specs.{HoldsInTurn, IsTurnedAway, Keeps, AreFilled, AreLinksOf}
-use Rattle.tac_io.specs.States.{LinkState}
 use Rattle.game_run.proofs.Admitting.{follows}
 
 -- ---- places in a list

@@ -1,35 +1,15 @@
 -- Eight seats and the clock, after a game.
-use Rattle.std.proofs.Common.{◌≡◌, ℕ, ◌<◌, ◌+◌, List, [], ◌∷◌, ◌++◌, map, length, refl, ap, sym, ◌∙◌, subst, false, Some, None, All, arith, filter, replicate}
-use Rattle.std.specs.Prelude.{is_some, slice_get, slice_index_or}
-use Rattle.std.specs.List.{filter_map}
-use Rattle.std.specs.declared.option.Option.{Option}
+use Rattle.std.proofs.Common.{◌≡◌, ℕ, ◌<◌, ◌+◌, List, [], ◌∷◌, ◌++◌, map, length, refl, ap, sym, ◌∙◌, subst, false, Some, None, All, arith, filter, replicate, is_some, slice_get, slice_index_or, filter_map, Option}
 use Rattle.std.proofs.lemmas.List.{length-map}
-use Rattle.std.proofs.lemmas.Option.{slice_get_within}
+use Rattle.std.proofs.lemmas.Option.{slice_get_within, same_Some}
 use mathlib.Core.Option.{some}
 use lib.ListN.{get_elem?}
-use Rattle.game_text.specs.Games.{GameFile}
-use Rattle.game_text.specs.Schedule.{schedule}
-use Rattle.clock_events.specs.MadeCalls.{MakesCalls}
-use Rattle.tac_base.specs.Goods.{agents}
-use Rattle.auction_core.specs.ClosedGame.{ClosedGame, all_goods}
-use Rattle.auction_core.specs.Setups.{setup_of}
-use Rattle.tac_io.specs.declared.lines.Lines.{Lines}
-use Rattle.line_protocol.specs.declared.admission.Cause.{Cause}
-use Rattle.floor.specs.declared.desk.Desk.{Desk}
-use Rattle.floor.specs.Answers.{IsSameDesk}
-use Rattle.floor.specs.Closing.{IsBorneOut}
-use Rattle.floor.specs.Desks.{desk_ids, desk_caller, IsNewDesk}
+use Rattle.game_run.specs.{GameFile, schedule, MakesCalls, agents, ClosedGame, all_goods, setup_of, Lines, Cause, Desk, IsSameDesk, IsBorneOut, desk_ids, desk_caller, IsNewDesk, LinkState, Dialect, IsAgents, IsLegalGame, AreBoth, FloorIds, eight_of, played_end, played_link, IsPlayedSeat, AreEightPlayed, IsAgentsPart, IsPlayedThrough}
 use Rattle.game_run.specs.declared.sessions.AgentSeat.{AgentSeat}
 use Rattle.game_run.specs.declared.sessions.PlayedSeat.{PlayedSeat}
 use Rattle.game_run.specs.declared.sessions.Two.{Two}
-use Rattle.game_run.specs.{IsAgents, IsLegalGame, AreBoth, FloorIds, eight_of, played_end, played_link, IsPlayedSeat, AreEightPlayed, IsAgentsPart, IsPlayedThrough}
-use Rattle.tac_io.specs.States.{LinkState}
 use Rattle.game_run.proofs.AgentParts.{below_eight, same_out, same_kind, agents_part, end_of_agent, ends_in_order}
 use Rattle.game_run.proofs.Transcripts.{clock_transcript_of}
-use Rattle.agent_gate.specs.Dialects.{Dialect}
-
-same_value : {A : Type 0} (a b : A) → Some a ≡ Some b → a ≡ b
-same_value a b e = cc
 
 module _ {L : Type 0} (state : L → LinkState) (dialect : Dialect) (game : GameFile)
     (e : Two (Two (Two (AgentSeat L)))) (p : Two (Two (Two (PlayedSeat L)))) (clock clock' : Desk) (ids : FloorIds)
@@ -109,7 +89,7 @@ module _ {L : Type 0} (state : L → LinkState) (dialect : Dialect) (game : Game
     end_at : (number : ℕ) (agent_seat : AgentSeat L) (q r : PlayedSeat L) → get_elem? (map (λ r. r.desk) (eight_of e) ++ clock ∷ []) number ≡ some agent_seat.desk → IsPlayedSeat state dialect game agent_seat q
         → Some q ≡ Some r → (desk_caller r.desk ≡ number) × (is_some agent_seat.lines ≡ is_some r.end)
     end_at number agent_seat q r at out is =
-        subst (λ s. (desk_caller s.desk ≡ number) × (is_some agent_seat.lines ≡ is_some s.end)) (same_value q r is) ((same_at number agent_seat q at out).1, sym (same_kind state dialect game agent_seat.desk agent_seat.lines q.desk q.end out))
+        subst (λ s. (desk_caller s.desk ≡ number) × (is_some agent_seat.lines ≡ is_some s.end)) (same_Some q r is) ((same_at number agent_seat q at out).1, sym (same_kind state dialect game agent_seat.desk agent_seat.lines q.desk q.end out))
 
     each_end : (k : ℕ) → k < 8 → HasEnd k
     unfolding HasEnd

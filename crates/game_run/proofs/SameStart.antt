@@ -1,16 +1,10 @@
 -- A session that began later is one from before, if nothing was sent and no call failed in between.
 use Rattle.std.proofs.Common.{◌≡◌, ℕ, List, ◌∙◌, ap, subst}
 use Rattle.std.specs.List.{concat}
-use Rattle.tac_io.specs.LinkCalls.{NoReadFails, NoWriteFails}
-use Rattle.tac_io.specs.States.{LinkState}
-use Rattle.tac_io.specs.Known.{known_then, TakesSome}
-use Rattle.tac_io.specs.declared.line_got.LineGot.{LineGot}
+use Rattle.game_run.specs.Prelude.{NoReadFails, NoWriteFails, LinkState, known_then, TakesSome, LineGot, Cause, Session, EndsBy, IsServed, SendsAll, pieces_of, Dialect}
 use Rattle.tac_io.proofs.KnownPieces.{last_read_fails_then, last_write_fails_then, no_read_fails_twice, no_write_fails_twice}
 use Rattle.line_protocol.specs.declared.saying.Said.{Said}
-use Rattle.line_protocol.specs.declared.admission.Cause.{Cause}
 use Rattle.line_protocol.specs.declared.admission.Cause.TheVariants as causes
-use Rattle.agent_gate.specs.Served.{Session, EndsBy, IsServed, SendsAll, pieces_of}
-use Rattle.agent_gate.specs.Dialects.{Dialect}
 
 module _ (before now after : LinkState) (same : now.sent ≡ before.sent) (reads : NoReadFails before now) (writes : NoWriteFails before now) where
   -- the session with its link as it was

@@ -1,28 +1,17 @@
 -- Links are taken one by one.
-use Rattle.std.proofs.Common.{zero, suc, ◌≡◌, ℕ, ◌<◌, ◌+◌, List, [], ◌∷◌, ◌++◌, map, length, take, refl, ap, sym, ◌∙◌, subst, true, false, Bool, Some, None, arith, length-append, length-set, replicate, count_by}
-use Rattle.std.specs.Prelude.{is_some, slice_get, slice_set, slice_index_or, if◌then◌else◌}
-use Rattle.std.specs.declared.option.Option.{Option}
+use Rattle.std.proofs.Common.{zero, suc, ◌≡◌, ℕ, ◌<◌, ◌+◌, List, [], ◌∷◌, ◌++◌, map, length, take, refl, ap, sym, ◌∙◌, subst, true, false, Bool, Some, None, arith, length-append, length-set, replicate, count_by, is_some, slice_get, slice_set, slice_index_or, if◌then◌else◌, Option}
 use Rattle.std.proofs.lemmas.List.{map_push, take-append-le}
 use Rattle.std.proofs.lemmas.List.Sums.{fold_push}
 use Rattle.std.proofs.Math.Seq.{take-append_seam}
 use native.Mathlib.Decide.{ℕ_discrete}
 use mathlib.Core.Logic.{dite}
-use Rattle.game_text.specs.Games.{GameFile}
-use Rattle.tac_io.specs.LineAnswers.{goes_on}
-use Rattle.tac_io.specs.Lines.{last_of}
-use Rattle.tac_io.specs.Known.{then_known}
-use Rattle.tac_io.specs.declared.lines.Lines.{Lines}
+use Rattle.game_run.specs.{GameFile, goes_on, last_of, then_known, Lines, Verdict, Seated, Syntax, WrongWord, Taken, Lost, Seats, seats_after, LinkState, free_seats, seats_given, is_seated, MayGoOn, HoldsInTurn, IsTurnedAway, IsGreeted, IsGreeting, AddsArrival, IsTakenIn, Keeps, AreKept, AreTaken}
 use Rattle.tac_io.proofs.KnownPieces.{then_known-nothing, then_known-twice}
-use Rattle.line_protocol.specs.declared.admission.Verdict.{Verdict}
-use Rattle.line_protocol.specs.declared.admission.Verdict.TheVariants.{Seated, Syntax, WrongWord, Taken, Lost}
-use Rattle.agent_gate.specs.Gates.{Seats, seats_after}
 use Rattle.game_run.specs.declared.arrivals.Arrivals.{Arrivals}
 use Rattle.game_run.specs.declared.arrivals.Greeting.{Greeting}
 use Rattle.game_run.specs.declared.arrivals.Greeting.TheVariants as greetings
 use Rattle.game_run.specs.declared.arrivals.Holder.{Holder}
 use Rattle.game_run.specs.declared.arrivals.Holder.TheVariants.{Seat, Unseated}
-use Rattle.game_run.specs.{free_seats, seats_given, is_seated, MayGoOn, HoldsInTurn, IsTurnedAway, IsGreeted, IsGreeting, AddsArrival, IsTakenIn, Keeps, AreKept, AreTaken}
-use Rattle.tac_io.specs.States.{LinkState}
 use Rattle.game_run.proofs.Admitting.{one_more, follows}
 use Rattle.game_run.proofs.KeptSeats.{get_set_same, map_set, seat_was_free, keeps_beside}
 

@@ -1,27 +1,14 @@
 -- What a desk knew of a closed game is its caller's transcript.
-use Rattle.std.proofs.Common.{zero, suc, ◌≡◌, ℕ, ◌<◌, ◌+◌, List, [], ◌∷◌, ◌++◌, map, length, refl, ap, sym, ◌∙◌, subst, arith, add-zero, inl, inr}
-use Rattle.std.specs.Prelude.{◌==◌, filter, slice_index_or}
+use Rattle.std.proofs.Common.{zero, suc, ◌≡◌, ℕ, ◌<◌, ◌+◌, List, [], ◌∷◌, ◌++◌, map, length, refl, ap, sym, ◌∙◌, subst, arith, add-zero, inl, inr, ◌==◌, filter, slice_index_or}
 use Rattle.std.specs.List.{AllZip, range_with_len}
 use Rattle.std.proofs.lemmas.List.{get_or-replicate}
 use Rattle.std.proofs.lemmas.Slice.Zip.{AllZip-long}
 use Rattle.std.proofs.lemmas.Bool.{cases_Bool}
-use Rattle.game_text.specs.Games.{GameFile}
-use Rattle.turn_lock.specs.Part.{part}
+use Rattle.game_run.specs.{GameFile, part, ClosedGame, all_goods, Desk, desk_caller, desk_entries, boards_of, IsNewDesk, IsBorneOut, clock_calls, schedule, ClockTurn, clock_entries, clock_posts, MakesCalls, AreMadeBy, IsTranscript, Turn, cash_made, boards_shown, caller_parts, FloorIds, IsClockTranscript}
 use Rattle.turn_lock.specs.Notes.{AreNotes}
-use Rattle.auction_core.specs.ClosedGame.{ClosedGame, all_goods}
-use Rattle.floor.specs.declared.desk.Desk.{Desk}
-use Rattle.floor.specs.Desks.{desk_caller, desk_entries, boards_of, IsNewDesk}
-use Rattle.floor.specs.Closing.{IsBorneOut}
 use Rattle.floor.specs.ClosedBoards.{board_of}
-use Rattle.game_text.specs.Schedule.{clock_calls, schedule}
-use Rattle.clock_events.specs.ClockTurns.{ClockTurn, call_made, clock_entries, clock_posts}
-use Rattle.clock_events.specs.MadeCalls.{MakesCalls}
-use Rattle.agent_gate.specs.Sessions.{AreMadeBy}
-use Rattle.agent_gate.specs.Transcript.{IsTranscript}
-use Rattle.agent_gate.specs.Turns.{Turn, cash_made, boards_shown}
+use Rattle.clock_events.proofs.ClockTurns.{call_made}
 use Rattle.agent_gate.proofs.DeskTurns.{all_made, made_none}
-use Rattle.game_run.specs.{caller_parts, FloorIds}
-use Rattle.game_run.specs.PlayedGame.{IsClockTranscript}
 
 -- ---- lists by place
 

@@ -1,31 +1,13 @@
 -- From the links that were admitted to those that played, and to those that were left.
-use Rattle.std.proofs.Common.{suc, ◌≡◌, ℕ, ◌<◌, ◌+◌, ◌-◌, ◌^◌, List, [], ◌∷◌, ◌++◌, map, length, refl, ap, sym, ◌∙◌, subst, true, false, Bool, Some, None, arith, filter}
-use Rattle.std.specs.Prelude.{Contains, Result, Ok, Err, OnOk, OnErr, is_err, is_some, slice_index_or}
+use Rattle.std.proofs.Common.{suc, ◌≡◌, ℕ, ◌<◌, ◌+◌, ◌-◌, ◌^◌, List, [], ◌∷◌, ◌++◌, map, length, refl, ap, sym, ◌∙◌, subst, true, false, Bool, Some, None, arith, filter, Contains, Result, Ok, Err, OnOk, OnErr, is_err, is_some, slice_index_or, Option, option_map}
 use Rattle.std.proofs.lemmas.List.{length-map}
-use Rattle.tac_io.specs.Counts.{HasCause, Rose}
-use Rattle.std.specs.declared.option.Option.{Option}
-use Rattle.std.specs.Option.{option_map}
+use Rattle.game_run.specs.{HasCause, Rose, GameFile, agents, ClosedGame, all_answers, count_of, held_of, link_of, LinkState, LinksState, known_then, IsAtEnd, Lines, Cause, Verdict, Seated, Syntax, WrongWord, Taken, Lost, Seats, welcome_text, IsTranscript, Dialect, free_seats, seats_given, CameTo, MayGoOn, IsGreeted, IsTurnedAway, Keeps, AreKept, AreTaken, IsSeated, IsLeftUnplayed, IsPlayedOver, IsNotPlayed, AreFilled, AreLinksOf, HostedGame, IsServedAs, IsAgentsPart, IsPlayedThrough}
 use Rattle.std.proofs.lemmas.Option.{slice_get_within, slice_get-get_or, get_or_from_slice_get}
-use Rattle.game_text.specs.Games.{GameFile}
-use Rattle.tac_base.specs.Goods.{agents}
-use Rattle.auction_core.specs.ClosedGame.{ClosedGame}
-use Rattle.tac_io.specs.AllAnswers.{all_answers}
-use Rattle.tac_io.specs.Lines.{count_of, held_of, link_of}
-use Rattle.tac_io.specs.States.{LinkState, LinksState}
-use Rattle.tac_io.specs.Known.{known_then, IsAtEnd}
 use Rattle.tac_io.specs.declared.line_got.LineGot.TheVariants as gots
-use Rattle.tac_io.specs.declared.lines.Lines.{Lines}
 use Rattle.tac_io.proofs.KnownPieces.{gave_twice}
-use Rattle.line_protocol.specs.declared.admission.Cause.{Cause}
-use Rattle.line_protocol.specs.declared.admission.Verdict.{Verdict}
-use Rattle.line_protocol.specs.declared.admission.Verdict.TheVariants.{Seated, Syntax, WrongWord, Taken, Lost}
-use Rattle.agent_gate.specs.Gates.{Seats}
-use Rattle.agent_gate.specs.Welcome.{welcome_text}
 use Rattle.game_run.specs.declared.arrivals.Arrivals.{Arrivals}
 use Rattle.game_run.specs.declared.arrivals.Holder.{Holder}
 use Rattle.game_run.specs.declared.arrivals.Holder.TheVariants.{Seat, Unseated}
-use Rattle.game_run.specs.{free_seats, seats_given, CameTo, MayGoOn, IsGreeted, IsTurnedAway, Keeps, AreKept, AreTaken, IsSeated, IsLeftUnplayed, IsPlayedOver, IsNotPlayed, AreFilled, AreLinksOf, HostedGame, IsServedAs, IsAgentsPart, IsPlayedThrough}
-use Rattle.agent_gate.specs.Transcript.{IsTranscript}
 use Rattle.game_run.specs.PlayedGame.{PlayedGame}
 use Rattle.game_run.proofs.Admitting.{follows}
 use Rattle.game_run.proofs.ByIndex.{takes}
@@ -34,7 +16,6 @@ use Rattle.game_run.proofs.LinksBack.{filled_alike}
 use Rattle.game_run.proofs.SameStart.{served_from}
 use Rattle.game_run.proofs.KeptSeats.{seat_was_free, filled, links_hold, get_map}
 use Rattle.game_run.proofs.Transcripts.{map_at}
-use Rattle.agent_gate.specs.Dialects.{Dialect}
 
 -- ---- every kept holder can be given its link
 

@@ -1,17 +1,7 @@
 -- How links are admitted, in the order in which they come. The rule is our own.
-use Rattle.std.specs.Prelude.{◌≡◌, ℕ, ◌<◌, ◌⊎◌, List, [], ◌∷◌, Bool, true, false, Option, Some, codes, length, take, replicate, slice_get}
-use Rattle.std.specs.List.{count_by, fold}
-use Rattle.tac_base.specs.declared.limits.TheConstants.{AGENTS, LINKS, LINK_BYTES}
-use Rattle.game_text.specs.Games.{GameFile}
-use Rattle.tac_io.specs.AllAnswers.{all_answers}
-use Rattle.tac_io.specs.LinkCalls.{GaveBytes, LastReadFails, LastWriteFails, NoReadFails, NoWriteFails, SendsNothing}
-use Rattle.tac_io.specs.States.{LinkState, LinksState}
-use Rattle.tac_io.specs.Known.{known_then, then_known, IsAtEnd, TakesSome}
-use Rattle.tac_io.specs.declared.line_got.LineGot.{LineGot}
+use Rattle.std.specs.Prelude.{◌≡◌, ℕ, ◌<◌, ◌⊎◌, List, [], ◌∷◌, Bool, true, false, Option, Some, codes, length, take, replicate, slice_get, count_by, fold}
+use Rattle.game_run.specs.Prelude.{AGENTS, LINKS, LINK_BYTES, GameFile, all_answers, GaveBytes, LastReadFails, LastWriteFails, NoReadFails, NoWriteFails, SendsNothing, LinkState, LinksState, known_then, then_known, IsAtEnd, TakesSome, LineGot, Verdict, Seated, Syntax, WrongWord, Taken, Lost, Seats, verdict_of, seats_after}
 use Rattle.tac_io.specs.declared.line_got.LineGot.TheVariants as gots
-use Rattle.line_protocol.specs.declared.admission.Verdict.{Verdict}
-use Rattle.line_protocol.specs.declared.admission.Verdict.TheVariants.{Seated, Syntax, WrongWord, Taken, Lost}
-use Rattle.agent_gate.specs.Gates.{Seats, verdict_of, seats_after}
 use Rattle.game_run.specs.Hosted.{HostedGame}
 
 -- the seats of a game before any link came
@@ -44,8 +34,7 @@ refusal_line verdict = []
 -- the line was sent and no write failed; or a write failed, the last one, and only its first bytes were sent
 abbrev pub IsSentOrCut : List ℕ → LinkState → LinkState → Type 0
 IsSentOrCut line before after =
-    ((after.sent ≡ known_then before.sent line) × NoWriteFails before after)
-    ⊎ (TakesSome before.sent after.sent line × LastWriteFails before after)
+    ((after.sent ≡ known_then before.sent line) × NoWriteFails before after) ⊎ (TakesSome before.sent after.sent line × LastWriteFails before after)
 
 -- the bytes that a link gave begin with a line of this verdict, and no read failed; a read may have taken more bytes
 -- than that line, which do not count

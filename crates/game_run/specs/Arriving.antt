@@ -1,19 +1,6 @@
 -- Links after their first line, as admission keeps them.
 use Rattle.std.specs.Prelude.{⊤, ◌≡◌, ℕ, ◌<◌, ◌≤◌, List, [], ◌∷◌, ◌++◌, Bool, true, false, Option, Some, None, length, map, take, is_some, slice_get, slice_set}
-use Rattle.tac_base.specs.declared.limits.TheConstants.{AGENTS, LINE_BYTES, LINK_BYTES}
-use Rattle.game_text.specs.Games.{GameFile}
-use Rattle.tac_io.specs.AllAnswers.{all_answers}
-use Rattle.tac_io.specs.LineAnswers.{goes_on}
-use Rattle.tac_io.specs.LineText.{BeginsWithLine}
-use Rattle.tac_io.specs.Lines.{count_of, held_of, last_of, link_of}
-use Rattle.tac_io.specs.LinkCalls.{GaveBytes, NoReadFails, ReadsNothing, SendsNothing}
-use Rattle.tac_io.specs.States.{LinkState}
-use Rattle.tac_io.specs.Known.{then_known}
-use Rattle.tac_io.specs.declared.line_got.LineGot.{LineGot}
-use Rattle.tac_io.specs.declared.lines.Lines.{Lines}
-use Rattle.line_protocol.specs.declared.admission.Verdict.{Verdict}
-use Rattle.line_protocol.specs.declared.admission.Verdict.TheVariants.{Seated, Lost}
-use Rattle.agent_gate.specs.Gates.{Seats, verdict_of, seats_after}
+use Rattle.game_run.specs.Prelude.{AGENTS, LINE_BYTES, LINK_BYTES, GameFile, all_answers, goes_on, BeginsWithLine, count_of, held_of, last_of, link_of, GaveBytes, NoReadFails, ReadsNothing, SendsNothing, LinkState, then_known, LineGot, Lines, Verdict, Seated, Lost, Seats, verdict_of, seats_after}
 use Rattle.game_run.specs.declared.arrivals.Arrivals.{Arrivals}
 use Rattle.game_run.specs.declared.arrivals.Greeting.{Greeting}
 use Rattle.game_run.specs.declared.arrivals.Greeting.TheVariants as greetings

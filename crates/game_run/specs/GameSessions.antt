@@ -2,32 +2,12 @@
 use Rattle.std.specs.Prelude.{◌≡◌, ℕ, ◌-◌, ◌+◌, ◌<◌, List, [], ◌++◌, Option, Some, None, Contains, false, length, filter, map, is_some, slice_index_or, vec_capacity}
 use mathlib.Core.Option.{some}
 use lib.ListN.{get_elem?}
-use Rattle.tac_base.specs.declared.limits.TheConstants.{AGENTS, CALLERS, LINK_BYTES}
-use Rattle.game_text.specs.Games.{GameFile}
-use Rattle.tac_base.specs.Goods.{agents}
+use Rattle.game_run.specs.Prelude.{AGENTS, CALLERS, LINK_BYTES, GameFile, agents, part, ClosedGame, all_goods, setup_of, all_answers, count_of, held_of, link_of, GaveBytes, Lines, Cause, Desk, IsNewDesk, floor_ids, starts_of, AreDesksOf, IsServed, IsTranscript, Turn, welcome_text, LinkState, LineGot, Dialect}
 use Rattle.auction_rules.specs.History.{Entry}
-use Rattle.turn_lock.specs.Part.{part}
-use Rattle.auction_core.specs.ClosedGame.{ClosedGame, all_goods}
-use Rattle.auction_core.specs.Setups.{setup_of}
-use Rattle.tac_io.specs.AllAnswers.{all_answers}
-use Rattle.tac_io.specs.Lines.{count_of, held_of, link_of}
-use Rattle.tac_io.specs.LinkCalls.{GaveBytes}
-use Rattle.tac_io.specs.declared.lines.Lines.{Lines}
-use Rattle.line_protocol.specs.declared.admission.Cause.{Cause}
-use Rattle.floor.specs.declared.desk.Desk.{Desk}
 use Rattle.floor.specs.declared.floor.Floor.{Floor}
-use Rattle.floor.specs.Desks.{IsNewDesk}
-use Rattle.floor.specs.Floors.{floor_ids, starts_of, AreDesksOf}
-use Rattle.agent_gate.specs.Served.{IsServed}
-use Rattle.agent_gate.specs.Transcript.{IsTranscript}
-use Rattle.agent_gate.specs.Turns.{Turn}
-use Rattle.agent_gate.specs.Welcome.{welcome_text}
 use Rattle.game_run.specs.declared.session_ends.SessionEnds.{SessionEnds}
 use Rattle.game_run.specs.declared.play.OpenFloor.{OpenFloor}
-use Rattle.tac_io.specs.States.{LinkState}
-use Rattle.tac_io.specs.declared.line_got.LineGot.{LineGot}
 use Rattle.game_run.specs.PlayedGame.{IsLegalGame, IsClockTranscript}
-use Rattle.agent_gate.specs.Dialects.{Dialect}
 
 -- ---- a caller's part
 

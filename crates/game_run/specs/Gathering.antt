@@ -1,8 +1,6 @@
 -- What the sessions left, gathered in the order of the agents.
-use Rattle.std.specs.Prelude.{◌≡◌, ℕ, ◌+◌, ◌<◌, ◌≤◌, List, ◌++◌, map, vec_len, vec_capacity}
-use Rattle.std.specs.List.{filter_map}
-use Rattle.tac_base.specs.declared.limits.TheConstants.{AGENTS}
-use Rattle.floor.specs.Desks.{desk_caller}
+use Rattle.std.specs.Prelude.{◌≡◌, ℕ, ◌+◌, ◌<◌, ◌≤◌, List, ◌++◌, map, vec_len, vec_capacity, filter_map}
+use Rattle.game_run.specs.Prelude.{AGENTS, desk_caller}
 use Rattle.game_run.specs.declared.sessions.PlayedSeat.{PlayedSeat}
 use Rattle.game_run.specs.declared.session_ends.SessionEnds.{SessionEnds}
 use Rattle.game_run.specs.Seatings.{played_link, played_end}
@@ -23,7 +21,7 @@ pub record TakesCapacity {L : Type 0} (before after : SessionEnds L) (count : �
   pub link_room : vec_capacity after.links ≡ vec_capacity before.links
 
 -- exactly these were added
-pub record Gathers {L : Type 0} (before after : SessionEnds L) (played : List (PlayedSeat L)) : Type 0 where
+pub record AddsPlayed {L : Type 0} (before after : SessionEnds L) (played : List (PlayedSeat L)) : Type 0 where
   pub desks : after.desks.items ≡ before.desks.items ++ map (λ p. p.desk) played
   pub ends : after.ends.items ≡ before.ends.items ++ filter_map played_end played
   pub links : after.links.items ≡ before.links.items ++ map played_link played

@@ -1,7 +1,6 @@
 -- A game as it is hosted: what is fixed before its links come.
 use Rattle.std.specs.Prelude.{ℕ}
-use Rattle.game_text.specs.Games.{GameFile}
-use Rattle.agent_gate.specs.Dialects.{Dialect}
+use Rattle.game_run.specs.Prelude.{GameFile, Dialect}
 
 -- the game, the form of its agents' lines, and the port at which its links are asked to listen
 pub record HostedGame : Type 1 where

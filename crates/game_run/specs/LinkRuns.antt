@@ -1,18 +1,7 @@
 -- What became of a link that has a seat in a game, and in one that was not played.
 use Rattle.std.specs.Prelude.{◌≡◌, ℕ, List, [], ◌∷◌, Contains}
-use Rattle.tac_base.specs.declared.limits.TheConstants.{LINK_BYTES}
-use Rattle.tac_io.specs.AllAnswers.{all_answers}
-use Rattle.tac_io.specs.LinkCalls.{GaveBytes, SendsNothing}
-use Rattle.tac_io.specs.States.{LinkState}
-use Rattle.tac_io.specs.declared.line_got.LineGot.{LineGot}
+use Rattle.game_run.specs.Prelude.{LINK_BYTES, all_answers, GaveBytes, SendsNothing, LinkState, LineGot, Cause, Seated, Seats, verdict_of, IsServed, IsTranscript, Turn, welcome_text}
 use Rattle.tac_io.specs.declared.line_got.LineGot.TheVariants as gots
-use Rattle.line_protocol.specs.declared.admission.Cause.{Cause}
-use Rattle.line_protocol.specs.declared.admission.Verdict.TheVariants.{Seated}
-use Rattle.agent_gate.specs.Gates.{Seats, verdict_of}
-use Rattle.agent_gate.specs.Served.{IsServed}
-use Rattle.agent_gate.specs.Transcript.{IsTranscript}
-use Rattle.agent_gate.specs.Turns.{Turn}
-use Rattle.agent_gate.specs.Welcome.{welcome_text}
 use Rattle.game_run.specs.Admission.{HasFirstLine}
 use Rattle.game_run.specs.Hosted.{HostedGame}
 use Rattle.game_run.specs.PlayedGame.{PlayedGame}

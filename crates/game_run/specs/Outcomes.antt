@@ -1,10 +1,6 @@
 -- What `run_game` leaves of the links, and how many ticks its clock missed.
 use Rattle.std.specs.Prelude.{◌≡◌, ℕ, List}
-use Rattle.tac_io.specs.Counts.{Rose}
-use Rattle.tac_io.specs.States.{LinkState, LinksState}
-use Rattle.line_protocol.specs.declared.admission.Cause.{Cause}
-use Rattle.line_protocol.specs.declared.admission.Verdict.{Verdict}
-use Rattle.line_protocol.specs.Heads.{Head, Play, Serve, head_of}
+use Rattle.game_run.specs.Prelude.{Rose, LinkState, LinksState, Cause, Verdict, Head, Play, Serve, head_of}
 use Rattle.game_run.specs.declared.run.GameEnd.{GameEnd}
 use Rattle.game_run.specs.declared.run.RunFault.{RunFault}
 use Rattle.game_run.specs.declared.run.RunFault.TheVariants.{Links, Memory}

@@ -1,19 +1,9 @@
 -- A game that was played over links.
 use Rattle.std.specs.Prelude.{◌≡◌, ℕ, ◌<◌, List, [], false, All, filter, map, slice_index_or}
-use Rattle.game_text.specs.Games.{GameFile}
-use Rattle.tac_base.specs.Goods.{agents, clock}
-use Rattle.tac_base.specs.declared.limits.TheConstants.{AGENTS}
+use Rattle.game_run.specs.Prelude.{GameFile, agents, clock, AGENTS, part, ClosedGame, all_goods, setup_of, schedule, ClockTurn, clock_entries, clock_posts, Cause, Verdict, IsTranscript}
 use Rattle.auction_rules.specs.Legal.{Legal}
-use Rattle.turn_lock.specs.Part.{part}
 use Rattle.trade_ledger.specs.CashHistory.{IsLegalCash}
 use Rattle.trade_ledger.specs.Posts.{Matched}
-use Rattle.auction_core.specs.ClosedGame.{ClosedGame, all_goods}
-use Rattle.auction_core.specs.Setups.{setup_of}
-use Rattle.game_text.specs.Schedule.{schedule}
-use Rattle.clock_events.specs.ClockTurns.{ClockTurn, call_made, clock_entries, clock_posts}
-use Rattle.line_protocol.specs.declared.admission.Cause.{Cause}
-use Rattle.line_protocol.specs.declared.admission.Verdict.{Verdict}
-use Rattle.agent_gate.specs.Transcript.{IsTranscript}
 use Rattle.game_run.specs.Admission.{seats_given}
 
 -- The histories of the 28 auctions are legal by the rules of the game, and so is the cash history; it has exactly one post for each entry
@@ -29,7 +19,7 @@ pub record IsLegalGame (game : GameFile) (closed : ClosedGame) : Type 0 where
 -- trades.
 pub record IsClockTranscript (game : GameFile) (closed : ClosedGame) : Type 0 where
   pub turns : List ClockTurn
-  pub asked : map call_made turns ≡ schedule game
+  pub asked : map (λ turn. (turn.good, turn.entry.call)) turns ≡ schedule game
   pub calls : map (λ auction. part (λ e. e.caller) auction.history clock) closed.auctions ≡ map (λ good. clock_entries good turns) all_goods
   pub cash : part (λ e. e.caller) closed.cash clock ≡ clock_posts turns
 

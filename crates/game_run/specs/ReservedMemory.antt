@@ -1,7 +1,6 @@
 -- All memory of a game.
 use Rattle.std.specs.Prelude.{◌≡◌, [], None, replicate, vec_capacity}
-use Rattle.tac_base.specs.declared.limits.TheConstants.{AGENTS, LINKS}
-use Rattle.game_text.specs.Games.{GameFile}
+use Rattle.game_run.specs.Prelude.{AGENTS, LINKS, GameFile}
 use Rattle.game_run.specs.declared.arrivals.Arrivals.{Arrivals}
 use Rattle.game_run.specs.declared.run.Reserved.{Reserved}
 use Rattle.game_run.specs.GameSessions.{IsOpenFloor}

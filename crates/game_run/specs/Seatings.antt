@@ -1,25 +1,13 @@
 -- Eight seats, and what is at them before and after the sessions.
-use Rattle.std.specs.Prelude.{◌≡◌, ℕ, ◌<◌, List, [], ◌∷◌, ◌++◌, Option, Some, None, true, replicate, IfSome}
-use Rattle.std.specs.Option.{option_map}
-use Rattle.tac_base.specs.declared.limits.TheConstants.{AGENTS, GOODS}
-use Rattle.tac_base.specs.Goods.{clock}
+use Rattle.std.specs.Prelude.{◌≡◌, ℕ, ◌<◌, List, [], ◌∷◌, ◌++◌, Option, Some, None, true, replicate, IfSome, option_map}
+use Rattle.game_run.specs.Prelude.{AGENTS, GOODS, clock, GameFile, goes_on, last_of, Lines, Cause, Desk, desk_ids, desk_caller, desk_entries, desk_cash, IsSession, LinkState, Dialect}
 use Rattle.trade_ledger.specs.declared.cash_calls.CashEntry.{CashEntry}
 use Rattle.turn_lock.specs.Passes.{LockId}
 use Rattle.auction_core.specs.Auctions.{AuctionHistory}
-use Rattle.game_text.specs.Games.{GameFile}
-use Rattle.tac_io.specs.LineAnswers.{goes_on}
-use Rattle.tac_io.specs.Lines.{last_of}
-use Rattle.tac_io.specs.declared.lines.Lines.{Lines}
-use Rattle.line_protocol.specs.declared.admission.Cause.{Cause}
-use Rattle.floor.specs.declared.desk.Desk.{Desk}
-use Rattle.floor.specs.Desks.{desk_ids, desk_caller, desk_entries, desk_cash}
-use Rattle.agent_gate.specs.Sessions.{IsSession}
 use Rattle.agent_gate.specs.Turning.{session_state}
 use Rattle.game_run.specs.declared.sessions.Two.{Two}
 use Rattle.game_run.specs.declared.sessions.AgentSeat.{AgentSeat}
 use Rattle.game_run.specs.declared.sessions.PlayedSeat.{PlayedSeat}
-use Rattle.tac_io.specs.States.{LinkState}
-use Rattle.agent_gate.specs.Dialects.{Dialect}
 
 -- ---- two, four and eight in order
 

@@ -1,10 +1,6 @@
 // Which links are admitted. The rule is our own.
 ghost use Rattle.std.specs.Prelude.{◌≡◌, ◌<◌, ◌≤◌, ◌+◌, [], ◌∷◌, None, IfOk, OnOk, OnErr, IfSome, length, vec_len, vec_capacity, replicate};
-ghost use Rattle.tac_io.specs.Counts.{HasCause};
-ghost use Rattle.tac_io.specs.Lines.{count_of, held_of, last_of, link_of};
-ghost use Rattle.tac_io.specs.Known.{IsAtEnd, known_then};
-ghost use Rattle.agent_gate.specs.Gates.{seats_after};
-ghost use Rattle.game_run.specs.{MayGoOn, refusal_line, AreTaken, IsOnlySent, IsFirstRead, IsGreeting, IsTakenIn, seat_of};
+ghost use Rattle.game_run.specs.{HasCause, count_of, held_of, last_of, link_of, IsAtEnd, known_then, seats_after, MayGoOn, refusal_line, AreTaken, IsOnlySent, IsFirstRead, IsGreeting, IsTakenIn, seat_of};
 
 use crate::arrivals::{Arrivals, Greeting, Holder};
 use agent_gate::Gate;

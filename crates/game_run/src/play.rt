@@ -1,10 +1,8 @@
 // A game is played and closed.
 ghost use Rattle.std.specs.Prelude.{◌≡◌, [], ℕ, Some, true, IfOk, IfSome, slice_get, vec_len};
-ghost use Rattle.tac_io.specs.LineAnswers.{goes_on};
-ghost use Rattle.tac_io.specs.Lines.{last_of};
-ghost use Rattle.tac_io.specs.declared.lines.Lines.{Lines};
-ghost use Rattle.clock_events.specs.Clocking.{WaitsForAll};
-ghost use Rattle.game_run.specs.GameSessions.{IsReadyForEnds, IsOpenFloor, IsPlayedThrough};
+ghost use Rattle.game_run.specs.{IsPlayedThrough};
+ghost use Rattle.game_run.specs.Prelude.{goes_on, last_of, Lines, WaitsForAll};
+ghost use Rattle.game_run.specs.GameSessions.{IsReadyForEnds, IsOpenFloor};
 
 use crate::seating::agent_seats;
 use crate::session_ends::SessionEnds;

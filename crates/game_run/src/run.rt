@@ -1,10 +1,7 @@
 // A game over links.
-ghost use Rattle.std.specs.Prelude.{◌≡◌, ◌≤◌, [], None, IfOk, IfErr, IfSome, map, replicate, vec_capacity, vec_len};
-ghost use Rattle.std.specs.Option.{option_map};
-ghost use Rattle.tac_io.specs.Lines.{link_of};
+ghost use Rattle.std.specs.Prelude.{◌≡◌, ◌≤◌, [], None, IfOk, IfErr, IfSome, map, replicate, vec_capacity, vec_len, option_map};
 ghost use Rattle.game_run.specs.{AreFilled, AreLinksOf, IsReadyForArrivals, IsReserved, hosted_game, IsGameEnd, IsRunFault, missed_of};
-ghost use Rattle.clock_events.specs.Clocking.{WaitsForAll};
-ghost use Rattle.line_protocol.specs.Heads.{head_of};
+ghost use Rattle.game_run.specs.Prelude.{link_of, WaitsForAll, head_of};
 
 use crate::admission::admit;
 use crate::arrivals::Arrivals;

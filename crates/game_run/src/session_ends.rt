@@ -1,8 +1,8 @@
 // What the sessions left is gathered, and links are put back in the order in which they came.
-ghost use Rattle.std.specs.Prelude.{◌≡◌, ◌∷◌, [], ◌<◌, ◌≤◌, map, vec_len, vec_capacity};
-ghost use Rattle.std.specs.Option.{option_map};
+ghost use Rattle.std.specs.Prelude.{◌≡◌, ◌∷◌, [], ◌<◌, ◌≤◌, map, vec_len, vec_capacity, option_map};
 ghost use Rattle.tac_io.specs.Lines.{link_of};
-ghost use Rattle.game_run.specs.{Gathers, HasCapacity, IsAgents, TakesCapacity, AreFilled, AreLinksOf, IsFilled, IsLinkOf, agent_seats_after, AreBoth, eight_of, four_of, two_of};
+ghost use Rattle.game_run.specs.{HasCapacity, IsAgents, TakesCapacity, AreFilled, AreLinksOf, IsFilled, IsLinkOf, agent_seats_after, AreBoth, eight_of, four_of, two_of};
+ghost use Rattle.game_run.specs.Gathering.{AddsPlayed};
 
 use crate::arrivals::Holder;
 use crate::sessions::{Eight, Four, PlayedSeat, Two};
@@ -26,7 +26,7 @@ impl<L> SessionEnds<L> {
     fn add(&mut self, played: PlayedSeat<L>)
         requires room { HasCapacity self.old 1 }
         requires agent { IsAgents played }
-        ensures gathers { Gathers self.old self.new (played ∷ []) }
+        ensures gathers { AddsPlayed self.old self.new (played ∷ []) }
         ensures room { TakesCapacity self.old self.new 1 }
     {
         let PlayedSeat { desk, end } = played;
@@ -44,7 +44,7 @@ impl<L> SessionEnds<L> {
     fn add_two(&mut self, two: Two<PlayedSeat<L>>)
         requires room { HasCapacity self.old 2 }
         requires agents { AreBoth IsAgents two }
-        ensures gathers { Gathers self.old self.new (two_of two) }
+        ensures gathers { AddsPlayed self.old self.new (two_of two) }
         ensures room { TakesCapacity self.old self.new 2 }
     {
         let Two { first, second } = two;
@@ -55,7 +55,7 @@ impl<L> SessionEnds<L> {
     fn add_four(&mut self, four: Four<PlayedSeat<L>>)
         requires room { HasCapacity self.old 4 }
         requires agents { AreBoth (AreBoth IsAgents) four }
-        ensures gathers { Gathers self.old self.new (four_of four) }
+        ensures gathers { AddsPlayed self.old self.new (four_of four) }
         ensures room { TakesCapacity self.old self.new 4 }
     {
         let Two { first, second } = four;
@@ -67,7 +67,7 @@ impl<L> SessionEnds<L> {
     pub(crate) fn add_eight(&mut self, eight: Eight<PlayedSeat<L>>)
         requires room { HasCapacity self.old 8 }
         requires agents { AreBoth (AreBoth (AreBoth IsAgents)) eight }
-        ensures gathers { Gathers self.old self.new (eight_of eight) }
+        ensures gathers { AddsPlayed self.old self.new (eight_of eight) }
         ensures room { TakesCapacity self.old self.new 8 }
     {
         let Two { first, second } = eight;

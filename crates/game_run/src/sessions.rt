@@ -1,11 +1,8 @@
 // The sessions and the clock run concurrently.
 ghost use Rattle.std.specs.Prelude.{◌≡◌, IsSomeAnd, IfSome, Some, []};
-ghost use Rattle.floor.specs.Answers.{IsSameDesk};
-ghost use Rattle.floor.specs.Floors.{floor_ids};
-ghost use Rattle.game_text.specs.Schedule.{schedule};
-ghost use Rattle.clock_events.specs.Clocking.{WaitsForAll};
-ghost use Rattle.clock_events.specs.MadeCalls.{MakesCalls};
-ghost use Rattle.game_run.specs.Seatings.{AreBoth, AreEightPlayed, AreEightReady, AreTakenPlayed, BothOver, IsPlayedSeat, IsReadySeat, IsReadyClock};
+ghost use Rattle.game_run.specs.{AreBoth, AreEightPlayed, AreEightReady, IsPlayedSeat, IsReadySeat, IsReadyClock};
+ghost use Rattle.game_run.specs.Prelude.{IsSameDesk, floor_ids, schedule, WaitsForAll, MakesCalls};
+ghost use Rattle.game_run.specs.Seatings.{AreTakenPlayed, BothOver};
 
 use agent_gate::{Dialect, SessionEnd, run_session};
 use clock_events::{ClockEnd, run_clock};

@@ -1,16 +1,9 @@
 -- An account file is read in its ranges as the lines are, and each text of an account is read as that account.
-use Rattle.std.proofs.Common.{◌≡◌, ℕ, ◌≤◌, ◌<◌, true, ltb, false, List, All, [], ◌∷◌, ◌++◌, Result, Ok, Err, length, drop, refl, sym, ap, ◌∙◌, subst, arith, ℤ, pos, eq-eqb}
-use Rattle.std.specs.Prelude.{codes, IfOk, replicate}
+use Rattle.std.proofs.Common.{◌≡◌, ℕ, ◌≤◌, ◌<◌, true, ltb, false, List, All, [], ◌∷◌, ◌++◌, Result, Ok, Err, length, drop, refl, sym, ap, ◌∙◌, subst, arith, ℤ, pos, eq-eqb, codes, IfOk, replicate, lt-ltb, le-ltb}
 use Rattle.std.specs.List.{list_all}
-use Rattle.std.proofs.lemmas.Bool.{lt-ltb, le-ltb}
 use Rattle.std.proofs.lemmas.List.Elements.{All-nil, All-cons, All-head, All-tail}
 use Rattle.tac_base.proofs.NumeralLaws.{both_true}
-use Rattle.tac_base.specs.Clients.{Preferences, IsClient}
-use Rattle.text_forms.specs.declared.lines.BadLine.{BadLine}
-use Rattle.text_forms.specs.Words.{parts_of}
-use Rattle.text_forms.specs.Lines.{Remaining, lines_from, nothing_left, AreLinesLeft}
-use Rattle.text_forms.specs.Rows.{within, is_in, all_in, row, row_text}
-use Rattle.text_forms.specs.Steps.{◌>>=◌, read_by, repeat, lines_of_parts, one_line}
+use Rattle.game_text.specs.{Preferences, IsClient, BadLine, parts_of, Remaining, lines_from, nothing_left, AreLinesLeft, within, is_in, all_in, row, row_text, ◌>>=◌, read_by, repeat, lines_of_parts, one_line, client_numbers, AreClients, nothing_from, read_end_line}
 use Rattle.text_forms.proofs.Columns.{in_column, in_from, same_columns, abs_pos}
 use Rattle.text_forms.proofs.RowLaws.{row_is, row_again}
 use Rattle.text_forms.proofs.PrintedLines.{lacks_from, ahead, at_end, left_ahead}
@@ -18,7 +11,6 @@ use Rattle.text_forms.proofs.Reading.{took_then, took_line, bind_ok, ok_is, read
 use Rattle.text_forms.proofs.ReadAgain.{Again, line_part_again, parts_again}
 use Rattle.game_text.specs.declared.fault.GameFault.{GameFault}
 use Rattle.game_text.specs.declared.fault.GameFault.TheVariants.{TooLong}
-use Rattle.game_text.specs.{client_numbers, AreClients, nothing_from, read_end_line}
 use Rattle.game_text.specs.Accounts.{AccountFile, IsHolding, IsAccount, title_of, hold_column, hold_of, hold_text, owned_columns, owned_from, owned_of, owned_text, account_lines, IsAccountText, owned_part, account_in, account_of}
 use Rattle.game_text.proofs.Limits.{within_limit, by_length}
 use Rattle.game_text.proofs.ClientLaws.{client_row, client_count, client_range}

@@ -1,15 +1,10 @@
 -- The lines of the agents are read in their ranges as they were printed.
 use Rattle.std.proofs.Common.{◌≡◌, ℕ, ◌<◌, List, ◌++◌, Ok, refl, subst, append_assoc, arith}
-use Rattle.tac_base.specs.Clients.{IsClient}
-use Rattle.text_forms.specs.declared.lines.BadLine.{BadLine}
-use Rattle.text_forms.specs.Lines.{Remaining}
-use Rattle.text_forms.specs.Steps.{◌>>=◌, repeat, lines_of_parts, one_line}
+use Rattle.game_text.specs.{IsClient, BadLine, Remaining, ◌>>=◌, repeat, lines_of_parts, one_line, IsEndowment, endow_of, endow_text, client_of, client_text, AreClients, AreAgents, client_lines, agents_lines, endow_part, client_part, agent_part, agents_in}
 use Rattle.text_forms.proofs.Reading.{Took, took_then, bind_ok, ok_is, Takes, line_takes, repeat_took}
 use Rattle.text_forms.proofs.PrintedLines.{ahead}
 use Rattle.text_forms.proofs.ReadAgain.{Again, line_part_again, parts_again}
 use Rattle.game_text.specs.declared.agents.Agents.{Agents}
-use Rattle.game_text.specs.{IsEndowment, endow_of, endow_text, client_of, client_text}
-use Rattle.game_text.specs.AgentLines.{AreClients, AreAgents, client_lines, agents_lines, endow_part, client_part, agent_part, agents_in}
 use Rattle.game_text.proofs.EndowmentLaws.{endow_is, endow_again}
 use Rattle.game_text.proofs.ClientLaws.{client_is, client_again}
 

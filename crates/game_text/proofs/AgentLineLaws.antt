@@ -1,14 +1,12 @@
 -- The lines of one agent.
-use Rattle.std.proofs.Common.{◌≡◌, ◌≢◌, ℕ, zero, suc, ◌+◌, ◌≤◌, ◌<◌, List, [], ◌∷◌, ◌++◌, length, map, take, get_or, refl, sym, ap, ◌∙◌, append_assoc, subst, arith, lit≤}
-use Rattle.std.specs.List.{All, join_with_byte}
-use Rattle.std.proofs.lemmas.List.{length-append, append-nil, take_more}
+use Rattle.std.proofs.Common.{◌≡◌, ◌≢◌, ℕ, zero, suc, ◌+◌, ◌≤◌, ◌<◌, List, [], ◌∷◌, ◌++◌, length, map, take, get_or, refl, sym, ap, ◌∙◌, append_assoc, subst, arith, lit≤, All, length-append, append-nil}
+use Rattle.std.specs.List.{join_with_byte}
+use Rattle.std.proofs.lemmas.List.{take_more}
 use Rattle.std.proofs.lemmas.List.Concat.{flat_map-cons, flat_map-append}
 use Rattle.std.proofs.lemmas.List.Elements.{All-get_or}
-use Rattle.tac_base.specs.Clients.{Preferences, IsClient}
-use Rattle.text_forms.specs.Steps.{lines_of_parts, one_line}
+use Rattle.game_text.specs.{Preferences, IsClient, lines_of_parts, one_line, IsEndowment, endow_text, client_text, AreClients, GameFile, IsGame, lines_of_agent, agent_line}
 use Rattle.text_forms.proofs.RowLoops.{spaced, keyword_and_words}
 use Rattle.text_forms.proofs.PrintedLines.{IsLine, none_is, count_parts}
-use Rattle.game_text.specs.{IsEndowment, endow_text, client_text, AreClients, GameFile, IsGame, lines_of_agent, agent_line}
 use Rattle.game_text.proofs.EndowmentLaws.{endow_line}
 use Rattle.game_text.proofs.ClientLaws.{client_line}
 

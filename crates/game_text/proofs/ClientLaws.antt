@@ -1,19 +1,13 @@
 -- The line of a client is read in its ranges as it was printed, and printed as it was read.
-use Rattle.std.proofs.Common.{◌≡◌, ℕ, ◌≤◌, ◌<◌, true, ◌&&◌, eqb, ltb, List, [], ◌∷◌, Ok, length, map, drop, refl, ap, ◌∙◌, subst, arith, ℤ, pos, eq-eqb}
-use Rattle.std.specs.Prelude.{codes, unsigned_abs, replicate}
-use Rattle.std.proofs.lemmas.Bool.{eqb-true, ltb-true, lt-ltb}
+use Rattle.std.proofs.Common.{◌≡◌, ℕ, ◌≤◌, ◌<◌, true, ◌&&◌, eqb, ltb, List, [], ◌∷◌, Ok, length, map, drop, refl, ap, ◌∙◌, subst, arith, ℤ, pos, eq-eqb, codes, unsigned_abs, replicate, eqb-true, ltb-true, lt-ltb}
 use Rattle.std.proofs.lemmas.List.{length-map}
 use Rattle.std.proofs.lemmas.List.Elements.{All-weaker}
 use Rattle.tac_base.proofs.NumeralLaws.{both_true}
-use Rattle.tac_base.specs.Clients.{Preferences, IsClient}
-use Rattle.text_forms.specs.declared.lines.Reason.{Reason}
-use Rattle.text_forms.specs.declared.lines.Reason.TheVariants.{OutOfRange, NotDue}
-use Rattle.text_forms.specs.Rows.{within, is_in, all_in, row, row_text, IsBetween}
+use Rattle.game_text.specs.{Preferences, IsClient, Reason, OutOfRange, NotDue, within, is_in, all_in, row, row_text, IsBetween, client_columns, natural_at, client_from, client_of, client_numbers, client_text}
 use Rattle.text_forms.proofs.Columns.{in_within, abs_pos, is_within, columns_within, within_columns}
 use Rattle.text_forms.proofs.RowLaws.{row_is, row_again}
 use Rattle.text_forms.proofs.PrintedLines.{IsLine, lacks_from, row_line}
 use Rattle.text_forms.proofs.Reading.{bind_ok, ok_is}
-use Rattle.game_text.specs.ClientLines.{client_columns, natural_at, client_from, client_of, client_numbers, client_text}
 use Rattle.game_text.proofs.Choices.{passed}
 
 -- the client of a row

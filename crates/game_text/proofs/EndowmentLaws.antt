@@ -1,17 +1,13 @@
 -- The line of an endowment is read in its ranges as it was printed, and printed as it was read.
-use Rattle.std.proofs.Common.{◌≡◌, ℕ, ◌≤◌, true, eqb, List, [], ◌∷◌, Ok, length, map, drop, get_or, refl, sym, ap, ◌∙◌, subst, arith, ℤ, pos, lit≤, eq-eqb}
-use Rattle.std.specs.Prelude.{codes, unsigned_abs, replicate}
+use Rattle.std.proofs.Common.{◌≡◌, ℕ, ◌≤◌, true, eqb, List, [], ◌∷◌, Ok, length, map, drop, get_or, refl, sym, ap, ◌∙◌, subst, arith, ℤ, pos, lit≤, eq-eqb, codes, unsigned_abs, replicate, eqb-true}
 use Rattle.std.specs.List.{list_all}
-use Rattle.std.proofs.lemmas.Bool.{eqb-true}
 use Rattle.std.proofs.lemmas.List.{length-map}
 use Rattle.tac_base.proofs.NumeralLaws.{both_true}
-use Rattle.text_forms.specs.declared.lines.Reason.TheVariants.{NotDue}
-use Rattle.text_forms.specs.Rows.{within, is_in, all_in, row, row_text}
+use Rattle.game_text.specs.{NotDue, within, is_in, all_in, row, row_text, IsEndowment, endow_columns, endow_from, endow_of, endow_text}
 use Rattle.text_forms.proofs.Columns.{in_within, same_columns, all_wider, abs_pos, is_within, columns_within, within_columns}
 use Rattle.text_forms.proofs.RowLaws.{row_is, row_again}
 use Rattle.text_forms.proofs.PrintedLines.{IsLine, lacks_from, row_line}
 use Rattle.text_forms.proofs.Reading.{bind_ok}
-use Rattle.game_text.specs.Endowments.{IsEndowment, endow_columns, endow_from, endow_of, endow_text}
 use Rattle.game_text.proofs.Choices.{chosen}
 
 -- the numbers after the first have 8 bits

@@ -1,19 +1,15 @@
 -- The line of a flight is read in its ranges as it was printed, and printed as it was read.
-use Rattle.std.proofs.Common.{◌≡◌, ℕ, ◌≤◌, true, ◌&&◌, eqb, List, [], ◌∷◌, Ok, length, map, drop, get_or, refl, sym, ap, ◌∙◌, subst, arith, ℤ, pos, negsuc, ◌≤ℤ◌, eq-eqb, to_z, of_z, w8, w32, Fits}
-use Rattle.std.specs.Prelude.{codes, unsigned_abs, replicate}
+use Rattle.std.proofs.Common.{◌≡◌, ℕ, ◌≤◌, true, ◌&&◌, eqb, List, [], ◌∷◌, Ok, length, map, drop, get_or, refl, sym, ap, ◌∙◌, subst, arith, ℤ, pos, negsuc, ◌≤ℤ◌, eq-eqb, to_z, of_z, w8, w32, Fits, codes, unsigned_abs, replicate, eqb-true, length-drop}
 use Rattle.std.specs.List.{list_all}
 use Rattle.std.proofs.lemmas.Int.{ints, to_z-of_z}
-use Rattle.std.proofs.lemmas.Bool.{eqb-true}
-use Rattle.std.proofs.lemmas.List.{length-map, length-drop}
+use Rattle.std.proofs.lemmas.List.{length-map}
 use Rattle.std.proofs.lemmas.List.Elements.{All-from_get_or}
 use Rattle.tac_base.proofs.NumeralLaws.{both_true}
-use Rattle.text_forms.specs.declared.lines.Reason.TheVariants.{NotDue}
-use Rattle.text_forms.specs.Rows.{within, is_in, all_in, row, row_text, IsBetween, AllBetween}
+use Rattle.game_text.specs.{NotDue, within, is_in, all_in, row, row_text, IsBetween, AllBetween, FlightTerms, IsFlight, any, bound_column, flight_columns, flight_from, flight_of, flight_numbers, flight_text}
 use Rattle.text_forms.proofs.Columns.{IsIn, in_column, in_from, in_within, same_columns, abs_pos, IsWithin, is_within, AreWithin, columns_within, within_columns}
 use Rattle.text_forms.proofs.RowLaws.{row_is, row_again}
 use Rattle.text_forms.proofs.PrintedLines.{IsLine, lacks_from, row_line}
 use Rattle.text_forms.proofs.Reading.{bind_ok}
-use Rattle.game_text.specs.Flights.{FlightTerms, IsFlight, any, bound_column, flight_columns, flight_from, flight_of, flight_numbers, flight_text}
 use Rattle.game_text.proofs.Choices.{chosen}
 
 -- the numbers of a row in their ranges

@@ -1,21 +1,13 @@
 -- A file that is read has the canonical lines, except for comments and empty lines, and a game that is printed is read again.
-use Rattle.std.proofs.Common.{◌≡◌, ℕ, ◌≤◌, ◌<◌, true, false, ltb, List, [], ◌∷◌, ◌++◌, Result, Ok, Err, length, drop, refl, sym, ap, ◌∙◌, subst, arith}
-use Rattle.std.specs.Prelude.{codes, IfOk}
-use Rattle.std.specs.List.{All}
-use Rattle.std.proofs.lemmas.Bool.{le-ltb}
-use Rattle.text_forms.specs.declared.lines.BadLine.{BadLine}
-use Rattle.text_forms.specs.Words.{parts_of}
-use Rattle.text_forms.specs.Lines.{Remaining, lines_from, nothing_left, AreLinesLeft}
-use Rattle.text_forms.specs.Steps.{◌>>=◌, read_by, repeat, lines_of_parts, one_line}
+use Rattle.std.proofs.Common.{◌≡◌, ℕ, ◌≤◌, ◌<◌, true, false, ltb, List, [], ◌∷◌, ◌++◌, Result, Ok, Err, length, drop, refl, sym, ap, ◌∙◌, subst, arith, codes, IfOk, All, le-ltb}
+use Rattle.game_text.specs.{BadLine, parts_of, Remaining, lines_from, nothing_left, AreLinesLeft, ◌>>=◌, read_by, repeat, lines_of_parts, one_line, AreSeats, seats_of, seats_text, FlightTerms, IsFlight, flight_of, flight_text, IsOrder, order_of, order_text, agents_in, agents_lines, nights_in, night_lines, header_of, header_text, read_end_line, GameFile, nights_of, agents_of, IsGame, game_lines, IsTextOf, flight_part, game_in, game_of}
 use Rattle.text_forms.proofs.Reading.{took_then, took_line, bind_ok, ok_is, read_took, Takes, line_takes, repeat_took, took_all}
 use Rattle.text_forms.proofs.PrintedLines.{ahead, at_end, left_ahead}
 use Rattle.text_forms.proofs.ReadAgain.{Again, line_part_again, parts_again}
 use Rattle.game_text.specs.declared.agents.Agents.{Agents}
 use Rattle.game_text.specs.declared.fault.GameFault.{GameFault}
 use Rattle.game_text.specs.declared.fault.GameFault.TheVariants.{TooLong}
-use Rattle.game_text.specs.{AreSeats, seats_of, seats_text, FlightTerms, IsFlight, flight_of, flight_text, IsOrder, order_of, order_text, agents_in, agents_lines, nights_in, night_lines, header_of, header_text, read_end_line}
 use Rattle.game_text.specs.declared.hotel_nights.HotelNights.{HotelNights}
-use Rattle.game_text.specs.Games.{GameFile, nights_of, agents_of, IsGame, game_lines, IsTextOf, flight_part, game_in, game_of}
 use Rattle.game_text.proofs.Limits.{within_limit, by_length}
 use Rattle.game_text.proofs.FlightLaws.{flight_is, flight_again}
 use Rattle.game_text.proofs.OrderLaws.{order_is, order_again}

@@ -1,17 +1,9 @@
 -- A game that is printed is read as that game.
-use Rattle.std.proofs.Common.{◌≡◌, ℕ, ◌*◌, ◌≤◌, ◌<◌, true, false, ltb, List, [], ◌∷◌, ◌++◌, Ok, length, refl, ap, ◌∙◌, arith, lit≤}
-use Rattle.std.specs.Prelude.{codes}
+use Rattle.std.proofs.Common.{◌≡◌, ℕ, ◌*◌, ◌≤◌, ◌<◌, true, false, ltb, List, [], ◌∷◌, ◌++◌, Ok, length, refl, ap, ◌∙◌, arith, lit≤, codes, le-ltb, length-append}
 use Rattle.std.specs.List.{AllByRecursion}
-use Rattle.std.proofs.lemmas.Bool.{le-ltb}
-use Rattle.std.proofs.lemmas.List.{length-append}
-use Rattle.tac_base.specs.Clients.{Preferences, IsClient}
-use Rattle.text_forms.specs.Words.{parts_of}
-use Rattle.text_forms.specs.Lines.{lines_from}
-use Rattle.text_forms.specs.Steps.{lines_of_parts, one_line}
+use Rattle.game_text.specs.{Preferences, IsClient, parts_of, lines_from, lines_of_parts, one_line, IsFlight, flight_text, order_text, IsEndowment, endow_text, client_text, AreClients, AreAgents, client_lines, agents_lines, night_lines, GameFile, nights_of, agents_of, IsGame, game_lines, canonical_text, game_in, game_of}
 use Rattle.text_forms.proofs.PrintedLines.{IsLine, text_ahead, text_short, lines_append, parts_lines, count_parts}
 use Rattle.game_text.specs.declared.agents.Agents.{Agents}
-use Rattle.game_text.specs.{IsFlight, flight_text, order_text, IsEndowment, endow_text, client_text, AreClients, AreAgents, client_lines, agents_lines, night_lines}
-use Rattle.game_text.specs.Games.{GameFile, nights_of, agents_of, IsGame, game_lines, canonical_text, game_in, game_of}
 use Rattle.game_text.proofs.FlightLaws.{flight_line}
 use Rattle.game_text.proofs.HotelNightLaws.{nights_are_lines, few_nights}
 use Rattle.game_text.proofs.OrderLaws.{order_line}

@@ -1,23 +1,15 @@
 -- The first line, the last line and the line of the seat words.
-use Rattle.std.proofs.Common.{◌≡◌, ◌⊎◌, inl, inr, ℕ, ◌≤◌, ◌<◌, Bool, true, false, cond, ◌&&◌, eqb, ltb, List, [], ◌∷◌, Ok, Err, length, refl, sym, ap, ◌∙◌, subst, arith, ℤ, lit<, lit≤, eq-eqb}
-use Rattle.std.specs.Prelude.{codes, nat_le}
+use Rattle.std.proofs.Common.{◌≡◌, ◌⊎◌, inl, inr, ℕ, ◌≤◌, ◌<◌, Bool, true, false, cond, ◌&&◌, eqb, ltb, List, [], ◌∷◌, Ok, Err, length, refl, sym, ap, ◌∙◌, subst, arith, ℤ, lit<, lit≤, eq-eqb, codes, nat_le, bytes_eq, eqb-true, leb-true}
 use Rattle.std.specs.List.{list_all, join_with_byte, AllByRecursion}
-use Rattle.std.specs.Str.{bytes_eq}
-use Rattle.std.proofs.lemmas.Bool.{eqb-true, leb-true}
 use Rattle.std.proofs.lemmas.Bool.Decides.{nat_tests}
 use Rattle.std.proofs.lemmas.List.Splits.{join_with_byte-slice_split}
 use Rattle.tac_base.proofs.NumeralLaws.{both_true}
 use Rattle.tac_base.proofs.Signed.{Lacks}
-use Rattle.text_forms.specs.declared.lines.Reason.{Reason}
-use Rattle.text_forms.specs.declared.lines.Reason.TheVariants.{Keyword, WordCount, Spelling, Repeated}
-use Rattle.text_forms.specs.Words.{words_of}
-use Rattle.text_forms.specs.Rows.{row, row_text}
+use Rattle.game_text.specs.{Reason, Keyword, WordCount, Spelling, Repeated, words_of, row, row_text, header_of_words, header_of, header_text, nothing_from, read_end_line, is_seat_byte, is_seat_word, are_distinct, seats_of_words, seats_of, seats_text, AreSeats}
 use Rattle.text_forms.proofs.Joins.{joined_parts}
 use Rattle.text_forms.proofs.RowLaws.{row_is, same_word}
 use Rattle.text_forms.proofs.PrintedLines.{IsLine, lacks_from, join_lacks, join_short, starts_kept}
 use Rattle.text_forms.proofs.Reading.{bind_ok, ok_is}
-use Rattle.game_text.specs.Headers.{header_of_words, header_of, header_text, nothing_from, read_end_line}
-use Rattle.game_text.specs.SeatWords.{is_seat_byte, is_seat_word, are_distinct, seats_of_words, seats_of, seats_text, AreSeats}
 use Rattle.game_text.proofs.Choices.{passed}
 use Rattle.game_text.proofs.Versions.{by_version}
 

@@ -1,24 +1,14 @@
 -- The lines of the hotel nights are read in their ranges as they were printed, and printed as they were read.
-use Rattle.std.proofs.Common.{◌≡◌, ◌⊎◌, inl, inr, ℕ, ◌≤◌, Bool, true, false, cond, eqb, List, [], ◌∷◌, ◌++◌, Ok, Err, length, map, drop, refl, sym, ap, ◌∙◌, subst, arith, pos, lit≤}
-use Rattle.std.specs.Prelude.{codes, unsigned_abs}
+use Rattle.std.proofs.Common.{◌≡◌, ◌⊎◌, inl, inr, ℕ, ◌≤◌, Bool, true, false, cond, eqb, List, [], ◌∷◌, ◌++◌, Ok, Err, length, map, drop, refl, sym, ap, ◌∙◌, subst, arith, pos, lit≤, codes, unsigned_abs, bytes_eq, eqb-true}
 use Rattle.std.specs.List.{join_with_byte, AllByRecursion}
-use Rattle.std.specs.Str.{bytes_eq}
-use Rattle.std.proofs.lemmas.Bool.{eqb-true}
 use Rattle.std.proofs.lemmas.List.{length-map}
 use Rattle.std.proofs.lemmas.List.Splits.{join_with_byte-slice_split}
-use Rattle.text_forms.specs.declared.lines.BadLine.{BadLine}
-use Rattle.text_forms.specs.declared.lines.Reason.{Reason}
-use Rattle.text_forms.specs.declared.lines.Reason.TheVariants.{Keyword, WordCount, Spelling}
-use Rattle.text_forms.specs.Words.{words_of}
-use Rattle.text_forms.specs.Lines.{Remaining}
-use Rattle.text_forms.specs.Rows.{all_in, row, row_text, AllBetween}
-use Rattle.text_forms.specs.Steps.{◌>>=◌, read_by}
+use Rattle.game_text.specs.{BadLine, Reason, Keyword, WordCount, Spelling, words_of, Remaining, all_in, row, row_text, AllBetween, ◌>>=◌, read_by, plain_nights, AreNights, room_columns, rooms_from, read_rooms, rooms_text, quotes_of_words, quotes_of, quotes_text, night_lines, nights_in}
 use Rattle.text_forms.proofs.Columns.{abs_pos, columns_within, within_columns}
 use Rattle.text_forms.proofs.RowLaws.{row_is, row_again, same_word}
 use Rattle.text_forms.proofs.PrintedLines.{IsLine, ahead, lacks_from, row_line}
 use Rattle.text_forms.proofs.Reading.{Took, took_then, took_line, bind_ok, ok_is, read_took}
 use Rattle.game_text.specs.declared.hotel_nights.HotelNights.{HotelNights}
-use Rattle.game_text.specs.HotelNights.{plain_nights, AreNights, room_columns, rooms_from, read_rooms, rooms_text, quotes_of_words, quotes_of, quotes_text, night_lines, nights_in}
 use Rattle.game_text.proofs.Choices.{passed}
 use Rattle.game_text.proofs.Versions.{by_version}
 

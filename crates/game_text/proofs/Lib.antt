@@ -12,6 +12,5 @@ pub mod AccountLaws
 pub mod GameLaws
 pub mod GameTexts
 pub mod PrintedGames
-pub mod Worked
 mod AgentLineLaws
 pub mod QuietRanges

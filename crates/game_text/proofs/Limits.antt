@@ -1,6 +1,5 @@
 -- A text is refused as too long exactly past its limit.
-use Rattle.std.proofs.Common.{◌≡◌, ℕ, ◌<◌, Bool, true, false, cond, ltb, Result, Ok, Err, refl, arith}
-use Rattle.std.proofs.lemmas.Bool.{ltb-true, ltb-false}
+use Rattle.std.proofs.Common.{◌≡◌, ℕ, ◌<◌, Bool, true, false, cond, ltb, Result, Ok, Err, refl, arith, ltb-true, ltb-false}
 use Rattle.text_forms.specs.declared.lines.BadLine.{BadLine}
 use Rattle.game_text.specs.declared.fault.GameFault.TheVariants.{TooLong}
 use Rattle.game_text.specs.Faults.{or_game_fault}

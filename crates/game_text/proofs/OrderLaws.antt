@@ -1,14 +1,11 @@
 -- The line of a closing order is read in its ranges as it was printed, and printed as it was read.
-use Rattle.std.proofs.Common.{◌≡◌, ℕ, true, List, Ok, length, map, refl, ap, ◌∙◌, subst, arith, pos}
-use Rattle.std.specs.Prelude.{codes, unsigned_abs}
+use Rattle.std.proofs.Common.{◌≡◌, ℕ, true, List, Ok, length, map, refl, ap, ◌∙◌, subst, arith, pos, codes, unsigned_abs}
 use Rattle.std.proofs.lemmas.List.{length-map}
-use Rattle.text_forms.specs.declared.lines.Reason.TheVariants.{Repeated}
-use Rattle.text_forms.specs.Rows.{all_in, row, row_text}
+use Rattle.game_text.specs.{Repeated, all_in, row, row_text, is_distinct, IsOrder, order_columns, order_from, order_of, order_text}
 use Rattle.text_forms.proofs.Columns.{abs_pos, columns_within, within_columns}
 use Rattle.text_forms.proofs.RowLaws.{row_is, row_again}
 use Rattle.text_forms.proofs.PrintedLines.{IsLine, lacks_from, row_line}
 use Rattle.text_forms.proofs.Reading.{bind_ok}
-use Rattle.game_text.specs.ClosingOrders.{is_distinct, IsOrder, order_columns, order_from, order_of, order_text}
 use Rattle.game_text.proofs.Choices.{chosen}
 
 pub order_is : (line : List ℕ) (order : List ℕ) → order_of line ≡ Ok order → (line ≡ order_text order) × IsOrder order

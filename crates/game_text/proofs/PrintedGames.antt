@@ -1,11 +1,8 @@
 -- The text of a game, printed line by line.
-use Rattle.std.proofs.Common.{◌≡◌, ℕ, List, [], ◌∷◌, ◌++◌, ap, ◌∙◌, append_assoc}
-use Rattle.std.specs.Prelude.{codes}
+use Rattle.std.proofs.Common.{◌≡◌, ℕ, List, [], ◌∷◌, ◌++◌, ap, ◌∙◌, append_assoc, codes}
 use Rattle.std.proofs.lemmas.List.Concat.{flat_map-cons}
 use Rattle.std.proofs.lemmas.Grind.{flat_map-append}
-use Rattle.text_forms.specs.Lines.{text_of}
-use Rattle.text_forms.specs.Steps.{lines_of_parts, one_line}
-use Rattle.game_text.specs.{header_text, night_lines, seats_text, flight_text, order_text, endow_text, client_lines, GameFile, nights_of, canonical_text}
+use Rattle.game_text.specs.{text_of, lines_of_parts, one_line, header_text, night_lines, seats_text, flight_text, order_text, endow_text, client_lines, GameFile, nights_of, canonical_text}
 
 text_append : (xs ys : List (List ℕ)) → text_of (xs ++ ys) ≡ text_of xs ++ text_of ys
 text_append xs ys = flat_map-append (λ line. line ++ 10 ∷ []) xs ys

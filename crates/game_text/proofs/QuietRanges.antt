@@ -1,6 +1,5 @@
 -- The quiet game is in its ranges.
-use Rattle.std.proofs.Common.{◌≡◌, false, ℕ, ◌≤◌, List, [], ◌∷◌, pos, refl, lit<, lit≤}
-use Rattle.std.specs.Prelude.{map, replicate}
+use Rattle.std.proofs.Common.{◌≡◌, false, ℕ, ◌≤◌, List, [], ◌∷◌, pos, refl, lit<, lit≤, map, replicate}
 use Rattle.std.proofs.lemmas.List.Elements.{All-nil, All-cons, All-replicate}
 use Rattle.tac_base.specs.Clients.{IsClient}
 use Rattle.text_forms.proofs.Columns.{columns_within}

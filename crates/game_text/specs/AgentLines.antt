@@ -1,11 +1,6 @@
 -- What a game file says of the agents: the lines between the closing order and the last line.
-use Rattle.std.specs.Prelude.{◌≡◌, ℕ, List, ◌++◌, Result, Ok, length}
-use Rattle.std.specs.List.{All}
-use Rattle.tac_base.specs.Clients.{Preferences, IsClient}
-use Rattle.tac_base.specs.declared.limits.TheConstants.{AGENTS}
-use Rattle.text_forms.specs.declared.lines.BadLine.{BadLine}
-use Rattle.text_forms.specs.Lines.{Remaining}
-use Rattle.text_forms.specs.Steps.{◌>>=◌, read_by, repeat, lines_of_parts, one_line}
+use Rattle.std.specs.Prelude.{◌≡◌, ℕ, List, ◌++◌, Result, Ok, length, All}
+use Rattle.game_text.specs.Prelude.{Preferences, IsClient, AGENTS, BadLine, Remaining, ◌>>=◌, read_by, repeat, lines_of_parts, one_line}
 use Rattle.game_text.specs.declared.agents.Agents.{Agents}
 use Rattle.game_text.specs.Endowments.{IsEndowment, endow_of, endow_text}
 use Rattle.game_text.specs.ClientLines.{client_of, client_text}

@@ -1,11 +1,6 @@
 -- The line of a client.
 use Rattle.std.specs.Prelude.{ℕ, ◌==◌, ◌&&◌, not, nat_lt, if◌then◌else◌, List, ◌∷◌, ℤ, pos, unsigned_abs, Result, Ok, Err, map, replicate, codes, slice_index_or, drop}
-use Rattle.tac_base.specs.Clients.{Preferences}
-use Rattle.text_forms.specs.declared.lines.Reason.{Reason}
-use Rattle.text_forms.specs.declared.lines.Reason.TheVariants.{OutOfRange, NotDue}
-use Rattle.text_forms.specs.declared.rows.Column.{Column}
-use Rattle.text_forms.specs.Rows.{within, row, row_text}
-use Rattle.text_forms.specs.Steps.{◌>>=◌}
+use Rattle.game_text.specs.Prelude.{Preferences, Reason, OutOfRange, NotDue, Column, within, row, row_text, ◌>>=◌}
 
 -- the agent, the client, the days, the premium and the values
 abbrev pub client_columns : List Column

@@ -1,11 +1,7 @@
 -- The line of the order in which the hotels close.
 use Rattle.std.specs.Prelude.{◌≡◌, ℕ, ◌==◌, ◌&&◌, not, if◌then◌else◌, List, [], ◌∷◌, Bool, true, ℤ, pos, unsigned_abs, length, Result, Ok, Err, IsTrue, map, replicate, codes}
 use Rattle.std.specs.List.{list_any}
-use Rattle.text_forms.specs.declared.lines.Reason.{Reason}
-use Rattle.text_forms.specs.declared.lines.Reason.TheVariants.{Repeated}
-use Rattle.text_forms.specs.declared.rows.Column.{Column}
-use Rattle.text_forms.specs.Rows.{within, row, row_text, AllBetween}
-use Rattle.text_forms.specs.Steps.{◌>>=◌}
+use Rattle.game_text.specs.Prelude.{Reason, Repeated, Column, within, row, row_text, AllBetween, ◌>>=◌}
 
 -- no number comes twice
 abbrev pub is_distinct : List ℕ → Bool

@@ -1,10 +1,6 @@
 -- The line of an endowment.
 use Rattle.std.specs.Prelude.{◌≡◌, ℕ, ◌==◌, if◌then◌else◌, List, ◌∷◌, ℤ, pos, unsigned_abs, length, Result, Ok, Err, map, replicate, codes, slice_index_or, drop}
-use Rattle.text_forms.specs.declared.lines.Reason.{Reason}
-use Rattle.text_forms.specs.declared.lines.Reason.TheVariants.{NotDue}
-use Rattle.text_forms.specs.declared.rows.Column.{Column}
-use Rattle.text_forms.specs.Rows.{within, row, row_text, AllBetween}
-use Rattle.text_forms.specs.Steps.{◌>>=◌}
+use Rattle.game_text.specs.Prelude.{Reason, NotDue, Column, within, row, row_text, AllBetween, ◌>>=◌}
 
 -- how many of each ticket an agent has at the start
 pub record IsEndowment (endow : List ℕ) : Type 0 where

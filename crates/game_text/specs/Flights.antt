@@ -1,12 +1,6 @@
 -- The line of a flight.
 use Rattle.std.specs.Prelude.{◌≡◌, ℕ, ◌≤◌, ◌==◌, if◌then◌else◌, List, ◌∷◌, true, ℤ, pos, negsuc, ◌≤ℤ◌, unsigned_abs, length, Result, Ok, Err, map, replicate, codes, slice_index_or, drop}
-use Rattle.tac_base.specs.declared.limits.TheConstants.{FLIGHT_DRAWS}
-use Rattle.text_forms.specs.declared.lines.Reason.{Reason}
-use Rattle.text_forms.specs.declared.lines.Reason.TheVariants.{NotDue}
-use Rattle.text_forms.specs.declared.rows.Column.{Column}
-use Rattle.text_forms.specs.declared.rows.Digits.TheVariants.{Ten}
-use Rattle.text_forms.specs.Rows.{within, row, row_text, AllBetween}
-use Rattle.text_forms.specs.Steps.{◌>>=◌}
+use Rattle.game_text.specs.Prelude.{FLIGHT_DRAWS, Reason, NotDue, Column, Ten, within, row, row_text, AllBetween, ◌>>=◌}
 
 -- the first price, the bound of the changes and the draws of a flight
 pub record FlightTerms : Type 0 where

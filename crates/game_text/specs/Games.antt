@@ -1,12 +1,6 @@
 -- The game file.
-use Rattle.std.specs.Prelude.{◌≡◌, ℕ, ◌≤◌, Bool, nat_lt, if◌then◌else◌, List, [], ◌∷◌, ◌++◌, true, Result, Ok, Err, length, codes}
-use Rattle.std.specs.List.{All}
-use Rattle.tac_base.specs.Clients.{Preferences}
-use Rattle.tac_base.specs.declared.limits.TheConstants.{GAME_BYTES}
-use Rattle.text_forms.specs.declared.lines.BadLine.{BadLine}
-use Rattle.text_forms.specs.Words.{parts_of}
-use Rattle.text_forms.specs.Lines.{Remaining, lines_from, nothing_left, text_of, AreLinesLeft}
-use Rattle.text_forms.specs.Steps.{◌>>=◌, read_by, repeat, lines_of_parts, one_line}
+use Rattle.std.specs.Prelude.{◌≡◌, ℕ, ◌≤◌, Bool, nat_lt, if◌then◌else◌, List, [], ◌∷◌, ◌++◌, true, Result, Ok, Err, length, codes, All}
+use Rattle.game_text.specs.Prelude.{Preferences, GAME_BYTES, BadLine, parts_of, Remaining, lines_from, nothing_left, text_of, AreLinesLeft, ◌>>=◌, read_by, repeat, lines_of_parts, one_line}
 use Rattle.game_text.specs.declared.fault.GameFault.{GameFault}
 use Rattle.game_text.specs.declared.fault.GameFault.TheVariants.{TooLong}
 use Rattle.game_text.specs.Faults.{or_game_fault}

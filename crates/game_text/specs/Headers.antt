@@ -1,11 +1,6 @@
 -- The first and the last line of a game file.
-use Rattle.std.specs.Prelude.{ℕ, ◌==◌, not, if◌then◌else◌, List, [], ◌∷◌, ℤ, Result, Ok, Err, codes, length, slice_index_or}
-use Rattle.std.specs.Str.{bytes_eq}
-use Rattle.text_forms.specs.declared.lines.Reason.{Reason}
-use Rattle.text_forms.specs.declared.lines.Reason.TheVariants.{Keyword, WordCount}
-use Rattle.text_forms.specs.Words.{words_of}
-use Rattle.text_forms.specs.Rows.{row}
-use Rattle.text_forms.specs.Steps.{◌>>=◌}
+use Rattle.std.specs.Prelude.{ℕ, ◌==◌, not, if◌then◌else◌, List, [], ◌∷◌, ℤ, Result, Ok, Err, codes, length, slice_index_or, bytes_eq}
+use Rattle.game_text.specs.Prelude.{Reason, Keyword, WordCount, words_of, row, ◌>>=◌}
 
 -- the version of the second word; if it is none, the line counts as one with a wrong first word
 abbrev pub version_of : List ℕ → Result ℕ Reason

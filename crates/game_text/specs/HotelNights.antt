@@ -1,15 +1,6 @@
 -- The lines of the hotel nights, which only a file of version 2 has: how many rooms each night has, and when its quote changes.
-use Rattle.std.specs.Prelude.{◌≡◌, ℕ, ◌==◌, not, if◌then◌else◌, List, [], ◌∷◌, Bool, true, false, ℤ, pos, unsigned_abs, length, Result, Ok, Err, map, replicate, codes, slice_index_or}
-use Rattle.std.specs.Str.{bytes_eq}
-use Rattle.tac_base.specs.declared.limits.TheConstants.{NIGHT_ROOMS}
-use Rattle.text_forms.specs.declared.lines.BadLine.{BadLine}
-use Rattle.text_forms.specs.declared.lines.Reason.{Reason}
-use Rattle.text_forms.specs.declared.lines.Reason.TheVariants.{Keyword, WordCount, Spelling}
-use Rattle.text_forms.specs.declared.rows.Column.{Column}
-use Rattle.text_forms.specs.Words.{words_of}
-use Rattle.text_forms.specs.Lines.{Remaining}
-use Rattle.text_forms.specs.Rows.{within, row, row_text, AllBetween}
-use Rattle.text_forms.specs.Steps.{◌>>=◌, read_by}
+use Rattle.std.specs.Prelude.{◌≡◌, ℕ, ◌==◌, not, if◌then◌else◌, List, [], ◌∷◌, Bool, true, false, ℤ, pos, unsigned_abs, length, Result, Ok, Err, map, replicate, codes, slice_index_or, bytes_eq}
+use Rattle.game_text.specs.Prelude.{NIGHT_ROOMS, BadLine, Reason, Keyword, WordCount, Spelling, Column, words_of, Remaining, within, row, row_text, AllBetween, ◌>>=◌, read_by}
 use Rattle.game_text.specs.declared.hotel_nights.HotelNights.{HotelNights}
 
 -- the nights of every game of version 1: 16 rooms each, and quotes by the minute

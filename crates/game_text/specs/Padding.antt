@@ -1,7 +1,5 @@
 -- The bytes and the length of a seat word are determined by its padded form.
-use Rattle.std.proofs.Common.{◌≡◌, ℕ, ◌-◌, List, ◌++◌, length, take, sym, ap, arith}
-use Rattle.std.specs.Prelude.{replicate}
-use Rattle.std.proofs.lemmas.List.{length-take-le}
+use Rattle.std.proofs.Common.{◌≡◌, ℕ, ◌-◌, List, ◌++◌, length, take, sym, ap, arith, replicate, length-take-le}
 use Rattle.game_text.specs.SeatWords.{IsPadded}
 
 pub padded_again : {A : Type 0} (make : List ℕ → ℕ → A) (bytes : List ℕ) (len : ℕ) → IsPadded bytes len → make (take len bytes ++ replicate (16 - length (take len bytes)) 0) (length (take len bytes)) ≡ make bytes len

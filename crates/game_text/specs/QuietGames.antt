@@ -1,8 +1,7 @@
 -- The quiet game: flights stay at 300 dollars, nobody has a ticket at the start, the hotels close in rising order, and each client
 -- prefers to come on day 1 and leave on day 2, with a value of 100 dollars for the better hotel and for the museum.
 use Rattle.std.specs.Prelude.{[], ◌∷◌, false, pos, replicate}
-use Rattle.tac_base.specs.declared.limits.TheConstants.{AGENTS, FLIGHT_DRAWS}
-use Rattle.tac_base.specs.Clients.{Preferences}
+use Rattle.game_text.specs.Prelude.{AGENTS, FLIGHT_DRAWS, Preferences}
 use Rattle.game_text.specs.SeatWords.{numbered_seats}
 use Rattle.game_text.specs.Flights.{FlightTerms}
 use Rattle.game_text.specs.Games.{GameFile}

@@ -1,11 +1,7 @@
 -- The seat words.
-use Rattle.std.specs.Prelude.{◌≡◌, ℕ, ◌≤◌, ◌-◌, ◌&&◌, ◌||◌, not, nat_le, nat_lt, ◌==◌, if◌then◌else◌, List, [], ◌∷◌, ◌++◌, Bool, true, Result, Ok, Err, IsTrue, codes, length, take, replicate}
+use Rattle.std.specs.Prelude.{◌≡◌, ℕ, ◌≤◌, ◌-◌, ◌&&◌, ◌||◌, not, nat_le, nat_lt, ◌==◌, if◌then◌else◌, List, [], ◌∷◌, ◌++◌, Bool, true, Result, Ok, Err, IsTrue, codes, length, take, replicate, bytes_eq}
 use Rattle.std.specs.List.{list_all, list_any, join_with_byte}
-use Rattle.std.specs.Str.{bytes_eq}
-use Rattle.tac_base.specs.declared.limits.TheConstants.{AGENTS}
-use Rattle.text_forms.specs.Words.{words_of}
-use Rattle.text_forms.specs.declared.lines.Reason.{Reason}
-use Rattle.text_forms.specs.declared.lines.Reason.TheVariants.{Keyword, WordCount, Spelling, Repeated}
+use Rattle.game_text.specs.Prelude.{AGENTS, words_of, Reason, Keyword, WordCount, Spelling, Repeated}
 
 -- `a`..`z` and `0`..`9`
 abbrev pub is_seat_byte : ℕ → Bool

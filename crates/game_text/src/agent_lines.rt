@@ -1,8 +1,6 @@
 ghost use Rattle.std.specs.Prelude.{◌≡◌, ◌≢◌, ◌+◌, ◌≤◌, ◌∷◌, ◌++◌, All, length};
 ghost use Rattle.std.specs.Fmt.{signed_decimal};
-ghost use Rattle.text_forms.specs.Rows.{row_text};
-ghost use Rattle.tac_base.specs.Clients.{IsClient};
-ghost use Rattle.game_text.specs.{IsEndowment, endow_text, client_text, lines_of_agent, agent_line};
+ghost use Rattle.game_text.specs.{row_text, IsClient, IsEndowment, endow_text, client_text, lines_of_agent, agent_line};
 
 use crate::Game;
 use crate::client_lines::client_numbers;

@@ -1,11 +1,9 @@
-ghost use Rattle.std.specs.Prelude.{◌≡◌, ◌≤◌, ◌<◌, ◌-◌, ◌↔◌, ◌==◌, ◌∷◌, ◌++◌, length, replicate, IsTrue, IsOk, IfOk, IfSome, IfNone, Some, None, OnOk, [], false, if◌then◌else◌};
 ghost use Rattle.std.specs.List.{list_all, list_any};
-ghost use Rattle.std.specs.Str.{bytes_eq};
 ghost use Rattle.std.specs.Hash as fed;
 ghost use Rattle.std.specs.Cmp.{partial_equiv_from_equiv};
 ghost use Rattle.std.specs.Cmp.Lexicographic.{nat_list_eq_equiv};
 ghost use Rattle.std.specs.Cmp.Rules.{hashing};
-ghost use Rattle.std.proofs.Common.{rules};
+ghost use Rattle.std.proofs.Common.{rules, ◌≡◌, ◌≤◌, ◌<◌, ◌-◌, ◌↔◌, ◌==◌, ◌∷◌, ◌++◌, length, replicate, IsTrue, IsOk, IfOk, IfSome, IfNone, Some, None, OnOk, [], false, if◌then◌else◌, bytes_eq};
 ghost use Rattle.game_text.specs.SeatWords as seats;
 
 use std::alloc::AllocError;

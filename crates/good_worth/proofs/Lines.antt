@@ -1,11 +1,9 @@
 -- Lines that are printed good by good.
-use Rattle.std.proofs.Common.{◌≡◌, ℕ, ◌+◌, List, [], ◌∷◌, ◌++◌, ◌∙◌, ap, sym, add-one, codes}
+use Rattle.std.proofs.Common.{◌≡◌, ℕ, ◌+◌, List, [], ◌∷◌, ◌++◌, ◌∙◌, ap, sym, add-one, codes, append_assoc, append-nil}
 use Rattle.std.proofs.lemmas.Grind.{flat_map-append}
 use Rattle.std.proofs.lemmas.List.Concat.{flat_map-cons}
-use Rattle.std.proofs.lemmas.List.{append_assoc, append-nil}
 use Rattle.text_forms.specs.Lines.{text_of}
-use Rattle.good_worth.specs.Worths.{Valuation}
-use Rattle.good_worth.specs.WorthTexts.{lines_below, head_lines, base_lines, changed_lines, worth_text}
+use Rattle.good_worth.specs.{Valuation, lines_below, head_lines, base_lines, changed_lines, worth_text}
 
 pub no_text : (lines : ℕ → List (List ℕ)) (old : List ℕ) → old ≡ old ++ text_of (lines_below lines 0)
 unfolding lines_below

@@ -1,6 +1,5 @@
 -- Accounts with a different holding of one good are accounts.
-use Rattle.std.proofs.Common.{ℕ, ◌<◌, ℤ, pos, length, ◌∙◌, sym, subst}
-use Rattle.std.proofs.lemmas.List.{length-set}
+use Rattle.std.proofs.Common.{ℕ, ◌<◌, ℤ, pos, length, ◌∙◌, sym, subst, length-set}
 use Rattle.std.proofs.lemmas.List.Elements.{All-set}
 use Rattle.game_text.specs.Accounts.{AccountFile, IsAccount, IsHolding}
 use Rattle.good_worth.specs.Worth.{with_holding, held}

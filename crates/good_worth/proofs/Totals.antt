@@ -2,8 +2,7 @@
 use Rattle.std.proofs.Common.{◌≡◌, ℕ, ◌<◌, ◌≤◌, List, length, get_or, ◌∙◌, ap, sym, subst, arith}
 use Rattle.std.proofs.lemmas.List.{get_or-map, length-map}
 use Rattle.bound_cert.specs.declared.solved.Solved.{Solved}
-use Rattle.good_worth.specs.Views.{solution_of, solutions_of, worths_of}
-use Rattle.good_worth.specs.Worths.{Solution, no_solution, total_at, AreRanged}
+use Rattle.good_worth.specs.{solution_of, solutions_of, worths_of, Solution, no_solution, total_at, AreRanged}
 
 pub total_is : (items : List Solved) (good : ℕ) (s : Solved) → length (solutions_of items) ≡ 28 → good < 28 → s ≡ get_or items good s → total_at (solutions_of items) good ≡ s.total
 total_is items good s size lt is =

@@ -1,8 +1,7 @@
 // The worth of one unit of each good.
 ghost use Rattle.std.specs.Prelude.{◌≡◌, ℕ, ◌<◌, ◌≤ℤ◌, ◌<ℤ◌, pos, IfOk, OnOk, slice_index_or};
 ghost use Rattle.good_worth.specs.Worth.{IsUp, IsDown};
-ghost use Rattle.good_worth.specs.Worths.{AreLess, AreMore, AreRanged, AreWorths, IsGrown, up_at, down_at};
-ghost use Rattle.good_worth.specs.Views.{solutions_of, worths_of};
+ghost use Rattle.good_worth.specs.{AreLess, AreMore, AreRanged, AreWorths, IsGrown, up_at, down_at, solutions_of, worths_of};
 
 use crate::changes::{less, more};
 use allocator::{Solved, solve};

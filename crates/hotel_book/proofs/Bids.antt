@@ -1,17 +1,9 @@
 -- A new bid in place of its agent's earlier one: the units of the others stay, and there is room for its own.
-use Rattle.std.proofs.Common.{◌≡◌, ℕ, zero, suc, ◌+◌, ◌*◌, ◌<◌, ◌≤◌, Bool, true, false, cond, List, [], ◌∷◌, ◌++◌, length, set, refl, sym, ◌∙◌, arith, Option, Some, None}
-use Rattle.std.specs.Prelude.{◌≢◌, not, ◌==◌, sum_by, count_by, filter}
+use Rattle.std.proofs.Common.{◌≡◌, ℕ, zero, suc, ◌+◌, ◌*◌, ◌<◌, ◌≤◌, Bool, true, false, cond, List, [], ◌∷◌, ◌++◌, length, set, refl, sym, ◌∙◌, arith, Option, Some, None, ◌≢◌, not, ◌==◌, sum_by, count_by, filter}
 use Rattle.std.proofs.lemmas.List.Sums.{sum_by-cons, sum_by-append, sum_by-take-le, count_by-le-length}
 use Rattle.std.proofs.lemmas.Bool.Decides.{nat_tests}
-use Rattle.auction_rules.specs.declared.units.Placed.{Placed}
-use Rattle.auction_rules.specs.declared.units.BidUnit.{BidUnit}
-use Rattle.tac_base.specs.declared.units.Unit.{Unit as ShownUnit}
-use Rattle.auction_rules.specs.Units.{units_of}
-use Rattle.auction_rules.specs.Shown.{shown_unit, AreShown}
-use Rattle.auction_rules.specs.History.{units_of_bids}
-use Rattle.auction_rules.proofs.Standing.{Each, IsPlaced, each-placed, each-weaker}
-use Rattle.hotel_book.specs.Ranked.{won}
-use Rattle.hotel_book.specs.Book.{AreOwn, standing}
+use Rattle.hotel_book.specs.{Placed, BidUnit, Unit as ShownUnit, units_of, shown_unit, AreShown, units_of_bids, won, AreOwn, standing}
+use Rattle.auction_rules.proofs.Standing.{Each, each-weaker, number_is, bid_owned}
 
 sum_alike : (f g : BidUnit → ℕ) (units : List BidUnit) → Each (λ u. f u ≡ g u) units → sum_by f units ≡ sum_by g units
 sum_alike f g [] h = refl
@@ -29,12 +21,9 @@ sum_ones (u ∷ units) = sum_by-cons (λ _. 1) u units ∙ rw (sum_ones units) (
 abbrev but : ℕ → (BidUnit → ℕ) → BidUnit → ℕ
 but agent weight u = cond (not (u.agent == agent)) (weight u) 0
 
-own_agent : (bid : Placed) → Each (λ u. u.agent ≡ bid.agent) (units_of bid)
-own_agent bid = each-weaker (IsPlaced bid.agent bid.position) (λ u. u.agent ≡ bid.agent) (units_of bid) (λ u k. k.0) (each-placed bid.agent bid.position 0 bid.points)
-
 own_weigh_none : (agent : ℕ) (weight : BidUnit → ℕ) (bid : Placed) → bid.agent ≡ agent → sum_by (but agent weight) (units_of bid) ≡ 0
 own_weigh_none agent weight bid is =
-    sum_alike (but agent weight) (λ _. 0) (units_of bid) (each-weaker (λ u. u.agent ≡ bid.agent) (λ u. but agent weight u ≡ 0) (units_of bid) (λ u k. none u (k ∙ is)) (own_agent bid))
+    sum_alike (but agent weight) (λ _. 0) (units_of bid) (each-weaker (λ u. u.agent ≡ bid.agent) (λ u. but agent weight u ≡ 0) (units_of bid) (λ u k. none u (k ∙ is)) (bid_owned bid))
     ∙ sum_none (units_of bid)
   where
     none : (u : BidUnit) → u.agent ≡ agent → but agent weight u ≡ 0
@@ -42,16 +31,13 @@ own_weigh_none agent weight bid is =
 
 others_weigh_all : (agent : ℕ) (weight : BidUnit → ℕ) (bid : Placed) → (bid.agent ≡ agent → ⊥) → sum_by (but agent weight) (units_of bid) ≡ sum_by weight (units_of bid)
 others_weigh_all agent weight bid differ =
-    sum_alike (but agent weight) weight (units_of bid) (each-weaker (λ u. u.agent ≡ bid.agent) (λ u. but agent weight u ≡ weight u) (units_of bid) (λ u k. all u (λ e. differ (sym k ∙ e))) (own_agent bid))
+    sum_alike (but agent weight) weight (units_of bid) (each-weaker (λ u. u.agent ≡ bid.agent) (λ u. but agent weight u ≡ weight u) (units_of bid) (λ u k. all u (λ e. differ (sym k ∙ e))) (bid_owned bid))
   where
     all : (u : BidUnit) → (u.agent ≡ agent → ⊥) → but agent weight u ≡ weight u
     all u other = by_test (u.agent == agent) refl
       where
-        same : (m n : ℕ) → (m == n) ≡ true → m ≡ n
-        same m n h = grind (arith, nat_tests)
-
         by_test : (b : Bool) → (u.agent == agent) ≡ b → cond (not b) (weight u) 0 ≡ weight u
-        by_test true is = absurd (other (same u.agent agent is))
+        by_test true is = absurd (other (number_is u.agent agent is))
         by_test false is = refl
 
 -- bids of later agents
@@ -166,17 +152,14 @@ own_weigh_one agent u = cond (u.agent == agent) 1 0
 none_of_others : (agent : ℕ) (bid : Placed) → (bid.agent ≡ agent → ⊥) → sum_by (own_weigh_one agent) (units_of bid) ≡ 0
 unfolding own_weigh_one
 none_of_others agent bid differ =
-    sum_alike (own_weigh_one agent) (λ _. 0) (units_of bid) (each-weaker (λ u. u.agent ≡ bid.agent) (λ u. own_weigh_one agent u ≡ 0) (units_of bid) (λ u k. none u (λ e. differ (sym k ∙ e))) (own_agent bid))
+    sum_alike (own_weigh_one agent) (λ _. 0) (units_of bid) (each-weaker (λ u. u.agent ≡ bid.agent) (λ u. own_weigh_one agent u ≡ 0) (units_of bid) (λ u k. none u (λ e. differ (sym k ∙ e))) (bid_owned bid))
     ∙ sum_none (units_of bid)
   where
     none : (u : BidUnit) → (u.agent ≡ agent → ⊥) → cond {A = ℕ} (u.agent == agent) 1 0 ≡ 0
     none u other = by_test (u.agent == agent) refl
       where
-        same : (m n : ℕ) → (m == n) ≡ true → m ≡ n
-        same m n h = grind (arith, nat_tests)
-
         by_test : (b : Bool) → (u.agent == agent) ≡ b → cond {A = ℕ} b 1 0 ≡ 0
-        by_test true is = absurd (other (same u.agent agent is))
+        by_test true is = absurd (other (number_is u.agent agent is))
         by_test false is = refl
 
 few_of_bid : (agent : ℕ) (bid : Placed) → length (units_of bid) ≤ 16 → sum_by (own_weigh_one agent) (units_of bid) ≤ 16

@@ -1,35 +1,19 @@
 -- What one more entry changes in a hotel's book.
-use Rattle.std.proofs.Common.{◌≡◌, ℕ, ◌≤◌, Bool, true, false, List, [], ◌∷◌, length, min, refl, sym, ap, ◌∙◌, set, subst, arith, Option, Some, None}
-use Rattle.std.specs.Prelude.{if◌then◌else◌, not, ◌&&◌, ◌||◌}
-use Rattle.tac_base.specs.declared.bids.Point.{Point}
-use Rattle.tac_base.specs.declared.calls.Trade.{Trade}
+use Rattle.std.proofs.Common.{◌≡◌, ℕ, ◌≤◌, Bool, true, false, List, [], ◌∷◌, length, min, refl, sym, ap, ◌∙◌, set, subst, arith, Option, Some, None, if◌then◌else◌, not, ◌&&◌, ◌||◌}
+use Rattle.hotel_book.specs.Prelude.{Point, Trade, Reply, Taken, Sold, Done, Closed, WrongCall, Placed, BidUnit, clock, Setup, Rules, Hotel as HotelRules, Entry, is_closed, last_bid, last_bids, bid_units, units_of_bids, is_own, stand, ask, published, winning, refusal, is_wrong_caller, is_wrong_place, Follows}
 use Rattle.tac_base.specs.declared.calls.Call.{Call}
 use Rattle.tac_base.specs.declared.calls.Call.TheVariants.{Bid, Publish, Close}
-use Rattle.tac_base.specs.declared.calls.Reply.{Reply}
-use Rattle.tac_base.specs.declared.calls.Reply.TheVariants.{Taken, Sold, Done, Closed, WrongCall}
-use Rattle.auction_rules.specs.declared.units.Placed.{Placed}
-use Rattle.auction_rules.specs.declared.units.BidUnit.{BidUnit}
-use Rattle.tac_base.specs.Goods.{clock}
-use Rattle.auction_rules.specs.Setup.{Setup}
-use Rattle.auction_rules.specs.declared.rules.Rules.{Rules}
-use Rattle.auction_rules.specs.declared.rules.Rules.TheVariants.{Hotel as HotelRules}
-use Rattle.auction_rules.specs.History.{Entry, is_closed, last_bid, last_bids, bid_units, units_of_bids, is_own}
-use Rattle.auction_rules.specs.Standing.{stand}
-use Rattle.auction_rules.specs.Ask.{ask, published}
-use Rattle.auction_rules.specs.WinningNumber.{winning, winning_number}
 use Rattle.auction_rules.specs.HotelClosing.{sold_units, closing_trades}
-use Rattle.auction_rules.specs.Refusals.{refusal, is_wrong_caller, is_wrong_place}
-use Rattle.auction_rules.specs.Follows.{Follows}
 use Rattle.auction_rules.proofs.HotelUnits.{open_stand, sells_what_stands}
 use Rattle.auction_rules.proofs.Steps.{refused_entry, entry_refused, entry_admitted, refusal_refuses, follows}
 use Rattle.auction_rules.proofs.Agents.{agents_set, not_clock}
 use Rattle.auction_rules.proofs.Idle.{IsIdle, idle_refused, idle_bids, idle_published, idle_closed, wrong_follows}
-use Rattle.hotel_book.specs.Book.{HotelBook, hotel_book, StandsFor, standing, with_bid, book_refusal, winner_trades}
+use Rattle.hotel_book.specs.Book.{HotelBook, hotel_book, HotelStandsFor, standing, with_bid, book_refusal, winner_trades}
 
 -- ---- what stands
 
 -- the units of the bids stand in an open hotel, and none in a closed one
-pub stands_is : (setup : Setup) (past : List Entry) (book : HotelBook) → StandsFor book setup past → stand setup.rules past ≡ standing book.bids book.closed
+pub stands_is : (setup : Setup) (past : List Entry) (book : HotelBook) → HotelStandsFor book setup past → stand setup.rules past ≡ standing book.bids book.closed
 stands_is setup past book stood =
     ap (λ (rules : Rules). stand rules past) stood.rules ∙ by_state (is_closed past) refl
     ∙ sym (ap (λ (b : HotelBook). standing b.bids b.closed) stood.kept)
@@ -41,15 +25,15 @@ stands_is setup past book stood =
 -- ---- the refusal of a bid
 
 refusal_is : (rooms : ℕ) (live : Bool) (past : List Entry) (agent : ℕ) (points : List Point) → agent ≤ 7 →
-    refusal (HotelRules rooms live) past agent (Bid points) ≡ book_refusal (winning_number rooms live past agent) (published rooms live past) (is_closed past) points
+    refusal (HotelRules rooms live) past agent (Bid points) ≡ book_refusal (winning rooms (stand (HotelRules rooms live) past) agent) (published rooms live past) (is_closed past) points
 refusal_is rooms live past agent points le = by_state (is_closed past) refl
   where
-    by_state : (b : Bool) → is_closed past ≡ b → refusal (HotelRules rooms live) past agent (Bid points) ≡ book_refusal (winning_number rooms live past agent) (published rooms live past) b points
+    by_state : (b : Bool) → is_closed past ≡ b → refusal (HotelRules rooms live) past agent (Bid points) ≡ book_refusal (winning rooms (stand (HotelRules rooms live) past) agent) (published rooms live past) b points
     by_state true h = rw h
     by_state false h = let agents_bid = not_clock agent le in rw (h, agents_bid)
 
 -- what the rules refuse, by what the book keeps and the units that the agent would win
-refused_by : (setup : Setup) (past : List Entry) (book : HotelBook) (agent won : ℕ) (points : List Point) → StandsFor book setup past → agent ≤ 7 → won ≡ winning_number book.rooms book.live past agent →
+refused_by : (setup : Setup) (past : List Entry) (book : HotelBook) (agent won : ℕ) (points : List Point) → HotelStandsFor book setup past → agent ≤ 7 → won ≡ winning book.rooms (stand (HotelRules book.rooms book.live) past) agent →
     refusal setup.rules past agent (Bid points) ≡ book_refusal won book.published book.closed points
 refused_by setup past book agent won points stood le wins =
     ap (λ (rules : Rules). refusal rules past agent (Bid points)) stood.rules ∙ refusal_is book.rooms book.live past agent points le
@@ -63,30 +47,30 @@ is_open won price false points h = refl
 -- ---- the calls
 
 -- an idle entry changes nothing that a hotel keeps
-pub idle_keeps : (book : HotelBook) (setup : Setup) (past : List Entry) (e : Entry) → IsIdle e → StandsFor book setup past → StandsFor book setup (e ∷ past)
+pub idle_keeps : (book : HotelBook) (setup : Setup) (past : List Entry) (e : Entry) → IsIdle e → HotelStandsFor book setup past → HotelStandsFor book setup (e ∷ past)
 idle_keeps book setup past e idle stood = record { rules = stood.rules; kept = stood.kept ∙ sym same }
   where
     same : hotel_book setup.good book.rooms book.live (e ∷ past) ≡ hotel_book setup.good book.rooms book.live past
     same = rw (idle_bids past e idle, idle_published past e idle book.rooms book.live, idle_closed past e idle) refl
 
 follows_refused : (setup : Setup) (past : List Entry) (caller : ℕ) (call : Call) (book : HotelBook) (reply : Reply) (trades : List Trade) →
-    StandsFor book setup past → refusal setup.rules past caller call ≡ Some reply → trades ≡ [] → Follows setup past caller call reply trades (StandsFor book setup)
+    HotelStandsFor book setup past → refusal setup.rules past caller call ≡ Some reply → trades ≡ [] → Follows setup past caller call reply trades (HotelStandsFor book setup)
 follows_refused setup past caller call book reply trades stood refused none =
-    follows setup past caller call (refused_entry caller call reply) reply trades (StandsFor book setup) (entry_refused setup past caller call reply refused) refl none
+    follows setup past caller call (refused_entry caller call reply) reply trades (HotelStandsFor book setup) (entry_refused setup past caller call reply refused) refl none
     (idle_keeps book setup past (refused_entry caller call reply) (idle_refused (refused_entry caller call reply) (refusal_refuses setup.rules past caller call reply refused)) stood)
 
 -- a call that hotels do not have, or that its caller may not make
-pub follows_wrong : (setup : Setup) (past : List Entry) (caller : ℕ) (call : Call) (book : HotelBook) (reply : Reply) → StandsFor book setup past →
+pub follows_wrong : (setup : Setup) (past : List Entry) (caller : ℕ) (call : Call) (book : HotelBook) (reply : Reply) → HotelStandsFor book setup past →
     (is_wrong_caller caller call || is_wrong_place (HotelRules book.rooms book.live) call) ≡ true → reply ≡ (if not (is_own call) && book.closed then Closed else WrongCall) →
-    Follows setup past caller call reply [] (StandsFor book setup)
+    Follows setup past caller call reply [] (HotelStandsFor book setup)
 follows_wrong setup past caller call book reply stood wrong replied =
-    wrong_follows setup past caller call (HotelRules book.rooms book.live) book.closed reply (StandsFor book setup) (rw stood.rules tt) wrong (ap (λ (b : HotelBook). b.closed) stood.kept) replied
+    wrong_follows setup past caller call (HotelRules book.rooms book.live) book.closed reply (HotelStandsFor book setup) (rw stood.rules tt) wrong (ap (λ (b : HotelBook). b.closed) stood.kept) replied
     (λ e idle. idle_keeps book setup past e idle stood)
 
 -- a bid that the book refuses
 pub follows_refused_bid : (setup : Setup) (past : List Entry) (agent won : ℕ) (points : List Point) (book : HotelBook) (reply : Reply) (trades : List Trade) → agent ≤ 7 →
-    StandsFor book setup past → won ≡ winning_number book.rooms book.live past agent → book_refusal won book.published book.closed points ≡ Some reply → trades ≡ [] →
-    Follows setup past agent (Bid points) reply trades (StandsFor book setup)
+    HotelStandsFor book setup past → won ≡ winning book.rooms (stand (HotelRules book.rooms book.live) past) agent → book_refusal won book.published book.closed points ≡ Some reply → trades ≡ [] →
+    Follows setup past agent (Bid points) reply trades (HotelStandsFor book setup)
 follows_refused_bid setup past agent won points book reply trades le stood wins refused none =
     follows_refused setup past agent (Bid points) book reply trades stood (refused_by setup past book agent won points stood le wins ∙ refused) none
 
@@ -108,13 +92,13 @@ same_books : (rooms : ℕ) (live : Bool) (good good' : ℕ) (bids bids' : List (
 same_books rooms live good good' bids bids' price price' closed closed' g b p c = rw (g, b, p, c)
 
 pub follows_taken : (setup : Setup) (past : List Entry) (at agent won : ℕ) (points : List Point) (book book' : HotelBook) (trades : List Trade) →
-    agent ≤ 7 → at ≡ length past → StandsFor book setup past → won ≡ winning_number book.rooms book.live past agent → book_refusal won book.published book.closed points ≡ None →
+    agent ≤ 7 → at ≡ length past → HotelStandsFor book setup past → won ≡ winning book.rooms (stand (HotelRules book.rooms book.live) past) agent → book_refusal won book.published book.closed points ≡ None →
     book' ≡ with_bid book (record { agent = agent; position = at; points = points }) → trades ≡ [] →
-    Follows setup past agent (Bid points) (Taken 0 0) trades (StandsFor book' setup)
+    Follows setup past agent (Bid points) (Taken 0 0) trades (HotelStandsFor book' setup)
 follows_taken setup past at agent won points book book' trades le here stood wins taken placed none =
-    follows setup past agent (Bid points) (taken_entry agent points) (Taken 0 0) trades (StandsFor book' setup)
+    follows setup past agent (Bid points) (taken_entry agent points) (Taken 0 0) trades (HotelStandsFor book' setup)
     (entry_admitted setup past agent (Bid points) (refused_by setup past book agent won points stood le wins ∙ taken) ∙ rw stood.rules) refl none
-    (subst (λ (b : HotelBook). StandsFor b setup (taken_entry agent points ∷ past)) (sym placed)
+    (subst (λ (b : HotelBook). HotelStandsFor b setup (taken_entry agent points ∷ past)) (sym placed)
     (record { rules = stood.rules; kept = same_books book.rooms book.live _ _ _ _ _ _ _ _ good now quote closed }))
   where
     bids : List (Option Placed)
@@ -141,10 +125,10 @@ follows_taken setup past at agent won points book book' trades le here stood win
 
 -- an admitted publication
 pub follows_published : (setup : Setup) (past : List Entry) (book : HotelBook) (price : ℕ) →
-    StandsFor book setup past → book.closed ≡ false → price ≡ ask book.rooms (stand setup.rules past) →
-    Follows setup past clock Publish Done [] (StandsFor (record book { published = price }) setup)
+    HotelStandsFor book setup past → book.closed ≡ false → price ≡ ask book.rooms (stand setup.rules past) →
+    Follows setup past clock Publish Done [] (HotelStandsFor (record book { published = price }) setup)
 follows_published setup past book price stood not_closed priced =
-    follows setup past clock Publish (record { caller = clock; call = Publish; reply = Done; trades = [] }) Done [] (StandsFor (record book { published = price }) setup)
+    follows setup past clock Publish (record { caller = clock; call = Publish; reply = Done; trades = [] }) Done [] (HotelStandsFor (record book { published = price }) setup)
     (rw (stood.rules, still_open)) refl refl
     (record { rules = stood.rules; kept = same_books book.rooms book.live _ _ _ _ _ _ _ _ good bids asked closed })
   where
@@ -171,12 +155,12 @@ trades_are good rooms price won units priced wins =
 
 -- an admitted closing
 pub follows_closed : (setup : Setup) (past : List Entry) (book : HotelBook) (sold price : ℕ) (won : ℕ → ℕ) (trades : List Trade) →
-    StandsFor book setup past → book.closed ≡ false →
+    HotelStandsFor book setup past → book.closed ≡ false →
     sold ≡ min book.rooms (length (stand setup.rules past)) → price ≡ ask book.rooms (stand setup.rules past) →
     ((agent : ℕ) → agent ≤ 7 → won agent ≡ winning book.rooms (stand setup.rules past) agent) → trades ≡ winner_trades book.good price won →
-    Follows setup past clock Close (Sold sold price) trades (StandsFor (record book { published = price; closed = true }) setup)
+    Follows setup past clock Close (Sold sold price) trades (HotelStandsFor (record book { published = price; closed = true }) setup)
 follows_closed setup past book sold price won trades stood not_closed counted priced wins traded =
-    follows setup past clock Close (record { caller = clock; call = Close; reply = Sold sold price; trades = trades }) (Sold sold price) trades (StandsFor (record book { published = price; closed = true }) setup)
+    follows setup past clock Close (record { caller = clock; call = Close; reply = Sold sold price; trades = trades }) (Sold sold price) trades (HotelStandsFor (record book { published = price; closed = true }) setup)
     (rw (stood.rules, still_open, counts, asked, sold_is) refl) refl refl
     (record { rules = stood.rules; kept = same_books book.rooms book.live _ _ _ _ _ _ true true good bids asked refl })
   where

@@ -1,15 +1,13 @@
 -- Sums over points, and trades over agents.
-use Rattle.std.proofs.Common.{◌≡◌, ℕ, ◌+◌, ◌<◌, ◌≤◌, List, [], ◌∷◌, ◌++◌, length, refl, ap, ◌∙◌, arith, get_or, take, Option, Some, None}
+use Rattle.std.proofs.Common.{◌≡◌, ℕ, ◌+◌, ◌<◌, ◌≤◌, List, [], ◌∷◌, ◌++◌, length, refl, ap, ◌∙◌, arith, get_or, take, Option, Some, None, filter_map, option_to_list}
 use Rattle.std.proofs.lemmas.List.{take_more}
 use Rattle.std.proofs.lemmas.List.Sums.{sum_by_more_le_part}
 use Rattle.std.proofs.lemmas.List.Elements.{filter_map-append}
 use Rattle.std.proofs.lemmas.Bool.Decides.{nat_tests}
-use Rattle.std.specs.List.{filter_map, cons_option}
-use Rattle.std.specs.Option.{option_to_list}
-use Rattle.tac_base.specs.declared.bids.Point.{Point}
-use Rattle.tac_base.specs.declared.calls.Trade.{Trade}
-use Rattle.tac_base.specs.Bids.{total_size, size_of}
-use Rattle.auction_rules.specs.BeatQuote.{offered, offered_by}
+use Rattle.std.specs.List.{cons_option}
+use Rattle.hotel_book.specs.Prelude.{Point, Trade, total_size, size_of}
+use Rattle.auction_rules.specs.BeatQuote.{offered}
+use Rattle.auction_rules.proofs.Counts.{offered_by}
 
 offered_by_le : (at : ℕ) (point : Point) → offered_by at point ≤ size_of point
 offered_by_le at point = grind (arith, nat_tests)

@@ -1,19 +1,9 @@
 -- What stands of a bid in an open hotel is the whole bid, and nothing in a closed one.
-use Rattle.std.proofs.Common.{◌≡◌, ℕ, ◌<◌, ◌≤◌, true, false, List, [], length, refl, sym, ap, ◌∙◌, arith, Option, Some, None, get_or, subst}
-use Rattle.std.specs.Prelude.{All, ◌≢◌}
+use Rattle.std.proofs.Common.{◌≡◌, ℕ, ◌<◌, ◌≤◌, true, false, List, [], length, refl, sym, ap, ◌∙◌, arith, Option, Some, None, get_or, subst, All, ◌≢◌}
 use Rattle.std.proofs.lemmas.List.Elements.{recursion_from_All}
-use Rattle.tac_base.specs.declared.bids.Point.{Point}
-use Rattle.tac_base.specs.Bids.{size_of}
-use Rattle.auction_rules.specs.declared.units.Placed.{Placed}
-use Rattle.auction_rules.specs.declared.units.BidUnit.{BidUnit}
-use Rattle.auction_rules.specs.Setup.{Setup}
-use Rattle.auction_rules.specs.declared.rules.Rules.{Rules}
-use Rattle.auction_rules.specs.declared.rules.Rules.TheVariants.{Hotel as HotelRules}
-use Rattle.auction_rules.specs.History.{Entry, units_of_last, last_bid, last_bids, is_closed, units_of_bids}
-use Rattle.auction_rules.specs.Standing.{left_of, left, stand}
+use Rattle.hotel_book.specs.{Point, size_of, Placed, BidUnit, Setup, Rules, Hotel as HotelRules, Entry, units_of_last, last_bid, last_bids, is_closed, units_of_bids, left_of, left, stand, HotelBook, HotelStandsFor}
 use Rattle.auction_rules.proofs.Agents.{agents_get}
 use Rattle.auction_rules.proofs.Standing.{AllAmong, all_among_bids, left_whole, left_none}
-use Rattle.hotel_book.specs.Book.{HotelBook, StandsFor}
 use Rattle.auction_rules.proofs.HotelUnits.{open_stand}
 
 left_of_none : (bid : Option Placed) → left_of [] bid ≡ []
@@ -29,7 +19,7 @@ left_of_bid bids i d bid h at full =
 
 -- what is left to an agent in an open hotel
 pub left_open : (setup : Setup) (past : List Entry) (book : HotelBook) (agent : ℕ) (d : Option Placed) (bid : Placed) →
-    StandsFor book setup past → book.closed ≡ false → agent ≤ 7 → get_or book.bids agent d ≡ Some bid → All (λ (p : Point). size_of p ≢ 0) bid.points →
+    HotelStandsFor book setup past → book.closed ≡ false → agent ≤ 7 → get_or book.bids agent d ≡ Some bid → All (λ (p : Point). size_of p ≢ 0) bid.points →
     left setup.rules past agent ≡ bid.points
 left_open setup past book agent d bid stood not_closed le at full =
     let h : is_closed past ≡ false = sym (ap (λ (b : HotelBook). b.closed) stood.kept) ∙ not_closed in
@@ -42,14 +32,14 @@ left_open setup past book agent d bid stood not_closed le at full =
 
 -- and in a closed one
 pub left_closed : (setup : Setup) (past : List Entry) (book : HotelBook) (agent : ℕ) →
-    StandsFor book setup past → book.closed ≡ true → left setup.rules past agent ≡ []
+    HotelStandsFor book setup past → book.closed ≡ true → left setup.rules past agent ≡ []
 left_closed setup past book agent stood closed =
     let h : is_closed past ≡ true = sym (ap (λ (b : HotelBook). b.closed) stood.kept) ∙ closed in
     rw h (left_of_none (last_bid agent past))
 
 -- and to one without a bid
 pub left_without_bid : (setup : Setup) (past : List Entry) (book : HotelBook) (agent : ℕ) (d : Option Placed) →
-    StandsFor book setup past → agent ≤ 7 → get_or book.bids agent d ≡ None → left setup.rules past agent ≡ []
+    HotelStandsFor book setup past → agent ≤ 7 → get_or book.bids agent d ≡ None → left setup.rules past agent ≡ []
 left_without_bid setup past book agent d stood le at =
     let kept : get_or (last_bids past) agent d ≡ None = sym (ap (λ (b : HotelBook). get_or b.bids agent d) stood.kept) ∙ at in
     let last : last_bid agent past ≡ None = sym (agents_get agent (λ (a : ℕ). last_bid a past) d le) ∙ kept in

@@ -1,18 +1,11 @@
 -- How many units a closing sells.
-use Rattle.std.proofs.Common.{◌≡◌, ℕ, zero, suc, ◌+◌, ◌≤◌, Bool, true, false, cond, List, [], ◌∷◌, length, take, refl, sym, ap, ne_eqb, subst, arith}
-use Rattle.std.specs.Prelude.{◌==◌, count_by}
-use Rattle.std.specs.List.{All, AllByRecursion, filter_map}
-use Rattle.std.proofs.lemmas.List.{length-take}
+use Rattle.std.proofs.Common.{◌≡◌, ℕ, zero, suc, ◌+◌, ◌≤◌, Bool, true, false, cond, List, [], ◌∷◌, length, take, refl, sym, ap, ne_eqb, subst, arith, ◌==◌, count_by, All, filter_map, length-take}
+use Rattle.std.specs.List.{AllByRecursion}
 use Rattle.std.proofs.lemmas.List.Elements.{All-from_recursion}
 use Rattle.std.proofs.lemmas.List.Sums.{sum_by-cons}
 use Rattle.std.proofs.lemmas.Bool.Decides.{nat_tests}
-use Rattle.tac_base.specs.declared.calls.Trade.{Trade}
-use Rattle.tac_base.specs.declared.units.Unit.{Unit as ShownUnit}
-use Rattle.tac_base.specs.declared.limits.TheConstants.{BID_PRICE}
-use Rattle.tac_base.specs.Goods.{agents}
-use Rattle.auction_rules.specs.Traded.{traded, Spends, IsShort}
-use Rattle.hotel_book.specs.Ranked.{won}
-use Rattle.hotel_book.specs.Book.{winner_trade, winner_trades}
+use Rattle.hotel_book.specs.{Trade, Unit as ShownUnit, BID_PRICE, agents, traded, Spends, IsShort, won, winner_trade, winner_trades}
+use Rattle.auction_rules.proofs.Standing.{number_is}
 
 -- ---- the eight agents' units are no more than all
 
@@ -63,6 +56,9 @@ all_counted (u ∷ units) =
 
 -- ---- the trades of a closing
 
+at_least : (n : ℕ) → (n == 0) ≡ false → 1 ≤ n
+at_least n h = grind (arith, nat_tests)
+
 module _ (good price : ℕ) (wins : ℕ → ℕ) where
   trades_for : List ℕ → List Trade
   trades_for owners = filter_map (winner_trade good price wins) owners
@@ -71,11 +67,8 @@ module _ (good price : ℕ) (wins : ℕ → ℕ) where
   unfolding trades_for
   one_more agent owners = by_test (wins agent == 0) refl
     where
-      none : (n : ℕ) → (n == 0) ≡ true → n ≡ 0
-      none n h = grind (arith, nat_tests)
-
       by_test : (b : Bool) → (wins agent == 0) ≡ b → traded (trades_for (agent ∷ owners)) ≡ wins agent + traded (trades_for owners)
-      by_test true is = rw is (omega (arith, none (wins agent) is))
+      by_test true is = rw is (omega (arith, number_is (wins agent) 0 is))
       by_test false is = rw is (omega (arith, sum_by-cons (λ (t : Trade). t.units) (record { buyer = agent; seller = 8; good = good; units = wins agent; price = price }) (trades_for owners)))
 
   some_sold : (owners : List ℕ) → AllByRecursion (λ (t : Trade). 1 ≤ t.units) (trades_for owners)
@@ -83,9 +76,6 @@ module _ (good price : ℕ) (wins : ℕ → ℕ) where
   some_sold [] = tt
   some_sold (agent ∷ owners) = by_test (wins agent == 0) refl (some_sold owners)
     where
-      at_least : (n : ℕ) → (n == 0) ≡ false → 1 ≤ n
-      at_least n h = grind (arith, nat_tests)
-
       by_test : (b : Bool) → (wins agent == 0) ≡ b → AllByRecursion (λ (t : Trade). 1 ≤ t.units) (trades_for owners) → AllByRecursion (λ (t : Trade). 1 ≤ t.units) (trades_for (agent ∷ owners))
       by_test true is more = rw is more
       by_test false is more = rw is (at_least (wins agent) is, more)
@@ -127,9 +117,6 @@ pub closing_short : (good price : ℕ) (wins : ℕ → ℕ) (trades : List Trade
 closing_short good price wins trades priced few is =
     subst (λ (ts : List Trade). All IsShort ts) (sym is) (All-from_recursion IsShort (winner_trades good price wins) (each agents))
   where
-    at_least : (n : ℕ) → (n == 0) ≡ false → 1 ≤ n
-    at_least n h = grind (arith, nat_tests)
-
     each : (owners : List ℕ) → AllByRecursion IsShort (filter_map (winner_trade good price wins) owners)
     each [] = tt
     each (agent ∷ owners) = by_test (wins agent == 0) refl (each owners)

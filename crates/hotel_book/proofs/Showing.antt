@@ -1,21 +1,9 @@
 -- What the ranked units of a hotel give, where it stands for a past.
-use Rattle.std.proofs.Common.{◌≡◌, ℕ, ◌≤◌, List, [], ◌∷◌, refl, map, length, sym, ap, ◌∙◌, subst, arith}
-use Rattle.std.specs.Prelude.{sum_by}
-use Rattle.std.specs.List.Sorted.{IsPermutation}
+use Rattle.std.proofs.Common.{◌≡◌, ℕ, ◌≤◌, List, [], ◌∷◌, refl, map, length, sym, ap, ◌∙◌, subst, arith, sum_by, IsPermutation}
 use Rattle.std.proofs.lemmas.List.Sums.{sum_by-cons}
-use Rattle.tac_base.specs.declared.units.Unit.{Unit as ShownUnit}
-use Rattle.auction_rules.specs.declared.units.BidUnit.{BidUnit}
-use Rattle.auction_rules.specs.Setup.{Setup}
-use Rattle.auction_rules.specs.declared.rules.Rules.{Rules}
-use Rattle.auction_rules.specs.History.{Entry}
-use Rattle.auction_rules.specs.Shown.{shown_unit, AreShown}
-use Rattle.auction_rules.specs.Standing.{stand}
-use Rattle.auction_rules.specs.Ask.{ask}
-use Rattle.auction_rules.specs.WinningNumber.{winning, winning_number}
+use Rattle.hotel_book.specs.{Unit as ShownUnit, BidUnit, Setup, Rules, Hotel as HotelRules, Entry, shown_unit, AreShown, stand, ask, winning, AreRanked, AreSortedUnits, last_price, won, HotelBook, HotelStandsFor, standing}
 use Rattle.auction_rules.proofs.HotelUnits.{InOrder, stand_ordered}
 use Rattle.auction_rules.proofs.Shown.{permuted}
-use Rattle.hotel_book.specs.Ranked.{AreRanked, AreSortedUnits, last_price, won}
-use Rattle.hotel_book.specs.Book.{HotelBook, StandsFor, standing}
 use Rattle.hotel_book.proofs.Keeping.{stands_is}
 use Rattle.hotel_book.proofs.Winners.{ask_is, winning_is, in_order}
 
@@ -23,7 +11,7 @@ ones : {A : Type 0} (xs : List A) → sum_by (λ _. 1) xs ≡ length xs
 ones [] = refl
 ones (x ∷ xs) = sum_by-cons (λ _. 1) x xs ∙ rw (ones xs) (omega arith)
 
-module _ (setup : Setup) (past : List Entry) (book : HotelBook) (units : List ShownUnit) (stood : StandsFor book setup past) (shown : AreShown (standing book.bids book.closed) units) where
+module _ (setup : Setup) (past : List Entry) (book : HotelBook) (units : List ShownUnit) (stood : HotelStandsFor book setup past) (shown : AreShown (standing book.bids book.closed) units) where
   shows : AreShown (stand setup.rules past) units
   shows = subst (λ (us : List BidUnit). AreShown us units) (sym (stands_is setup past book stood)) shown
 
@@ -46,5 +34,5 @@ module _ (setup : Setup) (past : List Entry) (book : HotelBook) (units : List Sh
     pub wins : (agent : ℕ) → won book.rooms units agent ≡ winning book.rooms (stand setup.rules past) agent
     wins agent = winning_is book.rooms (stand setup.rules past) units agent shows ordered sorted
 
-    pub wins_by_rules : (agent : ℕ) → won book.rooms units agent ≡ winning_number book.rooms book.live past agent
+    pub wins_by_rules : (agent : ℕ) → won book.rooms units agent ≡ winning book.rooms (stand (HotelRules book.rooms book.live) past) agent
     wins_by_rules agent = wins agent ∙ ap (λ (rules : Rules). winning book.rooms (stand rules past) agent) stood.rules

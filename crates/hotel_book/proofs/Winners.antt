@@ -1,36 +1,19 @@
 -- What units in order determine is what the rules say of the standing units.
-use Rattle.std.proofs.Common.{◌≡◌, ℕ, zero, suc, ◌-◌, ◌<◌, ◌≤◌, Bool, true, false, cond, List, [], ◌∷◌, map, take, length, get_or, refl, sym, ap, subst, ◌∙◌, arith, inl, inr}
-use Rattle.std.specs.Prelude.{not, ◌&&◌, ◌==◌, nat_lt, nat_le, count_by}
+use Rattle.std.proofs.Common.{◌≡◌, ℕ, zero, suc, ◌-◌, ◌<◌, ◌≤◌, Bool, true, false, cond, List, [], ◌∷◌, map, take, length, get_or, refl, sym, ap, subst, ◌∙◌, arith, inl, inr, not, ◌&&◌, ◌==◌, nat_lt, nat_le, count_by, leb-true, le-leb, lt-ltb}
 use Rattle.std.specs.List.{AllByRecursion}
-use Rattle.std.proofs.lemmas.Bool.{leb-true, le-leb}
 use Rattle.std.proofs.lemmas.Bool.Decides.{nat_tests}
-use Rattle.tac_base.specs.declared.units.Unit.{Unit as ShownUnit}
-use Rattle.auction_rules.specs.declared.units.BidUnit.{BidUnit}
-use Rattle.auction_rules.specs.Shown.{on_side, AreShown}
-use Rattle.auction_rules.specs.Precedence.{precedes}
-use Rattle.auction_rules.specs.Ask.{ask, units_at}
-use Rattle.auction_rules.specs.WinningNumber.{winning}
-use Rattle.auction_rules.proofs.Ranks.{In, count-cons, count_same}
-use Rattle.auction_rules.proofs.Counts.{none_pass}
+use Rattle.hotel_book.specs.{Unit as ShownUnit, BidUnit, on_side, AreShown, precedes, ask, winning, ranks_first, AreRanked, AreSortedUnits, last_price, won}
+use Rattle.auction_rules.proofs.Ranks.{In, count-cons, count_same, at_most_one, yes_is_one, no_is_none}
+use Rattle.auction_rules.proofs.Counts.{none_pass, units_at}
 use Rattle.auction_rules.proofs.Asks.{IsReached, ask_reached, enough_raises}
 use Rattle.auction_rules.proofs.HotelUnits.{InOrder}
-use Rattle.hotel_book.specs.Ranked.{ranks_first, AreRanked, AreSortedUnits, last_price, won}
+use Rattle.auction_rules.proofs.Lists.{and-true}
 use Rattle.hotel_book.proofs.Sorting.{not_back, not_self}
 
 all_in : (P : ShownUnit → Type 0) (units : List ShownUnit) → AllByRecursion P units → (u : ShownUnit) → In u units → P u
 all_in P [] h u is = absurd is
 all_in P (v ∷ units) h u (inl same) = subst P (sym same) h.0
 all_in P (v ∷ units) h u (inr is) = all_in P units h.1 u is
-
-at_most_one : (b : Bool) → cond b 1 0 ≤ 1
-at_most_one true = omega arith
-at_most_one false = omega arith
-
-yes_is_one : (b : Bool) → b ≡ true → ◌≡◌ {A = ℕ} (cond b 1 0) 1
-yes_is_one b h = rw h refl
-
-no_is_none : (b : Bool) → b ≡ false → ◌≡◌ {A = ℕ} (cond b 1 0) 0
-no_is_none b h = rw h refl
 
 -- ---- the ask
 
@@ -206,10 +189,6 @@ winners (suc rooms) test (u ∷ units) h =
     before : ShownUnit → ℕ
     before v = count_by (λ w. ranks_first w v) (u ∷ units)
 
-    and_true : (b : Bool) → (b && true) ≡ b
-    and_true true = refl
-    and_true false = refl
-
     first : (test u && nat_lt (before u) (suc rooms)) ≡ test u
     first =
         let nothing : before u ≡ 0 =
@@ -219,11 +198,8 @@ winners (suc rooms) test (u ∷ units) h =
           no_is_none (ranks_first u u) (not_self u),
           none_pass (λ w. ranks_first w u) units (λ w is. not_back u w (all_in (λ x. ranks_first u x ≡ true) units h.0 w is)),
         ) in
-        let wins : nat_lt (before u) (suc rooms) ≡ true = rw nothing (within rooms) in
-        rw wins (and_true (test u))
-      where
-        within : (n : ℕ) → nat_lt 0 (suc n) ≡ true
-        within n = grind (arith, nat_tests)
+        let wins : nat_lt (before u) (suc rooms) ≡ true = rw nothing (lt-ltb 0 (suc rooms) (omega arith)) in
+        rw wins (and-true (test u))
 
     later : (v : ShownUnit) → In v units → (test v && nat_lt (before v) (suc rooms)) ≡ (test v && nat_lt (count_by (λ w. ranks_first w v) units) rooms)
     later v is =

@@ -1,22 +1,6 @@
 -- What a contract sees of a hotel auction, and the pasts that it stands for.
-use Rattle.std.specs.Prelude.{◌≡◌, ℕ, suc, ◌+◌, ◌≤◌, ◌==◌, max, ⊤, Bool, if◌then◌else◌, List, [], ◌∷◌, length, slice_set, Option, Some, None}
-use Rattle.std.specs.List.{filter_map}
-use Rattle.tac_base.specs.declared.bids.Point.{Point}
-use Rattle.tac_base.specs.declared.calls.Trade.{Trade}
-use Rattle.tac_base.specs.declared.calls.Reply.{Reply}
-use Rattle.tac_base.specs.declared.calls.Reply.TheVariants.{Closed}
-use Rattle.tac_base.specs.declared.units.Unit.{Unit as ShownUnit}
-use Rattle.tac_base.specs.declared.limits.TheConstants.{AGENTS, BID_PRICE, BID_UNITS, STANDING_UNITS}
-use Rattle.tac_base.specs.Goods.{agents, house}
-use Rattle.auction_rules.specs.declared.units.Placed.{Placed}
-use Rattle.auction_rules.specs.declared.units.BidUnit.{BidUnit}
-use Rattle.auction_rules.specs.Setup.{Setup}
-use Rattle.auction_rules.specs.declared.rules.Rules.TheVariants.{Hotel as HotelRules}
-use Rattle.auction_rules.specs.Units.{units_of}
-use Rattle.auction_rules.specs.Shown.{AreShown}
-use Rattle.auction_rules.specs.History.{Entry, last_bids, is_closed, units_of_bids}
-use Rattle.auction_rules.specs.Ask.{published, ask}
-use Rattle.auction_rules.specs.Refusals.{hotel_refusal}
+use Rattle.std.specs.Prelude.{◌≡◌, ℕ, suc, ◌+◌, ◌≤◌, ◌==◌, max, ⊤, Bool, if◌then◌else◌, List, [], ◌∷◌, length, slice_set, Option, Some, None, filter_map}
+use Rattle.hotel_book.specs.Prelude.{Point, Trade, Reply, Closed, Unit as ShownUnit, AGENTS, BID_PRICE, BID_UNITS, STANDING_UNITS, agents, house, Placed, BidUnit, Setup, Hotel as HotelRules, units_of, AreShown, Entry, last_bids, is_closed, units_of_bids, published, ask, hotel_refusal}
 
 -- a hotel's good and its rules, the last bid of each agent in order, the published price, and whether it is closed
 pub record HotelBook : Type 0 where
@@ -33,7 +17,7 @@ hotel_book good rooms live past =
     record { good = good; rooms = rooms; live = live; bids = last_bids past; published = published rooms live past; closed = is_closed past }
 
 -- the book stands for this past of an auction with this setup
-pub record StandsFor (book : HotelBook) (setup : Setup) (past : List Entry) : Type 0 where
+pub record HotelStandsFor (book : HotelBook) (setup : Setup) (past : List Entry) : Type 0 where
   pub rules : setup.rules ≡ HotelRules book.rooms book.live
   pub kept : book ≡ hotel_book setup.good book.rooms book.live past
 

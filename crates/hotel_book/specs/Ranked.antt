@@ -1,11 +1,6 @@
 -- The units of a hotel in their order, with the ask and each agent's winning number.
-use Rattle.std.specs.Prelude.{◌≡◌, ℕ, ◌-◌, ◌≤◌, ◌==◌, ⊤, Bool, true, false, List, [], ◌∷◌, All, map, take, count_by, slice_index_or}
-use Rattle.std.specs.List.{AllByRecursion}
-use Rattle.tac_base.specs.declared.units.Unit.{Unit as ShownUnit}
-use Rattle.tac_base.specs.declared.limits.TheConstants.{BID_PRICE}
-use Rattle.tac_base.specs.Goods.{agents}
-use Rattle.auction_rules.specs.Shown.{on_side}
-use Rattle.auction_rules.specs.Precedence.{precedes}
+use Rattle.std.specs.Prelude.{◌≡◌, ℕ, ◌-◌, ◌≤◌, ◌==◌, Bool, true, List, All, map, take, count_by, slice_index_or}
+use Rattle.hotel_book.specs.Prelude.{Unit as ShownUnit, BID_PRICE, agents, on_side, IsRankedBy, IsSortedBy, precedes}
 
 -- the first unit precedes the second; all units of a hotel buy
 abbrev pub ranks_first : ShownUnit → ShownUnit → Bool
@@ -13,13 +8,11 @@ ranks_first u v = precedes (on_side true u) (on_side true v)
 
 -- each unit precedes those after it
 abbrev pub AreRanked : List ShownUnit → Type 0
-AreRanked [] = ⊤
-AreRanked (u ∷ units) = AllByRecursion (λ v. ranks_first u v ≡ true) units × AreRanked units
+AreRanked units = IsRankedBy ranks_first units
 
 -- no unit precedes one before it
 abbrev pub AreSortedUnits : List ShownUnit → Type 0
-AreSortedUnits [] = ⊤
-AreSortedUnits (u ∷ units) = AllByRecursion (λ v. ranks_first v u ≡ false) units × AreSortedUnits units
+AreSortedUnits units = IsSortedBy ranks_first units
 
 -- the price of the unit that takes the last room, and 0 if a room is left
 abbrev pub last_price : ℕ → List ShownUnit → ℕ

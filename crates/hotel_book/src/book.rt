@@ -1,20 +1,9 @@
-ghost use Rattle.std.specs.Prelude.{All, min, ◌≡◌, ◌≤◌, ◌||◌, [], ◌∷◌, length, map, List, false, IsTrue};
-ghost use Rattle.std.specs.List.Sorted.{IsPermutation};
+ghost use Rattle.std.specs.Prelude.{All, min, ◌≡◌, ◌≤◌, ◌||◌, [], ◌∷◌, length, map, List, false, IsTrue, IsPermutation};
 ghost use Rattle.tac_base.specs.Kinds.{kind_of};
-ghost use Rattle.tac_base.specs.Goods.{clock};
-ghost use Rattle.auction_rules.specs.Setup.{Setup};
-ghost use Rattle.auction_rules.specs.Shown.{shown_unit};
-ghost use Rattle.auction_rules.specs.History.{Entry};
-ghost use Rattle.auction_rules.specs.Standing.{left, stand};
+ghost use Rattle.hotel_book.specs.{clock, Setup, shown_unit, Entry, left, stand, winning, is_wrong_caller, is_wrong_place, Follows, Spends, IsShort, AreRanked, HotelStandsFor, hotel_units_left, with_bid};
 ghost use Rattle.auction_rules.specs.Ask as asks;
-ghost use Rattle.auction_rules.specs.WinningNumber.{winning_number};
 ghost use Rattle.auction_rules.specs.Board.{board};
-ghost use Rattle.auction_rules.specs.Refusals.{is_wrong_caller, is_wrong_place};
 ghost use Rattle.auction_rules.specs.Legal.{entry_of};
-ghost use Rattle.auction_rules.specs.Follows.{Follows};
-ghost use Rattle.auction_rules.specs.Traded.{Spends, IsShort};
-ghost use Rattle.hotel_book.specs.Ranked.{AreRanked};
-ghost use Rattle.hotel_book.specs.Book.{StandsFor, hotel_units_left, with_bid};
 
 use crate::closing::fill;
 use crate::quotes::{after_bid, refusal};
@@ -54,7 +43,7 @@ impl Hotel {
         requires kind { kind_of good ≡ Kind.Hotel }
         requires rooms { 1 ≤ rooms }
         ensures { (setup : Setup) → setup.good ≡ good → setup.rules ≡ Rules.Hotel rooms live →
-            StandsFor result setup [] }
+            HotelStandsFor result setup [] }
     {
         Hotel {
             good,
@@ -70,8 +59,8 @@ impl Hotel {
     /// `fills` is left empty.
     pub fn bid(&mut self, at: u32, agent: Agent, points: &Points, fills: &mut Fills) -> Reply
         ensures follows { (setup : Setup) (past : List Entry) →
-            StandsFor self.old setup past → at ≡ length past →
-            Follows setup past agent (Call.Bid points.now) result fills.new (StandsFor self.new setup) }
+            HotelStandsFor self.old setup past → at ≡ length past →
+            Follows setup past agent (Call.Bid points.now) result fills.new (HotelStandsFor self.new setup) }
         ensures none { fills.new ≡ [] }
         ensures units { Spends (hotel_units_left self.old) (hotel_units_left self.new) fills.new }
     {
@@ -105,8 +94,8 @@ impl Hotel {
     /// The clock's publication of the ask. In a closed hotel it is refused and changes nothing.
     pub fn publish(&mut self, at: u32) -> Reply
         ensures follows { (setup : Setup) (past : List Entry) →
-            StandsFor self.old setup past → at ≡ length past →
-            Follows setup past clock Call.Publish result [] (StandsFor self.new setup) }
+            HotelStandsFor self.old setup past → at ≡ length past →
+            Follows setup past clock Call.Publish result [] (HotelStandsFor self.new setup) }
         ensures units { hotel_units_left self.new ≤ hotel_units_left self.old }
     {
         if self.closed {
@@ -120,11 +109,11 @@ impl Hotel {
     /// In a closed hotel it is refused and changes nothing.
     pub fn close(&mut self, at: u32, fills: &mut Fills) -> Reply
         ensures follows { (setup : Setup) (past : List Entry) →
-            StandsFor self.old setup past → at ≡ length past →
-            Follows setup past clock Call.Close result fills.new (StandsFor self.new setup) }
+            HotelStandsFor self.old setup past → at ≡ length past →
+            Follows setup past clock Call.Close result fills.new (HotelStandsFor self.new setup) }
         // It sells as many units as stand, up to the rooms.
         ensures sells { (setup : Setup) (past : List Entry) →
-            StandsFor self.old setup past → self.old.closed ≡ false →
+            HotelStandsFor self.old setup past → self.old.closed ≡ false →
             result ≡ Reply.Sold (min self.old.rooms (length (stand setup.rules past))) (asks.ask self.old.rooms (stand setup.rules past)) }
         ensures units { Spends (hotel_units_left self.old) (hotel_units_left self.new) fills.new }
         ensures short { All IsShort fills.new }
@@ -145,8 +134,8 @@ impl Hotel {
     /// The standing units, in order of precedence: none in a closed hotel.
     pub fn units(&self) -> &[Unit]
         ensures units { (setup : Setup) (past : List Entry) →
-            StandsFor self.now setup past → IsPermutation (map shown_unit (stand setup.rules past)) result.now }
-        ensures order { (setup : Setup) (past : List Entry) → StandsFor self.now setup past → AreRanked result.now }
+            HotelStandsFor self.now setup past → IsPermutation (map shown_unit (stand setup.rules past)) result.now }
+        ensures order { (setup : Setup) (past : List Entry) → HotelStandsFor self.now setup past → AreRanked result.now }
     {
         self.ranking.units()
     }
@@ -154,7 +143,7 @@ impl Hotel {
     /// The ask of the standing units, in dollars, whether it is published or not: 0 if fewer stand than there are rooms.
     pub fn ask(&self) -> u16
         ensures ask { (setup : Setup) (past : List Entry) →
-            StandsFor self.now setup past → result ≡ asks.ask self.now.rooms (stand setup.rules past) }
+            HotelStandsFor self.now setup past → result ≡ asks.ask self.now.rooms (stand setup.rules past) }
         ensures within { result ≤ BID_PRICE }
     {
         self.ranking.ask()
@@ -163,7 +152,7 @@ impl Hotel {
     /// How many of the agent's standing units would be sold if the hotel closed now.
     pub fn winning(&self, agent: Agent) -> u8
         ensures { (setup : Setup) (past : List Entry) →
-            StandsFor self.now setup past → result ≡ winning_number self.now.rooms self.now.live past agent }
+            HotelStandsFor self.now setup past → result ≡ winning self.now.rooms (stand (Rules.Hotel self.now.rooms self.now.live) past) agent }
     {
         self.ranking.winning(agent)
     }
@@ -171,11 +160,11 @@ impl Hotel {
     /// The standing points of an agent, in the order of its bid: none in a closed hotel.
     #[tactic(auto, using(crate::proofs::Keeping::idle_keeps, auction_rules::proofs::Idle::own_idle))]
     pub fn own(&self, agent: Agent) -> Left
-        ensures left { (setup : Setup) (past : List Entry) → StandsFor self.now setup past →
+        ensures left { (setup : Setup) (past : List Entry) → HotelStandsFor self.now setup past →
             result ≡ left setup.rules past agent }
         // Reading changes nothing.
-        ensures stands { (setup : Setup) (past : List Entry) → StandsFor self.now setup past →
-            StandsFor self.now setup (entry_of setup past agent Call.Own ∷ past) }
+        ensures stands { (setup : Setup) (past : List Entry) → HotelStandsFor self.now setup past →
+            HotelStandsFor self.now setup (entry_of setup past agent Call.Own ∷ past) }
     {
         match &self.bids[agent.get() as usize] {
             Some(bid) if !self.closed => Left::new(bid.points.as_slice()),
@@ -188,8 +177,8 @@ impl Hotel {
     #[tactic(auto, using(crate::proofs::Keeping::follows_wrong))]
     pub fn refuse(&self, caller: Caller, call: &Call) -> Reply
         requires { IsTrue (is_wrong_caller caller call.now || is_wrong_place (Rules.Hotel self.now.rooms self.now.live) call.now) }
-        ensures { (setup : Setup) (past : List Entry) → StandsFor self.now setup past →
-            Follows setup past caller call.now result [] (StandsFor self.now setup) }
+        ensures { (setup : Setup) (past : List Entry) → HotelStandsFor self.now setup past →
+            Follows setup past caller call.now result [] (HotelStandsFor self.now setup) }
     {
         wrong_reply(self.closed, call)
     }
@@ -197,7 +186,7 @@ impl Hotel {
     /// The board of the hotel after `count` entries. Its bid is 0, and its ask the published price.
     pub fn board(&self, count: u32) -> Board
         ensures board { (setup : Setup) (past : List Entry) →
-            StandsFor self.now setup past → count ≡ length past → result ≡ board setup.rules past }
+            HotelStandsFor self.now setup past → count ≡ length past → result ≡ board setup.rules past }
         ensures no_bid { result.bid ≡ 0 }
         ensures ask_within { result.ask ≤ BID_PRICE }
     {

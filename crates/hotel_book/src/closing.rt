@@ -1,5 +1,4 @@
-ghost use Rattle.std.specs.Prelude.{◌≡◌, ◌+◌, ◌<◌, ◌≤◌, ◌++◌, length};
-ghost use Rattle.std.specs.Option.{option_to_list};
+ghost use Rattle.std.specs.Prelude.{◌≡◌, ◌+◌, ◌<◌, ◌≤◌, ◌++◌, length, option_to_list};
 ghost use Rattle.tac_base.specs.declared.limits.TheConstants.{ENTRY_TRADES};
 ghost use Rattle.hotel_book.specs.Ranked.{won, last_price};
 ghost use Rattle.hotel_book.specs.Book as spec;

@@ -1,10 +1,7 @@
 // The order of a hotel's units.
-ghost use Rattle.std.specs.Prelude.{IfSome, ◌≡◌, ◌+◌, ◌<◌, ◌≤◌, ℕ, not, ◌==◌, length, sum_by, filter, All};
-ghost use Rattle.std.specs.List.{position, position_or_len};
-ghost use Rattle.tac_base.specs.declared.units.Unit.{Unit as ShownUnit};
-ghost use Rattle.auction_rules.specs.Units.{units_of};
-ghost use Rattle.auction_rules.specs.Shown.{shown_unit};
-ghost use Rattle.hotel_book.specs.Ranked.{ranks_first, AreSortedUnits};
+ghost use Rattle.std.specs.Prelude.{IfSome, ◌≡◌, ◌+◌, ◌<◌, ◌≤◌, ℕ, not, ◌==◌, length, sum_by, filter, All, position};
+ghost use Rattle.std.specs.List.{position_or_len};
+ghost use Rattle.hotel_book.specs.{Unit as ShownUnit, units_of, shown_unit, ranks_first, AreSortedUnits};
 
 use arrayvec::ArrayVec;
 use auction_rules::{BidUnit, Placed, push_units};
@@ -30,7 +27,7 @@ fn first_after(units: &[Unit], unit: &Unit) -> Option<usize>
 }
 
 /// The index of the first unit that the given unit precedes, or the number of units if there is none.
-#[tactic(auto, using(crate::proofs::Sorting::place_at, crate::proofs::Sorting::place_at_end))]
+#[tactic(auto, using(auction_rules::proofs::Sorting::place_at, auction_rules::proofs::Sorting::place_at_end))]
 fn place_of(units: &[Unit], unit: &Unit) -> usize
     ensures place { result ≡ position_or_len (ranks_first unit.now) units.now }
     ensures within { result ≤ length units.now }

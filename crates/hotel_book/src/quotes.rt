@@ -1,5 +1,5 @@
-ghost use Rattle.std.specs.Prelude.{◌≡◌, ◌+◌, ◌<◌, ◌≤◌, if◌then◌else◌, length};
-ghost use Rattle.tac_base.specs.Bids.{total_size};
+ghost use Rattle.std.specs.Prelude.{◌≡◌, ◌+◌, ◌<◌, ◌≤◌, nat_le, if◌then◌else◌, length};
+ghost use Rattle.tac_base.specs.Bids.{size_of, total_size};
 ghost use Rattle.auction_rules.specs.BeatQuote as quotes;
 ghost use Rattle.hotel_book.specs.Book.{book_refusal};
 
@@ -9,7 +9,7 @@ use tac_base::{Point, Points, Reply};
 
 /// The units that a point offers at a price or more.
 fn offered_by(point: &Point, at: u16) -> u8
-    ensures { result ≡ quotes.offered_by at point.now }
+    ensures { result ≡ (if nat_le at point.now.price then size_of point.now else 0) }
 {
     if at <= point.price { point.size() } else { 0 }
 }

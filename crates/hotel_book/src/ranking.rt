@@ -1,11 +1,7 @@
 // A hotel's units in their order, with the ask and the winning numbers that they give.
 ghost use Rattle.std.specs.Prelude.{◌≡◌, ◌+◌, ◌≤◌, ℕ, min, not, ◌==◌, [], length, map, sum_by, filter, count_by};
-ghost use Rattle.tac_base.specs.declared.units.Unit.{Unit as ShownUnit};
-ghost use Rattle.tac_base.specs.Goods.{agents};
-ghost use Rattle.auction_rules.specs.Units.{units_of};
-ghost use Rattle.auction_rules.specs.Shown.{shown_unit};
+ghost use Rattle.hotel_book.specs.{Unit as ShownUnit, agents, units_of, shown_unit, AreSortedUnits};
 ghost use Rattle.hotel_book.specs.Ranked as ranked;
-ghost use Rattle.hotel_book.specs.Ranked.{AreSortedUnits};
 
 use crate::order::{put_all, take_out};
 use arrayvec::ArrayVec;

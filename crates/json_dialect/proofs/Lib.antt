@@ -4,4 +4,3 @@ pub mod PrintedPoints
 mod TextWords
 mod ReadBack
 mod PlainObjects
-mod Worked

@@ -1,14 +1,10 @@
 -- Texts of JSON without a line end.
-use Rattle.std.proofs.Common.{◌≡◌, ◌≢◌, ℕ, ◌^◌, ◌<◌, List, [], ◌∷◌, ◌++◌, None, refl, arith, ℤ, decimal, map, append_assoc, append-nil}
-use Rattle.std.specs.Prelude.{unsigned_abs, codes}
+use Rattle.std.proofs.Common.{◌≡◌, ◌≢◌, ℕ, ◌^◌, ◌<◌, List, [], ◌∷◌, ◌++◌, None, refl, arith, ℤ, decimal, map, append_assoc, append-nil, unsigned_abs, codes}
 use Rattle.std.specs.Fmt.{signed_decimal}
 use Rattle.std.specs.List.{AllByRecursion, concat, join_with_byte}
 use Rattle.std.proofs.lemmas.List.Elements.{All-append}
-use Rattle.tac_base.specs.declared.bids.Point.{Point}
-use Rattle.tac_base.specs.Bids.{left_fault}
-use Rattle.bid_strings.specs.Spelling.{HasFiveDigits}
+use Rattle.json_dialect.specs.Prelude.{Point, left_fault, HasFiveDigits, IsOneLine}
 use Rattle.bid_strings.proofs.Laws.{lawful_points}
-use Rattle.line_protocol.specs.Replies.{IsOneLine}
 use Rattle.line_protocol.proofs.OneLine.{known_line, number_line, signed_line}
 use Rattle.json_dialect.specs.JsonReplies.{pair_text, json_point_text, points_text, json_place, own_members, cash_members, placed}
 

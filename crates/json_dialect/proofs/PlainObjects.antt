@@ -1,10 +1,9 @@
 -- The plain object of a request is read as that request.
-use Rattle.std.proofs.Common.{◌≡◌, ℕ, suc, ◌^◌, ◌<◌, ◌≤◌, Bool, true, false, ◌&&◌, List, [], ◌∷◌, ◌++◌, Option, Some, None, Ok, refl, sym, ap, ◌∙◌, append-nil, arith, ℤ, pos, negsuc, decimal, lit≤, lt-ltb, le-leb, ltb, leb, IsUtf8}
-use Rattle.std.specs.Prelude.{codes, unsigned_abs, option_and_then, ⊤}
+use Rattle.std.proofs.Common.{◌≡◌, ℕ, suc, ◌^◌, ◌<◌, ◌≤◌, Bool, true, false, ◌&&◌, List, [], ◌∷◌, ◌++◌, Option, Some, None, Ok, refl, sym, ap, ◌∙◌, append-nil, arith, ℤ, pos, negsuc, decimal, lit≤, lt-ltb, le-leb, ltb, leb, IsUtf8, codes, unsigned_abs, option_and_then, le-ltb, leb-true}
+use Rattle.std.specs.Prelude.{⊤}
 use Rattle.std.specs.Fmt.{signed_decimal}
 use Rattle.std.specs.List.{AllByRecursion}
 use Rattle.std.specs.Str.{is_utf8, all_ascii_digits}
-use Rattle.std.proofs.lemmas.Bool.{le-ltb, leb-true}
 use Rattle.std.proofs.lemmas.Str.{is_utf8-from_IsUtf8, IsUtf8-append}
 use Rattle.json.specs.Token.{Token}
 use Rattle.json.specs.Json as json
@@ -18,16 +17,10 @@ use Rattle.serde_json.specs.Data.{Data, Num, unsigned, negative, number, string,
 use Rattle.serde_json.specs.Read.{of_json, of_items, number_of, read}
 use Rattle.serde_json.proofs.Numbers.{number_of-decimal, number_of-negative}
 use Rattle.serde_json.proofs.OnLiterals.{serde_json_on_literals}
-use Rattle.tac_base.specs.declared.bids.Point.{Point}
-use Rattle.tac_base.specs.Bids.{fault_of}
+use Rattle.json_dialect.specs.Prelude.{Point, fault_of, HasFiveDigits, verdict, judged, Request, read_good, IsRequest}
 use Rattle.tac_base.proofs.NumeralLaws.{both_true, decimal_digits}
-use Rattle.bid_strings.specs.Spelling.{HasFiveDigits}
-use Rattle.bid_strings.specs.BidForm.{verdict, judged}
 use Rattle.bid_strings.proofs.Laws.{lawful_points}
-use Rattle.line_protocol.specs.declared.asking.Request.{Request}
 use Rattle.line_protocol.specs.declared.asking.Request.TheVariants.{Bid, Withdraw, Own, Quote, Cash, Quit}
-use Rattle.line_protocol.specs.Requests.{read_good}
-use Rattle.line_protocol.specs.RequestForms.{IsRequest}
 use Rattle.json_dialect.specs.JsonRequests as asked
 use Rattle.json_dialect.specs.JsonRequests.{asks_json, asked_by_value}
 use Rattle.json_dialect.specs.JsonObjects.{point_items, object_of, object_text}

@@ -1,27 +1,18 @@
 -- The words of a JSON text determine its reply: so different replies have different texts.
-use Rattle.std.proofs.Common.{◌≡◌, ℕ, ◌^◌, ◌<◌, ◌≤◌, Bool, true, false, eqb, List, [], ◌∷◌, ◌++◌, Option, Some, None, drop, get_or, refl, sym, ap, ◌∙◌, arith, ℤ, pos, decimal, lit<}
-use Rattle.std.specs.Prelude.{codes, unsigned_abs, if◌then◌else◌}
+use Rattle.std.proofs.Common.{◌≡◌, ℕ, ◌^◌, ◌<◌, ◌≤◌, Bool, true, false, eqb, List, [], ◌∷◌, ◌++◌, Option, Some, None, drop, get_or, refl, sym, ap, ◌∙◌, arith, ℤ, pos, decimal, lit<, codes, unsigned_abs, if◌then◌else◌, bytes_eq}
 use Rattle.std.specs.Fmt.{signed_decimal}
 use Rattle.std.specs.List.{AllByRecursion}
-use Rattle.std.specs.Str.{bytes_eq}
 use Rattle.std.proofs.lemmas.Fmt.{length-decimal-le}
-use Rattle.tac_base.specs.declared.bids.Point.{Point}
-use Rattle.tac_base.specs.declared.bids.BidFault.{BidFault}
+use Rattle.json_dialect.specs.Prelude.{Point, BidFault, Board, Reply, HasFiveDigits, RequestFault, Said, IsSaid}
 use Rattle.tac_base.specs.declared.bids.BidFault.TheVariants as bids
-use Rattle.tac_base.specs.declared.calls.Board.{Board}
-use Rattle.tac_base.specs.declared.calls.Reply.{Reply}
 use Rattle.tac_base.specs.declared.calls.Reply.TheVariants.{Taken, Own, Sold, Done, Closed, WrongCall, NoBid, Sell, SelfCross, BelowQuote}
 use Rattle.tac_base.specs.Numerals.{numeral, signed_numeral}
 use Rattle.tac_base.proofs.NumeralLaws.{numeral_again}
 use Rattle.tac_base.proofs.Signed.{signed_again}
-use Rattle.bid_strings.specs.Spelling.{HasFiveDigits}
 use Rattle.bid_strings.proofs.Laws.{lawful_points}
-use Rattle.line_protocol.specs.declared.asking.RequestFault.{RequestFault}
 use Rattle.line_protocol.specs.declared.asking.RequestFault.TheVariants as faults
-use Rattle.line_protocol.specs.declared.saying.Said.{Said}
 use Rattle.line_protocol.specs.declared.saying.Said.TheVariants.{At, Cash, Quote, Spent, Fault, TooLong, Bye}
 use Rattle.tac_base.specs.Ranges.{IsReply}
-use Rattle.line_protocol.specs.Ranges.{IsSaid}
 use Rattle.json_dialect.specs.JsonReplies.{reply_members, cash_members, quote_members, json_text}
 use Rattle.json_dialect.proofs.TextWords.{words_in, point_words, placed_words, cash_words, own_words, taken_words, sold_words, below_words, open_words, fault_words}
 

@@ -1,13 +1,11 @@
 -- The words of a text of JSON: its runs of letters, digits and `-`.
-use Rattle.std.proofs.Common.{◌≡◌, ℕ, suc, ◌^◌, ◌<◌, Bool, true, false, ◌&&◌, ◌||◌, eqb, leb, List, [], ◌∷◌, ◌++◌, length, refl, ap, ◌∙◌, append_assoc, append-nil, arith, ℤ, pos, negsuc, decimal, map}
-use Rattle.std.specs.Prelude.{codes, unsigned_abs}
+use Rattle.std.proofs.Common.{◌≡◌, ℕ, suc, ◌^◌, ◌<◌, Bool, true, false, ◌&&◌, ◌||◌, eqb, leb, List, [], ◌∷◌, ◌++◌, length, refl, ap, ◌∙◌, append_assoc, append-nil, arith, ℤ, pos, negsuc, decimal, map, codes, unsigned_abs}
 use Rattle.std.specs.Fmt.{signed_decimal}
 use Rattle.std.specs.List.{AllByRecursion, concat, list_all, onto_first, join_with_byte}
 use Rattle.std.specs.Str.{all_ascii_digits}
 use Rattle.std.proofs.lemmas.Fmt.{decimal_nonempty}
-use Rattle.tac_base.specs.declared.bids.Point.{Point}
+use Rattle.json_dialect.specs.Prelude.{Point, HasFiveDigits}
 use Rattle.tac_base.proofs.NumeralLaws.{both_true, decimal_digits}
-use Rattle.bid_strings.specs.Spelling.{HasFiveDigits}
 use Rattle.json_dialect.specs.JsonReplies.{pair_text, json_point_text, points_text, placed, own_members, below_members, cash_members}
 
 -- letters, digits and the sign

@@ -4,8 +4,7 @@ use Rattle.std.specs.Fmt.{signed_decimal}
 use Rattle.json.specs.Json.{Json, number, string, array, object, Items, no_items, item, Members, no_members, member}
 use Rattle.json.specs.Tree.{json_tokens}
 use Rattle.json.specs.Print.{print}
-use Rattle.tac_base.specs.declared.bids.Point.{Point}
-use Rattle.line_protocol.specs.declared.asking.Request.{Request}
+use Rattle.json_dialect.specs.Prelude.{Point, Request}
 use Rattle.line_protocol.specs.declared.asking.Request.TheVariants.{Bid, Withdraw, Own, Quote, Cash, Quit}
 
 -- the arrays of points, each its units and its price

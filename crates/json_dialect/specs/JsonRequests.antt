@@ -1,17 +1,13 @@
 -- What a JSON line asks. The forms are our own; which value a line has is serde_json's own definition of reading.
-use Rattle.std.specs.Prelude.{ℕ, suc, ◌==◌, nat_le, if◌then◌else◌, List, [], ℤ, pos, negsuc, unsigned_abs, Option, Some, None, Result, Ok, Err, codes, option_and_then}
-use Rattle.std.specs.Str.{bytes_eq, is_utf8}
+use Rattle.std.specs.Prelude.{ℕ, suc, ◌==◌, nat_le, if◌then◌else◌, List, [], ℤ, pos, negsuc, unsigned_abs, Option, Some, None, Result, Ok, Err, codes, option_and_then, bytes_eq}
+use Rattle.std.specs.Str.{is_utf8}
 use Rattle.serde_json.specs.Data.{Data, Items, no_items, item, Members, no_members, member}
 use Rattle.serde_json.specs.Read.{read}
 use Rattle.serde_json.specs.Find.{as_array, as_i64, as_number, as_object, as_str, get_member}
-use Rattle.tac_base.specs.declared.bids.Point.{Point}
-use Rattle.bid_strings.specs.BidForm.{point_then, judged, paired}
-use Rattle.line_protocol.specs.declared.asking.Request.{Request}
+use Rattle.json_dialect.specs.Prelude.{Point, point_then, judged, paired, Request, RequestFault, read_good, with_points}
 use Rattle.line_protocol.specs.declared.asking.Request.TheVariants as requests
-use Rattle.line_protocol.specs.declared.asking.RequestFault.{RequestFault}
 use Rattle.line_protocol.specs.declared.asking.RequestFault.TheVariants as faults
 use Rattle.text_forms.specs.Steps.{◌>>=◌}
-use Rattle.line_protocol.specs.Requests.{read_good, with_points}
 
 -- the value that serde_json reads in a line; bytes that are not UTF-8 have none
 abbrev pub value_of : List ℕ → Option Data

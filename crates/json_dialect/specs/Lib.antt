@@ -1,3 +1,4 @@
+pub mod Prelude
 pub mod JsonRequests
 pub mod JsonReplies
 pub mod JsonObjects

@@ -1,8 +1,6 @@
 ghost use Rattle.std.specs.Prelude.{◌≡◌, ◌*◌, ◌+◌, ◌≤◌, ◌++◌, length, decimal};
 ghost use Rattle.std.specs.Fmt.{signed_decimal};
-ghost use Rattle.line_protocol.specs.Replies.{IsOneLine};
-ghost use Rattle.line_protocol.specs.Ranges.{IsSaid};
-ghost use Rattle.line_protocol.specs.declared.saying.Said.{Said};
+ghost use Rattle.json_dialect.specs.Prelude.{IsOneLine, IsSaid, Said};
 ghost use Rattle.line_protocol.specs.declared.saying.Said.TheVariants.{Quote};
 ghost use Rattle.line_protocol.specs.declared.asking.RequestFault.TheVariants as faults;
 ghost use Rattle.json_dialect.specs.JsonReplies as json;

@@ -1,10 +1,7 @@
 ghost use Rattle.std.specs.Prelude.{◌≡◌, ◌⊎◌, ◌≤◌, ◌∷◌, [], ◌++◌, Ok, Err, Some, None, IfErr, OnOk, is_some, true, map, option_map, length};
-ghost use Rattle.tac_base.specs.Bids.{fault_of, left_fault};
-ghost use Rattle.bid_strings.specs.BidForm.{judged};
+ghost use Rattle.json_dialect.specs.Prelude.{fault_of, left_fault, judged, IsRequest, Request};
 ghost use Rattle.line_protocol.specs.declared.asking.RequestFault.TheVariants.{Memory};
 ghost use Rattle.line_protocol.specs.Requests as asked;
-ghost use Rattle.line_protocol.specs.RequestForms.{IsRequest};
-ghost use Rattle.line_protocol.specs.declared.asking.Request.{Request};
 ghost use Rattle.json_dialect.specs.JsonObjects.{object_text};
 ghost use Rattle.serde_json.specs.View.{view, items_view, members_view};
 ghost use Rattle.json_dialect.specs.JsonRequests as json;

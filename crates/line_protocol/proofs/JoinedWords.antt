@@ -1,24 +1,24 @@
 -- Words that are joined by spaces, and the words of what was joined.
-use Rattle.std.proofs.Common.{◌≡◌, ℕ, Bool, true, false, not, eqb, List, [], ◌∷◌, ◌++◌, length, refl, sym, ap, ◌∙◌, arith, inl, inr, ◌⊎◌}
+use Rattle.std.proofs.Common.{◌≡◌, ℕ, Bool, true, false, not, eqb, List, [], ◌∷◌, ◌++◌, length, refl, sym, ap, ◌∙◌, arith, inl, inr, ◌⊎◌, codes, if◌then◌else◌, bytes_eq}
 use Rattle.std.specs.List.{list_all, AllByRecursion, join_with_byte}
-use Rattle.std.specs.Str.{bytes_eq}
 use Rattle.std.proofs.lemmas.Slice.Eq.{bytes_eq-Decides}
 use Rattle.std.proofs.lemmas.List.Splits.{join_with_byte-slice_split, length-slice_split}
+use Rattle.std.proofs.lemmas.Bool.{not-true}
 use Rattle.tac_base.proofs.NumeralLaws.{both_true}
 use Rattle.tac_base.proofs.Signed.{Lacks}
 use Rattle.text_forms.specs.Words.{words_of}
 use Rattle.text_forms.proofs.Joins.{parts_more}
 
-not_byte : (b : Bool) → not b ≡ true → b ≡ false
-not_byte true h = absurd cc
-not_byte false h = refl
+-- whether an auction is closed
+abbrev pub state_word : Bool → List ℕ
+state_word closed = if closed then codes "closed" else codes "open"
 
 -- a word that is tested byte for byte
 pub lacks : (byte : ℕ) (word : List ℕ) → list_all (λ b. not (eqb b byte)) word ≡ true → Lacks byte word
 lacks byte [] h = tt
 lacks byte (first ∷ rest) h =
     let both = both_true (not (eqb first byte)) (list_all (λ b. not (eqb b byte)) rest) h in
-    (not_byte (eqb first byte) both.0, lacks byte rest both.1)
+    (not-true (eqb first byte) both.0, lacks byte rest both.1)
 
 -- words without spaces before any bytes
 pub words_before : (words : List (List ℕ)) (last : List ℕ) → AllByRecursion (Lacks 32) words → words_of (join_with_byte 32 (words ++ last ∷ [])) ≡ words ++ words_of last

@@ -1,18 +1,12 @@
 -- Texts without a line end.
-use Rattle.std.proofs.Common.{◌≡◌, ◌≢◌, ℕ, ◌^◌, ◌<◌, true, not, eqb, List, [], ◌∷◌, ◌++◌, None, refl, arith, ℤ, decimal, lit<}
-use Rattle.std.specs.Prelude.{unsigned_abs, codes}
+use Rattle.std.proofs.Common.{◌≡◌, ◌≢◌, ℕ, ◌^◌, ◌<◌, true, not, eqb, List, [], ◌∷◌, ◌++◌, None, refl, arith, ℤ, decimal, lit<, unsigned_abs, codes, flat_map}
 use Rattle.std.specs.Fmt.{signed_decimal}
-use Rattle.std.specs.List.{AllByRecursion, list_all, flat_map, join_with_byte}
+use Rattle.std.specs.List.{AllByRecursion, list_all, join_with_byte}
 use Rattle.std.proofs.lemmas.List.Elements.{All-append}
-use Rattle.tac_base.specs.declared.bids.Point.{Point}
-use Rattle.tac_base.specs.Bids.{left_fault}
+use Rattle.line_protocol.specs.Prelude.{Point, left_fault, spelling, point_words, Reply, Taken, Own, Sold, Done, Closed, WrongCall, NoBid, Sell, SelfCross, BelowQuote, BidFault}
 use Rattle.tac_base.proofs.Signed.{Lacks, decimal_lacks, signed_lacks}
 use Rattle.text_forms.proofs.PrintedLines.{none_is}
-use Rattle.bid_strings.specs.Spelling.{spelling, point_words}
 use Rattle.bid_strings.proofs.Laws.{points_lack, lawful_points}
-use Rattle.tac_base.specs.declared.calls.Reply.{Reply}
-use Rattle.tac_base.specs.declared.calls.Reply.TheVariants.{Taken, Own, Sold, Done, Closed, WrongCall, NoBid, Sell, SelfCross, BelowQuote}
-use Rattle.tac_base.specs.declared.bids.BidFault.{BidFault}
 use Rattle.tac_base.specs.declared.bids.BidFault.TheVariants as bid_faults
 use Rattle.line_protocol.specs.declared.asking.RequestFault.TheVariants as faults
 use Rattle.line_protocol.specs.declared.saying.Said.TheVariants.{At}

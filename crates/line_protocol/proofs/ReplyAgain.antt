@@ -1,28 +1,19 @@
 -- What is printed in range is read again.
-use Rattle.std.proofs.Common.{◌≡◌, ℕ, ◌^◌, ◌<◌, ◌≤◌, Bool, true, false, List, [], ◌∷◌, Some, None, refl, ap, ◌∙◌, arith, ℤ, decimal, lit<, lit≤}
-use Rattle.std.specs.Prelude.{codes, unsigned_abs}
+use Rattle.std.proofs.Common.{◌≡◌, ℕ, ◌^◌, ◌<◌, ◌≤◌, Bool, true, false, List, [], ◌∷◌, Some, None, refl, ap, ◌∙◌, arith, ℤ, decimal, lit<, lit≤, codes, unsigned_abs}
 use Rattle.std.specs.Fmt.{signed_decimal}
 use Rattle.std.specs.List.{AllByRecursion, join_with_byte}
-use Rattle.tac_base.specs.declared.bids.Point.{Point}
-use Rattle.tac_base.specs.declared.bids.BidFault.{BidFault}
+use Rattle.line_protocol.specs.Prelude.{Point, BidFault, Board, Reply, Taken, Own, Sold, Done, Closed, WrongCall, NoBid, Sell, SelfCross, BelowQuote, left_fault, words_of, spelling, IsReply}
 use Rattle.tac_base.specs.declared.bids.BidFault.TheVariants as bid_faults
-use Rattle.tac_base.specs.declared.calls.Board.{Board}
-use Rattle.tac_base.specs.declared.calls.Reply.{Reply}
-use Rattle.tac_base.specs.declared.calls.Reply.TheVariants.{Taken, Own, Sold, Done, Closed, WrongCall, NoBid, Sell, SelfCross, BelowQuote}
-use Rattle.tac_base.specs.Bids.{left_fault}
 use Rattle.tac_base.proofs.Signed.{Lacks, decimal_lacks, signed_lacks}
-use Rattle.text_forms.specs.Words.{words_of}
 use Rattle.text_forms.proofs.Joins.{joined_parts}
-use Rattle.bid_strings.specs.Spelling.{spelling}
 use Rattle.line_protocol.specs.declared.asking.RequestFault.{RequestFault}
 use Rattle.line_protocol.specs.declared.asking.RequestFault.TheVariants as faults
 use Rattle.line_protocol.specs.declared.saying.Said.{Said}
 use Rattle.line_protocol.specs.declared.saying.Said.TheVariants.{At, Cash, Quote, Spent, Fault, TooLong, Bye}
-use Rattle.line_protocol.specs.Replies.{place, reply_words, reply_text, said_text, state_word, fault_number}
-use Rattle.tac_base.specs.Ranges.{IsReply}
+use Rattle.line_protocol.specs.Replies.{place, reply_words, reply_text, said_text, fault_number}
 use Rattle.line_protocol.specs.Ranges.{IsReplyText, IsSaid, IsSaidText}
 use Rattle.line_protocol.specs.ReplyForms.{placed_of, own_of, said_of_words, read_said, fault_at, read_state, answer_of_words, answer_of}
-use Rattle.line_protocol.proofs.JoinedWords.{lacks, words_before, has_words}
+use Rattle.line_protocol.proofs.JoinedWords.{state_word, lacks, words_before, has_words}
 use Rattle.line_protocol.proofs.Numbers.{within_again, next_again, holding_again, dollars_again}
 use Rattle.line_protocol.proofs.StandingPoints.{left_again}
 

@@ -1,27 +1,19 @@
 -- What is read of a reply line is in range, and the line is its text.
-use Rattle.std.proofs.Common.{◌≡◌, ℕ, ◌≤◌, Bool, true, false, eqb, List, [], ◌∷◌, ◌++◌, Option, Some, None, refl, sym, ap, subst, ◌∙◌, decimal, lit<, lit≤, inl, inr}
-use Rattle.std.specs.Prelude.{codes, IfSome}
+use Rattle.std.proofs.Common.{◌≡◌, ℕ, ◌≤◌, Bool, true, false, eqb, List, [], ◌∷◌, ◌++◌, Option, Some, None, refl, sym, ap, subst, ◌∙◌, decimal, lit<, lit≤, inl, inr, codes, IfSome, bytes_eq, eqb-true}
 use Rattle.std.specs.Fmt.{signed_decimal}
 use Rattle.std.specs.List.{join_with_byte}
-use Rattle.std.specs.Str.{bytes_eq}
-use Rattle.std.proofs.lemmas.Bool.{eqb-true}
 use Rattle.std.proofs.lemmas.Option.{same_Some}
 use Rattle.std.proofs.lemmas.List.Splits.{join_with_byte-slice_split}
-use Rattle.text_forms.specs.Words.{words_of}
-use Rattle.tac_base.specs.declared.bids.BidFault.{BidFault}
+use Rattle.line_protocol.specs.Prelude.{words_of, BidFault, Board, Reply, Taken, Own, Sold, Done, Closed, WrongCall, NoBid, Sell, SelfCross, BelowQuote, signed_numeral}
 use Rattle.tac_base.specs.declared.bids.BidFault.TheVariants as bid_faults
-use Rattle.tac_base.specs.declared.calls.Board.{Board}
-use Rattle.tac_base.specs.declared.calls.Reply.{Reply}
-use Rattle.tac_base.specs.declared.calls.Reply.TheVariants.{Taken, Own, Sold, Done, Closed, WrongCall, NoBid, Sell, SelfCross, BelowQuote}
-use Rattle.tac_base.specs.Numerals.{signed_numeral}
 use Rattle.tac_base.proofs.Signed.{signed_is, signed_limit}
 use Rattle.line_protocol.specs.declared.asking.RequestFault.TheVariants as faults
 use Rattle.line_protocol.specs.declared.saying.Said.{Said}
 use Rattle.line_protocol.specs.declared.saying.Said.TheVariants.{At, Cash, Quote, Spent, Fault, TooLong, Bye}
-use Rattle.line_protocol.specs.Replies.{reply_text, state_word, fault_number, place}
+use Rattle.line_protocol.specs.Replies.{reply_text, fault_number, place}
 use Rattle.line_protocol.specs.Ranges.{IsReplyText, IsSaidText}
-use Rattle.line_protocol.specs.ReplyForms.{◌>>=◌, ended, next_within, holding_of, read_place, read_left, taken_of, sold_of, below_of, own_of, read_refusal, read_reply_words, read_cash, read_state, next_state, quote_of, placed_of, fault_at, bid_fault_of, unplaced_of, said_of_words, read_said, answer_of_words, answer_of}
-use Rattle.line_protocol.proofs.JoinedWords.{has_words}
+use Rattle.line_protocol.specs.ReplyForms.{◌>>=◌, ended, next_within, holding_of, read_place, read_left, taken_of, sold_of, below_of, own_of, refused_of, read_reply_words, read_cash, read_state, next_state, quote_of, placed_of, fault_at, bid_fault_of, unplaced_of, said_of_words, read_said, answer_of_words, answer_of}
+use Rattle.line_protocol.proofs.JoinedWords.{state_word, has_words}
 use Rattle.line_protocol.proofs.Numbers.{bound, ended_is, either_way, is_word, next_is, place_is, holding_is}
 use Rattle.line_protocol.proofs.OneLine.{placed}
 use Rattle.line_protocol.proofs.StandingPoints.{left_is}
@@ -97,7 +89,7 @@ lone keyword known words made reply same h is =
     ap (λ (w : List ℕ). join_with_byte 32 (codes "no" ∷ w ∷ words)) (is_word keyword known same) ∙ ap (λ (ws : List (List ℕ)). join_with_byte 32 (codes "no" ∷ known ∷ ws)) e.1 in
     subst (λ (r : Reply). IsReplyText (join_with_byte 32 (codes "no" ∷ keyword ∷ words)) r) e.0 (record { range = is.range; text = text ∙ is.text })
 
-refusal_is : (words : List (List ℕ)) (reply : Reply) → read_refusal words ≡ Some reply → IsReplyText (line (codes "no") words) reply
+refusal_is : (words : List (List ℕ)) (reply : Reply) → refused_of words ≡ Some reply → IsReplyText (line (codes "no") words) reply
 refusal_is [] reply h = absurd cc
 refusal_is (keyword ∷ words) reply h =
     elim (either_way (bytes_eq keyword (codes "closed")) (ended Closed words) _ reply h) [
@@ -139,7 +131,7 @@ reply_is keyword words reply h =
           | inl is ↦ after keyword (codes "sold") words reply is.0 (sold_is words reply is.1)
           | inr h ↦ elim (either_way (bytes_eq keyword (codes "done")) (ended Done words) _ reply h) [
             | inl is ↦ after keyword (codes "done") words reply is.0 (done_is words reply is.1)
-            | inr h ↦ elim (either_way (bytes_eq keyword (codes "no")) (read_refusal words) None reply h) [
+            | inr h ↦ elim (either_way (bytes_eq keyword (codes "no")) (refused_of words) None reply h) [
               | inl is ↦ after keyword (codes "no") words reply is.0 (refusal_is words reply is.1)
               | inr e ↦ absurd cc
             ]

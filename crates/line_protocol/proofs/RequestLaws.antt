@@ -1,26 +1,17 @@
 -- A line of a form is answered, a line of no form is not, and what is read is the text of the request.
-use Rattle.std.proofs.Common.{◌≡◌, ℕ, ◌^◌, ◌<◌, ◌≤◌, Bool, true, false, cond, ltb, List, [], ◌∷◌, Option, Some, None, Result, Ok, Err, refl, sym, ap, subst, ◌∙◌, arith, decimal, lit<, lit≤, inl, inr, ◌⊎◌}
-use Rattle.std.specs.Prelude.{codes, IfOk}
+use Rattle.std.proofs.Common.{◌≡◌, ℕ, ◌^◌, ◌<◌, ◌≤◌, Bool, true, false, cond, ltb, List, [], ◌∷◌, Option, Some, None, Result, Ok, Err, refl, sym, ap, subst, ◌∙◌, arith, decimal, lit<, lit≤, inl, inr, ◌⊎◌, codes, IfOk, bytes_eq, ltb-false}
 use Rattle.std.specs.List.{join_with_byte}
-use Rattle.std.specs.Str.{bytes_eq}
-use Rattle.std.proofs.lemmas.Bool.{ltb-false}
 use Rattle.std.proofs.lemmas.Bool.Decides.{nat_tests}
 use Rattle.std.proofs.lemmas.Fmt.{length-decimal-le}
-use Rattle.tac_base.specs.declared.bids.Point.{Point}
-use Rattle.tac_base.specs.declared.bids.BidFault.{BidFault}
-use Rattle.tac_base.specs.Bids.{fault_of}
-use Rattle.tac_base.specs.Numerals.{numeral}
+use Rattle.line_protocol.specs.Prelude.{Point, BidFault, fault_of, numeral, words_of, points_of, judged, verdict, ◌>>=◌}
 use Rattle.tac_base.proofs.NumeralLaws.{numeral_is, numeral_again, numeral_limit}
 use Rattle.tac_base.proofs.Signed.{Lacks, decimal_lacks}
-use Rattle.text_forms.specs.Words.{words_of}
 use Rattle.text_forms.proofs.Joins.{joined_parts}
-use Rattle.bid_strings.specs.BidForm.{points_of, judged, verdict}
 use Rattle.bid_strings.proofs.Laws.{bid_is, bid_again}
 use Rattle.line_protocol.specs.declared.asking.Request.{Request}
 use Rattle.line_protocol.specs.declared.asking.Request.TheVariants as requests
 use Rattle.line_protocol.specs.declared.asking.RequestFault.{RequestFault}
 use Rattle.line_protocol.specs.declared.asking.RequestFault.TheVariants as faults
-use Rattle.text_forms.specs.Steps.{◌>>=◌}
 use Rattle.line_protocol.specs.Requests.{syntax, read_good, plain_of, about_of, with_points, bid_request, request_of_words, request_of}
 use Rattle.line_protocol.specs.RequestForms.{Form, BidForm, WithdrawForm, OwnForm, QuoteForm, CashForm, QuitForm, IsForm, form_text, HasForm, answer_to, form_of, IsRequest, IsRequestText}
 use Rattle.line_protocol.proofs.JoinedWords.{lacks, words_before, has_words, same_or_not}

@@ -1,8 +1,6 @@
 -- The ranges in which a reply line is read.
 use Rattle.std.specs.Prelude.{◌≡◌, ℕ, ◌^◌, ◌≤◌, ◌<◌, ⊤, List, unsigned_abs}
-use Rattle.tac_base.specs.declared.calls.Reply.{Reply}
-use Rattle.tac_base.specs.Ranges.{IsReply}
-use Rattle.tac_base.specs.declared.limits.TheConstants.{CASH_DIGITS, POSITION, SHOWN_PRICE}
+use Rattle.line_protocol.specs.Prelude.{Reply, IsReply, CASH_DIGITS, POSITION, SHOWN_PRICE}
 use Rattle.line_protocol.specs.declared.saying.Said.{Said}
 use Rattle.line_protocol.specs.declared.saying.Said.TheVariants.{At, Cash, Quote, Spent, Fault, TooLong, Bye}
 use Rattle.line_protocol.specs.Replies.{reply_text, said_text}

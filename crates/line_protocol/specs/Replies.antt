@@ -1,12 +1,9 @@
 -- The text of what an agent is answered.
-use Rattle.std.specs.Prelude.{ℕ, ◌≢◌, List, [], ◌∷◌, Bool, true, false, All, decimal, codes}
+use Rattle.std.specs.Prelude.{ℕ, ◌≢◌, List, [], ◌∷◌, if◌then◌else◌, All, decimal, codes}
 use Rattle.std.specs.Fmt.{signed_decimal}
 use Rattle.std.specs.List.{join_with_byte}
-use Rattle.tac_base.specs.declared.bids.BidFault.{BidFault}
+use Rattle.line_protocol.specs.Prelude.{BidFault, Reply, Taken, Own, Sold, Done, Closed, WrongCall, NoBid, Sell, SelfCross, BelowQuote, spelling}
 use Rattle.tac_base.specs.declared.bids.BidFault.TheVariants as bid_faults
-use Rattle.tac_base.specs.declared.calls.Reply.{Reply}
-use Rattle.tac_base.specs.declared.calls.Reply.TheVariants.{Taken, Own, Sold, Done, Closed, WrongCall, NoBid, Sell, SelfCross, BelowQuote}
-use Rattle.bid_strings.specs.Spelling.{spelling}
 use Rattle.line_protocol.specs.declared.asking.RequestFault.{RequestFault}
 use Rattle.line_protocol.specs.declared.asking.RequestFault.TheVariants as faults
 use Rattle.line_protocol.specs.declared.saying.Said.{Said}
@@ -47,11 +44,6 @@ fault_words faults.NoSuchAuction = codes "no" ∷ codes "auction" ∷ []
 fault_words (faults.Bid fault) = codes "no" ∷ codes "bid" ∷ decimal (fault_number fault) ∷ []
 fault_words faults.Memory = codes "no" ∷ codes "memory" ∷ []
 
--- whether an auction is closed
-abbrev pub state_word : Bool → List ℕ
-state_word true = codes "closed"
-state_word false = codes "open"
-
 -- `@` and a position
 abbrev pub place : ℕ → List ℕ
 place position = 64 ∷ decimal position
@@ -59,7 +51,8 @@ place position = 64 ∷ decimal position
 abbrev pub said_words : Said → List (List ℕ)
 said_words (At position reply) = place position ∷ reply_words reply
 said_words (Cash position dollars) = place position ∷ codes "cash" ∷ signed_decimal dollars ∷ []
-said_words (Quote board) = place board.count ∷ codes "quote" ∷ decimal board.bid ∷ decimal board.ask ∷ state_word board.closed ∷ []
+said_words (Quote board) =
+    place board.count ∷ codes "quote" ∷ decimal board.bid ∷ decimal board.ask ∷ (if board.closed then codes "closed" else codes "open") ∷ []
 said_words Spent = codes "no" ∷ codes "spent" ∷ []
 said_words (Fault fault) = fault_words fault
 said_words TooLong = codes "no" ∷ codes "toolong" ∷ []

@@ -1,16 +1,8 @@
 -- How a reply line is read, word by word.
-use Rattle.std.specs.Prelude.{ℕ, ◌==◌, nat_le, if◌then◌else◌, List, [], ◌∷◌, ℤ, Option, Some, None, Result, Ok, Err, Bool, true, false, codes, unsigned_abs}
+use Rattle.std.specs.Prelude.{ℕ, ◌==◌, nat_le, if◌then◌else◌, List, [], ◌∷◌, ℤ, Option, Some, None, Result, Ok, Err, Bool, true, false, codes, unsigned_abs, bytes_eq}
 use Rattle.std.specs.List.{join_with_byte}
-use Rattle.std.specs.Str.{bytes_eq}
-use Rattle.tac_base.specs.declared.bids.Point.{Point}
-use Rattle.tac_base.specs.declared.bids.BidFault.{BidFault}
+use Rattle.line_protocol.specs.Prelude.{Point, BidFault, Reply, Taken, Own, Sold, Done, Closed, WrongCall, NoBid, Sell, SelfCross, BelowQuote, numeral, signed_numeral, CASH_DIGITS, POSITION, SHOWN_HOLDING, SHOWN_PRICE, words_of, points_of, judged}
 use Rattle.tac_base.specs.declared.bids.BidFault.TheVariants as bid_faults
-use Rattle.tac_base.specs.declared.calls.Reply.{Reply}
-use Rattle.tac_base.specs.declared.calls.Reply.TheVariants.{Taken, Own, Sold, Done, Closed, WrongCall, NoBid, Sell, SelfCross, BelowQuote}
-use Rattle.tac_base.specs.Numerals.{numeral, signed_numeral}
-use Rattle.tac_base.specs.declared.limits.TheConstants.{CASH_DIGITS, POSITION, SHOWN_HOLDING, SHOWN_PRICE}
-use Rattle.text_forms.specs.Words.{words_of}
-use Rattle.bid_strings.specs.BidForm.{points_of, judged}
 use Rattle.line_protocol.specs.declared.asking.RequestFault.TheVariants as faults
 use Rattle.line_protocol.specs.declared.saying.Said.{Said}
 use Rattle.line_protocol.specs.declared.saying.Said.TheVariants.{At, Cash, Quote, Spent, Fault, TooLong, Bye}
@@ -77,9 +69,9 @@ own_of (holding ∷ []) = None
 own_of (holding ∷ word ∷ words) = holding_of holding >>= λ held. read_left (join_with_byte 32 (word ∷ words)) >>= λ left. Some (Own held left)
 
 -- what follows `no`
-abbrev pub read_refusal : List (List ℕ) → Option Reply
-read_refusal [] = None
-read_refusal (keyword ∷ words) =
+abbrev pub refused_of : List (List ℕ) → Option Reply
+refused_of [] = None
+refused_of (keyword ∷ words) =
     if bytes_eq keyword (codes "closed") then ended Closed words
     else if bytes_eq keyword (codes "wrongcall") then ended WrongCall words
     else if bytes_eq keyword (codes "nobid") then ended NoBid words
@@ -95,7 +87,7 @@ read_reply_words keyword words =
     else if bytes_eq keyword (codes "own") then own_of words
     else if bytes_eq keyword (codes "sold") then sold_of words
     else if bytes_eq keyword (codes "done") then ended Done words
-    else if bytes_eq keyword (codes "no") then read_refusal words
+    else if bytes_eq keyword (codes "no") then refused_of words
     else None
 
 -- ---- the other lines

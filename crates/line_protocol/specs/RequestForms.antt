@@ -1,13 +1,10 @@
 -- The forms of a request line, and what a line of a form is answered.
 use Rattle.std.specs.Prelude.{◌≡◌, ℕ, ◌≤◌, ⊤, List, [], ◌∷◌, Some, None, Result, Ok, decimal, codes}
 use Rattle.std.specs.List.{join_with_byte}
-use Rattle.tac_base.specs.Bids.{fault_of}
-use Rattle.bid_strings.specs.BidForm.{points_of, judged}
-use Rattle.bid_strings.specs.Spelling.{spelling}
+use Rattle.line_protocol.specs.Prelude.{fault_of, points_of, judged, spelling, ◌>>=◌}
 use Rattle.line_protocol.specs.declared.asking.Request.{Request}
 use Rattle.line_protocol.specs.declared.asking.Request.TheVariants as requests
 use Rattle.line_protocol.specs.declared.asking.RequestFault.{RequestFault}
-use Rattle.text_forms.specs.Steps.{◌>>=◌}
 use Rattle.line_protocol.specs.Requests.{read_good, with_points}
 
 -- a line of a form, with its number and the bytes in place of points

@@ -1,13 +1,7 @@
 -- What a line asks.
-use Rattle.std.specs.Prelude.{ℕ, nat_lt, if◌then◌else◌, List, [], ◌∷◌, Option, Some, None, Result, Ok, Err, codes}
+use Rattle.std.specs.Prelude.{ℕ, nat_lt, if◌then◌else◌, List, [], ◌∷◌, Option, Some, None, Result, Ok, Err, codes, bytes_eq}
 use Rattle.std.specs.List.{join_with_byte}
-use Rattle.std.specs.Str.{bytes_eq}
-use Rattle.tac_base.specs.declared.bids.Point.{Point}
-use Rattle.tac_base.specs.declared.bids.BidFault.{BidFault}
-use Rattle.tac_base.specs.Numerals.{numeral}
-use Rattle.text_forms.specs.Steps.{◌>>=◌}
-use Rattle.text_forms.specs.Words.{words_of}
-use Rattle.bid_strings.specs.BidForm.{points_of, judged}
+use Rattle.line_protocol.specs.Prelude.{Point, BidFault, numeral, ◌>>=◌, words_of, points_of, judged}
 use Rattle.line_protocol.specs.declared.asking.Request.{Request}
 use Rattle.line_protocol.specs.declared.asking.Request.TheVariants as requests
 use Rattle.line_protocol.specs.declared.asking.RequestFault.{RequestFault}
@@ -26,16 +20,14 @@ read_good (Some number) = if nat_lt 27 number then Err faults.NoSuchAuction else
 abbrev pub plain_of : List ℕ → Result Request RequestFault
 plain_of keyword =
     if bytes_eq keyword (codes "cash") then Ok requests.Cash
-    else if bytes_eq keyword (codes "quit") then Ok requests.Quit
-    else Err faults.Syntax
+    else if bytes_eq keyword (codes "quit") then Ok requests.Quit else Err faults.Syntax
 
 -- a line of a keyword and a number
 abbrev pub about_of : List ℕ → Result ℕ RequestFault → Result Request RequestFault
 about_of keyword good =
     if bytes_eq keyword (codes "withdraw") then (good >>= λ g. Ok (requests.Withdraw g))
     else if bytes_eq keyword (codes "own") then (good >>= λ g. Ok (requests.Own g))
-    else if bytes_eq keyword (codes "quote") then (good >>= λ g. Ok (requests.Quote g))
-    else Err faults.Syntax
+    else if bytes_eq keyword (codes "quote") then (good >>= λ g. Ok (requests.Quote g)) else Err faults.Syntax
 
 -- a bid of points that were read, or not
 abbrev pub with_points : ℕ → Result (List Point) BidFault → Result Request RequestFault
@@ -45,8 +37,7 @@ with_points good (Err fault) = Err (faults.Bid fault)
 -- a line of a keyword, a number and the rest of the line
 abbrev pub bid_request : List ℕ → Result ℕ RequestFault → List ℕ → Result Request RequestFault
 bid_request keyword good points =
-    if bytes_eq keyword (codes "bid") then (good >>= λ g. with_points g (judged (points_of points)))
-    else Err faults.Syntax
+    if bytes_eq keyword (codes "bid") then (good >>= λ g. with_points g (judged (points_of points))) else Err faults.Syntax
 
 abbrev pub request_of_words : List (List ℕ) → Result Request RequestFault
 request_of_words [] = Err faults.Syntax

@@ -1,9 +1,9 @@
-ghost use Rattle.std.specs.Prelude.{◌≡◌, ◌∷◌, ◌+◌, ◌≤◌, ◌++◌, length, decimal};
+ghost use Rattle.std.specs.Prelude.{◌≡◌, ◌∷◌, ◌+◌, ◌≤◌, ◌++◌, length, decimal, codes, if◌then◌else◌};
 ghost use Rattle.std.specs.Fmt.{signed_decimal};
 ghost use Rattle.std.specs.List.{join_with_byte};
 ghost use Rattle.bid_strings.specs.Spelling.{spelling};
 ghost use Rattle.line_protocol.specs.declared.saying.Said.TheVariants.{Quote};
-ghost use Rattle.line_protocol.specs.Replies.{place, state_word, fault_number, fault_words, reply_text, said_text, IsOneLine};
+ghost use Rattle.line_protocol.specs.Replies.{place, fault_number, fault_words, reply_text, said_text, IsOneLine};
 
 use crate::{RequestFault, Said};
 use bid_strings::print_points;
@@ -123,9 +123,9 @@ fn print_fault(fault: RequestFault, out: &mut Text)
 
 /// The word for whether an auction is closed.
 fn state_of(closed: bool) -> &'static [u8]
-    ensures value { result.now ≡ state_word closed }
+    ensures value { result.now ≡ (if closed then codes "closed" else codes "open") }
     ensures len { length result.now ≤ 6 }
-    ensures one_line { IsOneLine (state_word closed) }
+    ensures one_line { IsOneLine (if closed then codes "closed" else codes "open") }
 {
     if closed { b"closed" } else { b"open" }
 }

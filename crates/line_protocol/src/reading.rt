@@ -84,7 +84,7 @@ fn place_of(word: &[u8]) -> Option<u32>
 }
 
 /// The standing points of a text.
-#[tactic(auto, using(crate::proofs::StandingPoints::standing))]
+#[tactic(auto, using(tac_base::proofs::Faults::bid_left))]
 fn left_of(text: &[u8]) -> Option<Left>
     ensures { result ≡ forms.read_left text.now }
 {
@@ -137,8 +137,8 @@ fn own_of(mut words: Words<'_>) -> Option<Reply>
 }
 
 /// The refusal after `no`.
-fn refusal_of(mut words: Words<'_>) -> Option<Reply>
-    ensures { result ≡ forms.read_refusal words.entry }
+fn refused_of(mut words: Words<'_>) -> Option<Reply>
+    ensures { result ≡ forms.refused_of words.entry }
 {
     let keyword = words.next()?;
     if keyword == b"closed".as_slice() {
@@ -171,7 +171,7 @@ fn reply_of(keyword: &[u8], words: Words<'_>) -> Option<Reply>
     } else if keyword == b"done".as_slice() {
         ended(Reply::Done, words)
     } else if keyword == b"no".as_slice() {
-        refusal_of(words)
+        refused_of(words)
     } else {
         None
     }

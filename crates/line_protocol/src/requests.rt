@@ -1,6 +1,5 @@
 ghost use Rattle.std.specs.Prelude.{◌≡◌, ◌∷◌, [], ◌⊎◌, ℕ, List, Some, Ok, Err, IfOk};
-ghost use Rattle.tac_base.specs.Numerals.{numeral};
-ghost use Rattle.bid_strings.specs.BidForm.{points_of, judged};
+ghost use Rattle.line_protocol.specs.Prelude.{numeral, points_of, judged};
 ghost use Rattle.line_protocol.specs.declared.asking.Request.{Request};
 ghost use Rattle.line_protocol.specs.Requests as asked;
 ghost use Rattle.line_protocol.specs.RequestForms as forms;

@@ -1,17 +1,11 @@
 -- A walk under way, by the turns of the lines from the start on.
-use Rattle.std.proofs.Common.{◌≡◌, ℕ, suc, ◌+◌, ◌<◌, ◌≤◌, List, [], ◌∷◌, Bool, true, false, cond, length, drop, Option, None, Some, refl, sym, ap, ◌∙◌, subst, arith}
-use Rattle.std.specs.Prelude.{IfSome}
-use Rattle.std.proofs.lemmas.List.{drop-drop}
-use Rattle.tac_base.specs.declared.limits.TheConstants.{SESSION_LINES}
-use Rattle.agent_gate.specs.Dialects.{Dialect}
+use Rattle.std.proofs.Common.{◌≡◌, ℕ, suc, ◌+◌, ◌<◌, ◌≤◌, List, [], ◌∷◌, Bool, true, false, cond, length, drop, Option, None, Some, refl, sym, ap, ◌∙◌, subst, arith, IfSome, drop-drop}
+use Rattle.link_audit.specs.{SESSION_LINES, Dialect, Subject, FitsReply, IsAsked, IsLeaving, IsOver, IsTaken, IsWide, start, Course, FinishesLog, HasCourse, HaveTurns, IsDifferent, IsFirstLine, IsKept, IsLowestLeft, IsStop, behind_course, has_entry, DiffersAfter, HasHeard, HasLeft, IsBehind, lines_at}
 use Rattle.link_audit.specs.declared.places.Places.{Places}
 use Rattle.link_audit.specs.declared.hearing.Heard.{Heard}
 use Rattle.link_audit.specs.declared.hearing.Heard.TheVariants.{Through, Gone, Not}
 use Rattle.link_audit.specs.declared.vouching.Difference.{Difference}
 use Rattle.link_audit.specs.declared.vouching.Difference.TheVariants as differences
-use Rattle.link_audit.specs.Ahead.{Subject, FitsReply, IsAsked, IsLeaving, IsOver, IsTaken, IsWide, start}
-use Rattle.link_audit.specs.Courses.{Course, FinishesLog, HasCourse, HaveTurns, IsDifferent, IsFirstLine, IsKept, IsLowestLeft, IsStop, behind_course, has_entry}
-use Rattle.link_audit.specs.Walks.{DiffersAfter, HasHeard, HasLeft, IsBehind, lines_at}
 use Rattle.link_audit.proofs.Leading.{TheLine}
 use Rattle.link_audit.proofs.Courses.{course_back, course_on, finish_on, kept_by, leaves_last, leaves_none, leaving_course, moved_by, no_course, pass_back, pass_leaving, pass_on, passes_last}
 

@@ -1,17 +1,9 @@
 -- Turns from some places on, line by line.
-use Rattle.std.proofs.Common.{◌≡◌, ℕ, zero, suc, ◌+◌, ◌≤◌, List, [], ◌∷◌, Bool, true, false, cond, length, drop, refl, sym, ap, ◌∙◌, subst, arith}
-use Rattle.std.specs.Prelude.{◌||◌, slice_index, slice_set}
-use Rattle.std.specs.List.{count_by}
-use Rattle.std.proofs.lemmas.List.{get_or-set_same}
+use Rattle.std.proofs.Common.{◌≡◌, ℕ, zero, suc, ◌+◌, ◌≤◌, List, [], ◌∷◌, Bool, true, false, cond, length, drop, refl, sym, ap, ◌∙◌, subst, arith, ◌||◌, slice_index, slice_set, count_by, get_or-set_same}
 use Rattle.std.proofs.lemmas.List.Sums.{sum_by-cons}
 use Rattle.tac_io.specs.declared.line_got.LineGot.TheVariants as gots
-use Rattle.log_text.specs.SoundLog.{logged_history}
-use Rattle.agent_gate.specs.Dialects.{Dialect}
-use Rattle.agent_gate.specs.Turns.{Turn, Called, CallDenied, CashRead, CashDenied, Quoted, Refused, Skipped, Left, has_left, is_leaving, item_of, reading}
+use Rattle.link_audit.specs.{logged_history, Dialect, Turn, Called, CallDenied, CashRead, CashDenied, Quoted, Refused, Skipped, Left, has_left, is_leaving, item_of, reading, Subject, AreAllowed, FitsReply, IsAllowed, IsAsked, IsEasier, IsLeaving, IsOver, IsPossible, IsStuck, IsTaken, IsWide, behind_turn, cash_caller, entry_caller, rest_of, MayAsk, AreAnswered, AreNext, Course, FinishesLog, HasCourse, IsKept, has_entry, walked}
 use Rattle.link_audit.specs.declared.places.Places.{Places}
-use Rattle.link_audit.specs.Ahead.{Subject, AreAllowed, FitsReply, IsAllowed, IsAsked, IsEasier, IsLeaving, IsOver, IsPossible, IsStuck, IsTaken, IsWide, behind_turn, cash_caller, entry_caller, rest_of}
-use Rattle.link_audit.specs.Links.{MayAsk}
-use Rattle.link_audit.specs.Courses.{AreAnswered, AreNext, Course, FinishesLog, HasCourse, IsKept, has_entry, walked}
 use Rattle.link_audit.proofs.Walking.{wide_after}
 use Rattle.link_audit.proofs.Easier.{easier_than, easy_over, easy_turns, same_places}
 use Rattle.link_audit.proofs.Leading.{TheLine, no_item}

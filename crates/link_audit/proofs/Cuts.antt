@@ -1,28 +1,24 @@
 -- Bytes, cut at their line ends.
-use Rattle.std.proofs.Common.{◌≡◌, ◌≢◌, ℕ, ◌+◌, ◌-◌, ◌^◌, ◌<◌, ◌≤◌, List, [], ◌∷◌, ◌++◌, Bool, false, cond, length, take, drop, get_or, refl, sym, ap, ◌∙◌, arith, length-take, length-drop}
-use Rattle.std.specs.Prelude.{◌==◌, slice_range}
-use Rattle.std.proofs.lemmas.List.{append_assoc, append-nil, drop_more, drop-drop, take-append-drop, get_or-drop, take_all}
-use Rattle.tac_io.specs.AllAnswers.{all_answers, ended_line}
-use Rattle.tac_io.specs.LineText.{has_end, BeginsWithLine}
-use Rattle.tac_io.specs.declared.line_got.LineGot.TheVariants.{End}
-use Rattle.tac_io.proofs.LineEnds.{neither, no_end-more}
+use Rattle.std.proofs.Common.{◌≡◌, ◌≢◌, ℕ, ◌+◌, ◌-◌, ◌^◌, ◌<◌, ◌≤◌, List, [], ◌∷◌, ◌++◌, Bool, false, cond, length, take, drop, get_or, refl, sym, ap, ◌∙◌, arith, length-take, length-drop, ◌==◌, slice_range, append_assoc, append-nil, drop-drop, take-append-drop, get_or-drop, take_all}
+use Rattle.std.proofs.lemmas.List.{drop_more}
+use Rattle.std.proofs.lemmas.Bool.{or_parts}
+use Rattle.link_audit.specs.{all_answers, ended_line, has_end, BeginsWithLine, End, whole_lines_after, whole_lines, lines_at, replies_at}
+use Rattle.tac_io.proofs.LineEnds.{no_end-more}
 use Rattle.tac_io.proofs.ByBytes.{all_answers-line, all_answers-end}
-use Rattle.link_audit.specs.Links.{whole_lines_after, whole_lines}
-use Rattle.link_audit.specs.Walks.{lines_at, replies_at}
 
 -- ---- whole lines
 
 pub whole_lines-line : (before line rest : List ℕ) → has_end line ≡ false → whole_lines_after before (line ++ 10 ∷ rest) ≡ (before ++ line) ∷ whole_lines_after [] rest
 whole_lines-line before [] rest none = ap (λ (l : List ℕ). l ∷ whole_lines_after [] rest) (sym (append-nil before))
 whole_lines-line before (byte ∷ line) rest none =
-    let both = neither (byte == 10) (has_end line) none in
+    let both = or_parts (byte == 10) (has_end line) none in
     ap (λ (b : Bool). cond b (before ∷ whole_lines_after [] (line ++ 10 ∷ rest)) (whole_lines_after (before ++ byte ∷ []) (line ++ 10 ∷ rest))) both.0
     ∙ (whole_lines-line (before ++ byte ∷ []) line rest both.1 ∙ ap (λ (l : List ℕ). l ∷ whole_lines_after [] rest) (append_assoc before (byte ∷ []) line))
 
 pub whole_lines-none : (before bytes : List ℕ) → has_end bytes ≡ false → whole_lines_after before bytes ≡ []
 whole_lines-none before [] none = refl
 whole_lines-none before (byte ∷ bytes) none =
-    let both = neither (byte == 10) (has_end bytes) none in
+    let both = or_parts (byte == 10) (has_end bytes) none in
     ap (λ (b : Bool). cond b (before ∷ whole_lines_after [] bytes) (whole_lines_after (before ++ byte ∷ []) bytes)) both.0 ∙ whole_lines-none (before ++ byte ∷ []) bytes both.1
 
 -- ---- ranges

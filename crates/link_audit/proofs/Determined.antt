@@ -1,23 +1,11 @@
 -- Which turn a request was: the log tells, but for the count of a quote.
-use Rattle.std.proofs.Common.{◌≡◌, ◌≢◌, ℕ, ◌+◌, ◌<◌, ◌≤◌, List, [], ◌∷◌, Option, Some, None, Ok, refl, sym, ap, ◌∙◌, subst, arith, inl, inr}
-use Rattle.std.specs.Prelude.{ℤ, slice_index, slice_set}
-use Rattle.std.specs.Option.{option_map}
+use Rattle.std.proofs.Common.{◌≡◌, ◌≢◌, ℕ, ◌+◌, ◌<◌, ◌≤◌, List, [], ◌∷◌, Option, Some, None, Ok, refl, sym, ap, ◌∙◌, subst, arith, inl, inr, ℤ, slice_index, slice_set, option_map}
 use Rattle.std.proofs.lemmas.Bool.Decides.{leb_tells}
-use Rattle.tac_base.specs.declared.limits.TheConstants.{AGENT_CALLS, CASH_READINGS}
-use Rattle.tac_base.specs.declared.calls.Board.{Board}
-use Rattle.tac_base.specs.declared.calls.Call.{Call}
+use Rattle.link_audit.specs.{AGENT_CALLS, CASH_READINGS, Board, Call, CashEntry, due_post, Request, Said, logged_history, Asks, Turn, Called, CallDenied, CashRead, CashDenied, Quoted, Refused, Skipped, Left, asked_call, reading, Subject, entry_caller, cash_caller, rest_of, HasNext, calls_left, IsNote, IsWide, behind, behind_call, behind_turn, ArePostedAt, ArePosted, IsPossible, IsEasier, IsTaken, IsStuck}
 use Rattle.auction_rules.specs.History.{Entry}
-use Rattle.trade_ledger.specs.declared.cash_calls.CashEntry.{CashEntry}
-use Rattle.trade_ledger.specs.Posts.{due_post}
-use Rattle.line_protocol.specs.declared.asking.Request.{Request}
 use Rattle.line_protocol.specs.declared.asking.Request.TheVariants as requests
-use Rattle.line_protocol.specs.declared.saying.Said.{Said}
 use Rattle.line_protocol.specs.declared.saying.Said.TheVariants as said
-use Rattle.log_text.specs.SoundLog.{logged_history}
-use Rattle.agent_gate.specs.Items.{Asks}
-use Rattle.agent_gate.specs.Turns.{Turn, Called, CallDenied, CashRead, CashDenied, Quoted, Refused, Skipped, Left, asked_call, reading}
 use Rattle.link_audit.specs.declared.places.Places.{Places}
-use Rattle.link_audit.specs.Ahead.{Subject, entry_caller, cash_caller, rest_of, HasNext, calls_left, IsNote, IsWide, behind, behind_call, behind_turn, ArePostedAt, ArePosted, IsPossible, IsEasier, IsTaken, IsStuck}
 use Rattle.link_audit.proofs.Rest.{same_position, same_entry}
 use Rattle.link_audit.proofs.Easier.{all_stay, same_places, lower_raised}
 

@@ -1,18 +1,9 @@
 -- Whoever saw less may do all that whoever saw more may do.
-use Rattle.std.proofs.Common.{◌≡◌, ℕ, ◌+◌, ◌<◌, ◌≤◌, List, [], ◌∷◌, false, Ok, length, refl, sym, ap, ◌∙◌, subst, inl, inr, arith}
-use Rattle.std.specs.Prelude.{slice_index, slice_set}
-use Rattle.std.proofs.lemmas.List.{get_or-set_same, get_or-set_other}
+use Rattle.std.proofs.Common.{◌≡◌, ℕ, ◌+◌, ◌<◌, ◌≤◌, List, [], ◌∷◌, false, Ok, length, refl, sym, ap, ◌∙◌, subst, inl, inr, arith, slice_index, slice_set, get_or-set_same, get_or-set_other}
 use Rattle.std.proofs.lemmas.Bool.Decides.{eqb_tells}
-use Rattle.tac_base.specs.declared.limits.TheConstants.{AGENT_CALLS, CASH_READINGS}
-use Rattle.trade_ledger.specs.Posts.{due_post}
+use Rattle.link_audit.specs.{AGENT_CALLS, CASH_READINGS, due_post, Said, logged_history, Item, Asks, Turn, Called, CallDenied, CashRead, CashDenied, Quoted, Refused, Skipped, Left, is_leaving, reading, Subject, entry_caller, cash_caller, rest_of, ArePostedAt, HasNext, IsNextInLog, IsOver, IsWide, behind, behind_turn, IsAllowed, AreAllowed, Remains, IsEasier, IsPossible, AreNext, walked}
 use Rattle.line_protocol.specs.declared.asking.Request.TheVariants as requests
-use Rattle.line_protocol.specs.declared.saying.Said.{Said}
-use Rattle.log_text.specs.SoundLog.{logged_history}
-use Rattle.agent_gate.specs.Items.{Item, Asks}
-use Rattle.agent_gate.specs.Turns.{Turn, Called, CallDenied, CashRead, CashDenied, Quoted, Refused, Skipped, Left, is_leaving, reading}
 use Rattle.link_audit.specs.declared.places.Places.{Places}
-use Rattle.link_audit.specs.Ahead.{Subject, entry_caller, cash_caller, rest_of, ArePostedAt, HasNext, IsNext, IsOver, IsWide, behind, behind_turn, IsAllowed, AreAllowed, Remains, IsEasier, IsPossible}
-use Rattle.link_audit.specs.Courses.{AreNext, walked}
 use Rattle.link_audit.proofs.Walking.{wide_after}
 
 -- the agent stays by a line that does not ask to leave
@@ -122,7 +113,7 @@ easy_remains s from hard turns easier wide wide' all = record {
 
 -- ---- what a turn finds
 
-easy_next : (s : Subject) (from hard : Places) → IsEasier from hard → (turn : Turn) → IsNext s hard turn → IsNext s from turn
+easy_next : (s : Subject) (from hard : Places) → IsEasier from hard → (turn : Turn) → IsNextInLog s hard turn → IsNextInLog s from turn
 easy_next s from hard easier (Called request good position entry posted) is = (
   subst (λ (l : List ℕ). HasNext entry_caller s.agent (slice_index l good) (logged_history s.log good) position entry) (sym easier.next) is.0,
   subst (λ (n : ℕ). ArePostedAt s.agent s.log.cash n (due_post good position entry) posted) (sym easier.cash) is.1,

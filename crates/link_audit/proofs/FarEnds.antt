@@ -1,49 +1,20 @@
 -- A link of a log is vouched for by what its far end saw: what it tried to send, and what it was sent.
-use Rattle.std.proofs.Common.{◌≡◌, ℕ, zero, suc, ◌+◌, ◌<◌, ◌≤◌, List, [], ◌∷◌, ◌++◌, Bool, true, false, map, length, take, None, Some, Err, slice_get, refl, sym, ap, ◌∙◌, subst, arith, inl, inr}
-use Rattle.std.specs.Prelude.{◌≢◌, ◌⊎◌, Option, Result, ◌||◌, if◌then◌else◌, fold, position, replicate, slice_index_or}
-use Rattle.std.specs.List.{AllZip, flat_map, list_any}
-use Rattle.std.specs.Str.{bytes_eq}
-use Rattle.std.proofs.lemmas.List.{append_assoc, append-nil, length-append, length-take-le, take-append-le}
+use Rattle.std.proofs.Common.{◌≡◌, ℕ, zero, suc, ◌+◌, ◌<◌, ◌≤◌, List, [], ◌∷◌, ◌++◌, Bool, true, false, map, length, take, None, Some, Err, slice_get, refl, sym, ap, ◌∙◌, subst, arith, inl, inr, ◌≢◌, ◌⊎◌, Option, Result, ◌||◌, if◌then◌else◌, fold, position, replicate, slice_index_or, flat_map, bytes_eq, append_assoc, append-nil, length-append, length-take-le, eq-eqb}
+use Rattle.std.specs.List.{AllZip, list_any}
+use Rattle.std.proofs.lemmas.List.{take-append-le}
 use Rattle.std.proofs.lemmas.List.Concat.{flat_map-append}
 use Rattle.std.proofs.lemmas.List.Elements.{filter_map-append}
-use Rattle.std.proofs.lemmas.Bool.{eq-eqb}
+use Rattle.std.proofs.lemmas.Bool.{or_right}
 use Rattle.std.proofs.lemmas.Option.{slice_get_within}
-use Rattle.tac_base.specs.declared.calls.Board.{Board}
-use Rattle.tac_base.specs.declared.limits.TheConstants.{LINK_BYTES, SESSION_LINES}
-use Rattle.text_forms.specs.Lines.{GoesOn}
-use Rattle.game_text.specs.Games.{GameFile}
-use Rattle.turn_lock.specs.Notes.{AreNotes}
-use Rattle.floor.specs.ClosedBoards.{board_of}
-use Rattle.auction_core.specs.Auctions.{AuctionHistory}
-use Rattle.auction_core.specs.ClosedGame.{ClosedGame, all_goods}
-use Rattle.tac_io.specs.AllAnswers.{all_answers}
-use Rattle.tac_io.specs.Known.{then_known}
-use Rattle.tac_io.specs.declared.line_got.LineGot.{LineGot}
+use Rattle.link_audit.specs.{Board, LINK_BYTES, SESSION_LINES, GoesOn, GameFile, AreNotes, board_of, AuctionHistory, ClosedGame, all_goods, all_answers, LineGot, Cause, Verdict, Seated, Syntax, WrongWord, Taken, Lost, Request, RequestFault, Said, LoggedGame, gives_seat, Seats, greeting_of, seat_verdict, seats_after, verdict_of, word_verdict, Item, Asks, Overlong, IsItem, AreItems, Session, reply_line, lines_of, IsTranscript, Turn, Called, CallDenied, CashRead, CashDenied, Quoted, Refused, Skipped, Left, AreLawful, IsLawfulTurn, boards_shown, cash_by, cash_made, entry_made, has_left, item_of, made_at, said_of, shown_by, welcome_lines, welcome_text, free_seats, seats_given, HostedGame, HasWelcome, IsLinkOfLog, IsVouched, MayAsk, closed_in, fresh_link, logged_verdicts, whole_lines}
 use Rattle.tac_io.specs.declared.line_got.LineGot.TheVariants as gots
-use Rattle.line_protocol.specs.declared.admission.Cause.{Cause}
 use Rattle.line_protocol.specs.declared.admission.Cause.TheVariants as causes
-use Rattle.line_protocol.specs.declared.admission.Verdict.{Verdict}
-use Rattle.line_protocol.specs.declared.admission.Verdict.TheVariants.{Seated, Syntax, WrongWord, Taken, Lost}
-use Rattle.line_protocol.specs.declared.asking.Request.{Request}
-use Rattle.line_protocol.specs.declared.asking.RequestFault.{RequestFault}
 use Rattle.line_protocol.specs.declared.asking.RequestFault.TheVariants as faults
-use Rattle.line_protocol.specs.declared.saying.Said.{Said}
-use Rattle.log_text.specs.LoggedGames.{LoggedGame}
-use Rattle.log_text.specs.SoundLog.{gives_seat}
-use Rattle.agent_gate.specs.Gates.{Seats, greeting_of, seat_verdict, seats_after, verdict_of, word_verdict}
-use Rattle.agent_gate.specs.Items.{Item, Asks, Overlong, IsItem, AreItems}
-use Rattle.agent_gate.specs.Served.{Session, reply_line}
-use Rattle.agent_gate.specs.Sessions.{lines_of}
-use Rattle.agent_gate.specs.Transcript.{IsTranscript}
-use Rattle.agent_gate.specs.Turns.{Turn, Called, CallDenied, CashRead, CashDenied, Quoted, Refused, Skipped, Left, AreLawful, IsLawfulTurn, boards_shown, cash_by, cash_made, entry_made, has_left, item_of, made_at, said_of, shown_by}
-use Rattle.agent_gate.specs.Welcome.{welcome_lines, welcome_text}
 use Rattle.agent_gate.proofs.WholeTexts.{EndsFor, ends_for}
-use Rattle.game_run.specs.Admission.{free_seats, seats_given}
-use Rattle.game_run.specs.Hosted.{HostedGame}
-use Rattle.link_audit.specs.Links.{HasWelcome, IsLinkOfLog, IsVouched, MayAsk, closed_in, fresh_link, logged_verdicts, whole_lines}
 use Rattle.link_audit.proofs.Leading.{TheLine}
 use Rattle.link_audit.proofs.OneLines.{HasNoEnd, welcome_line}
 use Rattle.link_audit.proofs.Sent.{answers_more, cut_reply, items_read, last_item, sent_whole}
+use Rattle.link_audit.proofs.FreshLinks.{gave_rest}
 
 -- ---- the last turn
 
@@ -143,23 +114,14 @@ seated_free game verdicts line agent is =
     free_word seats.taken (free_seats game).taken (all_free 8) game.words (greeting_of line) agent
     (ap (λ (words : List (List ℕ)). word_verdict (record { words = words; taken = seats.taken }) (greeting_of line)) (sym same) ∙ is)
 
-either : (a b : Bool) → b ≡ true → (a || b) ≡ true
-either true b is = refl
-either false b is = is
-
 seat_listed : (verdicts : List Verdict) (place agent : ℕ) → slice_get verdicts place ≡ Some (Seated agent) → list_any (gives_seat agent) verdicts ≡ true
 seat_listed [] place agent at = absurd cc
 seat_listed (verdict ∷ verdicts) zero agent at =
     let same : verdict ≡ Seated agent = cc in
     ap (λ (v : Verdict). gives_seat agent v || list_any (gives_seat agent) verdicts) same ∙ ap (λ (b : Bool). b || list_any (gives_seat agent) verdicts) (eq-eqb agent agent refl)
-seat_listed (verdict ∷ verdicts) (suc place) agent at = either (gives_seat agent verdict) (list_any (gives_seat agent) verdicts) (seat_listed verdicts place agent at)
+seat_listed (verdict ∷ verdicts) (suc place) agent at = or_right (gives_seat agent verdict) (list_any (gives_seat agent) verdicts) (seat_listed verdicts place agent at)
 
 -- ---- the link
-
--- the bytes that a link gave are the first of those that it had
-gave_first : (asked bytes : List ℕ) (left : Option (List ℕ)) → Some asked ≡ then_known bytes left → (rest : List ℕ) × (asked ≡ bytes ++ rest) × (left ≡ Some rest)
-gave_first asked bytes None is = absurd cc
-gave_first asked bytes (Some rest) is = (rest, cc, refl)
 
 -- what was sent whole is longer than a part of the welcome
 welcome_uncut : (welcome said : List ℕ) (count : ℕ) → count < length welcome → Some said ≡ Some (take count welcome) → GoesOn welcome said → ⊥
@@ -194,7 +156,7 @@ module _ (hosted : HostedGame) (one : (reply : Said) → HasNoEnd (hosted.dialec
   -- the lines of the turns are the first of all lines that were asked
   asked_lines : (later : List TheLine) × (all_answers [] LINK_BYTES asked ≡ (gots.Line, l.seated.line) ∷ lines ++ later)
   asked_lines =
-      let gave = gave_first asked l.seated.bytes l.after.left l.seated.gave.1 in
+      let gave = gave_rest asked l.seated.bytes l.after.left l.seated.gave.1 in
       let found = answers_more [] LINK_BYTES l.seated.bytes gave.0 ((gots.Line, l.seated.line) ∷ lines) l.seated.rest (tt, items_read may_answer lines (map item_of turns) l.seated.served.items)
       (l.seated.first ∙ ap (λ (others : List TheLine). (gots.Line, l.seated.line) ∷ others) l.seated.served.from) in
       (found.0, ap (all_answers [] LINK_BYTES) gave.1 ∙ found.1)

@@ -1,16 +1,10 @@
 -- What calls found in a log and in a table of boards.
-use Rattle.std.proofs.Common.{◌≡◌, ℕ, zero, suc, ◌<◌, List, [], ◌∷◌, length, map, get_or, Option, Some, None, Bor, refl, sym, ap, ◌∙◌, subst, arith}
-use Rattle.std.specs.Prelude.{IsSome, slice_get, slice_index, slice_index_or}
+use Rattle.std.proofs.Common.{◌≡◌, ℕ, zero, suc, ◌<◌, List, [], ◌∷◌, length, map, get_or, Option, Some, None, Bor, refl, sym, ap, ◌∙◌, subst, arith, IsSome, slice_get, slice_index, slice_index_or, option_copied}
 use Rattle.std.specs.Global.{Vec}
-use Rattle.std.specs.Option.{option_copied}
 use Rattle.std.proofs.lemmas.Option.{get_or_from_slice_get}
-use Rattle.tac_base.specs.declared.calls.Board.{Board}
+use Rattle.link_audit.specs.{Board, IsShown, Shows, LoggedGame, logged_history, entry_caller, rest_of, HasNext}
 use Rattle.tac_base.specs.declared.calls.Entry.{Entry as StoredEntry}
 use Rattle.auction_rules.specs.History.{Entry}
-use Rattle.auction_core.specs.Stored.{IsShown, Shows}
-use Rattle.log_text.specs.LoggedGames.{LoggedGame}
-use Rattle.log_text.specs.SoundLog.{logged_history}
-use Rattle.link_audit.specs.Ahead.{entry_caller, rest_of, HasNext}
 
 -- the agent's next entry at a good, as it is stored
 pub record IsFound (log : LoggedGame) (from : List ℕ) (agent good position : ℕ) (shown : StoredEntry) : Type 0 where

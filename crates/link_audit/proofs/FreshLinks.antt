@@ -1,23 +1,12 @@
 -- A link that was seated, and whose bytes are known, came to what one came to that had these bytes to give and was sent nothing before.
-use Rattle.std.proofs.Common.{◌≡◌, ℕ, List, [], ◌∷◌, ◌++◌, length, take, None, Some, refl, sym, ap, ◌∙◌, subst, arith, inl, inr}
-use Rattle.std.specs.Prelude.{Option}
-use Rattle.std.proofs.lemmas.List.{append_assoc, append_cancel_left}
+use Rattle.std.proofs.Common.{◌≡◌, ℕ, List, [], ◌∷◌, ◌++◌, length, take, None, Some, refl, sym, ap, ◌∙◌, subst, arith, inl, inr, Option, append_assoc}
+use Rattle.std.proofs.lemmas.List.{append_cancel_left}
 use Rattle.tac_io.specs.Counts.{Rose}
 use Rattle.tac_io.specs.Known.{IsAtEnd, TakesSome, known_then, then_known}
-use Rattle.tac_io.specs.States.{LinkState}
-use Rattle.line_protocol.specs.declared.admission.Cause.{Cause}
+use Rattle.link_audit.specs.{LinkState, Cause, Said, Seats, Session, reply_line, lines_of, welcome_text, HostedGame, IsSeated, PlayedGame, HasBytes, fresh_link}
 use Rattle.line_protocol.specs.declared.admission.Cause.TheVariants as causes
-use Rattle.line_protocol.specs.declared.saying.Said.{Said}
-use Rattle.agent_gate.specs.Gates.{Seats}
-use Rattle.agent_gate.specs.Served.{Session, reply_line}
-use Rattle.agent_gate.specs.Sessions.{lines_of}
 use Rattle.agent_gate.specs.Turning.{HasSessionCause}
-use Rattle.agent_gate.specs.Welcome.{welcome_text}
 use Rattle.agent_gate.proofs.WholeTexts.{EndsFor, ends_by, ends_for, session_text}
-use Rattle.game_run.specs.Hosted.{HostedGame}
-use Rattle.game_run.specs.LinkRuns.{IsSeated}
-use Rattle.game_run.specs.PlayedGame.{PlayedGame}
-use Rattle.link_audit.specs.Links.{HasBytes, fresh_link}
 
 rose_once : Rose 0 1
 rose_once = record { never_falls = omega arith; rises = omega arith; stays = λ is. absurd (omega (arith, is)) }
@@ -63,7 +52,7 @@ module _ (asked said bytes rest : List ℕ) where
   sent_is causes.Budget = refl
 
 -- what was left, and what was sent
-gave_rest : (asked bytes : List ℕ) (left : Option (List ℕ)) → Some asked ≡ then_known bytes left → (rest : List ℕ) × (asked ≡ bytes ++ rest) × (left ≡ Some rest)
+pub gave_rest : (asked bytes : List ℕ) (left : Option (List ℕ)) → Some asked ≡ then_known bytes left → (rest : List ℕ) × (asked ≡ bytes ++ rest) × (left ≡ Some rest)
 gave_rest asked bytes None is = absurd cc
 gave_rest asked bytes (Some rest) is = (rest, cc, refl)
 

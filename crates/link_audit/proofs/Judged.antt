@@ -1,34 +1,14 @@
 -- What is said of an answer, by how the lines and the replies of a link were walked over.
-use Rattle.std.proofs.Common.{◌≡◌, ℕ, ◌+◌, ◌-◌, ◌≤◌, List, [], ◌∷◌, ◌++◌, Bool, true, false, length, map, take, drop, Some, refl, sym, ap, ◌∙◌, subst, arith, inl, inr}
-use Rattle.std.specs.Prelude.{◌↔◌, ◌⊎◌, Result, nat_le, slice_get, if◌then◌else◌}
-use Rattle.std.specs.List.{count_by}
-use Rattle.std.proofs.lemmas.List.{append-nil, length-append, length-map, take-append-drop}
-use Rattle.tac_base.specs.declared.calls.Board.{Board}
-use Rattle.tac_base.specs.declared.limits.TheConstants.{LINE_BYTES, LINK_BYTES, SESSION_LINES}
-use Rattle.game_text.specs.Games.{GameFile}
-use Rattle.tac_io.specs.AllAnswers.{all_answers, ended_line}
-use Rattle.tac_io.specs.declared.line_got.LineGot.{LineGot}
+use Rattle.std.proofs.Common.{◌≡◌, ℕ, ◌+◌, ◌-◌, ◌≤◌, List, [], ◌∷◌, ◌++◌, Bool, true, false, length, map, take, drop, Some, refl, sym, ap, ◌∙◌, subst, arith, inl, inr, ◌↔◌, ◌⊎◌, Result, nat_le, slice_get, if◌then◌else◌, count_by, append-nil, length-append, take-append-drop}
+use Rattle.std.proofs.lemmas.List.{length-map}
+use Rattle.link_audit.specs.{Board, LINE_BYTES, LINK_BYTES, SESSION_LINES, GameFile, all_answers, ended_line, LineGot, Request, RequestFault, LoggedGame, Dialect, verdict_of, AreItems, IsItem, Turn, has_left, item_of, said_of, welcome_lines, free_seats, Subject, AreAllowed, AreBoards, IsAhead, IsOver, IsWide, Remains, behind_turn, start, AreAnswered, AreNext, Course, FinishesLog, HasCourse, IsDifferent, IsFirstLeft, IsLowestLeft, IsStop, behind_course, has_entry, walked, IsVouched, MayAsk, whole_lines, DiffersBehind, HasNumbers, IsDifferenceOf, IsFirstDifference, HasSeatAndLines, IsJudged, IsWhole, IsWholeLink, IsYes, HasHeard, IsFinished, IsHeard, TakesSeat, lines_at}
 use Rattle.tac_io.specs.declared.line_got.LineGot.TheVariants as gots
-use Rattle.line_protocol.specs.declared.asking.Request.{Request}
-use Rattle.line_protocol.specs.declared.asking.RequestFault.{RequestFault}
-use Rattle.log_text.specs.LoggedGames.{LoggedGame}
-use Rattle.agent_gate.specs.Dialects.{Dialect}
-use Rattle.agent_gate.specs.Gates.{verdict_of}
-use Rattle.agent_gate.specs.Items.{AreItems, IsItem}
-use Rattle.agent_gate.specs.Turns.{Turn, has_left, item_of, said_of}
-use Rattle.agent_gate.specs.Welcome.{welcome_lines}
-use Rattle.game_run.specs.Admission.{free_seats}
 use Rattle.link_audit.specs.declared.places.Places.{Places}
 use Rattle.link_audit.specs.declared.hearing.Heard.TheVariants.{Through, Gone}
 use Rattle.link_audit.specs.declared.vouching.Difference.{Difference}
 use Rattle.link_audit.specs.declared.vouching.Difference.TheVariants as differences
 use Rattle.link_audit.specs.declared.vouching.Vouching.{Vouching}
 use Rattle.link_audit.specs.declared.vouching.Vouching.TheVariants.{Whole, Cut, Not}
-use Rattle.link_audit.specs.Ahead.{Subject, AreAllowed, AreBoards, IsAhead, IsOver, IsWide, Remains, behind_turn, start}
-use Rattle.link_audit.specs.Courses.{AreAnswered, AreNext, Course, FinishesLog, HasCourse, IsDifferent, IsFirstLeft, IsLowestLeft, IsStop, behind_course, has_entry, walked}
-use Rattle.link_audit.specs.Links.{IsVouched, MayAsk, whole_lines}
-use Rattle.link_audit.specs.Vouchings.{DiffersBehind, HasNumbers, IsDifferenceOf, IsFirstDifference, HasSeatAndLines, IsJudged, IsWhole, IsWholeLink, IsYes}
-use Rattle.link_audit.specs.Walks.{HasHeard, IsFinished, IsHeard, TakesSeat, lines_at}
 use Rattle.link_audit.proofs.Walking.{none_over, over_none, turn_first, turn_next, wide_after}
 use Rattle.link_audit.proofs.Easier.{easy_over, same_places}
 use Rattle.link_audit.proofs.Leading.{TheLine, first_line, no_item}

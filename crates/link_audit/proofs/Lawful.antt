@@ -1,18 +1,16 @@
 -- Turns are lawful, each after those before it, exactly if they are allowed one after the other.
-use Rattle.std.proofs.Common.{◌≡◌, ℕ, zero, suc, ◌+◌, ◌<◌, ◌≤◌, List, [], ◌∷◌, ◌++◌, Bool, true, false, cond, eqb, length, take, replicate, Some, None, slice_get, refl, sym, ap, ◌∙◌, subst, arith, inl, inr}
-use Rattle.std.specs.Prelude.{All, ◌||◌, slice_index, slice_set}
-use Rattle.std.specs.List.{cons_option, count_by}
-use Rattle.std.proofs.lemmas.List.{append_assoc, append-nil, length-append, get_or-set_same, get_or-set_other, get_or-replicate}
+use Rattle.std.proofs.Common.{◌≡◌, ℕ, zero, suc, ◌+◌, ◌<◌, ◌≤◌, List, [], ◌∷◌, ◌++◌, Bool, true, false, cond, eqb, length, take, replicate, Some, None, slice_get, refl, sym, ap, ◌∙◌, subst, arith, inl, inr, All, ◌||◌, slice_index, slice_set, count_by, append_assoc, append-nil, length-append, get_or-set_same, get_or-set_other}
+use Rattle.std.specs.List.{cons_option}
+use Rattle.std.proofs.lemmas.List.{get_or-replicate}
 use Rattle.std.proofs.lemmas.List.Elements.{All-cons, All-nil, All-head, All-tail, filter_map-append}
 use Rattle.std.proofs.lemmas.List.Folds.{list_any-append}
 use Rattle.std.proofs.lemmas.List.Sums.{sum_by-append}
 use Rattle.std.proofs.lemmas.Bool.Decides.{eqb_tells}
+use Rattle.std.proofs.lemmas.Bool.{or_right}
 use Rattle.auction_rules.specs.History.{Entry}
-use Rattle.line_protocol.specs.declared.asking.Request.{Request}
-use Rattle.agent_gate.specs.Turns.{Turn, Called, CallDenied, CashRead, CashDenied, Quoted, Refused, Skipped, Left, entry_made, made_at, is_reading, is_leaving, has_left, shown_length, IsNotBehind, IsLawfulTurn}
+use Rattle.link_audit.specs.{Request, Turn, Called, CallDenied, CashRead, CashDenied, Quoted, Refused, Skipped, Left, entry_made, made_at, is_reading, is_leaving, has_left, shown_length, IsNotBehind, IsLawfulTurn, start, behind_turn, IsAllowed, AreAllowed, IsWide}
 use Rattle.agent_gate.proofs.LawfulTurns.{goes_on_more, goes_on_with, has_left-more}
 use Rattle.link_audit.specs.declared.places.Places.{Places}
-use Rattle.link_audit.specs.Ahead.{start, behind_turn, IsAllowed, AreAllowed, IsWide}
 use Rattle.link_audit.proofs.Walking.{wide_after}
 
 -- the places are those that the turns so far lead to
@@ -193,12 +191,8 @@ allowed_from_lawful from past (t ∷ ts) tracks wide lawful =
     last [] lawful' is = refl
     last (u ∷ us) lawful' is =
         let stays = (lawful' 1 u refl).1 in
-        let left : has_left (past ++ t ∷ []) ≡ true = list_any-append is_leaving past (t ∷ []) ∙ (ap (λ (b : Bool). has_left past || (b || false)) is ∙ or_true (has_left past)) in
+        let left : has_left (past ++ t ∷ []) ≡ true = list_any-append is_leaving past (t ∷ []) ∙ (ap (λ (b : Bool). has_left past || (b || false)) is ∙ or_right (has_left past) (true || false) refl) in
         absurd (let never : true ≡ false = sym left ∙ stays in cc)
-      where
-        or_true : (b : Bool) → (b || (true || false)) ≡ true
-        or_true true = refl
-        or_true false = refl
 
     by_leaving : (b : Bool) → is_leaving t ≡ b → (is_leaving t ≡ false → AreAllowed (behind_turn from t) ts) → AreAllowed (behind_turn from t) ts
     by_leaving true is later = let none = last ts lawful is in subst (λ (l : List Turn). AreAllowed (behind_turn from t) l) (sym none) tt

@@ -1,17 +1,9 @@
 -- Line by line: what is ahead of a link before one of its lines, and behind it.
-use Rattle.std.proofs.Common.{◌≡◌, ℕ, suc, ◌≤◌, List, [], ◌∷◌, ◌++◌, true, false, length, map, refl, sym, ap, ◌∙◌, subst, arith}
-use Rattle.std.specs.Prelude.{⊤, Result}
-use Rattle.tac_io.specs.declared.line_got.LineGot.{LineGot}
+use Rattle.std.proofs.Common.{◌≡◌, ℕ, suc, ◌≤◌, List, [], ◌∷◌, ◌++◌, true, false, length, map, refl, sym, ap, ◌∙◌, subst, arith, Result}
+use Rattle.std.specs.Prelude.{⊤}
+use Rattle.link_audit.specs.{LineGot, Request, RequestFault, Said, Dialect, Item, Asks, Overlong, IsItem, AreItems, Turn, Left, is_leaving, item_of, said_of, MayAsk, Subject, IsAsked, FitsReply, IsOver, IsWide, behind_turn, Remains, IsPossible, IsTaken, IsStuck, IsLeaving, IsEasier, IsAhead}
 use Rattle.tac_io.specs.declared.line_got.LineGot.TheVariants as gots
-use Rattle.line_protocol.specs.declared.asking.Request.{Request}
-use Rattle.line_protocol.specs.declared.asking.RequestFault.{RequestFault}
-use Rattle.line_protocol.specs.declared.saying.Said.{Said}
-use Rattle.agent_gate.specs.Dialects.{Dialect}
-use Rattle.agent_gate.specs.Items.{Item, Asks, Overlong, IsItem, AreItems}
-use Rattle.agent_gate.specs.Turns.{Turn, Left, is_leaving, item_of, said_of}
 use Rattle.link_audit.specs.declared.places.Places.{Places}
-use Rattle.link_audit.specs.Links.{MayAsk}
-use Rattle.link_audit.specs.Ahead.{Subject, IsAsked, FitsReply, IsOver, IsWide, behind_turn, Remains, IsPossible, IsTaken, IsStuck, IsLeaving, IsEasier, IsAhead}
 use Rattle.link_audit.proofs.Walking.{wide_after, turn_first, turn_next, over_none, none_over}
 use Rattle.link_audit.proofs.Easier.{easy_remains}
 

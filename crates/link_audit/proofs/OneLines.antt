@@ -1,27 +1,20 @@
 -- The welcome and the replies of both forms are lines: no line end stands in them.
-use Rattle.std.proofs.Common.{◌≡◌, ℕ, zero, suc, ◌+◌, ◌/◌, ◌%◌, List, [], ◌∷◌, ◌++◌, Bool, true, false, map, refl, ap, ◌∙◌, arith, eq-eqb, ne_eqb, ℤ, pos, negsuc, decimal}
-use Rattle.std.specs.Prelude.{◌≢◌, ◌==◌, ◌||◌, codes, nat_lt, if◌then◌else◌, slice_index_or}
+use Rattle.std.proofs.Common.{◌≡◌, ℕ, zero, suc, ◌+◌, ◌/◌, ◌%◌, List, [], ◌∷◌, ◌++◌, Bool, true, false, map, refl, ap, ◌∙◌, arith, eq-eqb, ne_eqb, ℤ, pos, negsuc, decimal, ◌≢◌, ◌==◌, ◌||◌, codes, nat_lt, if◌then◌else◌, slice_index_or, flat_map}
 use Rattle.std.specs.Fmt.{digits, digits_onto, digit_glyph, signed_decimal}
-use Rattle.std.specs.List.{AllByRecursion, concat, flat_map, join_with_byte}
+use Rattle.std.specs.List.{AllByRecursion, concat, join_with_byte}
 use Rattle.std.proofs.lemmas.List.Elements.{All-cons, All-head, All-nil, All-tail}
+use Rattle.std.proofs.lemmas.Bool.{or_parts}
 use Rattle.tac_base.specs.Clients.{Preferences}
 use Rattle.tac_base.specs.declared.bids.Point.{Point}
-use Rattle.tac_base.specs.declared.calls.Reply.{Reply}
+use Rattle.link_audit.specs.Prelude.{Reply, GameFile, has_end, RequestFault, Said, IsOneLine, fault_number, fault_words, reply_words, said_text, said_words, fault_text, json_place, json_point_text, json_text, openness, pair_text, points_text, quote_members, reply_members, welcome_lines}
 use Rattle.tac_base.specs.declared.calls.Reply.TheVariants as replies
 use Rattle.text_forms.specs.Rows.{row_text}
 use Rattle.text_forms.specs.Steps.{lines_of_parts, one_line}
 use Rattle.bid_strings.specs.Spelling.{point_words}
-use Rattle.game_text.specs.Games.{GameFile}
 use Rattle.game_text.specs.ClientLines.{client_numbers, client_text}
-use Rattle.tac_io.specs.LineText.{has_end}
-use Rattle.tac_io.proofs.LineEnds.{neither, no_end-append}
-use Rattle.line_protocol.specs.declared.asking.RequestFault.{RequestFault}
+use Rattle.tac_io.proofs.LineEnds.{no_end-append}
 use Rattle.line_protocol.specs.declared.asking.RequestFault.TheVariants as faults
-use Rattle.line_protocol.specs.declared.saying.Said.{Said}
 use Rattle.line_protocol.specs.declared.saying.Said.TheVariants as said
-use Rattle.line_protocol.specs.Replies.{IsOneLine, fault_number, fault_words, reply_words, said_text, said_words, state_word}
-use Rattle.json_dialect.specs.JsonReplies.{fault_text, json_place, json_point_text, json_text, openness, pair_text, points_text, quote_members, reply_members}
-use Rattle.agent_gate.specs.Welcome.{welcome_lines}
 
 abbrev pub HasNoEnd : List ℕ → Type 0
 HasNoEnd text = has_end text ≡ false
@@ -35,7 +28,7 @@ no_end (byte ∷ text) one =
 pub one_line_of : (text : List ℕ) → HasNoEnd text → IsOneLine text
 one_line_of [] none = All-nil (λ (b : ℕ). b ≢ 10)
 one_line_of (byte ∷ text) none =
-    let both = neither (byte == 10) (has_end text) none in
+    let both = or_parts (byte == 10) (has_end text) none in
     All-cons (λ (b : ℕ). b ≢ 10) byte text (λ is. absurd (let ten : (byte == 10) ≡ true = eq-eqb byte 10 is in cc)) (one_line_of text both.1)
 
 -- ---- pieces and words
@@ -125,7 +118,7 @@ fault faults.NoSuchAuction = (refl, (refl, tt))
 fault (faults.Bid why) = (refl, (refl, (number (fault_number why), tt)))
 fault faults.Memory = (refl, (refl, tt))
 
-state : (closed : Bool) → HasNoEnd (state_word closed)
+state : (closed : Bool) → HasNoEnd (if closed then codes "closed" else codes "open")
 state true = refl
 state false = refl
 

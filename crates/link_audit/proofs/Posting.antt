@@ -1,22 +1,11 @@
 -- Posts and readings of a log: a post that names the place of an entry is the one that is due to it.
-use Rattle.std.proofs.Common.{◌≡◌, ℕ, ◌+◌, ◌<◌, List, [], ◌∷◌, length, take, Some, refl, sym, ap, ◌∙◌, subst, arith}
-use Rattle.std.specs.Prelude.{ℤ, slice_get}
+use Rattle.std.proofs.Common.{◌≡◌, ℕ, ◌+◌, ◌<◌, List, [], ◌∷◌, length, take, Some, refl, sym, ap, ◌∙◌, subst, arith, ℤ, slice_get}
 use Rattle.std.proofs.lemmas.Option.{slice_get_within, get_or_from_slice_get}
-use Rattle.tac_base.specs.declared.calls.Nets.{Nets}
-use Rattle.tac_base.specs.declared.calls.Trade.{Trade}
+use Rattle.link_audit.specs.{Nets, Trade, nets as nets_of, Post, Read, CashEntry, due_post, post_for, LoggedGame, IsLogged, IsLoggedCash, IsLoggedCashEntry, logged_history, IsDuePost, reading, cash_caller, rest_of, HasNext, ArePostedAt, ArePosted, HasTruePosts}
 use Rattle.auction_rules.specs.History.{Entry}
-use Rattle.auction_rules.specs.Effects.{nets as nets_of}
 use Rattle.trade_ledger.specs.declared.cash_calls.CashCall.{CashCall}
-use Rattle.trade_ledger.specs.declared.cash_calls.CashCall.TheVariants.{Post, Read}
 use Rattle.trade_ledger.specs.declared.cash_calls.CashReply.{CashReply}
 use Rattle.trade_ledger.specs.declared.cash_calls.CashReply.TheVariants.{Done, Cash}
-use Rattle.trade_ledger.specs.declared.cash_calls.CashEntry.{CashEntry}
-use Rattle.trade_ledger.specs.Posts.{due_post, post_for}
-use Rattle.log_text.specs.LoggedGames.{LoggedGame, IsLogged, IsLoggedCash, IsLoggedCashEntry}
-use Rattle.log_text.specs.SoundLog.{logged_history}
-use Rattle.log_audit.specs.Flaws.{IsDuePost}
-use Rattle.agent_gate.specs.Turns.{reading}
-use Rattle.link_audit.specs.Ahead.{cash_caller, rest_of, HasNext, ArePostedAt, ArePosted, HasTruePosts}
 use Rattle.link_audit.proofs.Rest.{same_entry}
 
 -- ---- readings

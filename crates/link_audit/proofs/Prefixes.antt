@@ -1,23 +1,14 @@
 -- The prefixes of a legal history, and their boards.
-use Rattle.std.proofs.Common.{◌≡◌, ℕ, zero, suc, ◌+◌, ◌<◌, ◌≤◌, List, [], ◌∷◌, ◌++◌, length, map, take, Some, refl, sym, ap, ◌∙◌, subst, arith, inl, inr, length-take}
-use Rattle.std.specs.Prelude.{reverse, slice_get, slice_index_or}
+use Rattle.std.proofs.Common.{◌≡◌, ℕ, zero, suc, ◌+◌, ◌<◌, ◌≤◌, List, [], ◌∷◌, ◌++◌, length, map, take, Some, refl, sym, ap, ◌∙◌, subst, arith, inl, inr, length-take, reverse, slice_get, slice_index_or, length-append}
 use Rattle.std.specs.Global.{Vec}
-use Rattle.std.proofs.lemmas.List.{length-reverse, length-append, length-map}
+use Rattle.std.proofs.lemmas.List.{length-reverse, length-map}
 use Rattle.std.proofs.lemmas.Option.{slice_get_within}
 use Rattle.std.proofs.lemmas.Bool.Decides.{leb_tells}
-use Rattle.tac_base.specs.declared.calls.Board.{Board}
-use Rattle.tac_base.specs.declared.limits.TheConstants.{AUCTION_ENTRIES}
-use Rattle.game_text.specs.Games.{GameFile}
+use Rattle.link_audit.specs.{Board, AUCTION_ENTRIES, GameFile, Legal, entry_of, entries_of, cap, setup_of, board_of, LoggedGame, logged_history, AreBoards, AreRow, IsTable}
 use Rattle.auction_rules.specs.History.{Entry}
 use Rattle.auction_rules.specs.Setup.{Setup}
-use Rattle.auction_rules.specs.Legal.{Legal, entry_of, entries_of, cap}
-use Rattle.auction_core.specs.Setups.{setup_of}
-use Rattle.floor.specs.ClosedBoards.{board_of}
-use Rattle.log_text.specs.LoggedGames.{LoggedGame}
-use Rattle.log_text.specs.SoundLog.{logged_history}
 use Rattle.log_audit.proofs.Fairness.{ruled, fair_from_legal}
 use Rattle.log_audit.proofs.Positions.{take_at}
-use Rattle.link_audit.specs.Ahead.{AreBoards, AreRow, IsTable}
 
 -- the entry that the rules give after a prefix of a legal history is the next one
 pub next_prefix : (setup : Setup) (history : List Entry) (n : ℕ) (e : Entry) → Legal setup history → slice_get history n ≡ Some e

@@ -1,7 +1,5 @@
 -- What is left of a caller's part of a history.
-use Rattle.std.proofs.Common.{◌≡◌, ◌≢◌, ℕ, zero, suc, ◌+◌, List, [], ◌∷◌, Bool, true, false, cond, drop, Some, slice_get, sym, ap, ◌∙◌, arith, eq-eqb, ne_eqb}
-use Rattle.std.specs.Prelude.{◌==◌}
-use Rattle.std.proofs.lemmas.List.{drop-drop}
+use Rattle.std.proofs.Common.{◌≡◌, ◌≢◌, ℕ, zero, suc, ◌+◌, List, [], ◌∷◌, Bool, true, false, cond, drop, Some, slice_get, sym, ap, ◌∙◌, arith, eq-eqb, ne_eqb, ◌==◌, drop-drop}
 use Rattle.turn_lock.specs.Part.{part_from}
 use Rattle.link_audit.specs.Ahead.{rest_of, HasNext}
 

@@ -1,22 +1,12 @@
 -- What a session takes and sends, cut at its line ends.
-use Rattle.std.proofs.Common.{◌≡◌, ℕ, zero, suc, ◌<◌, ◌≤◌, List, [], ◌∷◌, ◌++◌, Bool, true, false, map, length, take, drop, refl, sym, ap, ◌∙◌, subst, arith}
-use Rattle.std.specs.Prelude.{⊤, ◌==◌, Result, if◌then◌else◌}
-use Rattle.std.specs.List.{AllByRecursion, flat_map}
-use Rattle.std.proofs.lemmas.List.{append_assoc, length-append, take-append-drop, take-append-le}
+use Rattle.std.proofs.Common.{◌≡◌, ℕ, zero, suc, ◌<◌, ◌≤◌, List, [], ◌∷◌, ◌++◌, Bool, true, false, map, length, take, drop, refl, sym, ap, ◌∙◌, subst, arith, ◌==◌, Result, if◌then◌else◌, flat_map, append_assoc, length-append, take-append-drop}
+use Rattle.std.specs.Prelude.{⊤}
+use Rattle.std.specs.List.{AllByRecursion}
+use Rattle.std.proofs.lemmas.List.{take-append-le}
 use Rattle.std.proofs.lemmas.List.Folds.{flat_map-map}
-use Rattle.text_forms.specs.Lines.{text_of}
-use Rattle.tac_io.specs.AllAnswers.{all_answers, ended_line}
-use Rattle.tac_io.specs.LineText.{has_end}
-use Rattle.tac_io.specs.declared.line_got.LineGot.{LineGot}
+use Rattle.link_audit.specs.{text_of, all_answers, ended_line, has_end, LineGot, Request, RequestFault, Said, Item, IsItem, AreItems, reply_line, Turn, said_of, whole_lines}
 use Rattle.tac_io.specs.declared.line_got.LineGot.TheVariants as gots
 use Rattle.tac_io.proofs.LineEnds.{no_end-front}
-use Rattle.line_protocol.specs.declared.asking.Request.{Request}
-use Rattle.line_protocol.specs.declared.asking.RequestFault.{RequestFault}
-use Rattle.line_protocol.specs.declared.saying.Said.{Said}
-use Rattle.agent_gate.specs.Items.{Item, IsItem, AreItems}
-use Rattle.agent_gate.specs.Served.{reply_line}
-use Rattle.agent_gate.specs.Turns.{Turn, said_of}
-use Rattle.link_audit.specs.Links.{whole_lines}
 use Rattle.link_audit.proofs.Cuts.{whole_lines-line, whole_lines-none}
 use Rattle.link_audit.proofs.Leading.{TheLine, first_line, other_lines}
 use Rattle.link_audit.proofs.OneLines.{HasNoEnd}

@@ -1,23 +1,13 @@
 -- What a line led to, by what it was read as.
-use Rattle.std.proofs.Common.{◌≡◌, ◌<◌, ◌≤◌, ℕ, List, [], length, Bool, true, false, None, Some, Ok, Err, refl, sym, ap, ◌∙◌, subst}
-use Rattle.std.proofs.lemmas.Bool.{le-leb, lt-leb}
-use Rattle.std.specs.Prelude.{Result, if◌then◌else◌}
-use Rattle.tac_base.specs.declared.limits.TheConstants.{LINE_BYTES}
-use Rattle.tac_io.specs.AllAnswers.{ended_line}
-use Rattle.tac_io.specs.declared.line_got.LineGot.{LineGot}
+use Rattle.std.proofs.Common.{◌≡◌, ◌<◌, ◌≤◌, ℕ, List, [], length, Bool, true, false, Ok, Err, refl, sym, ap, subst, le-leb, Result, if◌then◌else◌}
+use Rattle.std.proofs.lemmas.Bool.{lt-leb}
+use Rattle.link_audit.specs.{LINE_BYTES, ended_line, LineGot, Request, RequestFault, Said, Dialect, Item, Asks, Overlong, IsItem, Turn, Called, CallDenied, CashRead, CashDenied, Quoted, Refused, Skipped, Left, item_of, said_of, Subject, ReadsBy, IsAsked, FitsReply, IsPossible, IsEasier, IsTaken, IsStuck, IsStep, IsAnswerTo, behind_turn}
 use Rattle.tac_io.specs.declared.line_got.LineGot.TheVariants as gots
-use Rattle.line_protocol.specs.declared.asking.Request.{Request}
 use Rattle.line_protocol.specs.declared.asking.Request.TheVariants as requests
-use Rattle.line_protocol.specs.declared.asking.RequestFault.{RequestFault}
-use Rattle.line_protocol.specs.declared.saying.Said.{Said}
 use Rattle.line_protocol.specs.declared.saying.Said.TheVariants as said
-use Rattle.agent_gate.specs.Dialects.{Dialect}
-use Rattle.agent_gate.specs.Items.{Item, Asks, Overlong, IsItem}
-use Rattle.agent_gate.specs.Turns.{Turn, Called, CallDenied, CashRead, CashDenied, Quoted, Refused, Skipped, Left, asked_call, item_of, said_of}
 use Rattle.link_audit.specs.declared.places.Places.{Places}
 use Rattle.link_audit.specs.declared.stepping.Step.{Step}
 use Rattle.link_audit.specs.declared.stepping.Step.TheVariants.{Taken, Leaves, Stuck}
-use Rattle.link_audit.specs.Ahead.{Subject, ReadsBy, IsAsked, FitsReply, IsPossible, IsEasier, IsTaken, IsStuck, IsLeaving, IsStep, IsAnswerTo, behind_turn}
 use Rattle.link_audit.proofs.Easier.{all_stay, same_places}
 
 module _ (s : Subject) (from : Places) where

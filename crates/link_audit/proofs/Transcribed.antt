@@ -1,6 +1,5 @@
 -- What a log has of an agent, good by good, is the agent's transcript.
-use Rattle.std.proofs.Common.{◌≡◌, ℕ, zero, suc, ◌+◌, ◌<◌, ◌≤◌, List, [], ◌∷◌, length, map, take, Some, refl, sym, ap, ◌∙◌, subst, arith}
-use Rattle.std.specs.Prelude.{All, slice_index_or}
+use Rattle.std.proofs.Common.{◌≡◌, ℕ, zero, suc, ◌+◌, ◌<◌, ◌≤◌, List, [], ◌∷◌, length, map, take, Some, refl, sym, ap, ◌∙◌, subst, arith, All, slice_index_or}
 use Rattle.std.specs.List.{AllZip, enumerate_from, range_with_len}
 use Rattle.std.proofs.lemmas.List.{get_or-replicate, length-map}
 use Rattle.std.proofs.lemmas.List.Elements.{All-cons, All-nil, All-head, All-tail}
@@ -8,21 +7,9 @@ use Rattle.std.proofs.lemmas.List.FromFn.{get_or-map-range_with_len}
 use Rattle.std.proofs.lemmas.Option.{slice_get_within}
 use mathlib.Core.Option.{some, none}
 use lib.ListN.{get_elem?}
-use Rattle.tac_base.specs.declared.calls.Board.{Board}
-use Rattle.game_text.specs.Games.{GameFile}
+use Rattle.link_audit.specs.{Board, GameFile, part, AreNotes, AuctionHistory, setup_of, board_of, LoggedGame, logged_history, auctions_in, IsTranscript, Turn, AreLawful, made_at, boards_shown, IsNote, Remains, AreBoards, calls_left, rest_of, start, closed_in}
 use Rattle.auction_rules.specs.History.{Entry}
-use Rattle.turn_lock.specs.Part.{part}
-use Rattle.turn_lock.specs.Notes.{AreNotes}
-use Rattle.auction_core.specs.Auctions.{AuctionHistory}
-use Rattle.auction_core.specs.Setups.{setup_of}
-use Rattle.floor.specs.ClosedBoards.{board_of}
-use Rattle.log_text.specs.LoggedGames.{LoggedGame}
-use Rattle.log_text.specs.SoundLog.{logged_history, auctions_in}
-use Rattle.agent_gate.specs.Transcript.{IsTranscript}
-use Rattle.agent_gate.specs.Turns.{Turn, AreLawful, made_at, boards_shown}
 use Rattle.game_run.proofs.Transcripts.{by_places, map_at}
-use Rattle.link_audit.specs.Ahead.{IsNote, Remains, AreBoards, calls_left, rest_of, start}
-use Rattle.link_audit.specs.Links.{closed_in}
 use Rattle.link_audit.proofs.Lawful.{tracks_start, lawful_from_allowed, allowed_from_lawful}
 use Rattle.link_audit.proofs.Walked.{wide_start}
 

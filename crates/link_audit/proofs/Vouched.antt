@@ -1,22 +1,7 @@
 -- A link is vouched for exactly if what is ahead of its first line is what the log has of the agent.
-use Rattle.std.proofs.Common.{◌≡◌, ℕ, List, [], ◌∷◌, ◌++◌, Bool, true, false, length, map, sym, ap, ◌∙◌, subst}
-use Rattle.std.specs.Prelude.{if◌then◌else◌, nat_le}
-use Rattle.tac_base.specs.declared.calls.Board.{Board}
-use Rattle.tac_base.specs.declared.limits.TheConstants.{LINE_BYTES, LINK_BYTES, SESSION_LINES}
-use Rattle.game_text.specs.Games.{GameFile}
-use Rattle.tac_io.specs.AllAnswers.{all_answers, ended_line}
-use Rattle.tac_io.specs.declared.line_got.LineGot.{LineGot}
+use Rattle.std.proofs.Common.{◌≡◌, ℕ, List, [], ◌∷◌, ◌++◌, Bool, true, false, length, map, sym, ap, ◌∙◌, subst, if◌then◌else◌, nat_le}
+use Rattle.link_audit.specs.{Board, LINE_BYTES, LINK_BYTES, SESSION_LINES, GameFile, all_answers, ended_line, LineGot, Seated, LoggedGame, Dialect, verdict_of, said_of, welcome_lines, free_seats, IsAhead, AreBoards, start, IsVouched, whole_lines, TakesSeat}
 use Rattle.tac_io.specs.declared.line_got.LineGot.TheVariants as gots
-use Rattle.line_protocol.specs.declared.admission.Verdict.TheVariants.{Seated}
-use Rattle.log_text.specs.LoggedGames.{LoggedGame}
-use Rattle.agent_gate.specs.Dialects.{Dialect}
-use Rattle.agent_gate.specs.Gates.{verdict_of}
-use Rattle.agent_gate.specs.Turns.{said_of}
-use Rattle.agent_gate.specs.Welcome.{welcome_lines}
-use Rattle.game_run.specs.Admission.{free_seats}
-use Rattle.link_audit.specs.Ahead.{IsAhead, AreBoards, start}
-use Rattle.link_audit.specs.Links.{IsVouched, whole_lines}
-use Rattle.link_audit.specs.Walks.{TakesSeat}
 use Rattle.link_audit.proofs.Leading.{first_line, other_lines}
 use Rattle.link_audit.proofs.Transcribed.{transcribed, remaining}
 use Rattle.link_audit.proofs.Welcomes.{same_rest}

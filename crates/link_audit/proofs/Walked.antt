@@ -1,17 +1,11 @@
 -- A walk under way: what is ahead of a link is what is ahead behind the lines that were walked over.
-use Rattle.std.proofs.Common.{◌≡◌, ℕ, suc, List, [], ◌∷◌, Bool, true, false, refl, sym, ◌∙◌, subst}
-use Rattle.std.specs.Prelude.{◌+◌, ◌<◌, ◌≤◌, Option, None, Some, MatchOption, drop, is_some, length, slice_range}
-use Rattle.tac_base.specs.declared.limits.TheConstants.{SESSION_LINES}
-use Rattle.tac_io.specs.LineText.{has_end, BeginsWithLine}
+use Rattle.std.proofs.Common.{◌≡◌, ℕ, suc, List, [], ◌∷◌, Bool, true, false, refl, sym, ◌∙◌, subst, ◌+◌, ◌<◌, ◌≤◌, Option, None, Some, MatchOption, drop, is_some, length, slice_range}
+use Rattle.link_audit.specs.{SESSION_LINES, has_end, BeginsWithLine, LineGot, Dialect, Subject, IsAsked, FitsReply, IsOver, IsWide, IsTaken, IsStuck, IsLeaving, IsAhead, start, IsBehind, IsAheadAt, IsHeard, EndsByLeaving, replies_at}
 use Rattle.std.proofs.lemmas.List.{length-replicate}
-use Rattle.tac_io.specs.declared.line_got.LineGot.{LineGot}
 use Rattle.tac_io.specs.declared.line_got.LineGot.TheVariants as gots
-use Rattle.agent_gate.specs.Dialects.{Dialect}
 use Rattle.link_audit.specs.declared.places.Places.{Places}
-use Rattle.link_audit.specs.Ahead.{Subject, IsAsked, FitsReply, IsOver, IsWide, IsTaken, IsStuck, IsLeaving, IsAhead, start}
 use Rattle.link_audit.specs.declared.hearing.Heard.{Heard}
 use Rattle.link_audit.specs.declared.hearing.Heard.TheVariants.{Through, Gone, Not}
-use Rattle.link_audit.specs.Walks.{IsBehind, IsAheadAt, IsHeard, IsLeft, replies_at}
 use Rattle.link_audit.proofs.Cuts.{replies_here, replies_end}
 use Rattle.link_audit.proofs.Walking.{wide_after}
 use Rattle.link_audit.proofs.Leading.{heard_on, heard_back, heard_stuck, left_on, left_back, end_heard, no_room, unheard_on, unheard_back, unheard_stuck, unheard_left, end_unheard, none_ahead, over_ahead}
@@ -104,7 +98,7 @@ more_replies said told (Some end) b = (
 )
 
 -- the end of a walk by a line by which the agent left
-pub left_heard : (dialect : Dialect) (s : Subject) (asked : List ℕ) (from : ℕ) (replies replies' : List (List ℕ)) (Over : Type 0) (more : Bool) (result : Heard) → IsLeft Over more result
+pub left_heard : (dialect : Dialect) (s : Subject) (asked : List ℕ) (from : ℕ) (replies replies' : List (List ℕ)) (Over : Type 0) (more : Bool) (result : Heard) → EndsByLeaving Over more result
     → (more ≡ false → replies' ≡ []) → (replies' ≡ [] → more ≡ false)
     → (IsAheadAt dialect s asked from replies SESSION_LINES → (replies' ≡ []) × Over) → (replies' ≡ [] → Over → IsAheadAt dialect s asked from replies SESSION_LINES)
     → IsHeard dialect s asked from replies result

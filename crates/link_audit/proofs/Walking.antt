@@ -1,23 +1,12 @@
 -- A turn at the front: what the log has from some places on is what the turn left, and then what it has from the places behind the turn on.
-use Rattle.std.proofs.Common.{◌≡◌, ◌≢◌, ℕ, ◌+◌, ◌<◌, ◌≤◌, List, [], ◌∷◌, ◌++◌, Bool, true, cond, length, map, Some, None, refl, sym, ap, ◌∙◌, subst, arith, inl, inr, length-set}
-use Rattle.std.specs.Prelude.{All, slice_index, slice_set}
+use Rattle.std.proofs.Common.{◌≡◌, ◌≢◌, ℕ, ◌+◌, ◌<◌, ◌≤◌, List, [], ◌∷◌, ◌++◌, Bool, true, cond, length, map, Some, None, refl, sym, ap, ◌∙◌, subst, arith, inl, inr, length-set, All, slice_index, slice_set, get_or-set_same, get_or-set_other}
 use Rattle.std.specs.List.{cons_option}
-use Rattle.std.proofs.lemmas.List.{get_or-set_same, get_or-set_other}
 use Rattle.std.proofs.lemmas.List.Elements.{All-cons, All-nil, All-head, All-tail}
 use Rattle.std.proofs.lemmas.Bool.Decides.{eqb_tells}
-use Rattle.tac_base.specs.declared.calls.Board.{Board}
-use Rattle.tac_base.specs.declared.calls.Trade.{Trade}
+use Rattle.link_audit.specs.{Board, Trade, CashEntry, nets, Post, due_post, post_for, Request, logged_history, Turn, Called, CallDenied, CashRead, CashDenied, Quoted, Refused, Skipped, Left, made_at, cash_made, boards_shown, is_leaving, reading, Subject, entry_caller, cash_caller, rest_of, HasNext, calls_left, IsOver, IsNote, IsWide, behind, behind_turn, IsAllowed, Remains, ArePostedAt, IsNextInLog}
 use Rattle.auction_rules.specs.History.{Entry}
-use Rattle.trade_ledger.specs.declared.cash_calls.CashEntry.{CashEntry}
-use Rattle.auction_rules.specs.Effects.{nets}
-use Rattle.trade_ledger.specs.declared.cash_calls.CashCall.TheVariants.{Post}
 use Rattle.trade_ledger.specs.declared.cash_calls.CashReply.TheVariants.{Done}
-use Rattle.trade_ledger.specs.Posts.{due_post, post_for}
-use Rattle.line_protocol.specs.declared.asking.Request.{Request}
-use Rattle.log_text.specs.SoundLog.{logged_history}
-use Rattle.agent_gate.specs.Turns.{Turn, Called, CallDenied, CashRead, CashDenied, Quoted, Refused, Skipped, Left, made_at, cash_made, boards_shown, is_leaving, reading}
 use Rattle.link_audit.specs.declared.places.Places.{Places}
-use Rattle.link_audit.specs.Ahead.{Subject, entry_caller, cash_caller, rest_of, HasNext, calls_left, IsOver, IsNote, IsWide, behind, behind_turn, IsAllowed, Remains, ArePostedAt, IsNext}
 use Rattle.link_audit.proofs.Rest.{rest_next, has_next}
 
 -- ---- places
@@ -138,7 +127,7 @@ module _ (s : Subject) where
 
   -- ---- a turn at the front
 
-  pub turn_first : (from : Places) (turn : Turn) (ts : List Turn) → IsWide from → IsAllowed from turn → (is_leaving turn ≡ true → ts ≡ []) → IsNext s from turn
+  pub turn_first : (from : Places) (turn : Turn) (ts : List Turn) → IsWide from → IsAllowed from turn → (is_leaving turn ≡ true → ts ≡ []) → IsNextInLog s from turn
       → Remains s (behind_turn from turn) ts → Remains s from (turn ∷ ts)
   turn_first from (Called request g position entry posted) ts wide here last next rest = record {
     calls = call_first from request g position posted entry ts wide here.1 next.0 rest.calls;
@@ -168,7 +157,7 @@ module _ (s : Subject) where
   pub record HasFirst (from : Places) (turn : Turn) (ts : List Turn) : Type 0 where
     pub allowed : IsAllowed from turn
     pub last : is_leaving turn ≡ true → ts ≡ []
-    pub next : IsNext s from turn
+    pub next : IsNextInLog s from turn
     pub rest : Remains s (behind_turn from turn) ts
 
   pub turn_next : (from : Places) (turn : Turn) (ts : List Turn) → IsWide from → Remains s from (turn ∷ ts) → HasFirst from turn ts

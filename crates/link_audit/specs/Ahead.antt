@@ -1,28 +1,9 @@
 -- What a log still has of an agent from some places on, and the turns that it leaves possible.
 use Rattle.std.specs.Prelude.{⊤, ◌≡◌, ℕ, ◌+◌, ◌<◌, ◌≤◌, List, [], ◌∷◌, ◌++◌, All, Bool, Result, Ok, Err, Some, true, false, drop, length, map, replicate, slice_get, slice_index, slice_index_or, slice_set, take}
 use Rattle.std.specs.Global.{Vec}
-use Rattle.tac_base.specs.declared.limits.TheConstants.{AGENT_CALLS, CASH_READINGS, GOODS}
-use Rattle.tac_base.specs.declared.calls.Board.{Board}
-use Rattle.tac_base.specs.declared.calls.Call.{Call}
-use Rattle.game_text.specs.Games.{GameFile}
+use Rattle.link_audit.specs.Prelude.{AGENT_CALLS, CASH_READINGS, GOODS, Board, Call, GameFile, Legal, setup_of, board_of, CashEntry, due_post, part_from, LineGot, Request, RequestFault, Said, LoggedGame, IsLogged, logged_history, HasDuePost, Dialect, Item, IsItem, AreItems, Turn, Called, CallDenied, CashRead, CashDenied, Quoted, Refused, Skipped, Left, asked_call, boards_shown, cash_made, is_leaving, item_of, made_at, reading, said_of}
 use Rattle.auction_rules.specs.History.{Entry}
-use Rattle.auction_rules.specs.Legal.{Legal}
-use Rattle.auction_core.specs.Setups.{setup_of}
-use Rattle.floor.specs.ClosedBoards.{board_of}
-use Rattle.trade_ledger.specs.declared.cash_calls.CashEntry.{CashEntry}
-use Rattle.trade_ledger.specs.Posts.{due_post}
-use Rattle.turn_lock.specs.Part.{part_from}
-use Rattle.tac_io.specs.declared.line_got.LineGot.{LineGot}
-use Rattle.line_protocol.specs.declared.asking.Request.{Request}
-use Rattle.line_protocol.specs.declared.asking.RequestFault.{RequestFault}
-use Rattle.line_protocol.specs.declared.saying.Said.{Said}
 use Rattle.line_protocol.specs.declared.saying.Said.TheVariants as said
-use Rattle.log_text.specs.LoggedGames.{LoggedGame, IsLogged}
-use Rattle.log_text.specs.SoundLog.{logged_history}
-use Rattle.log_audit.specs.Flaws.{HasDuePost}
-use Rattle.agent_gate.specs.Dialects.{Dialect}
-use Rattle.agent_gate.specs.Items.{Item, IsItem, AreItems}
-use Rattle.agent_gate.specs.Turns.{Turn, Called, CallDenied, CashRead, CashDenied, Quoted, Refused, Skipped, Left, asked_call, boards_shown, cash_made, is_leaving, item_of, made_at, reading, said_of}
 use Rattle.link_audit.specs.declared.places.Places.{Places}
 use Rattle.link_audit.specs.declared.stepping.Step.{Step}
 use Rattle.link_audit.specs.declared.stepping.Step.TheVariants.{Taken, Leaves, Stuck}
@@ -144,16 +125,16 @@ pub record ArePosted (agent : ℕ) (cash : List CashEntry) (from : ℕ) (posts :
   pub to_is : to ≡ behind from posts posted
 
 -- what a turn left is what the log has next
-abbrev pub IsNext : Subject → Places → Turn → Type 0
-IsNext s from (Called request good position entry posted) =
+abbrev pub IsNextInLog : Subject → Places → Turn → Type 0
+IsNextInLog s from (Called request good position entry posted) =
     HasNext entry_caller s.agent (slice_index from.next good) (logged_history s.log good) position entry × ArePostedAt s.agent s.log.cash from.cash (due_post good position entry) posted
-IsNext s from (CallDenied request good) = ⊤
-IsNext s from (CashRead position dollars) = HasNext cash_caller s.agent from.cash s.log.cash position (reading s.agent dollars)
-IsNext s from CashDenied = ⊤
-IsNext s from (Quoted good board) = IsNote s good (board.count, board)
-IsNext s from (Refused fault) = ⊤
-IsNext s from Skipped = ⊤
-IsNext s from Left = ⊤
+IsNextInLog s from (CallDenied request good) = ⊤
+IsNextInLog s from (CashRead position dollars) = HasNext cash_caller s.agent from.cash s.log.cash position (reading s.agent dollars)
+IsNextInLog s from CashDenied = ⊤
+IsNextInLog s from (Quoted good board) = IsNote s good (board.count, board)
+IsNextInLog s from (Refused fault) = ⊤
+IsNextInLog s from Skipped = ⊤
+IsNextInLog s from Left = ⊤
 
 -- what a line may be read as: where its reply did not come, memory to read it was not refused
 abbrev pub ReadsBy : (List ℕ → Result Request RequestFault → Type 0) → Bool → List ℕ → Result Request RequestFault → Type 0
@@ -173,7 +154,7 @@ pub record IsPossible (Asked : Item → Type 0) (Fits : Said → Type 0) (s : Su
   pub asked : Asked (item_of turn)
   pub fits : Fits (said_of turn)
   pub allowed : IsAllowed from turn
-  pub next : IsNext s from turn
+  pub next : IsNextInLog s from turn
 
 -- the same places, but maybe less was seen
 pub record IsEasier (from hard : Places) : Type 0 where

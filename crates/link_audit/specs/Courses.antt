@@ -1,18 +1,11 @@
 -- Turns of a link's lines, one after the other from some places on, and what they come to.
-use Rattle.std.specs.Prelude.{⊤, ◌≡◌, ℕ, ◌+◌, ◌<◌, ◌≤◌, List, [], ◌∷◌, Bool, true, false, drop, length, slice_index}
-use Rattle.std.specs.List.{count_by}
-use Rattle.tac_base.specs.declared.limits.TheConstants.{GOODS, SESSION_LINES}
+use Rattle.std.specs.Prelude.{⊤, ◌≡◌, ℕ, ◌+◌, ◌<◌, ◌≤◌, List, [], ◌∷◌, Bool, true, false, drop, length, slice_index, count_by}
+use Rattle.link_audit.specs.Prelude.{GOODS, SESSION_LINES, CashEntry, LineGot, logged_history, Dialect, IsItem, Turn, Called, CashRead, has_left, item_of, said_of}
 use Rattle.auction_rules.specs.History.{Entry}
-use Rattle.trade_ledger.specs.declared.cash_calls.CashEntry.{CashEntry}
-use Rattle.tac_io.specs.declared.line_got.LineGot.{LineGot}
-use Rattle.log_text.specs.SoundLog.{logged_history}
-use Rattle.agent_gate.specs.Dialects.{Dialect}
-use Rattle.agent_gate.specs.Items.{IsItem}
-use Rattle.agent_gate.specs.Turns.{Turn, Called, CashRead, has_left, item_of, said_of}
 use Rattle.link_audit.specs.declared.places.Places.{Places}
 use Rattle.link_audit.specs.declared.vouching.Difference.{Difference}
 use Rattle.link_audit.specs.declared.vouching.Difference.TheVariants as differences
-use Rattle.link_audit.specs.Ahead.{Subject, AreAllowed, HasNext, IsEasier, IsNext, IsOver, behind_turn, calls_left, cash_caller, entry_caller, start}
+use Rattle.link_audit.specs.Ahead.{Subject, AreAllowed, HasNext, IsEasier, IsNextInLog, IsOver, behind_turn, calls_left, cash_caller, entry_caller, start}
 use Rattle.link_audit.specs.Links.{MayAsk}
 
 -- ---- turns
@@ -34,7 +27,7 @@ AreAnswered dialect (turn ∷ turns) (line ∷ lines) (reply ∷ replies) =
 -- each turn is what the log has next of the agent
 abbrev pub AreNext : Subject → Places → List Turn → Type 0
 AreNext s from [] = ⊤
-AreNext s from (turn ∷ turns) = IsNext s from turn × AreNext s (behind_turn from turn) turns
+AreNext s from (turn ∷ turns) = IsNextInLog s from turn × AreNext s (behind_turn from turn) turns
 
 -- the places behind turns
 abbrev pub walked : Places → List Turn → Places

@@ -1,35 +1,10 @@
 -- When a log is right about one link, by the bytes that it gave and those that it was sent. The two relations are our own.
 use Rattle.std.specs.Prelude.{◌≡◌, ◌≢◌, ℕ, ◌==◌, ◌≤◌, if◌then◌else◌, List, [], ◌∷◌, ◌++◌, Result, Err, Some, true, length, map, slice_get, take}
 use Rattle.std.specs.List.{list_any}
-use Rattle.tac_base.specs.declared.limits.TheConstants.{LINK_BYTES, SESSION_LINES}
-use Rattle.text_forms.specs.Lines.{GoesOn}
-use Rattle.game_text.specs.Games.{GameFile}
-use Rattle.tac_io.specs.AllAnswers.{all_answers}
-use Rattle.tac_io.specs.States.{LinkState}
-use Rattle.tac_io.specs.declared.line_got.LineGot.{LineGot}
+use Rattle.link_audit.specs.Prelude.{LINK_BYTES, SESSION_LINES, GoesOn, GameFile, all_answers, LinkState, LineGot, Cause, Verdict, Seated, Request, RequestFault, Said, IsOneLine, ClosedGame, LoggedGame, auctions_in, gives_seat, Dialect, verdict_of, AreItems, IsTranscript, Turn, AreLawful, item_of, said_of, welcome_lines, welcome_text, free_seats, seats_given, HostedGame, IsSeated, PlayedGame}
 use Rattle.tac_io.specs.declared.line_got.LineGot.TheVariants as gots
-use Rattle.line_protocol.specs.declared.admission.Cause.{Cause}
-use Rattle.line_protocol.specs.declared.admission.Verdict.{Verdict}
-use Rattle.line_protocol.specs.declared.admission.Verdict.TheVariants.{Seated}
-use Rattle.line_protocol.specs.declared.asking.Request.{Request}
-use Rattle.line_protocol.specs.declared.asking.RequestFault.{RequestFault}
 use Rattle.line_protocol.specs.declared.asking.RequestFault.TheVariants.{Memory}
-use Rattle.line_protocol.specs.declared.saying.Said.{Said}
 use Rattle.line_protocol.specs.Heads.{Head, Play, Serve}
-use Rattle.line_protocol.specs.Replies.{IsOneLine}
-use Rattle.auction_core.specs.ClosedGame.{ClosedGame}
-use Rattle.log_text.specs.LoggedGames.{LoggedGame}
-use Rattle.log_text.specs.SoundLog.{auctions_in, gives_seat}
-use Rattle.agent_gate.specs.Dialects.{Dialect}
-use Rattle.agent_gate.specs.Gates.{verdict_of}
-use Rattle.agent_gate.specs.Items.{AreItems}
-use Rattle.agent_gate.specs.Transcript.{IsTranscript}
-use Rattle.agent_gate.specs.Turns.{Turn, AreLawful, item_of, said_of}
-use Rattle.agent_gate.specs.Welcome.{welcome_lines, welcome_text}
-use Rattle.game_run.specs.Admission.{free_seats, seats_given}
-use Rattle.game_run.specs.Hosted.{HostedGame}
-use Rattle.game_run.specs.LinkRuns.{IsSeated}
-use Rattle.game_run.specs.PlayedGame.{PlayedGame}
 
 -- ---- what a log says of a game over links
 

@@ -1,20 +1,8 @@
 -- What an audit of a link answers.
-use Rattle.std.specs.Prelude.{⊤, ◌≡◌, ℕ, ◌-◌, ◌⊎◌, ◌↔◌, List, [], ◌∷◌, ◌++◌, Some, true, length, slice_get}
-use Rattle.std.specs.List.{count_by, list_any}
-use Rattle.tac_base.specs.declared.calls.Board.{Board}
-use Rattle.tac_base.specs.declared.limits.TheConstants.{LINK_BYTES}
-use Rattle.game_text.specs.Games.{GameFile}
-use Rattle.tac_io.specs.AllAnswers.{all_answers}
-use Rattle.tac_io.specs.declared.line_got.LineGot.{LineGot}
+use Rattle.std.specs.Prelude.{⊤, ◌≡◌, ℕ, ◌-◌, ◌⊎◌, ◌↔◌, List, [], ◌∷◌, ◌++◌, Some, true, length, slice_get, count_by}
+use Rattle.std.specs.List.{list_any}
+use Rattle.link_audit.specs.Prelude.{Board, LINK_BYTES, GameFile, all_answers, LineGot, Seated, LoggedGame, gives_seat, Dialect, verdict_of, Turn, has_left, welcome_lines, free_seats}
 use Rattle.tac_io.specs.declared.line_got.LineGot.TheVariants as gots
-use Rattle.line_protocol.specs.declared.admission.Verdict.TheVariants.{Seated}
-use Rattle.log_text.specs.LoggedGames.{LoggedGame}
-use Rattle.log_text.specs.SoundLog.{gives_seat}
-use Rattle.agent_gate.specs.Dialects.{Dialect}
-use Rattle.agent_gate.specs.Gates.{verdict_of}
-use Rattle.agent_gate.specs.Turns.{Turn, has_left}
-use Rattle.agent_gate.specs.Welcome.{welcome_lines}
-use Rattle.game_run.specs.Admission.{free_seats}
 use Rattle.link_audit.specs.declared.vouching.Difference.{Difference}
 use Rattle.link_audit.specs.declared.vouching.Difference.TheVariants as differences
 use Rattle.link_audit.specs.declared.vouching.Vouching.{Vouching}

@@ -1,17 +1,8 @@
 -- The walk over a link's lines; for private clauses.
 use Rattle.std.specs.Prelude.{⊤, ◌≡◌, ℕ, ◌+◌, ◌-◌, ◌≤◌, List, [], ◌∷◌, Bool, true, false, drop, length}
 use Rattle.std.specs.List.{list_any}
-use Rattle.tac_base.specs.declared.limits.TheConstants.{LINK_BYTES, SESSION_LINES}
-use Rattle.game_text.specs.Games.{GameFile}
-use Rattle.tac_io.specs.AllAnswers.{all_answers, ended_line}
-use Rattle.tac_io.specs.declared.line_got.LineGot.{LineGot}
+use Rattle.link_audit.specs.Prelude.{LINK_BYTES, SESSION_LINES, GameFile, all_answers, ended_line, LineGot, Seated, LoggedGame, gives_seat, Dialect, verdict_of, free_seats}
 use Rattle.tac_io.specs.declared.line_got.LineGot.TheVariants as gots
-use Rattle.line_protocol.specs.declared.admission.Verdict.TheVariants.{Seated}
-use Rattle.log_text.specs.LoggedGames.{LoggedGame}
-use Rattle.log_text.specs.SoundLog.{gives_seat}
-use Rattle.agent_gate.specs.Dialects.{Dialect}
-use Rattle.agent_gate.specs.Gates.{verdict_of}
-use Rattle.game_run.specs.Admission.{free_seats}
 use Rattle.link_audit.specs.declared.hearing.Heard.{Heard}
 use Rattle.link_audit.specs.declared.hearing.Heard.TheVariants.{Through, Gone, Not}
 use Rattle.link_audit.specs.declared.places.Places.{Places}
@@ -50,10 +41,10 @@ IsHeard dialect s asked from replies (Gone lines) = IsAheadAt dialect s asked fr
 IsHeard dialect s asked from replies (Not difference) = IsAheadAt dialect s asked from replies SESSION_LINES → ⊥
 
 -- the agent left by a line: nothing may come behind it, in the link or in the log
-abbrev pub IsLeft : Type 0 → Bool → Heard → Type 0
-IsLeft Over more (Gone lines) = (more ≡ false) × Over
-IsLeft Over more (Not difference) = more ≡ false → Over → ⊥
-IsLeft Over more (Through places at lines) = ⊥
+abbrev pub EndsByLeaving : Type 0 → Bool → Heard → Type 0
+EndsByLeaving Over more (Gone lines) = (more ≡ false) × Over
+EndsByLeaving Over more (Not difference) = more ≡ false → Over → ⊥
+EndsByLeaving Over more (Through places at lines) = ⊥
 
 -- what was heard, by turns from the start on: behind all replies, where other lines stand; until the agent left; or up to a difference
 abbrev pub HasHeard : Dialect → Subject → List ℕ → ℕ → List (List ℕ) → Heard → Type 0

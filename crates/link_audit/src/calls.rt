@@ -1,6 +1,5 @@
 // What requests ask of auctions.
-ghost use Rattle.std.specs.Prelude.{◌≡◌, ◌↔◌, Some, IsTrue};
-ghost use Rattle.std.specs.Option.{option_map};
+ghost use Rattle.std.specs.Prelude.{◌≡◌, ◌↔◌, Some, IsTrue, option_map};
 ghost use Rattle.agent_gate.specs.Turns.{asked_call};
 
 use line_protocol::Request;

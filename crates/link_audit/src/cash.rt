@@ -1,12 +1,7 @@
 // An agent's next entry in the cash history.
 ghost use Rattle.std.specs.Prelude.{◌≡◌, ◌≤◌, ◌↔◌, ℕ, ℤ, [], Some, length, slice_get, IsTrue, MatchOption};
-ghost use Rattle.tac_base.specs.declared.calls.Nets.{Nets};
-ghost use Rattle.tac_base.specs.declared.limits.TheConstants.{CASH_ENTRIES};
+ghost use Rattle.link_audit.specs.{Nets, CASH_ENTRIES, CashEntry as SeenEntry, IsLoggedCashEntry, reading, HasNext, cash_caller, rest_of};
 ghost use Rattle.trade_ledger.specs.declared.cash_calls.CashCall.TheVariants as cash_calls;
-ghost use Rattle.trade_ledger.specs.declared.cash_calls.CashEntry.{CashEntry as SeenEntry};
-ghost use Rattle.log_text.specs.LoggedGames.{IsLoggedCashEntry};
-ghost use Rattle.agent_gate.specs.Turns.{reading};
-ghost use Rattle.link_audit.specs.Ahead.{HasNext, cash_caller, rest_of};
 
 use log_reader::Log;
 use tac_base::{Agent, Good};

@@ -1,10 +1,7 @@
 // The first line of a link, and the lines that it was sent first.
 ghost use Rattle.std.specs.Prelude.{◌≡◌, ◌≤◌, ◌↔◌, ◌++◌, ◌∷◌, ℕ, List, length, IsTrue, MatchOption};
 ghost use Rattle.std.specs.List.{list_any};
-ghost use Rattle.log_text.specs.SoundLog.{gives_seat};
-ghost use Rattle.agent_gate.specs.Welcome.{welcome_lines};
-ghost use Rattle.link_audit.specs.Links.{logged_verdicts, whole_lines};
-ghost use Rattle.link_audit.specs.Walks.{TakesSeat, replies_at};
+ghost use Rattle.link_audit.specs.{gives_seat, welcome_lines, logged_verdicts, whole_lines, TakesSeat, replies_at};
 
 use crate::lines::line_end;
 use agent_gate::Gate;

@@ -1,10 +1,9 @@
 // The lines of a link whose replies came, and those whose replies did not.
 ghost use Rattle.std.specs.Prelude.{◌≡◌, ◌<◌, ◌≤◌, List, IfOk, length};
 ghost use Rattle.std.specs.Global.{Vec as SeenVec};
-ghost use Rattle.tac_base.specs.declared.calls.Board.{Board as SeenBoard};
-ghost use Rattle.tac_base.specs.declared.limits.TheConstants.{LINK_BYTES};
+ghost use Rattle.link_audit.specs.Prelude.{Board as SeenBoard, LINK_BYTES};
 ghost use Rattle.link_audit.specs.Ahead.{HasTruePosts, IsOver, IsTable, start, subject_of};
-ghost use Rattle.link_audit.specs.Walks.{HasHeard, HasLeft, IsHeard, IsLeft, replies_at};
+ghost use Rattle.link_audit.specs.Walks.{HasHeard, HasLeft, IsHeard, EndsByLeaving, replies_at};
 
 use crate::known::KnownDialect;
 use crate::leftovers::first_left;
@@ -49,7 +48,7 @@ fn start_places() -> Places
 /// The end of a walk by a line by which the agent left.
 fn leave(log: &Log, agent: Agent, places: &Places, more: bool, lines: u32) -> Heard
     requires { lines < SESSION_LINES }
-    ensures left { (boards : List (SeenVec SeenBoard)) → IsLeft (IsOver (subject_of log.now boards agent) places.now) more result }
+    ensures left { (boards : List (SeenVec SeenBoard)) → EndsByLeaving (IsOver (subject_of log.now boards agent) places.now) more result }
     ensures how { (boards : List (SeenVec SeenBoard)) → HasLeft (subject_of log.now boards agent) places.now lines more result }
 {
     if more {

@@ -1,12 +1,7 @@
 // A log is judged by one link.
 ghost use Rattle.std.specs.Prelude.{◌≡◌, ◌<◌, ◌≤◌, ◌-◌, ◌↔◌, if◌then◌else◌, ℕ, [], IfOk, IsTrue, Some, length, slice_get};
-ghost use Rattle.tac_base.specs.declared.limits.TheConstants.{LINK_BYTES, SESSION_LINES};
-ghost use Rattle.log_text.specs.SoundLog.{IsSound};
+ghost use Rattle.link_audit.specs.{LINK_BYTES, SESSION_LINES, IsSound, HasTruePosts, IsAhead, IsTable, IsWide, subject_of, IsVouched, HasNumbers, IsDifferenceOf, IsJudged, IsWhole, IsWholeLink, IsYes, IsFinished, lines_at};
 ghost use Rattle.link_audit.specs.declared.hearing.Heard.TheVariants.{Through};
-ghost use Rattle.link_audit.specs.Ahead.{HasTruePosts, IsAhead, IsTable, IsWide, subject_of};
-ghost use Rattle.link_audit.specs.Links.{IsVouched};
-ghost use Rattle.link_audit.specs.Vouchings.{HasNumbers, IsDifferenceOf, IsJudged, IsWhole, IsWholeLink, IsYes};
-ghost use Rattle.link_audit.specs.Walks.{IsFinished, lines_at};
 
 use crate::greeting::{behind_welcome, seat_of};
 use crate::hearing::{Heard, hear};

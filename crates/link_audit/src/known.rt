@@ -1,9 +1,6 @@
 // Forms of lines of which it is known what each line asked.
 ghost use Rattle.std.specs.Prelude.{◌≡◌, ◌↔◌, Result, IfOk, IsTrue, codes};
-ghost use Rattle.line_protocol.specs.declared.asking.Request.{Request as SeenRequest};
-ghost use Rattle.line_protocol.specs.declared.asking.RequestFault.{RequestFault as SeenFault};
-ghost use Rattle.line_protocol.specs.declared.saying.Said.{Said};
-ghost use Rattle.link_audit.specs.Ahead.{FitsReply, IsAnswerTo, ReadsBy};
+ghost use Rattle.link_audit.specs.{Request as SeenRequest, RequestFault as SeenFault, Said, FitsReply, IsAnswerTo, ReadsBy};
 
 use agent_gate::{Dialect, LineDialect};
 use json_dialect::JsonDialect;

@@ -1,12 +1,6 @@
 // Laws of links and of what their far ends saw.
 ghost use Rattle.std.specs.Prelude.{ℕ, List};
-ghost use Rattle.game_text.specs.Games.{GameFile};
-ghost use Rattle.line_protocol.specs.declared.saying.Said.{Said};
-ghost use Rattle.line_protocol.specs.Replies.{IsOneLine, said_text};
-ghost use Rattle.json_dialect.specs.JsonReplies.{json_text};
-ghost use Rattle.log_text.specs.LoggedGames.{LoggedGame};
-ghost use Rattle.game_run.specs.Hosted.{hosted_game};
-ghost use Rattle.link_audit.specs.Links.{HasLineReplies, HasWelcome, IsLinkOfLog, IsVouched};
+ghost use Rattle.link_audit.specs.{GameFile, Said, IsOneLine, said_text, json_text, LoggedGame, hosted_game, HasLineReplies, HasWelcome, IsLinkOfLog, IsVouched};
 
 use agent_gate::Dialect;
 

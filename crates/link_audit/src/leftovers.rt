@@ -2,8 +2,7 @@
 ghost use Rattle.std.specs.Prelude.{◌≡◌, ◌↔◌, List, None, IfSome};
 ghost use Rattle.std.specs.Global.{Vec as SeenVec};
 ghost use Rattle.tac_base.specs.declared.calls.Board.{Board};
-ghost use Rattle.link_audit.specs.Ahead.{IsOver, subject_of};
-ghost use Rattle.link_audit.specs.Courses.{IsLowestLeft};
+ghost use Rattle.link_audit.specs.{IsOver, subject_of, IsLowestLeft};
 
 use crate::cash::next_cash;
 use crate::goods::good_of;

@@ -1,9 +1,7 @@
 // The lines of a link whose replies did not come.
 ghost use Rattle.std.specs.Prelude.{◌≡◌, ◌+◌, ◌-◌, ◌<◌, ◌≤◌, ◌↔◌, ℕ, [], IfOk, IsTrue, MatchResult, length};
 ghost use Rattle.tac_base.specs.declared.limits.TheConstants.{LINK_BYTES};
-ghost use Rattle.link_audit.specs.Ahead.{HasTruePosts, IsAhead, IsTable, IsWide, subject_of};
-ghost use Rattle.link_audit.specs.Courses.{FinishesLog, IsKept, IsStop};
-ghost use Rattle.link_audit.specs.Walks.{lines_at};
+ghost use Rattle.link_audit.specs.{HasTruePosts, IsAhead, IsTable, IsWide, subject_of, FinishesLog, IsKept, IsStop, lines_at};
 
 use crate::known::KnownDialect;
 use crate::leftovers::first_left;

@@ -1,7 +1,6 @@
 // What a line of a link led to.
 ghost use Rattle.std.specs.Prelude.{◌≡◌, if◌then◌else◌, IfOk, Ok};
-ghost use Rattle.tac_io.specs.AllAnswers.{ended_line};
-ghost use Rattle.agent_gate.specs.Items.{Asks};
+ghost use Rattle.link_audit.specs.Prelude.{ended_line, Asks};
 ghost use Rattle.link_audit.specs.Ahead.{FitsReply, HasTruePosts, IsAsked, IsStep, IsTable, subject_of};
 
 use crate::known::KnownDialect;

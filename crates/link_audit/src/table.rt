@@ -1,8 +1,6 @@
 // The boards of all prefixes of the histories of a log.
 ghost use Rattle.std.specs.Prelude.{◌≡◌, ◌+◌, ◌<◌, IfOk, length, map, take};
-ghost use Rattle.auction_rules.specs.Legal.{Legal};
-ghost use Rattle.auction_core.specs.Setups.{setup_of};
-ghost use Rattle.link_audit.specs.Ahead.{AreBoards, AreLegal, AreRow, IsTable};
+ghost use Rattle.link_audit.specs.{Legal, setup_of, AreBoards, AreLegal, AreRow, IsTable};
 
 use crate::goods::good_of;
 use auction_core::Auction;

@@ -1,16 +1,8 @@
 // One line after the other: which turn it was, by what the log has next.
-ghost use Rattle.std.specs.Prelude.{◌≡◌, ◌<◌, ◌≤◌, ℕ, Ok, Some, false, length, slice_get, IsTrue, MatchOption};
-ghost use Rattle.std.specs.Option.{option_map};
-ghost use Rattle.auction_core.specs.Stored.{IsShown};
+ghost use Rattle.std.specs.Prelude.{◌≡◌, ◌<◌, ◌≤◌, ℕ, Ok, Some, false, length, slice_get, IsTrue, MatchOption, option_map};
+ghost use Rattle.link_audit.specs.{IsShown, due_post, Board as SeenBoard, Quote, logged_history, Asks, asked_call, ArePosted, FitsReply, HasTruePosts, IsStuck, IsTable, IsTaken, IsWide, subject_of};
 ghost use Rattle.auction_rules.specs.History.{Entry as HistoryEntry};
-ghost use Rattle.trade_ledger.specs.Posts.{due_post};
-ghost use Rattle.tac_base.specs.declared.calls.Board.{Board as SeenBoard};
 ghost use Rattle.line_protocol.specs.declared.asking.Request.TheVariants as requests;
-ghost use Rattle.line_protocol.specs.declared.saying.Said.TheVariants.{Quote};
-ghost use Rattle.log_text.specs.SoundLog.{logged_history};
-ghost use Rattle.agent_gate.specs.Items.{Asks};
-ghost use Rattle.agent_gate.specs.Turns.{asked_call};
-ghost use Rattle.link_audit.specs.Ahead.{ArePosted, FitsReply, HasTruePosts, IsStuck, IsTable, IsTaken, IsWide, subject_of};
 
 use crate::calls::makes;
 use crate::cash::{amount_read, is_post, next_cash};

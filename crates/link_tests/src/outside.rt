@@ -1,6 +1,5 @@
 // The two calls over the forms in memory, and forms through their traits.
-ghost use Rattle.std.specs.Prelude.{◌≡◌, ◌<◌, ◌∷◌, [], Bool, IfOk, IfSome, length, true, false};
-ghost use Rattle.std.specs.Option.{option_map};
+ghost use Rattle.std.specs.Prelude.{◌≡◌, ◌<◌, ◌∷◌, [], Bool, IfOk, IfSome, length, true, false, option_map};
 ghost use Rattle.tac_io.specs.Calls.{one_call_more};
 ghost use Rattle.tac_io.specs.LineAnswers.{goes_on};
 ghost use Rattle.tac_io.specs.Lines.{last_of};

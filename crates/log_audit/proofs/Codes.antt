@@ -1,7 +1,6 @@
 -- Whether two entries of a cash history are equal, by their codes.
-use Rattle.std.proofs.Common.{◌≡◌, Bool, true, false, ◌&&◌, refl, ap, eq-eqb}
-use Rattle.std.proofs.lemmas.Bool.{eqb-true}
-use Rattle.std.specs.Prelude.{◌==◌}
+use Rattle.std.proofs.Common.{◌≡◌, Bool, true, false, ◌&&◌, refl, ap, eq-eqb, eqb-true, ◌==◌}
+use Rattle.std.proofs.lemmas.Bool.{and_parts}
 use Rattle.std.specs.Coded.{Coded, codes}
 use base.Stored.{Gv, gnil, gnum, gcons}
 use Rattle.trade_ledger.specs.declared.cash_calls.CashEntry.{CashEntry}
@@ -31,15 +30,7 @@ same_code-true (gnum n) (gnum k) is = ap gnum (eqb-true n k is)
 same_code-true (gnum n) (gcons a b) is = absurd cc
 same_code-true (gcons a b) gnil is = absurd cc
 same_code-true (gcons a b) (gnum n) is = absurd cc
-same_code-true (gcons a b) (gcons c d) is = λ i. gcons (same_code-true a c (left (same_code a c) (same_code b d) is) i) (same_code-true b d (right (same_code a c) (same_code b d) is) i)
-  where
-    left : (p q : Bool) → (p && q) ≡ true → p ≡ true
-    left true q is' = refl
-    left false q is' = absurd cc
-
-    right : (p q : Bool) → (p && q) ≡ true → q ≡ true
-    right true q is' = is'
-    right false q is' = absurd cc
+same_code-true (gcons a b) (gcons c d) is = λ i. gcons (same_code-true a c (and_parts (same_code a c) (same_code b d) is).0 i) (same_code-true b d (and_parts (same_code a c) (same_code b d) is).1 i)
 
 cash_code : Coded CashEntry
 cash_code = hlevel codes

@@ -1,18 +1,11 @@
 -- What the entries of a log earned, by good and position.
-use Rattle.std.proofs.Common.{◌≡◌, ◌≢◌, ℕ, ◌<◌, List, [], ◌∷◌, length, map, get_or, refl, sym, ap, ◌∙◌, arith, Option, Some, None, slice_get}
+use Rattle.std.proofs.Common.{◌≡◌, ◌≢◌, ℕ, ◌<◌, List, [], ◌∷◌, length, map, get_or, refl, sym, ap, ◌∙◌, arith, Option, Some, None, slice_get, option_map}
 use Rattle.std.specs.Global.{Vec}
-use Rattle.std.specs.Option.{option_map}
 use Rattle.std.proofs.lemmas.List.{length-map}
 use Rattle.std.proofs.lemmas.Option.{slice_get-map, slice_get_read, get_or_from_slice_get}
 use Rattle.tac_base.specs.declared.calls.Entry.{Entry as StoredEntry}
-use Rattle.tac_base.specs.declared.calls.Nets.{Nets}
-use Rattle.tac_base.specs.declared.calls.Trade.{Trade}
+use Rattle.log_audit.specs.{Nets, Trade, nets as nets_of, IsShown, LoggedGame, logged_history, IsEarned, nets_by, AreNets}
 use Rattle.auction_rules.specs.History.{Entry}
-use Rattle.auction_rules.specs.Effects.{nets as nets_of}
-use Rattle.auction_core.specs.Stored.{IsShown}
-use Rattle.log_text.specs.LoggedGames.{LoggedGame}
-use Rattle.log_text.specs.SoundLog.{logged_history}
-use Rattle.log_audit.specs.{IsEarned, nets_by, AreNets}
 use Rattle.log_audit.proofs.Positions.{same_at}
 
 -- each good has its nets

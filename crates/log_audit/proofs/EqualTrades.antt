@@ -1,6 +1,5 @@
 -- `==` of two trades says whether they are equal.
-use Rattle.std.proofs.Common.{◌≡◌, arith}
-use Rattle.std.specs.Bool.{Decides}
+use Rattle.std.proofs.Common.{◌≡◌, arith, Decides}
 use Rattle.std.proofs.lemmas.Bool.Decides.{Decides-eqb}
 use Rattle.tac_base.specs.contracts.calls.TradePartialEq.TheImpl.{ghosts}
 use Rattle.tac_base.specs.declared.calls.Trade.{Trade}

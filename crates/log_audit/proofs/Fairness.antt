@@ -1,18 +1,12 @@
 -- A history is legal exactly if each of its entries is fair.
-use Rattle.std.proofs.Common.{◌≡◌, ℕ, zero, suc, ◌+◌, ◌<◌, ◌≤◌, List, [], ◌∷◌, ◌++◌, length, take, refl, sym, ap, ◌∙◌, subst, arith, cond, Some, slice_get, Option, None, eq-eqb}
-use Rattle.std.specs.Prelude.{reverse, ◌==◌}
+use Rattle.std.proofs.Common.{◌≡◌, ℕ, zero, suc, ◌+◌, ◌<◌, ◌≤◌, List, [], ◌∷◌, ◌++◌, length, take, refl, sym, ap, ◌∙◌, subst, arith, cond, Some, slice_get, Option, None, eq-eqb, reverse, ◌==◌, append_assoc}
 use Rattle.std.specs.List.{AllByRecursion}
-use Rattle.std.proofs.lemmas.List.{append_assoc, reverse-append}
+use Rattle.std.proofs.lemmas.List.{reverse-append}
 use Rattle.std.proofs.lemmas.List.Sums.{sum_by-append, sum_by-cons}
-use Rattle.tac_base.specs.declared.calls.Call.{Call}
-use Rattle.tac_base.specs.declared.calls.Reply.{Reply}
-use Rattle.tac_base.specs.Goods.{clock}
+use Rattle.log_audit.specs.{Call, Reply, clock, Setup, Legal, IsLawful, entry_of, entry_by, entries_of, cap, reply_of, trades_of, HasFairEntry}
 use Rattle.auction_rules.specs.History.{Entry}
-use Rattle.auction_rules.specs.Setup.{Setup}
-use Rattle.auction_rules.specs.Legal.{Legal, IsLawful, entry_of, entry_by, entries_of, cap, reply_of, trades_of}
 use Rattle.auction_rules.specs.Refusals.{refusal}
 use Rattle.auction_core.proofs.Counting.{AreCapped, capped_snoc}
-use Rattle.log_audit.specs.Flaws.{HasFairEntry}
 use Rattle.log_audit.proofs.Positions.{found_at, take_at, split_at, all_taken}
 
 module _ (setup : Setup) where

@@ -1,13 +1,8 @@
 -- The posts that are due at marked places, and what they weigh.
 use Rattle.std.proofs.Common.{◌≡◌, ◌≢◌, ℕ, zero, suc, ◌+◌, ◌≤◌, Bool, true, false, cond, List, [], ◌∷◌, sum_by, refl, sym, ap, ◌∙◌, arith, Some, None, slice_get}
 use Rattle.std.specs.List.{enumerate_from}
-use Rattle.tac_base.specs.declared.calls.Trade.{Trade}
+use Rattle.log_audit.specs.Prelude.{Trade, nets as nets_of, Post, Done, CashEntry, post_for, due_post, due_to}
 use Rattle.auction_rules.specs.History.{Entry}
-use Rattle.auction_rules.specs.Effects.{nets as nets_of}
-use Rattle.trade_ledger.specs.declared.cash_calls.CashCall.TheVariants.{Post}
-use Rattle.trade_ledger.specs.declared.cash_calls.CashReply.TheVariants.{Done}
-use Rattle.trade_ledger.specs.declared.cash_calls.CashEntry.{CashEntry}
-use Rattle.trade_ledger.specs.Posts.{post_for, due_post, due_to}
 use Rattle.log_audit.proofs.Sums.{due_from, due_row, due_rows}
 
 module _ (w : CashEntry → ℕ) where

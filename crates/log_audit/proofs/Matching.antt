@@ -1,27 +1,16 @@
 -- A cash history is matched exactly if each of its posts is due and each entry with a trade has one.
-use Rattle.std.proofs.Common.{◌≡◌, ◌≢◌, ℕ, zero, suc, ◌+◌, ◌<◌, ◌≤◌, Bool, true, false, ◌&&◌, ◌||◌, cond, List, [], ◌∷◌, ◌++◌, length, take, sum_by, refl, sym, ap, ◌∙◌, subst, arith, Some, slice_get, slice_index_or, eq-eqb, ne_eqb}
-use Rattle.std.specs.Prelude.{◌==◌}
-use Rattle.std.proofs.lemmas.List.Folds.{list_any-append}
+use Rattle.std.proofs.Common.{◌≡◌, ◌≢◌, ℕ, zero, suc, ◌+◌, ◌<◌, ◌≤◌, Bool, true, false, ◌&&◌, ◌||◌, cond, List, [], ◌∷◌, ◌++◌, length, take, sum_by, refl, sym, ap, ◌∙◌, subst, arith, Some, slice_get, slice_index_or, eq-eqb, ne_eqb, ◌==◌}
 use Rattle.std.proofs.lemmas.List.Elements.{filter-append}
 use Rattle.std.proofs.lemmas.List.Sums.{sum_by-append, sum_by-cons}
 use Rattle.std.proofs.lemmas.Option.{slice_get-get_or, slice_get_within, get_or_from_slice_get}
+use Rattle.std.proofs.lemmas.Bool.{and_right, or_right}
 use mathlib.Core.Logic.{dite}
 use native.Mathlib.Decide.{ℕ_discrete}
-use Rattle.tac_base.specs.declared.calls.Nets.{Nets}
-use Rattle.tac_base.specs.declared.calls.Trade.{Trade}
+use Rattle.log_audit.specs.{Nets, Trade, nets as nets_of, CashCall, Post, Read, CashReply, Done, Cash, CashEntry, is_post, posts_of, post_for, due_post, Matched, LoggedGame, IsLogged, IsLoggedCash, IsLoggedCashEntry, logged_history, names, is_posted, IsEarned, IsDuePost, HasDuePost, HasPost}
 use Rattle.auction_rules.specs.History.{Entry}
-use Rattle.auction_rules.specs.Effects.{nets as nets_of}
-use Rattle.trade_ledger.specs.declared.cash_calls.CashCall.{CashCall}
-use Rattle.trade_ledger.specs.declared.cash_calls.CashCall.TheVariants.{Post, Read}
-use Rattle.trade_ledger.specs.declared.cash_calls.CashReply.{CashReply}
-use Rattle.trade_ledger.specs.declared.cash_calls.CashReply.TheVariants.{Done, Cash}
-use Rattle.trade_ledger.specs.declared.cash_calls.CashEntry.{CashEntry}
-use Rattle.trade_ledger.specs.Posts.{is_post, posts_of, post_for, due_post, Matched}
-use Rattle.log_text.specs.LoggedGames.{LoggedGame, IsLogged, IsLoggedCash, IsLoggedCashEntry}
-use Rattle.log_text.specs.SoundLog.{logged_history}
-use Rattle.log_audit.specs.Flaws.{names, is_posted, IsEarned, IsDuePost, HasDuePost, HasPost}
 use Rattle.log_audit.proofs.Positions.{found_at, take_at, split_at, all_taken}
 use Rattle.log_audit.proofs.Sums.{naming, named, posts_named, posted_from_named, named_from_posted, post_within, due_least, IsHeavy, due_heavy, due_most}
+use Rattle.log_audit.proofs.Naming.{posted_more, or_none}
 use Rattle.log_audit.proofs.Marks.{marked, none_marked, same_marked, more_marked, all_marked}
 use Rattle.log_audit.proofs.Codes.{is_one, one-same, one-true}
 
@@ -37,17 +26,6 @@ due_is caller good position nets e earned = by_trades e.trades earned.trades ear
 -- the post that is due to an entry at a place, where these are its trades
 abbrev due_entry : ℕ → ℕ → Entry → List Trade → CashEntry
 due_entry good position e trades = record { caller = e.caller; call = Post good position (record { dollars = nets_of trades }); reply = Done }
-
-posted_more : (cash : List CashEntry) (e : CashEntry) (good position : ℕ) → is_posted (cash ++ e ∷ []) good position ≡ (is_posted cash good position || (names good position e.call || false))
-posted_more cash e good position = list_any-append (λ (x : CashEntry). names good position x.call) cash (e ∷ [])
-
-or_none : (b : Bool) → (b || (false || false)) ≡ b
-or_none true = refl
-or_none false = refl
-
-or_all : (b : Bool) → (b || (true || false)) ≡ true
-or_all true = refl
-or_all false = refl
 
 module _ (histories : List (List Entry)) (goods : length histories ≡ 28) where
   abbrev history : ℕ → List Entry
@@ -76,7 +54,7 @@ module _ (histories : List (List Entry)) (goods : length histories ≡ 28) where
         let entry = due.0.0 in
         let posts : sum_by w (posts_of (before ++ e ∷ [])) ≡ sum_by w (posts_of before) + sum_by w (e ∷ []) = ap (sum_by w) (filter-append (λ (x : CashEntry). is_post x.call) before (e ∷ [])) ∙ sum_by-append w (posts_of before) (e ∷ []) in
         let own : names good position e.call ≡ true = (λ i. eq-eqb good good refl i && eq-eqb position position refl i) in
-        let here : is_posted (before ++ e ∷ []) good position ≡ true = posted_more before e good position ∙ (ap (λ b. is_posted before good position || (b || false)) own ∙ or_all (is_posted before good position)) in
+        let here : is_posted (before ++ e ∷ []) good position ≡ true = posted_more before e good position ∙ (ap (λ b. is_posted before good position || (b || false)) own ∙ or_right (is_posted before good position) (true || false) refl) in
         let low : good < 28 = omega (arith, logged.1) in let zeroed : 0 + good ≡ good = omega arith in
         let marks = more_marked w (is_posted before) (is_posted (before ++ e ∷ [])) 0 good position histories (history good) entry (history_is good low) due.0.1 (ap (λ (g : ℕ). is_posted before g position) zeroed ∙ due.1) (ap (λ (g : ℕ). is_posted (before ++ e ∷ []) g position) zeroed ∙ here)
         (λ g p off. posted_more before e g p ∙ (ap (λ b. is_posted before g p || (b || false)) (apart g p (λ both. off (both.0 ∙ sym zeroed, both.1))) ∙ or_none (is_posted before g p))) in
@@ -85,12 +63,8 @@ module _ (histories : List (List Entry)) (goods : length histories ≡ 28) where
       where
         apart : (g p : ℕ) → ((g ≡ good) × (p ≡ position) → ⊥) → ((good == g) && (position == p)) ≡ false
         apart g p other = dite (ℕ_discrete good g)
-            (λ is. dite (ℕ_discrete position p) (λ is'. absurd (other (sym is, sym is'))) (λ ne. (ap (λ b. (good == g) && b) (ne_eqb position p ne)) ∙ and_none (good == g)))
+            (λ is. dite (ℕ_discrete position p) (λ is'. absurd (other (sym is, sym is'))) (λ ne. (ap (λ b. (good == g) && b) (ne_eqb position p ne)) ∙ and_right (good == g) false refl))
             (λ ne. ap (λ b. b && (position == p)) (ne_eqb good g ne))
-          where
-            and_none : (b : Bool) → (b && false) ≡ false
-            and_none true = refl
-            and_none false = refl
 
     all_even : (cash : List CashEntry) → ((position : ℕ) (e : CashEntry) → slice_get cash position ≡ Some e → IsLoggedCashEntry e)
         → ((position : ℕ) (e : CashEntry) → slice_get cash position ≡ Some e → IsDuePost history (take position cash) e.caller e.call) → (n : ℕ) → n ≤ length cash → AreEven (take n cash)

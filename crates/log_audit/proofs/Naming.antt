@@ -1,30 +1,18 @@
 -- The places that posts have named.
-use Rattle.std.proofs.Common.{◌≡◌, ◌≢◌, ℕ, zero, suc, ◌<◌, ◌≤◌, Bool, true, false, ◌||◌, ◌&&◌, List, [], ◌∷◌, ◌++◌, length, set, get_or, refl, sym, ap, ◌∙◌, arith, eq-eqb, ne_eqb}
-use Rattle.std.specs.Prelude.{◌==◌, slice_set}
-use Rattle.std.proofs.lemmas.List.{get_or-set_same, get_or-set_other}
+use Rattle.std.proofs.Common.{◌≡◌, ◌≢◌, ℕ, ◌<◌, Bool, true, false, ◌||◌, ◌&&◌, List, [], ◌∷◌, ◌++◌, length, set, get_or, refl, sym, ap, ◌∙◌, arith, eq-eqb, ne_eqb, ◌==◌, slice_set, get_or-set_same, get_or-set_other}
+use Rattle.std.proofs.lemmas.List.{get_or_past}
 use Rattle.std.proofs.lemmas.List.Folds.{list_any-append}
+use Rattle.std.proofs.lemmas.Bool.{and_right, or_right}
 use mathlib.Core.Logic.{dite}
 use native.Mathlib.Decide.{ℕ_discrete, dec_lt}
-use Rattle.tac_base.specs.declared.calls.Nets.{Nets}
-use Rattle.trade_ledger.specs.declared.cash_calls.CashCall.{CashCall}
-use Rattle.trade_ledger.specs.declared.cash_calls.CashCall.TheVariants.{Post}
-use Rattle.trade_ledger.specs.declared.cash_calls.CashEntry.{CashEntry}
-use Rattle.log_audit.specs.{names, is_posted, AreNamed, place_at}
+use Rattle.log_audit.specs.{Nets, CashCall, Post, CashEntry, names, is_posted, AreNamed, place_at}
 
-posted_more : (cash : List CashEntry) (e : CashEntry) (good position : ℕ) → is_posted (cash ++ e ∷ []) good position ≡ (is_posted cash good position || (names good position e.call || false))
+pub posted_more : (cash : List CashEntry) (e : CashEntry) (good position : ℕ) → is_posted (cash ++ e ∷ []) good position ≡ (is_posted cash good position || (names good position e.call || false))
 posted_more cash e good position = list_any-append (λ (x : CashEntry). names good position x.call) cash (e ∷ [])
 
-or_none : (b : Bool) → (b || (false || false)) ≡ b
+pub or_none : (b : Bool) → (b || (false || false)) ≡ b
 or_none true = refl
 or_none false = refl
-
-or_all : (b : Bool) → (b || (true || false)) ≡ true
-or_all true = refl
-or_all false = refl
-
-and_none : (b : Bool) → (b && false) ≡ false
-and_none true = refl
-and_none false = refl
 
 -- a post names one place
 pub post_names : (before : List CashEntry) (e : CashEntry) (g p : ℕ) (nets : Nets) (named : List Bool) → e.call ≡ Post g p nets → length named ≡ 231168 → g < 28 → p < 8256
@@ -36,8 +24,8 @@ post_names before e g p nets named is long low' few' are good position low few =
     (λ same'. let place : place_at g p ≡ place_at good position = λ i. place_at (same i) (same' i) in
     let here : get_or (set named (place_at g p) true) (place_at g p) false ≡ true = get_or-set_same named (place_at g p) true false (omega (arith, long, low', few')) in
     let own : ((g == good) && (p == position)) ≡ true = λ i. eq-eqb g good same i && eq-eqb p position same' i in
-    ap (λ (k : ℕ). get_or (set named (place_at g p) true) k false) (sym place) ∙ (here ∙ sym (more ∙ (ap (λ b. is_posted before good position || (b || false)) own ∙ or_all (is_posted before good position)))))
-    (λ ne. elsewhere (λ at. ne (omega (arith, at, few, few', same))) (ap (λ b. (g == good) && b) (ne_eqb p position ne) ∙ and_none (g == good)) more))
+    ap (λ (k : ℕ). get_or (set named (place_at g p) true) k false) (sym place) ∙ (here ∙ sym (more ∙ (ap (λ b. is_posted before good position || (b || false)) own ∙ or_right (is_posted before good position) (true || false) refl))))
+    (λ ne. elsewhere (λ at. ne (omega (arith, at, few, few', same))) (ap (λ b. (g == good) && b) (ne_eqb p position ne) ∙ and_right (g == good) false refl) more))
     (λ ne. elsewhere (λ at. ne (omega (arith, at, few, few'))) (ap (λ b. b && (p == position)) (ne_eqb g good ne)) more)
   where
     elsewhere : (place_at good position ≢ place_at g p) → ((g == good) && (p == position)) ≡ false → is_posted (before ++ e ∷ []) good position ≡ (is_posted before good position || (((g == good) && (p == position)) || false))
@@ -48,9 +36,4 @@ post_names before e g p nets named is long low' few' are good position low few =
 
 -- a list of false tests only has no true one
 pub none_named : (n : ℕ) (named : List Bool) → length named ≡ n → ((k : ℕ) (d : Bool) → k < n → get_or named k d ≡ false) → (k : ℕ) → get_or named k false ≡ false
-none_named n named long each k = dite (dec_lt k n) (λ lt. each k false lt) (λ ge. past named k (omega (arith, ge, long)))
-  where
-    past : (xs : List Bool) (i : ℕ) → length xs ≤ i → get_or xs i false ≡ false
-    past [] i le = refl
-    past (x ∷ xs) zero le = absurd (omega (arith, le))
-    past (x ∷ xs) (suc i) le = past xs i (omega (arith, le))
+none_named n named long each k = dite (dec_lt k n) (λ lt. each k false lt) (λ ge. get_or_past named k false (omega (arith, ge, long)))

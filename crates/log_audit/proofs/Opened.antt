@@ -2,12 +2,7 @@
 use Rattle.std.proofs.Common.{◌≡◌, ℕ, zero, suc, ◌+◌, List, [], ◌∷◌, length, map, refl, ap, ◌∙◌, arith, Some, slice_get}
 use Rattle.std.specs.List.{enumerate_from}
 use Rattle.auction_rules.specs.History.{Entry}
-use Rattle.auction_core.specs.Auctions.{AuctionHistory}
-use Rattle.auction_core.specs.Setups.{setup_of}
-use Rattle.auction_core.specs.ClosedGame.{all_goods}
-use Rattle.game_text.specs.Games.{GameFile}
-use Rattle.log_text.specs.LoggedGames.{LoggedGame}
-use Rattle.log_text.specs.SoundLog.{auctions_in}
+use Rattle.log_audit.specs.Prelude.{AuctionHistory, setup_of, all_goods, GameFile, LoggedGame, auctions_in}
 
 abbrev opened : GameFile → ℕ → List (List Entry) → List AuctionHistory
 opened game n histories = map (λ p. record { setup = setup_of p.0 game; history = p.1 }) (enumerate_from n histories)

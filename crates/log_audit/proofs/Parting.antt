@@ -2,14 +2,10 @@
 use Rattle.std.proofs.Common.{◌≡◌, ℕ, ◌<◌, ◌≤◌, inl, inr, refl, arith, Option, Some, None}
 use mathlib.Core.Logic.{dite}
 use native.Mathlib.Decide.{dec_lt}
-use Rattle.game_text.specs.Games.{GameFile}
-use Rattle.log_text.specs.LoggedGames.{LoggedGame, IsLogged}
+use Rattle.log_audit.specs.{GameFile, LoggedGame, IsLogged, setup_of, IsSound, logged_history, IsSoundHead, IsFreeOf, ComesBefore, IsLower, turn_of, place_of, IsFirstFlaw, HasFairEntry, IsOnSchedule, HasDuePost, HasPost, HasDueScore, IsLowest, IsLowestBelow, IsLowestPlace, AreUnfair, IsFirstOf, HasNoneFrom, IsFirstFrom}
 use Rattle.log_audit.specs.declared.findings.Flaw.{Flaw}
 use Rattle.log_audit.specs.declared.findings.Flaw.TheVariants as flaws
-use Rattle.auction_core.specs.Setups.{setup_of}
-use Rattle.log_text.specs.SoundLog.{IsSound, logged_history, IsSoundHead}
 use Rattle.log_audit.specs.declared.findings.Finding.TheVariants as findings
-use Rattle.log_audit.specs.{IsFreeOf, ComesBefore, IsLower, turn_of, place_of, IsFirstFlaw, HasFairEntry, IsOnSchedule, HasTrueReading, HasDuePost, HasPost, HasDueScore, IsLowest, IsLowestBelow, IsLowestPlace, AreUnfair, IsFirstOf, HasNoneFrom, IsFirstFrom}
 use Rattle.log_audit.proofs.Soundness.{sound_from_free, free_from_sound}
 
 module _ (game : GameFile) (log : LoggedGame) where
@@ -119,15 +115,6 @@ module _ (game : GameFile) (log : LoggedGame) where
   clock_free none flaws.Head low high = absurd (omega (arith, high))
 
   -- ---- cash
-
-  pub cash_free : IsLowest (HasTrueReading log.cash) None → HasNoneFrom game log 2 3
-  cash_free none (flaws.Entry g p) low high = absurd (omega (arith, low))
-  cash_free none (flaws.Clock g) low high = absurd (omega (arith, low))
-  cash_free none (flaws.Cash p) low high = none p
-  cash_free none (flaws.Post p) low high = absurd (omega (arith, high))
-  cash_free none (flaws.Unposted g p) low high = absurd (omega (arith, high))
-  cash_free none (flaws.Score a) low high = absurd (omega (arith, high))
-  cash_free none flaws.Head low high = absurd (omega (arith, high))
 
   -- ---- posts
 

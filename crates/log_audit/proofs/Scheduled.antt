@@ -1,13 +1,9 @@
 -- The clock's calls of a log, and those that are due, one after the other.
-use Rattle.std.proofs.Common.{◌≡◌, ◌≢◌, ℕ, ◌+◌, ◌≤◌, Bool, true, false, cond, List, [], ◌∷◌, ◌++◌, length, take, map, refl, sym, ap, ◌∙◌, Some, slice_get, append_assoc, append-nil, ne_eqb, eq-eqb}
-use Rattle.std.specs.Prelude.{filter, ◌==◌}
+use Rattle.std.proofs.Common.{◌≡◌, ◌≢◌, ℕ, ◌+◌, ◌≤◌, Bool, true, false, cond, List, [], ◌∷◌, ◌++◌, length, take, map, refl, sym, ap, ◌∙◌, Some, slice_get, append_assoc, append-nil, ne_eqb, eq-eqb, filter, ◌==◌}
 use Rattle.std.proofs.lemmas.List.{map-append}
 use Rattle.std.proofs.lemmas.List.Elements.{filter-append}
-use Rattle.tac_base.specs.declared.calls.Call.{Call}
-use Rattle.tac_base.specs.Goods.{clock}
+use Rattle.log_audit.specs.{Call, clock, clock_calls_in, calls_for}
 use Rattle.auction_rules.specs.History.{Entry}
-use Rattle.log_text.specs.SoundLog.{clock_calls_in}
-use Rattle.log_audit.specs.Auditing.{calls_for}
 use Rattle.log_audit.proofs.Positions.{take_at, split_at, next_is}
 
 pub calls_for-append : (good : ℕ) (calls more : List (ℕ × Call)) → calls_for good (calls ++ more) ≡ calls_for good calls ++ calls_for good more

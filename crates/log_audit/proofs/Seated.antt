@@ -1,21 +1,10 @@
 -- The agents in order, and those that have a seat.
-use Rattle.std.proofs.Common.{◌≡◌, ℕ, zero, suc, ◌+◌, ◌<◌, ◌≤◌, Bool, true, false, cond, List, [], ◌∷◌, ◌++◌, length, take, get_or, refl, sym, ap, ◌∙◌, arith, Some, slice_get, append-nil}
-use Rattle.std.specs.Prelude.{filter}
+use Rattle.std.proofs.Common.{◌≡◌, ℕ, zero, suc, ◌+◌, ◌<◌, ◌≤◌, Bool, true, false, cond, List, [], ◌∷◌, ◌++◌, length, take, get_or, refl, sym, ap, ◌∙◌, arith, Some, slice_get, append-nil, filter}
 use Rattle.std.proofs.lemmas.List.Elements.{filter-append}
 use Rattle.tac_base.specs.Goods.{agents}
+use Rattle.tac_base.proofs.Agents.{agent_at}
 use Rattle.std.proofs.lemmas.Option.{slice_get_read}
 use Rattle.log_audit.proofs.Positions.{next_is, take_at}
-
-agent_at : (k d : ℕ) → k < 8 → get_or agents k d ≡ k
-agent_at zero d low = refl
-agent_at (suc zero) d low = refl
-agent_at (suc (suc zero)) d low = refl
-agent_at (suc (suc (suc zero))) d low = refl
-agent_at (suc (suc (suc (suc zero)))) d low = refl
-agent_at (suc (suc (suc (suc (suc zero))))) d low = refl
-agent_at (suc (suc (suc (suc (suc (suc zero)))))) d low = refl
-agent_at (suc (suc (suc (suc (suc (suc (suc zero))))))) d low = refl
-agent_at (suc (suc (suc (suc (suc (suc (suc (suc k)))))))) d low = absurd (omega (arith, low))
 
 -- the agent at a place of all agents is the one of that number
 pub agent_is : (items : List ℕ) (k x : ℕ) → items ≡ agents → k < 8 → x ≡ get_or items k x → x ≡ k

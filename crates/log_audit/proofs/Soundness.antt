@@ -1,20 +1,15 @@
 -- A log in its ranges is sound exactly if it has no flaw.
-use Rattle.std.proofs.Common.{◌≡◌, ℕ, zero, suc, ◌+◌, ◌<◌, ◌≤◌, List, [], ◌∷◌, length, refl, sym, ap, ◌∙◌, subst, arith, Some, None, slice_get, get_or}
-use Rattle.std.specs.List.{All}
+use Rattle.std.proofs.Common.{◌≡◌, ℕ, zero, suc, ◌+◌, ◌<◌, ◌≤◌, List, [], ◌∷◌, length, sym, ap, ◌∙◌, subst, arith, Some, None, slice_get, get_or, All}
 use Rattle.std.proofs.lemmas.Option.{slice_get_within, get_or_from_slice_get}
 use Rattle.std.proofs.lemmas.List.Elements.{All-get_or}
+use Rattle.std.proofs.lemmas.List.{get_or_past}
 use Rattle.auction_core.specs.Ranges.{IsEntry, IsHistory}
 use mathlib.Core.Logic.{dite}
 use native.Mathlib.Decide.{dec_lt}
 use Rattle.auction_rules.specs.History.{Entry}
-use Rattle.trade_ledger.specs.declared.cash_calls.CashEntry.{CashEntry}
-use Rattle.auction_core.specs.Setups.{setup_of}
-use Rattle.game_text.specs.Games.{GameFile}
-use Rattle.log_text.specs.LoggedGames.{LoggedGame, IsLogged, IsLoggedCashEntry, AreHistories}
-use Rattle.log_text.specs.SoundLog.{IsSound, logged_history}
+use Rattle.log_audit.specs.{CashEntry, setup_of, GameFile, LoggedGame, IsLogged, IsLoggedCashEntry, AreHistories, IsSound, logged_history, IsFreeOf}
 use Rattle.log_audit.specs.declared.findings.Flaw.{Flaw}
 use Rattle.log_audit.specs.declared.findings.Flaw.TheVariants as flaws
-use Rattle.log_audit.specs.Flaws.{IsFreeOf}
 use Rattle.log_audit.proofs.Fairness.{fair_from_legal, legal_from_fair}
 use Rattle.log_audit.proofs.TrueReadings.{true_from_legal, legal_from_true}
 use Rattle.log_audit.proofs.Matching.{matched_from_due, due_posts_from, has_post_from}
@@ -30,17 +25,12 @@ histories_at n zero (h ∷ histories) are inside = let here : n ≡ n + 0 = omeg
 histories_at n (suc i) (h ∷ histories) are inside =
     let next : (n + 1) + i ≡ n + suc i = omega arith in subst (λ (g : ℕ). IsHistory g (get_or histories i [])) next (histories_at (n + 1) i histories are.1 (omega (arith, inside)))
 
-history_past : (histories : List (List Entry)) (i : ℕ) → length histories ≤ i → get_or histories i [] ≡ []
-history_past [] i le = refl
-history_past (h ∷ histories) zero le = absurd (omega (arith, le))
-history_past (h ∷ histories) (suc i) le = history_past histories i (omega (arith, le))
-
 -- the place of an entry is one of a log's
 pub place_within : (log : LoggedGame) → IsLogged log → (good position : ℕ) (e : Entry) → slice_get (logged_history log good) position ≡ Some e → (good < 28) × (position < 8256)
 place_within log logged good position e at = dite (dec_lt good 28)
     (λ low. let goods = logged.goods in let few = (histories_at 0 good log.histories logged.histories (omega (arith, goods, low))).few in
     let inside = slice_get_within (logged_history log good) position e at in (low, omega (arith, few, inside)))
-    (λ high. let goods = logged.goods in let none : Some e ≡ None = sym at ∙ ap (λ (h : List Entry). slice_get h position) (history_past log.histories good (omega (arith, goods, high))) in absurd cc)
+    (λ high. let goods = logged.goods in let none : Some e ≡ None = sym at ∙ ap (λ (h : List Entry). slice_get h position) (get_or_past log.histories good [] (omega (arith, goods, high))) in absurd cc)
 
 module _ (game : GameFile) (log : LoggedGame) (logged : IsLogged log) where
   called_at : (good : ℕ) → good < 28 → (position : ℕ) (e : Entry) → slice_get (logged_history log good) position ≡ Some e → e.caller ≤ 8

@@ -1,23 +1,12 @@
 -- An entry that is struck again, compared with the one of the log.
-use Rattle.std.proofs.Common.{◌≡◌, ℕ, zero, suc, ◌+◌, ◌<◌, ◌≤◌, cond, List, [], ◌∷◌, ◌++◌, length, take, map, set, get_or, sym, ap, ◌∙◌, subst, arith, Option, Some, None, slice_get, MatchOption, ne_eqb, eq-eqb}
-use Rattle.std.specs.Prelude.{reverse, ◌==◌, slice_index, slice_set}
-use Rattle.std.specs.Option.{option_map}
-use Rattle.std.proofs.lemmas.List.{get_or-set_same, get_or-set_other}
+use Rattle.std.proofs.Common.{◌≡◌, ℕ, zero, suc, ◌+◌, ◌<◌, ◌≤◌, cond, List, [], ◌∷◌, ◌++◌, length, take, map, set, get_or, sym, ap, ◌∙◌, subst, arith, Option, Some, None, slice_get, MatchOption, ne_eqb, eq-eqb, reverse, ◌==◌, slice_index, slice_set, option_map, get_or-set_same, get_or-set_other}
 use Rattle.std.proofs.lemmas.List.Sums.{sum_by_push}
 use Rattle.std.proofs.lemmas.Option.{slice_get-map}
 use mathlib.Core.Logic.{dite}
 use native.Mathlib.Decide.{ℕ_discrete}
-use Rattle.tac_base.specs.declared.calls.Call.{Call}
-use Rattle.tac_base.specs.declared.calls.Reply.{Reply}
+use Rattle.log_audit.specs.{Call, Reply, Nets, Trade, Setup, nets as nets_of, entry_of, reply_of, trades_of, entries_of, cap, Shows, IsFair, HasFairEntry, AreCounts, IsStruck, nets_by}
 use Rattle.tac_base.specs.declared.calls.Entry.{Entry as StoredEntry}
-use Rattle.tac_base.specs.declared.calls.Nets.{Nets}
-use Rattle.tac_base.specs.declared.calls.Trade.{Trade}
 use Rattle.auction_rules.specs.History.{Entry}
-use Rattle.auction_rules.specs.Setup.{Setup}
-use Rattle.auction_rules.specs.Effects.{nets as nets_of}
-use Rattle.auction_rules.specs.Legal.{entry_of, reply_of, trades_of, entries_of, cap}
-use Rattle.auction_core.specs.Stored.{Shows}
-use Rattle.log_audit.specs.{IsFair, HasFairEntry, AreCounts, IsStruck, nets_by}
 use Rattle.log_audit.proofs.Positions.{take_at, same_at}
 use Rattle.log_audit.proofs.Fairness.{ruled}
 

@@ -1,33 +1,18 @@
 -- Sums of weights over the posts of a cash history, and over the posts that are due.
-use Rattle.std.proofs.Common.{◌≡◌, ◌≢◌, ℕ, zero, suc, ◌+◌, ◌<◌, ◌≤◌, Bool, true, false, ◌&&◌, ◌||◌, cond, List, [], ◌∷◌, map, sum_by, refl, ap, ◌∙◌, subst, arith, Some, None, slice_get, ne_eqb}
-use Rattle.std.specs.Prelude.{◌==◌}
-use Rattle.std.specs.List.{flat_map, enumerate_from}
+use Rattle.std.proofs.Common.{◌≡◌, ◌≢◌, ℕ, zero, suc, ◌+◌, ◌<◌, ◌≤◌, Bool, true, false, ◌&&◌, ◌||◌, cond, List, [], ◌∷◌, map, sum_by, refl, ap, ◌∙◌, subst, arith, Some, None, slice_get, ne_eqb, ◌==◌, flat_map}
+use Rattle.std.specs.List.{enumerate_from}
 use Rattle.std.proofs.lemmas.List.Sums.{sum_by-cons, sum_by-append}
 use mathlib.Core.Logic.{dite}
 use native.Mathlib.Decide.{ℕ_discrete}
-use Rattle.tac_base.specs.declared.calls.Trade.{Trade}
+use Rattle.log_audit.specs.{Trade, nets as nets_of, CashCall, Post, Read, Done, CashEntry, is_post, posts_of, post_for, due_post, due_to, names, is_posted}
 use Rattle.auction_rules.specs.History.{Entry}
-use Rattle.auction_rules.specs.Effects.{nets as nets_of}
-use Rattle.trade_ledger.specs.declared.cash_calls.CashCall.{CashCall}
-use Rattle.trade_ledger.specs.declared.cash_calls.CashCall.TheVariants.{Post, Read}
-use Rattle.trade_ledger.specs.declared.cash_calls.CashReply.TheVariants.{Done}
-use Rattle.trade_ledger.specs.declared.cash_calls.CashEntry.{CashEntry}
-use Rattle.trade_ledger.specs.Posts.{is_post, posts_of, post_for, due_post, due_to}
-use Rattle.log_audit.specs.Flaws.{names, is_posted}
+use Rattle.trade_ledger.proofs.Matching.{filtered}
 
 -- ---- the posts of a cash history
 
 -- the weight of an entry, if it is a post
 abbrev post_weight : (CashEntry → ℕ) → CashEntry → ℕ
 post_weight w e = cond (is_post e.call) (w e) 0
-
-filtered : (w : CashEntry → ℕ) (b : Bool) (e : CashEntry) (rest : List CashEntry) → sum_by w (cond b (e ∷ rest) rest) ≡ cond b (w e) 0 + sum_by w rest
-filtered w true e rest = sum_by-cons w e rest
-filtered w false e rest = omega arith
-
-posts_weigh : (w : CashEntry → ℕ) (cash : List CashEntry) → sum_by w (posts_of cash) ≡ sum_by (post_weight w) cash
-posts_weigh w [] = refl
-posts_weigh w (e ∷ cash) = omega (arith, filtered w (is_post e.call) e (posts_of cash), posts_weigh w cash, sum_by-cons (post_weight w) e cash)
 
 -- a post weighs no more than all posts
 pub post_within : (w : CashEntry → ℕ) (cash : List CashEntry) (position : ℕ) (e : CashEntry) → slice_get cash position ≡ Some e → is_post e.call ≡ true → w e ≤ sum_by w (posts_of cash)

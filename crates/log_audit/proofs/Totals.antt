@@ -1,15 +1,8 @@
 -- The totals of a cash history with one entry more.
-use Rattle.std.proofs.Common.{◌≡◌, ℕ, ◌+◌, ◌*◌, ◌<◌, List, take, ℤ, pos, ◌+ℤ◌, slice_index_or, slice_get, Some, sym, ap, ◌∙◌, arith}
-use Rattle.std.proofs.lemmas.Int.{ints}
-use Rattle.trade_ledger.specs.declared.cash_calls.CashEntry.{CashEntry}
-use Rattle.trade_ledger.specs.CashHistory.{cash_total, gain_of}
-use Rattle.trade_ledger.specs.CashKeeping.{IsWithin}
-use Rattle.trade_ledger.proofs.CashSteps.{cash_total-snoc}
-use Rattle.log_audit.specs.Auditing.{AreTotals}
+use Rattle.std.proofs.Common.{◌≡◌, ℕ, ◌+◌, ◌*◌, ◌<◌, List, take, ℤ, pos, ◌+ℤ◌, slice_index_or, slice_get, Some, sym, ap, ◌∙◌}
+use Rattle.log_audit.specs.{CashEntry, cash_total, gain_of, IsWithin, AreTotals}
+use Rattle.trade_ledger.proofs.CashSteps.{cash_total-snoc, within_more}
 use Rattle.log_audit.proofs.Positions.{take_at}
-
-within_more : (n : ℕ) (a d s : ℤ) → IsWithin (n * 2147483648) a → IsWithin 2147483648 d → s ≡ a +ℤ d → IsWithin ((n + 1) * 2147483648) s
-within_more n a d s is more sum = (omega (arith, ints, is.0, more.0), omega (arith, ints, is.1, more.1))
 
 module _ (cash : List CashEntry) (position : ℕ) (e : CashEntry) (at : slice_get cash position ≡ Some e) where
   total_more : (party : ℕ) → cash_total (take (position + 1) cash) party ≡ cash_total (take position cash) party +ℤ gain_of e.call party

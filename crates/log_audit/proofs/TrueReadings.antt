@@ -1,13 +1,6 @@
 -- A cash history is legal exactly if each of its readings is true.
 use Rattle.std.proofs.Common.{◌≡◌, ℕ, List, take, refl, Some, slice_get}
-use Rattle.trade_ledger.specs.declared.cash_calls.CashCall.{CashCall}
-use Rattle.trade_ledger.specs.declared.cash_calls.CashCall.TheVariants.{Post, Read}
-use Rattle.trade_ledger.specs.declared.cash_calls.CashReply.{CashReply}
-use Rattle.trade_ledger.specs.declared.cash_calls.CashReply.TheVariants.{Done, Cash}
-use Rattle.trade_ledger.specs.declared.cash_calls.CashEntry.{CashEntry}
-use Rattle.trade_ledger.specs.CashHistory.{IsFitCash, IsLegalCash, cash_reply_of}
-use Rattle.log_text.specs.LoggedGames.{IsLoggedCash, IsLoggedCashEntry}
-use Rattle.log_audit.specs.Flaws.{IsTrueReading, HasTrueReading}
+use Rattle.log_audit.specs.{CashCall, Post, Read, CashReply, Done, Cash, CashEntry, IsFitCash, IsLegalCash, cash_reply_of, IsLoggedCash, IsLoggedCashEntry, IsTrueReading, HasTrueReading}
 
 true_by : (before : List CashEntry) (e : CashEntry) (call : CashCall) → e.reply ≡ cash_reply_of before e.call → IsTrueReading before e call
 true_by before e (Post good position nets) is = tt

@@ -1,10 +1,6 @@
 -- The first entry of all goods that is not fair.
 use Rattle.std.proofs.Common.{◌≡◌, ℕ, ◌<◌, inl, inr, sym, subst, arith}
-use Rattle.game_text.specs.Games.{GameFile}
-use Rattle.auction_core.specs.Setups.{setup_of}
-use Rattle.log_text.specs.LoggedGames.{LoggedGame}
-use Rattle.log_text.specs.SoundLog.{logged_history}
-use Rattle.log_audit.specs.{HasFairEntry, IsLower, IsUnfair, AreUnfair}
+use Rattle.log_audit.specs.{GameFile, setup_of, LoggedGame, logged_history, HasFairEntry, IsLower, IsUnfair, AreUnfair}
 
 module _ (game : GameFile) (log : LoggedGame) where
   pub unfair_at : (number good position : ℕ) → good ≡ number → number < 28 → IsUnfair (setup_of good game) (logged_history log good) position

@@ -1,15 +1,7 @@
 -- What the parts of an audit say; for private clauses.
 use Rattle.std.specs.Prelude.{◌≡◌, ◌≢◌, ℕ, ◌+◌, ◌*◌, ◌<◌, ◌≤◌, ◌==◌, ◌⊎◌, Bool, true, false, ℤ, pos, List, [], take, map, filter, Option, Some, None, slice_get, slice_index, slice_index_or}
-use Rattle.tac_base.specs.declared.calls.Call.{Call}
-use Rattle.tac_base.specs.declared.calls.Nets.{Nets}
-use Rattle.tac_base.specs.declared.limits.TheConstants.{AUCTION_ENTRIES, GOODS}
-use Rattle.tac_base.specs.Goods.{clock}
-use Rattle.auction_rules.specs.Setup.{Setup}
+use Rattle.log_audit.specs.Prelude.{Call, Nets, AUCTION_ENTRIES, GOODS, clock, Setup, nets as nets_of, entries_of, CashEntry, cash_total}
 use Rattle.auction_rules.specs.History.{Entry}
-use Rattle.auction_rules.specs.Effects.{nets as nets_of}
-use Rattle.auction_rules.specs.Legal.{entries_of}
-use Rattle.trade_ledger.specs.declared.cash_calls.CashEntry.{CashEntry}
-use Rattle.trade_ledger.specs.CashHistory.{cash_total}
 use Rattle.log_audit.specs.Flaws.{HasFairEntry, IsLower, is_posted}
 
 -- ---- the lowest place

@@ -1,27 +1,15 @@
 -- The flaws of a log. Each is tied to a sentence on one place of the log: the log has the flaw if that sentence does not hold.
 use Rattle.std.specs.Prelude.{◌≡◌, ◌≢◌, ℕ, ◌<◌, ◌==◌, ◌&&◌, ◌⊎◌, ⊤, Bool, true, false, List, [], take, reverse, Some, slice_get}
 use Rattle.std.specs.List.{list_any}
-use Rattle.tac_base.specs.declared.calls.Nets.{Nets}
-use Rattle.tac_base.specs.declared.limits.TheConstants.{GOODS}
-use Rattle.game_text.specs.Games.{GameFile}
-use Rattle.game_text.specs.Schedule.{clock_calls}
-use Rattle.auction_rules.specs.Setup.{Setup}
+use Rattle.log_audit.specs.Prelude.{Nets, GOODS, GameFile, clock_calls, Setup, nets as nets_of, CashCall, CashEntry, setup_of, settlement_of, Scored, IsDueScore, LoggedGame, logged_history, clock_calls_in, auctions_in, IsSoundHead}
 use Rattle.auction_rules.specs.History.{Entry}
-use Rattle.auction_rules.specs.Effects.{nets as nets_of}
 use Rattle.auction_rules.specs.Legal as rules
-use Rattle.trade_ledger.specs.declared.cash_calls.CashCall.{CashCall}
 use Rattle.trade_ledger.specs.declared.cash_calls.CashCall.TheVariants as cash_calls
-use Rattle.trade_ledger.specs.declared.cash_calls.CashEntry.{CashEntry}
 use Rattle.trade_ledger.specs.CashHistory as cash_book
-use Rattle.auction_core.specs.Setups.{setup_of}
-use Rattle.settlement.specs.Settlement.{settlement_of}
-use Rattle.settlement.specs.Sheets.{Scored, IsDueScore}
-use Rattle.log_text.specs.LoggedGames.{LoggedGame}
 use Rattle.log_audit.specs.declared.findings.Flaw.{Flaw}
 use Rattle.log_audit.specs.declared.findings.Flaw.TheVariants as flaws
 use Rattle.log_audit.specs.declared.findings.Finding.{Finding}
 use Rattle.log_audit.specs.declared.findings.Finding.TheVariants as findings
-use Rattle.log_text.specs.SoundLog.{logged_history, clock_calls_in, auctions_in, IsSoundHead}
 
 -- ---- entries
 

@@ -1,7 +1,6 @@
 -- The findings of a part of an audit, which looks for some kinds of flaws only; for private clauses.
 use Rattle.std.specs.Prelude.{ℕ, ◌<◌, ◌≤◌, Option, Some, None}
-use Rattle.game_text.specs.Games.{GameFile}
-use Rattle.log_text.specs.LoggedGames.{LoggedGame}
+use Rattle.log_audit.specs.Prelude.{GameFile, LoggedGame}
 use Rattle.log_audit.specs.declared.findings.Flaw.{Flaw}
 use Rattle.log_audit.specs.Flaws.{IsFreeOf, ComesBefore, turn_of}
 

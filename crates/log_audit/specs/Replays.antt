@@ -1,15 +1,8 @@
 -- The result of playing the histories of a log again; for private clauses.
 use Rattle.std.specs.Prelude.{◌≡◌, ℕ, ◌<◌, List, map}
 use Rattle.std.specs.Global.{Vec}
-use Rattle.tac_base.specs.declared.calls.Nets.{Nets}
-use Rattle.tac_base.specs.declared.limits.TheConstants.{GOODS}
-use Rattle.auction_rules.specs.Setup.{Setup}
+use Rattle.log_audit.specs.Prelude.{Nets, GOODS, Setup, GameFile, AuctionHistory, setup_of, LoggedGame, logged_history, auctions_in}
 use Rattle.auction_rules.specs.History.{Entry}
-use Rattle.game_text.specs.Games.{GameFile}
-use Rattle.auction_core.specs.Auctions.{AuctionHistory}
-use Rattle.auction_core.specs.Setups.{setup_of}
-use Rattle.log_text.specs.LoggedGames.{LoggedGame}
-use Rattle.log_text.specs.SoundLog.{logged_history, auctions_in}
 use Rattle.log_audit.specs.declared.replaying.Replay.{Replay}
 use Rattle.log_audit.specs.declared.replaying.Replay.TheVariants as one
 use Rattle.log_audit.specs.declared.replaying.Replays.{Replays}

@@ -1,10 +1,6 @@
 // The audit of a log, by kinds of flaws.
 ghost use Rattle.std.specs.Prelude.{◌≡◌, ◌↔◌, IfOk};
-ghost use Rattle.game_text.specs.Games.{GameFile};
-ghost use Rattle.settlement.specs.Settlement.{settlement_of};
-ghost use Rattle.log_text.specs.LoggedGames.{IsLogged};
-ghost use Rattle.log_text.specs.SoundLog.{IsSound, auctions_in};
-ghost use Rattle.log_audit.specs.{IsFound, IsFirstFrom, AreNets};
+ghost use Rattle.log_audit.specs.{GameFile, settlement_of, IsLogged, IsSound, auctions_in, IsFound, IsFirstFrom, AreNets};
 
 use crate::findings::{Finding, Flaw};
 use crate::heads::is_sound_head;

@@ -1,10 +1,7 @@
 // The posts of a log, compared with its entries with trades.
 ghost use Rattle.std.specs.Prelude.{◌≡◌, ◌<◌, ◌↔◌, ◌++◌, List, [], ◌∷◌, Some, None, length, map, slice_get, IsTrue};
 ghost use Rattle.auction_rules.specs.History.{Entry as HistoryEntry};
-ghost use Rattle.trade_ledger.specs.declared.cash_calls.CashEntry.{CashEntry};
-ghost use Rattle.log_text.specs.LoggedGames.{IsLogged};
-ghost use Rattle.log_text.specs.SoundLog.{logged_history};
-ghost use Rattle.log_audit.specs.{IsEarned, IsDuePost, HasDuePost, HasPost, AreNets, AreNamed, IsLowest, IsLowestPlace, HasNamedEntry, nets_by};
+ghost use Rattle.log_audit.specs.{CashEntry, IsLogged, logged_history, IsEarned, IsDuePost, HasDuePost, HasPost, AreNets, AreNamed, IsLowest, IsLowestPlace, HasNamedEntry, nets_by};
 
 use crate::goods::good_of;
 use crate::places::Places;

@@ -1,10 +1,6 @@
 // The readings of a cash history, compared with the posts before them.
 ghost use Rattle.std.specs.Prelude.{◌≡◌, ℕ, ◌<◌, ◌≤◌, ◌↔◌, ◌+ℤ◌, List, pos, length, slice_index_or, IsTrue};
-ghost use Rattle.tac_base.specs.declared.limits.TheConstants.{CASH_ENTRIES};
-ghost use Rattle.trade_ledger.specs.CashHistory.{gain_of};
-ghost use Rattle.trade_ledger.specs.CashKeeping.{IsWithin};
-ghost use Rattle.trade_ledger.specs.declared.cash_calls.CashEntry.{CashEntry};
-ghost use Rattle.log_audit.specs.{HasTrueReading, IsTrueReading, IsLowest, AreTotals};
+ghost use Rattle.log_audit.specs.{CASH_ENTRIES, gain_of, IsWithin, CashEntry, HasTrueReading, IsTrueReading, IsLowest, AreTotals};
 
 use trade_ledger::{CashCall, CashEntry, CashReply, add_nets};
 

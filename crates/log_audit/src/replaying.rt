@@ -1,12 +1,9 @@
 // The histories of a log are played again by the rules, call by call.
 ghost use Rattle.std.specs.Prelude.{◌≡◌, ◌+◌, ◌<◌, ◌≤◌, ◌↔◌, ◌++◌, [], ◌∷◌, take, length, reverse, slice_index, slice_set, IfOk, IsTrue, MatchOption};
-ghost use Rattle.tac_base.specs.Goods.{clock};
-ghost use Rattle.auction_core.specs.Calls.{IsFit};
-ghost use Rattle.auction_rules.specs.Legal.{entry_of, reply_of, trades_of, entries_of, cap};
-ghost use Rattle.auction_rules.specs.Effects as effects;
-ghost use Rattle.auction_core.specs.Setups.{setup_of};
-ghost use Rattle.log_text.specs.LoggedGames.{IsLogged};
 ghost use Rattle.log_audit.specs.{HasFairEntry, AreCounts, IsStruck, IsReplay, AreReplays};
+ghost use Rattle.log_audit.specs.Prelude.{clock, entry_of, reply_of, trades_of, entries_of, cap, setup_of, IsLogged};
+ghost use Rattle.auction_core.specs.Calls.{IsFit};
+ghost use Rattle.auction_rules.specs.Effects as effects;
 
 use crate::goods::good_of;
 use auction_core::Auction;

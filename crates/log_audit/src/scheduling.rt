@@ -1,8 +1,6 @@
 // The clock's calls of a log, compared with those of the game's schedule.
 ghost use Rattle.std.specs.Prelude.{◌≡◌, ◌↔◌, ◌++◌, [], ◌∷◌, ℕ, ◌≤◌, Some, length, take, slice_get, IfOk, OnOk, OnErr, IsTrue};
-ghost use Rattle.game_text.specs.Schedule.{calls_at, clock_calls};
-ghost use Rattle.log_text.specs.SoundLog.{clock_calls_in, logged_history};
-ghost use Rattle.log_audit.specs.{IsOnSchedule, KeepsSchedule, IsLowestBelow, calls_for};
+ghost use Rattle.log_audit.specs.{calls_at, clock_calls, clock_calls_in, logged_history, IsOnSchedule, KeepsSchedule, IsLowestBelow, calls_for};
 
 use crate::goods::{good_of, tick_after};
 use clock_events::{schedule, schedule_law};

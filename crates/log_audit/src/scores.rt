@@ -1,12 +1,8 @@
 // The scores of a log, compared with what the histories leave to each agent.
 ghost use Rattle.std.specs.Prelude.{◌≡◌, ◌<◌, ◌↔◌, IsTrue};
 ghost use Rattle.settlement.specs.Score as rules;
-ghost use Rattle.settlement.specs.Settlement.{settlement_of};
-ghost use Rattle.settlement.specs.Sheets.{IsDueScore};
+ghost use Rattle.log_audit.specs.{settlement_of, IsDueScore, IsLogged, IsLoggedScore, auctions_in, HasDueScore, IsLowest};
 ghost use Rattle.bound_cert.specs.Solutions.{IsSolution};
-ghost use Rattle.log_text.specs.LoggedGames.{IsLogged, IsLoggedScore};
-ghost use Rattle.log_text.specs.SoundLog.{auctions_in};
-ghost use Rattle.log_audit.specs.{HasDueScore, IsLowest};
 
 use bound_cert::check;
 use game_text::{Account, Game};

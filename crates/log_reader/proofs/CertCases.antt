@@ -1,17 +1,7 @@
 -- Reading a certificate of a log, case by case.
 use Rattle.std.proofs.Common.{◌≡◌, ℕ, ◌+◌, Bool, true, false, cond, eqb, List, Option, Some, None, Result, Ok, Err, refl, sym}
-use Rattle.text_forms.specs.declared.lines.Reason.TheVariants.{TextEnd}
-use Rattle.text_forms.specs.declared.lines.BadLine.{BadLine}
-use Rattle.text_forms.specs.Lines.{NumberedLine, Remaining, due_of, at_line, block_of}
-use Rattle.bound_cert.specs.Trees.{Tree}
-use Rattle.bound_cert.specs.declared.faults.CertFault.{CertFault}
+use Rattle.log_reader.specs.{TextEnd, BadLine, NumberedLine, Remaining, due_of, at_line, block_of, Tree, CertFault, IsCertRefusal, cert_of, formed, read_count, cert_by, cert_in, fault_by, or_log_fault, IsLogRefusal}
 use Rattle.bound_cert.specs.declared.faults.CertFault.TheVariants as certs
-use Rattle.bound_cert.specs.Faults.{IsCertRefusal}
-use Rattle.bound_cert.specs.Reading.{cert_of}
-use Rattle.log_text.specs.HeadForms.{formed}
-use Rattle.log_text.specs.SheetForms.{read_count}
-use Rattle.log_text.specs.LogReading.{cert_by, cert_in}
-use Rattle.log_reader.specs.Faults.{fault_by, or_log_fault, IsLogRefusal}
 
 -- ---- the certificate of a block
 

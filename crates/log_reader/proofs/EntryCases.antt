@@ -1,16 +1,9 @@
 -- What holds of the trades and the calls that were read from lines.
 use Rattle.std.proofs.Common.{◌≡◌, ℕ, ◌≤◌, List, [], ◌∷◌, ◌++◌, Option, Some, None, Ok, sym, ◌∙◌}
 use Rattle.std.specs.List.{AllByRecursion}
-use Rattle.tac_base.specs.declared.calls.Call.{Call}
+use Rattle.log_reader.specs.{Call, Reply, Trade, IsCall, at_line, IsFit, formed, trade_of, read_entry}
 use Rattle.tac_base.specs.declared.calls.Call.TheVariants as calls
-use Rattle.tac_base.specs.declared.calls.Reply.{Reply}
-use Rattle.tac_base.specs.declared.calls.Trade.{Trade}
-use Rattle.tac_base.specs.Ranges.{IsCall}
-use Rattle.text_forms.specs.Lines.{at_line}
-use Rattle.auction_core.specs.Calls.{IsFit}
-use Rattle.log_text.specs.HeadForms.{formed}
-use Rattle.log_text.specs.EntryForms.{trade_of, read_entry}
-use Rattle.log_text.proofs.EntryFormLaws.{trade_is, entry_is}
+use Rattle.log_reader.proofs.EntryFormLaws.{trade_is, entry_is}
 
 -- a line that has its form
 formed_is : {A : Type 0} (number : ℕ) (read : Option A) (x : A) → at_line number (formed read) ≡ Ok x → read ≡ Some x

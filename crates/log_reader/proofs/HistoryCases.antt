@@ -1,13 +1,7 @@
 -- Reading a history, case by case, and the history of a good.
-use Rattle.std.proofs.Common.{◌≡◌, ℕ, zero, suc, ◌+◌, List, [], ◌∷◌, Some, Result, Ok, Err, is_err, false, refl, subst, arith}
-use Rattle.std.specs.Prelude.{OnOk, slice_get}
-use Rattle.auction_core.specs.Ranges.{IsHistory}
-use Rattle.text_forms.specs.declared.lines.BadLine.{BadLine}
-use Rattle.text_forms.specs.Lines.{Remaining}
-use Rattle.text_forms.specs.Steps.{repeat}
+use Rattle.std.proofs.Common.{◌≡◌, ℕ, zero, suc, ◌+◌, List, [], ◌∷◌, Some, Result, Ok, Err, is_err, false, refl, subst, arith, OnOk, slice_get}
+use Rattle.log_reader.specs.{IsHistory, BadLine, Remaining, repeat, auction_of, line_by, entry_in, history_in}
 use Rattle.auction_rules.specs.History.{Entry}
-use Rattle.log_text.specs.EntryForms.{auction_of}
-use Rattle.log_text.specs.LogReading.{line_by, entry_in, history_in}
 use Rattle.log_text.specs.LoggedGames.{AreHistories}
 
 pub no_count : (good : ℕ) (left : Remaining) (bad : BadLine) → line_by (auction_of good) left ≡ Err bad → history_in good left ≡ Err bad

@@ -1,14 +1,11 @@
 -- A history with one entry more, and the calls of its entries.
-use Rattle.std.proofs.Common.{◌≡◌, ℕ, zero, suc, ◌≤◌, ◌<◌, List, [], ◌∷◌, ◌++◌, Option, Some, None, Result, Ok, Err, length, subst, arith, length-append}
-use Rattle.std.specs.Prelude.{slice_get, IfSome, OnOk, OnErr}
+use Rattle.std.proofs.Common.{◌≡◌, ℕ, zero, suc, ◌≤◌, ◌<◌, List, [], ◌∷◌, ◌++◌, Option, Some, None, Result, Ok, Err, length, subst, arith, length-append, slice_get, IfSome, OnOk, OnErr}
 use Rattle.std.specs.List.{AllByRecursion}
 use Rattle.std.proofs.lemmas.List.Elements.{All-from_recursion}
 use Rattle.tac_base.specs.declared.memory.Memory.{Memory}
 use Rattle.tac_base.specs.declared.calls.Entry.{Entry as StoredEntry}
-use Rattle.tac_base.specs.declared.calls.Trade.{Trade}
+use Rattle.log_reader.specs.Prelude.{Trade, IsFit, entry_behind, stored}
 use Rattle.auction_rules.specs.History.{Entry}
-use Rattle.auction_core.specs.Calls.{IsFit}
-use Rattle.auction_core.specs.Stored.{entry_behind, stored}
 use Rattle.auction_core.proofs.Chains.{stored_more, stores_more}
 use Rattle.log_reader.specs.Histories.{IsHistoryKept, IsEntryRead}
 

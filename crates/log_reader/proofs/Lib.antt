@@ -1,3 +1,14 @@
+pub mod RowForms
+pub mod HeadFormLaws
+pub mod Sides
+pub mod EntryFormLaws
+pub mod CashFormLaws
+pub mod SheetFormLaws
+pub mod Taking
+pub mod LogTaking
+pub mod Giving
+pub mod LogGiving
+pub mod SheetGiving
 pub mod Refusals
 pub mod Sequences
 pub mod LowNumbers

@@ -1,16 +1,7 @@
 -- Reading a whole log, case by case.
-use Rattle.std.proofs.Common.{◌≡◌, List, Result, Ok, Err, refl, sym}
-use Rattle.std.specs.Prelude.{codes}
-use Rattle.text_forms.specs.declared.lines.BadLine.{BadLine}
-use Rattle.text_forms.specs.Lines.{Remaining, nothing_left}
-use Rattle.text_forms.specs.Steps.{repeat}
+use Rattle.std.proofs.Common.{◌≡◌, List, Result, Ok, Err, refl, sym, codes}
+use Rattle.log_reader.specs.{BadLine, Remaining, nothing_left, repeat, CashEntry, Head, Scored, is_text, line_by, head_in, history_in, cash_in, score_in, log_in, or_log_fault}
 use Rattle.auction_rules.specs.History.{Entry}
-use Rattle.trade_ledger.specs.declared.cash_calls.CashEntry.{CashEntry}
-use Rattle.line_protocol.specs.Heads.{Head}
-use Rattle.settlement.specs.Sheets.{Scored}
-use Rattle.log_text.specs.HeadForms.{is_text}
-use Rattle.log_text.specs.LogReading.{line_by, head_in, history_in, cash_in, score_in, log_in}
-use Rattle.log_reader.specs.Faults.{or_log_fault}
 use Rattle.log_reader.proofs.Refusals.{was_read}
 
 -- a part was read as this

@@ -1,17 +1,13 @@
 -- What is read of a whole text.
-use Rattle.std.proofs.Common.{◌≡◌, ℕ, ◌<◌, ◌≤◌, ltb, true, false, List, length, Result, Ok, Err, refl, sym, subst, arith}
-use Rattle.std.specs.Prelude.{IfOk}
+use Rattle.std.proofs.Common.{◌≡◌, ℕ, ◌<◌, ◌≤◌, ltb, true, false, List, length, Result, Ok, Err, refl, sym, subst, arith, IfOk}
 use Rattle.std.proofs.lemmas.Bool.Decides.{nat_tests}
-use Rattle.text_forms.specs.Words.{parts_of}
-use Rattle.text_forms.specs.Lines.{lines_from}
+use Rattle.log_reader.specs.{parts_of, lines_from, log_in, or_log_fault, IsLogReading}
 use Rattle.log_text.specs.LoggedGames.{LoggedGame, IsLogged, logged_text}
-use Rattle.log_text.specs.LogReading.{log_in}
-use Rattle.log_text.proofs.LogTaking.{log_is}
-use Rattle.log_text.proofs.SheetGiving.{log_given}
 use Rattle.log_reader.specs.declared.fault.LogFault.{LogFault}
 use Rattle.log_reader.specs.declared.fault.LogFault.TheVariants as faults
-use Rattle.log_reader.specs.Faults.{or_log_fault, IsLogReading}
 use Rattle.log_reader.specs.Logs.{log_of}
+use Rattle.log_reader.proofs.LogTaking.{log_is}
+use Rattle.log_reader.proofs.SheetGiving.{log_given}
 use Rattle.log_reader.proofs.Refusals.{was_read, is_read}
 
 pub long_text : (text : List ℕ) → 67108864 < length text → log_of text ≡ Err faults.TooLong

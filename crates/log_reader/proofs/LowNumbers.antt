@@ -1,27 +1,17 @@
 -- The numbers of a log's lines, and of the lines of its certificates, are no greater than 67108865.
-use Rattle.std.proofs.Common.{◌≡◌, ℕ, zero, suc, ◌+◌, ◌≤◌, Bool, true, false, cond, eqb, ltb, List, [], ◌∷◌, Option, Some, None, Result, Ok, Err, length, refl, subst, arith, ◌⊎◌, inl, inr, ℤ, pos}
-use Rattle.std.specs.Prelude.{⊤, codes, option_map, unsigned_abs, slice_index_or}
+use Rattle.std.proofs.Common.{◌≡◌, ℕ, zero, suc, ◌+◌, ◌≤◌, Bool, true, false, cond, eqb, ltb, List, [], ◌∷◌, Option, Some, None, Result, Ok, Err, length, refl, subst, arith, inl, inr, ℤ, pos, codes, option_map, unsigned_abs, slice_index_or}
+use Rattle.std.specs.Prelude.{⊤}
 use Rattle.std.specs.List.{AllByRecursion}
 use Rattle.std.proofs.lemmas.Bool.Decides.{nat_tests}
 use Rattle.std.proofs.lemmas.Option.{same_Some}
 use Rattle.std.proofs.lemmas.List.Sums.{count_by-le-length}
 use Rattle.std.proofs.lemmas.List.Splits.{length-slice_split}
-use Rattle.text_forms.specs.declared.lines.Reason.{Reason}
-use Rattle.text_forms.specs.declared.lines.Reason.TheVariants.{TextEnd}
-use Rattle.text_forms.specs.declared.lines.BadLine.{BadLine}
-use Rattle.text_forms.specs.Words.{parts_of, words_of}
-use Rattle.text_forms.specs.Rows.{row}
-use Rattle.text_forms.specs.Lines.{NumberedLine, Remaining, lines_from, due_in, due_of, nothing_in, nothing_left, with_line, block_in, block_of, first_number}
+use Rattle.std.proofs.lemmas.Bool.{cases_Bool}
+use Rattle.log_reader.specs.{Reason, TextEnd, parts_of, words_of, row, NumberedLine, Remaining, lines_from, nothing_in, nothing_left, with_line, block_in, block_of, first_number, CertFault, or_cert_fault, IsCertRefusal, Tree, split, Trees, more, Reader, forest_by, tree_in, root_in, cert_of, last_number, AreLow, IsLowFault}
 use Rattle.text_forms.specs.Steps.{◌>>=◌}
-use Rattle.text_forms.proofs.Reading.{ok_is}
 use Rattle.packages.specs.Features.{values_of}
-use Rattle.bound_cert.specs.declared.faults.CertFault.{CertFault}
 use Rattle.bound_cert.specs.declared.faults.CertFault.TheVariants as certs
-use Rattle.bound_cert.specs.Faults.{or_cert_fault, IsCertRefusal}
 use Rattle.bound_cert.specs.NodeLines.{is_leaf, leaf_columns, split_columns}
-use Rattle.bound_cert.specs.Trees.{Tree, split, Trees, more}
-use Rattle.bound_cert.specs.Reading.{Step, forest_by, tree_in, root_in, cert_of}
-use Rattle.log_reader.specs.Numbers.{last_number, AreLow, IsLowFault}
 
 -- ---- lines
 
@@ -39,14 +29,6 @@ from_low number (line ∷ next ∷ parts) low h =
 pub whole_low : (text : List ℕ) → length text ≤ 67108864 → AreLow (lines_from false 1 (parts_of 10 text))
 whole_low text short =
     from_low 1 (parts_of 10 text) (omega arith) (omega (arith, length-slice_split (λ b. eqb b 10) text, count_by-le-length (λ b. eqb b 10) text))
-
-due_low_in : (left : Remaining) (lines : List NumberedLine) (x : NumberedLine × Remaining) → left.last ≤ last_number → AllByRecursion IsLow lines → due_in left lines ≡ Ok x → (x.0.number ≤ last_number) × AreLow x.1
-due_low_in left [] x last low h = absurd cc
-due_low_in left (line ∷ lines) x last low h =
-    subst (λ (y : NumberedLine × Remaining). (y.0.number ≤ last_number) × AreLow y.1) (ok_is {E = BadLine} (line, record left { lines = lines }) x h) (low.0, record { lines = low.1; last = last })
-
-pub due_low : (left : Remaining) (x : NumberedLine × Remaining) → AreLow left → due_of left ≡ Ok x → (x.0.number ≤ last_number) × AreLow x.1
-due_low left x low h = due_low_in left left.lines x low.last low.lines h
 
 chosen_block : (b : Bool) (block : Option (List ℕ × Remaining)) (x : List ℕ × Remaining) → cond b block None ≡ Some x → block ≡ Some x
 chosen_block true block x h = h
@@ -68,11 +50,6 @@ block_low count left x low h = block_low_in (first_number left.lines) count left
 
 -- ---- certificates
 
--- one of two ways
-either_way : (b : Bool) → (b ≡ true) ⊎ (b ≡ false)
-either_way true = inl refl
-either_way false = inr refl
-
 -- what was read has a property, or the line that is refused has a low number
 abbrev Outcome : {A : Type 0} → (A → Type 0) → Result A CertFault → Type 0
 Outcome P (Ok x) = P x
@@ -82,20 +59,20 @@ abbrev Leaves : (A : Type 0) → A × Remaining → Type 0
 Leaves A x = AreLow x.1
 
 -- a step leaves low numbers, or refuses a line of a low number
-abbrev KeepsLow : (A : Type 0) → Step A → Type 0
+abbrev KeepsLow : (A : Type 0) → Reader A → Type 0
 KeepsLow A step = (left : Remaining) → AreLow left → Outcome (Leaves A) (step left)
 
 then_low : {A B : Type 0} (P : A → Type 0) (Q : B → Type 0) (read : Result A CertFault) (f : A → Result B CertFault) → Outcome P read → ((x : A) → P x → Outcome Q (f x)) → Outcome Q (read >>= f)
 then_low P Q (Ok x) f h others = others x h
 then_low P Q (Err fault) f h others = h
 
-forest_low : (tree_at : Step Tree) → KeepsLow Tree tree_at → (count : ℕ) → KeepsLow Trees (forest_by tree_at count)
+forest_low : (tree_at : Reader Tree) → KeepsLow Tree tree_at → (count : ℕ) → KeepsLow Trees (forest_by tree_at count)
 forest_low tree_at keeps zero left low = low
 forest_low tree_at keeps (suc count) left low =
     then_low (Leaves Tree) (Leaves Trees) (tree_at left) (λ tree. forest_by tree_at count tree.1 >>= λ trees. Ok (more tree.0 trees.0, trees.1)) (keeps left low)
     (λ tree is. then_low (Leaves Trees) (Leaves Trees) (forest_by tree_at count tree.1) (λ trees. Ok (more tree.0 trees.0, trees.1)) (forest_low tree_at keeps count tree.1 is) (λ trees are. are))
 
-split_low : (tree_at : Step Tree) → KeepsLow Tree tree_at → (client feature count : ℕ) (left : Remaining) → AreLow left → Outcome (Leaves Tree) (forest_by tree_at count left >>= λ trees. Ok (split client feature trees.0, trees.1))
+split_low : (tree_at : Reader Tree) → KeepsLow Tree tree_at → (client feature count : ℕ) (left : Remaining) → AreLow left → Outcome (Leaves Tree) (forest_by tree_at count left >>= λ trees. Ok (split client feature trees.0, trees.1))
 split_low tree_at keeps client feature count left low =
     then_low (Leaves Trees) (Leaves Tree) (forest_by tree_at count left) (λ trees. Ok (split client feature trees.0, trees.1)) (forest_low tree_at keeps count left low) (λ trees are. are)
 
@@ -127,7 +104,7 @@ unfolding tree_in
 node_low zero keeps [] last ended low = low.last
 node_low (suc level) keeps [] last ended low = low.last
 node_low level keeps (line ∷ lines) last ended low =
-    elim (either_way (is_leaf (words_of line.bytes))) [
+    elim (cases_Bool (is_leaf (words_of line.bytes))) [
       | inl is ↦ leaf_low level line lines last ended low is (row (codes "leaf") leaf_columns line.bytes) refl
       | inr is ↦ other_low level keeps line lines last ended low is (row (codes "split") split_columns line.bytes) refl
     ]

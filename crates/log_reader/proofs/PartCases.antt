@@ -1,18 +1,6 @@
 -- Reading the head of a log, its cash history and a score, case by case.
-use Rattle.std.proofs.Common.{◌≡◌, ℕ, Bool, List, Result, Ok, Err, ℤ, refl}
-use Rattle.std.specs.Prelude.{codes}
-use Rattle.text_forms.specs.declared.lines.BadLine.{BadLine}
-use Rattle.text_forms.specs.Lines.{Remaining}
-use Rattle.text_forms.specs.Steps.{repeat}
-use Rattle.packages.specs.declared.travel_packages.Package.{Package}
-use Rattle.bound_cert.specs.Trees.{Tree}
-use Rattle.line_protocol.specs.declared.admission.Verdict.{Verdict}
-use Rattle.line_protocol.specs.declared.admission.Cause.{Cause}
-use Rattle.line_protocol.specs.Heads.{Head, Serve}
-use Rattle.log_text.specs.HeadForms.{is_text, read_link, read_end, read_missed}
-use Rattle.log_text.specs.EntryForms.{read_cash_line, cash_entry_of}
-use Rattle.log_text.specs.SheetForms.{read_score, package_of}
-use Rattle.log_text.specs.LogReading.{line_by, as_long_as, is_served, served_in, head_by, head_in, cash_in, cert_in, score_in}
+use Rattle.std.proofs.Common.{◌≡◌, ℕ, Bool, List, Result, Ok, Err, ℤ, refl, codes}
+use Rattle.log_reader.specs.{BadLine, Remaining, repeat, Package, Tree, Verdict, Cause, Head, Serve, is_text, read_link, read_end, read_missed, read_cash_line, cash_entry_of, read_score, package_of, line_by, as_long_as, is_served, served_in, head_by, head_in, cash_in, cert_in, score_in}
 
 -- ---- links, ends and the ticks that were missed
 

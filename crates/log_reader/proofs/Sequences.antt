@@ -1,13 +1,9 @@
 -- Reading parts one after another, as a loop does.
-use Rattle.std.proofs.Common.{◌≡◌, ℕ, suc, ◌-◌, ◌+◌, ◌≤◌, ◌<◌, Bool, true, false, cond, List, [], ◌∷◌, ◌++◌, Result, Ok, Err, refl, sym, ap, append_assoc, arith}
-use Rattle.std.proofs.lemmas.List.{append-nil}
-use Rattle.text_forms.specs.declared.lines.Reason.TheVariants.{TextEnd}
-use Rattle.text_forms.specs.declared.lines.BadLine.{BadLine}
-use Rattle.text_forms.specs.Lines.{Remaining, due_of}
+use Rattle.std.proofs.Common.{◌≡◌, ℕ, suc, ◌-◌, ◌+◌, ◌≤◌, ◌<◌, Bool, true, false, cond, List, [], ◌∷◌, ◌++◌, Result, Ok, Err, refl, sym, ap, append_assoc, arith, append-nil}
+use Rattle.log_reader.specs.{TextEnd, BadLine, Remaining, due_of, begins, refused_line, as_long_as, nothing_begins}
 use Rattle.text_forms.specs.Steps.{◌>>=◌, repeat}
 use Rattle.text_forms.proofs.Repeats.{with_front}
-use Rattle.log_text.specs.LogReading.{begins, refused_line, as_long_as}
-use Rattle.log_reader.specs.Numbers.{nothing_begins}
+use Rattle.log_reader.proofs.Taking.{refused_not}
 
 -- what is read of parts
 abbrev Read : Type 0 → Type 0
@@ -72,16 +68,12 @@ module _ {A : Type 0} (step : ℕ → Remaining → Result (A × Remaining) BadL
   abbrev bad_at : (Y : Type 0) → ℕ → Result Y BadLine
   bad_at Y number = Err (record { line = number; reason = TextEnd })
 
-  never : {X Y : Type 0} (read : Result X BadLine) (number : X → ℕ) (y : Y) → (read >>= λ x. bad_at Y (number x)) ≡ Ok y → ⊥
-  never (Ok x) number y h = absurd cc
-  never (Err bad) number y h = absurd cc
-
   always : {X Y Z : Type 0} (read : Result X BadLine) (number : X → ℕ) (bad : BadLine) → (read >>= λ x. bad_at Y (number x)) ≡ Err bad → (read >>= λ x. bad_at Z (number x)) ≡ Err bad
   always (Ok x) number bad h = cc
   always (Err e) number bad h = cc
 
   full_by : (b : Bool) (left after : Remaining) → cond b (refused_line left) (Ok left) ≡ Ok after → with_front front (cond b (refused_line left) (Ok ([], left))) ≡ Ok (front, after)
-  full_by true left after h = absurd (never (due_of left) (λ line. line.0.number) after h)
+  full_by true left after h = absurd (refused_not left after h)
   full_by false left after h =
       let same : left ≡ after = cc in
       rw same (ap (λ (xs : List A). Ok (xs, after)) (append-nil front))

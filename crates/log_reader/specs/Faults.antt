@@ -1,7 +1,6 @@
 -- The refusals of a log's text.
 use Rattle.std.specs.Prelude.{◌≡◌, ℕ, ◌+◌, ◌==◌, ⊤, if◌then◌else◌, Result, Ok, Err}
-use Rattle.text_forms.specs.declared.lines.BadLine.{BadLine}
-use Rattle.bound_cert.specs.declared.faults.CertFault.{CertFault}
+use Rattle.log_reader.specs.Prelude.{BadLine, CertFault}
 use Rattle.bound_cert.specs.declared.faults.CertFault.TheVariants as certs
 use Rattle.log_reader.specs.declared.fault.LogFault.{LogFault}
 use Rattle.log_reader.specs.declared.fault.LogFault.TheVariants.{Line, TooLong, Memory}

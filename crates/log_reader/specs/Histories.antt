@@ -1,12 +1,8 @@
 -- A history as a log has it.
 use Rattle.std.specs.Prelude.{◌≤◌, ◌*◌, List, length}
 use Rattle.std.specs.List.{AllByRecursion}
-use Rattle.tac_base.specs.declared.limits.TheConstants.{AUCTION_ENTRIES, ENTRY_TRADES}
-use Rattle.tac_base.specs.declared.calls.Call.{Call}
+use Rattle.log_reader.specs.Prelude.{AUCTION_ENTRIES, ENTRY_TRADES, Call, Trade, IsFit, IsStored}
 use Rattle.tac_base.specs.declared.calls.Entry.{Entry as StoredEntry}
-use Rattle.tac_base.specs.declared.calls.Trade.{Trade}
-use Rattle.auction_core.specs.Calls.{IsFit}
-use Rattle.auction_core.specs.Stored.{IsStored}
 
 -- at most 8,256 entries with their trades, at most 128 of each, whose calls an auction may be asked
 pub record IsHistoryKept (entries : List StoredEntry) (trades : List Trade) : Type 0 where

@@ -1,10 +1,8 @@
 -- The log of a text.
 use Rattle.std.specs.Prelude.{ℕ, List, length, Result, Err, false, nat_lt, if◌then◌else◌}
-use Rattle.tac_base.specs.declared.limits.TheConstants.{TEXT_BYTES}
-use Rattle.text_forms.specs.Words.{parts_of}
-use Rattle.text_forms.specs.Lines.{lines_from}
+use Rattle.log_reader.specs.Prelude.{TEXT_BYTES, parts_of, lines_from}
 use Rattle.log_text.specs.LoggedGames.{LoggedGame}
-use Rattle.log_text.specs.LogReading.{log_in}
+use Rattle.log_reader.specs.LogReading.{log_in}
 use Rattle.log_reader.specs.declared.fault.LogFault.{LogFault}
 use Rattle.log_reader.specs.declared.fault.LogFault.TheVariants.{TooLong}
 use Rattle.log_reader.specs.Faults.{or_log_fault}

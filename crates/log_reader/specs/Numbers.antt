@@ -1,12 +1,9 @@
 -- The numbers of a log's lines, and when a line is one too many.
 use Rattle.std.specs.Prelude.{ℕ, ◌+◌, ◌≤◌, ⊤, if◌then◌else◌, List, Result, Ok}
 use Rattle.std.specs.List.{AllByRecursion}
-use Rattle.tac_base.specs.declared.limits.TheConstants.{TEXT_BYTES}
-use Rattle.text_forms.specs.declared.lines.BadLine.{BadLine}
-use Rattle.text_forms.specs.Lines.{Remaining}
-use Rattle.bound_cert.specs.declared.faults.CertFault.{CertFault}
+use Rattle.log_reader.specs.Prelude.{TEXT_BYTES, BadLine, Remaining, CertFault}
 use Rattle.bound_cert.specs.declared.faults.CertFault.TheVariants as certs
-use Rattle.log_text.specs.LogReading.{begins, refused_line}
+use Rattle.log_reader.specs.LogReading.{begins, refused_line}
 
 -- the greatest number that a line of a log may have, or what stands after its last line end
 abbrev pub last_number : ℕ

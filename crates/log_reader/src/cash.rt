@@ -1,14 +1,14 @@
 // The cash history.
 ghost use Rattle.std.specs.Prelude.{◌≡◌, ◌≤◌, IfOk};
 ghost use Rattle.tac_base.specs.declared.limits.TheConstants.{CASH_ENTRIES};
-ghost use Rattle.log_text.specs.EntryForms as forms;
-ghost use Rattle.log_text.specs.LogReading as reading;
+ghost use Rattle.log_reader.specs.EntryForms as forms;
+ghost use Rattle.log_reader.specs.LogReading as reading;
 ghost use Rattle.log_reader.specs.Faults.{or_log_fault, IsLogReading};
 
 use crate::LogFault;
+use crate::line_forms::{cash_entry_of, cash_of};
 use crate::log_lines::{LogLines, well_formed};
-use crate::parts::{Part, read_all};
-use log_text::{cash_entry_of, cash_of};
+use crate::parts::{LogPart, read_all};
 use std::alloc::Global;
 use text_forms::BadLine;
 use trade_ledger::CashEntry;
@@ -17,7 +17,7 @@ use trade_ledger::CashEntry;
 #[derive(Drop)]
 struct CashEntries;
 
-impl Part for CashEntries {
+impl LogPart for CashEntries {
     type Value = CashEntry;
 
     ghost gives = { λ _ _ left. reading.line_by forms.cash_entry_of left };

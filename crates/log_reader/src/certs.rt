@@ -2,14 +2,13 @@
 ghost use Rattle.std.specs.Prelude.{◌≡◌, ◌≤◌};
 ghost use Rattle.bound_cert.specs.Reading.{cert_of};
 ghost use Rattle.bound_cert.specs.Views.{tree_of};
-ghost use Rattle.log_text.specs.LogReading as reading;
-ghost use Rattle.log_reader.specs.Faults.{fault_by, or_log_fault, IsLogReading};
-ghost use Rattle.log_reader.specs.Numbers.{last_number, IsLowFault};
+ghost use Rattle.log_reader.specs.LogReading as reading;
+ghost use Rattle.log_reader.specs.{fault_by, or_log_fault, IsLogReading, last_number, IsLowFault};
 
 use crate::LogFault;
+use crate::line_forms::count_of;
 use crate::log_lines::{LogLines, well_formed};
 use bound_cert::{Cert, CertFault, read_cert};
-use log_text::count_of;
 use std::alloc::Global;
 use tac_base::Agent;
 

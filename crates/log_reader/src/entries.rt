@@ -2,11 +2,11 @@
 ghost use Rattle.std.specs.Prelude.{◌≡◌, ◌≤◌, IfOk, codes};
 ghost use Rattle.std.specs.List.{AllByRecursion};
 ghost use Rattle.auction_core.specs.Calls.{IsFit};
-ghost use Rattle.log_text.specs.EntryForms as forms;
-ghost use Rattle.log_text.specs.LogReading as reading;
+ghost use Rattle.log_reader.specs.EntryForms as forms;
+ghost use Rattle.log_reader.specs.LogReading as reading;
 
+use crate::line_forms::{entry_of, trade_of};
 use crate::log_lines::{LogLines, well_formed};
-use log_text::{entry_of, trade_of};
 use std::marker::Model;
 use tac_base::limits::ENTRY_TRADES;
 use tac_base::{Call, Caller, Fills, Good, Reply, Trade};
@@ -72,7 +72,7 @@ fn call_at(lines: LogLines<'_>) -> Result<((Caller, Call, Reply), LogLines<'_>),
 }
 
 /// Reads an entry in the auction of a good, with its trades.
-#[tactic(auto, unfolding(log_text::specs::LogReading::entry_in))]
+#[tactic(auto, unfolding(crate::specs::LogReading::entry_in))]
 pub(crate) fn entry_in(
     good: Good,
     lines: LogLines<'_>,

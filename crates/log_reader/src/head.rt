@@ -1,15 +1,15 @@
 // The lines before the histories.
 ghost use Rattle.std.specs.Prelude.{◌≡◌};
 ghost use Rattle.line_protocol.specs.Heads.{head_of};
-ghost use Rattle.log_text.specs.HeadForms as forms;
-ghost use Rattle.log_text.specs.LogReading as reading;
+ghost use Rattle.log_reader.specs.HeadForms as forms;
+ghost use Rattle.log_reader.specs.LogReading as reading;
 ghost use Rattle.log_reader.specs.Faults.{or_log_fault, IsLogReading};
 
 use crate::LogFault;
+use crate::line_forms::{end_of, link_of, missed_of};
 use crate::log_lines::{LogLines, text_at, well_formed};
-use crate::parts::{Part, read_while};
+use crate::parts::{LogPart, read_while};
 use line_protocol::{Cause, LogHead, Verdict};
-use log_text::{end_of, link_of, missed_of};
 use std::alloc::Global;
 use tac_base::Agent;
 use tac_base::limits::{LOG_LINKS, TEXT_BYTES};
@@ -19,10 +19,10 @@ use text_forms::BadLine;
 #[derive(Drop)]
 struct Links;
 
-impl Part for Links {
+impl LogPart for Links {
     ghost use Rattle.tac_base.specs.declared.limits.TheConstants.{LOG_LINKS};
-    ghost use Rattle.log_text.specs.HeadForms as forms;
-    ghost use Rattle.log_text.specs.LogReading as reading;
+    ghost use Rattle.log_reader.specs.HeadForms as forms;
+    ghost use Rattle.log_reader.specs.LogReading as reading;
 
     type Value = Verdict;
 
@@ -53,10 +53,10 @@ fn link_at<'a>(place: u8, lines: LogLines<'a>) -> Result<(Verdict, LogLines<'a>)
 #[derive(Drop)]
 struct Ends;
 
-impl Part for Ends {
+impl LogPart for Ends {
     ghost use Rattle.tac_base.specs.declared.limits.TheConstants.{TEXT_BYTES};
-    ghost use Rattle.log_text.specs.HeadForms as forms;
-    ghost use Rattle.log_text.specs.LogReading as reading;
+    ghost use Rattle.log_reader.specs.HeadForms as forms;
+    ghost use Rattle.log_reader.specs.LogReading as reading;
 
     type Value = (Agent, Cause);
 

@@ -1,18 +1,14 @@
-ghost use Rattle.std.specs.Prelude.{◌≡◌, ◌+◌, ◌<◌, ◌≤◌, ◌^◌, ◌++◌, [], ◌∷◌, Some, IfSome, IfOk, OnOk, OnErr, length, map, slice_get, take, drop, vec_len};
-ghost use Rattle.std.specs.Option.{option_copied};
-ghost use Rattle.tac_base.specs.declared.limits.TheConstants.{AUCTION_ENTRIES, ENTRY_TRADES};
-ghost use Rattle.auction_core.specs.Calls.{IsFit};
-ghost use Rattle.auction_core.specs.Stored.{IsShown, entry_behind};
-ghost use Rattle.log_text.specs.EntryForms as forms;
-ghost use Rattle.log_text.specs.LogReading as reading;
-ghost use Rattle.log_reader.specs.Faults.{or_log_fault, IsLogReading};
+ghost use Rattle.std.specs.Prelude.{◌≡◌, ◌+◌, ◌<◌, ◌≤◌, ◌^◌, ◌++◌, [], ◌∷◌, Some, IfSome, IfOk, OnOk, OnErr, length, map, slice_get, take, drop, vec_len, option_copied};
+ghost use Rattle.log_reader.specs.{AUCTION_ENTRIES, ENTRY_TRADES, IsFit, IsShown, entry_behind, or_log_fault, IsLogReading};
+ghost use Rattle.log_reader.specs.EntryForms as forms;
+ghost use Rattle.log_reader.specs.LogReading as reading;
 ghost use Rattle.log_reader.specs.Histories.{IsEntryRead};
 
 use crate::LogFault;
 use crate::entries::{ReadEntry, entry_in};
+use crate::line_forms::auction_of;
 use crate::log_lines::{LogLines, well_formed};
-use crate::parts::Part;
-use log_text::auction_of;
+use crate::parts::LogPart;
 use std::alloc::Global;
 use std::marker::Model;
 use tac_base::{Entry, Good, Memory, Trade};
@@ -135,7 +131,7 @@ fn store(entries: &mut Vec<Entry>, trades: &mut Vec<Trade>, entry: ReadEntry) ->
 #[derive(Drop)]
 pub(crate) struct Histories;
 
-impl Part for Histories {
+impl LogPart for Histories {
     type Value = LogHistory;
 
     ghost gives = { λ _ good left. reading.history_in good left };

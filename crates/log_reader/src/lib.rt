@@ -7,10 +7,12 @@ mod entries;
 mod fault;
 mod head;
 mod histories;
+mod line_forms;
 mod log_lines;
 mod logs;
 mod parts;
 mod reading;
+mod reading_law;
 mod scores;
 
 pub use fault::LogFault;
@@ -18,4 +20,5 @@ pub use histories::LogHistory;
 pub use line_protocol::LogHead;
 pub use logs::Log;
 pub use reading::read_log;
+pub use reading_law::one_reading;
 pub use scores::ScoreLine;

@@ -1,14 +1,12 @@
 ghost use Rattle.std.specs.Prelude.{◌≡◌, ◌≤◌, length, false, None, Some, IfOk, MatchOption};
-ghost use Rattle.tac_base.specs.declared.limits.TheConstants.{TEXT_BYTES};
+ghost use Rattle.log_reader.specs.{TEXT_BYTES, parts_of, last_number, nothing_begins};
 ghost use Rattle.text_forms.specs.Lines as lines;
-ghost use Rattle.text_forms.specs.Words.{parts_of, words_of};
-ghost use Rattle.log_text.specs.EntryForms.{first_is};
-ghost use Rattle.log_text.specs.HeadForms as head;
-ghost use Rattle.log_text.specs.LogReading as reading;
-ghost use Rattle.log_reader.specs.Numbers.{last_number, nothing_begins};
+ghost use Rattle.log_reader.specs.HeadForms as head;
+ghost use Rattle.log_reader.specs.LogReading as reading;
 
+use crate::line_forms::starts;
 use std::marker::Model;
-use text_forms::{BadLine, NumberedLine, Reason, TextLines, Words};
+use text_forms::{BadLine, NumberedLine, Reason, TextLines};
 
 /// The lines that are left of a log's text, whose numbers are no greater than 67,108,865.
 #[derive(Debug, Drop)]
@@ -84,16 +82,6 @@ impl<'a> LogLines<'a> {
         ensures { result ≡ lines.nothing_left self.entry }
     {
         self.lines.finish()
-    }
-}
-
-/// Whether the first word of a line is this one.
-fn starts(line: &[u8], word: &[u8]) -> bool
-    ensures { result ≡ first_is word.now (words_of line.now) }
-{
-    match Words::new(line).next() {
-        None => false,
-        Some(first) => first == word,
     }
 }
 

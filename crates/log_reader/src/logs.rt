@@ -1,6 +1,5 @@
 ghost use Rattle.std.specs.Prelude.{◌≡◌, Some, slice_get};
-ghost use Rattle.auction_core.specs.Ranges.{IsHistory};
-ghost use Rattle.line_protocol.specs.Heads.{head_of};
+ghost use Rattle.log_reader.specs.Prelude.{IsHistory, head_of};
 ghost use Rattle.log_text.specs.LoggedGames.{IsLogged, IsLoggedScore};
 
 use crate::{LogHead, LogHistory, ScoreLine};

@@ -1,7 +1,7 @@
 // Parts of a log that come several times.
 ghost use Rattle.std.specs.Prelude.{◌≤◌};
 ghost use Rattle.text_forms.specs.Steps as steps;
-ghost use Rattle.log_text.specs.LogReading as reading;
+ghost use Rattle.log_reader.specs.LogReading as reading;
 ghost use Rattle.log_reader.specs.Faults.{or_log_fault, IsLogReading};
 
 use crate::LogFault;
@@ -9,7 +9,7 @@ use crate::log_lines::LogLines;
 use std::alloc::Global;
 
 /// A part of a log that comes several times, numbered from 0.
-pub(crate) trait Part {
+pub(crate) trait LogPart {
     type Value: Drop;
 
     ghost use Rattle.std.specs.Prelude.{ℕ, ◌<◌, Result};
@@ -34,7 +34,7 @@ pub(crate) trait Part {
 }
 
 /// Reads this many parts, one after another, and gives the lines after them.
-pub(crate) fn read_all<'a, P: Part>(
+pub(crate) fn read_all<'a, P: LogPart>(
     alloc: Global,
     part: &P,
     count: u32,
@@ -57,7 +57,7 @@ pub(crate) fn read_all<'a, P: Part>(
 
 /// Reads parts as long as the next line begins with a word, and gives the lines after them. If there are too many, the
 /// first extra one is bad.
-pub(crate) fn read_while<'a, P: Part>(
+pub(crate) fn read_while<'a, P: LogPart>(
     alloc: Global,
     part: &P,
     word: &[u8],

@@ -1,9 +1,7 @@
 ghost use Rattle.std.specs.Prelude.{◌≡◌, ◌≤◌, ◌<◌, ◌↔◌, false, length, IfOk, Ok, Err};
-ghost use Rattle.text_forms.specs.Words.{parts_of};
-ghost use Rattle.text_forms.specs.Lines.{lines_from};
+ghost use Rattle.log_reader.specs.{parts_of, lines_from, or_log_fault, IsLogReading};
 ghost use Rattle.log_text.specs.LoggedGames.{LoggedGame, IsLogged, logged_text};
-ghost use Rattle.log_text.specs.LogReading as reading;
-ghost use Rattle.log_reader.specs.Faults.{or_log_fault, IsLogReading};
+ghost use Rattle.log_reader.specs.LogReading as reading;
 ghost use Rattle.log_reader.specs.Logs.{log_of};
 
 use crate::cash::cash_in;

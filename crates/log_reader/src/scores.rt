@@ -1,15 +1,15 @@
 ghost use Rattle.std.specs.Prelude.{◌≡◌};
 ghost use Rattle.text_forms.specs.Steps as steps;
-ghost use Rattle.log_text.specs.SheetForms as forms;
-ghost use Rattle.log_text.specs.LogReading as reading;
+ghost use Rattle.log_reader.specs.SheetForms as forms;
+ghost use Rattle.log_reader.specs.LogReading as reading;
 ghost use Rattle.log_reader.specs.Faults.{or_log_fault, IsLogReading};
 
 use crate::LogFault;
 use crate::certs::cert_in;
+use crate::line_forms::{package_of, score_of};
 use crate::log_lines::{LogLines, well_formed};
-use crate::parts::Part;
+use crate::parts::LogPart;
 use bound_cert::Cert;
-use log_text::{package_of, score_of};
 use packages::Package;
 use std::alloc::Global;
 use std::marker::Model;
@@ -57,7 +57,7 @@ impl Model for ScoreLine {
 #[derive(Drop)]
 pub(crate) struct Scores;
 
-impl Part for Scores {
+impl LogPart for Scores {
     type Value = ScoreLine;
 
     ghost gives = { λ _ agent left. reading.score_in agent left };

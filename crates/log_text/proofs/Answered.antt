@@ -1,34 +1,28 @@
 -- Calls and replies are determined by their texts.
-use Rattle.std.proofs.Common.{◌≡◌, ℕ, ◌^◌, ◌<◌, true, false, eqb, List, [], ◌∷◌, Option, Some, None, Result, Ok, Err, refl, sym, ap, subst, ◌∙◌, arith, ℤ, pos, negsuc, suc, decimal, lit<}
-use Rattle.std.specs.Prelude.{codes, unsigned_abs, if◌then◌else◌}
+use Rattle.std.proofs.Common.{◌≡◌, ℕ, ◌^◌, ◌<◌, true, false, eqb, List, [], ◌∷◌, Option, Some, None, Result, Ok, Err, refl, sym, ap, subst, ◌∙◌, arith, ℤ, pos, negsuc, suc, decimal, lit<, codes, unsigned_abs, if◌then◌else◌, bytes_eq, flat_map}
 use Rattle.std.specs.Fmt.{signed_decimal}
-use Rattle.std.specs.Str.{bytes_eq, all_ascii_digits}
-use Rattle.std.specs.List.{AllByRecursion, flat_map, join_with_byte}
+use Rattle.std.specs.Str.{all_ascii_digits}
+use Rattle.std.specs.List.{AllByRecursion, join_with_byte}
 use Rattle.std.proofs.lemmas.Bool.Decides.{nat_tests}
 use Rattle.std.proofs.lemmas.Option.{same_Some}
 use Rattle.std.proofs.lemmas.List.Concat.{flat_map-cons}
 use Rattle.std.proofs.lemmas.List.Splits.{join_with_byte-slice_split}
 use Rattle.tac_base.specs.declared.bids.Point.{Point}
 use Rattle.tac_base.specs.declared.bids.BidFault.{BidFault}
-use Rattle.tac_base.specs.declared.calls.Call.{Call}
+use Rattle.log_text.specs.{Call, Reply, numeral, signed_numeral, fault_of, left_fault, words_of, point_words, spelling, HasFiveDigits, reply_text, call_text, IsShownCall, IsShownReply}
 use Rattle.tac_base.specs.declared.calls.Call.TheVariants as calls
-use Rattle.tac_base.specs.declared.calls.Reply.{Reply}
 use Rattle.tac_base.specs.declared.calls.Reply.TheVariants as replies
-use Rattle.tac_base.specs.Numerals.{numeral, signed_numeral}
-use Rattle.tac_base.specs.Bids.{fault_of, left_fault}
 use Rattle.tac_base.proofs.NumeralLaws.{both_true, decimal_digits}
 use Rattle.tac_base.proofs.Signed.{Lacks, digits_lack}
-use Rattle.text_forms.specs.Words.{words_of}
+use Rattle.tac_base.proofs.Faults.{bid_left}
 use Rattle.text_forms.proofs.Joins.{joined_parts}
 use Rattle.text_forms.proofs.PrintedLines.{join_lacks}
 use Rattle.bid_strings.specs.BidForm.{points_of, judged}
-use Rattle.bid_strings.specs.Spelling.{left_word, right_word, point_words, spelling, HasFiveDigits}
+use Rattle.bid_strings.proofs.PointWords.{left_word, right_word}
 use Rattle.bid_strings.proofs.Laws.{bid_again, lawful_points}
-use Rattle.line_protocol.specs.Replies.{reply_text}
 use Rattle.line_protocol.specs.ReplyForms.{read_left}
 use Rattle.line_protocol.proofs.JoinedWords.{lacks, words_before}
 use Rattle.line_protocol.proofs.StandingPoints.{left_again}
-use Rattle.log_text.specs.{call_text, IsShownCall, IsShownReply}
 use Rattle.log_text.proofs.Cuts.{lacks_append, number_word, signed_word, number_again, holding_again}
 
 -- ---- calls
@@ -196,10 +190,6 @@ points_lack byte s (point ∷ points) h =
 spelling_lacks : (byte : ℕ) → IsStrange byte → (points : List Point) → left_fault points ≡ None → Lacks byte (spelling points)
 spelling_lacks byte s points h =
     (s.opens, lacks_append byte (join_with_byte 32 (flat_map point_words points)) (41 ∷ []) (join_lacks byte (flat_map point_words points) s.space (points_lack byte s points (lawful_points 0 0 points h))) (s.closes, tt))
-
-bid_left : (points : List Point) → fault_of points ≡ None → left_fault points ≡ None
-bid_left [] h = absurd cc
-bid_left (point ∷ points) h = h
 
 pub call_lacks : (call : Call) → IsShownCall call → Lacks 61 (call_text call)
 call_lacks (calls.Bid points) h = lacks_append 61 (codes "bid ") (spelling points) (lacks 61 (codes "bid ") refl) (spelling_lacks 61 equals points (bid_left points h))

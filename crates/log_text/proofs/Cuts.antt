@@ -1,16 +1,13 @@
 -- Texts that are cut at a byte, and lines of words.
-use Rattle.std.proofs.Common.{◌≡◌, ℕ, ◌^◌, ◌<◌, true, false, eqb, List, [], ◌∷◌, ◌++◌, Some, refl, sym, ap, ◌∙◌, append_assoc, arith, ℤ, decimal, lit<}
-use Rattle.std.specs.Prelude.{unsigned_abs}
+use Rattle.std.proofs.Common.{◌≡◌, ℕ, ◌^◌, ◌<◌, true, false, eqb, List, [], ◌∷◌, ◌++◌, Some, refl, sym, ap, ◌∙◌, append_assoc, arith, ℤ, decimal, lit<, unsigned_abs, flat_map, eq-eqb}
 use Rattle.std.specs.Fmt.{signed_decimal}
-use Rattle.std.specs.List.{AllByRecursion, flat_map, join_with_byte}
-use Rattle.std.proofs.lemmas.Bool.{eq-eqb}
+use Rattle.std.specs.List.{AllByRecursion, join_with_byte}
 use Rattle.std.proofs.lemmas.Option.{same_Some}
 use Rattle.std.proofs.lemmas.Fmt.{length-decimal-le}
 use Rattle.std.proofs.lemmas.List.Concat.{flat_map-cons}
-use Rattle.tac_base.specs.Numerals.{numeral, signed_numeral}
+use Rattle.log_text.specs.Prelude.{numeral, signed_numeral, parts_of}
 use Rattle.tac_base.proofs.NumeralLaws.{numeral_again}
 use Rattle.tac_base.proofs.Signed.{Lacks, decimal_lacks, signed_lacks, signed_again}
-use Rattle.text_forms.specs.Words.{parts_of}
 use Rattle.text_forms.proofs.Joins.{joined_parts}
 use Rattle.text_forms.proofs.PrintedLines.{join_lacks}
 
@@ -44,19 +41,25 @@ no_spaces : (words : List (List ℕ)) → AllByRecursion IsWord words → AllByR
 no_spaces [] h = tt
 no_spaces (word ∷ words) h = (h.0.0, no_spaces words h.1)
 
-pub no_line_ends : (words : List (List ℕ)) → AllByRecursion IsWord words → AllByRecursion (Lacks 10) words
+no_line_ends : (words : List (List ℕ)) → AllByRecursion IsWord words → AllByRecursion (Lacks 10) words
 no_line_ends [] h = tt
 no_line_ends (word ∷ words) h = (h.0.1, no_line_ends words h.1)
+
+-- a line of words has no line end within it, and has exactly these words
+pub line_lacks : (words : List (List ℕ)) → AllByRecursion IsWord words → Lacks 10 (join_with_byte 32 words)
+line_lacks words h = join_lacks 10 words refl (no_line_ends words h)
+
+pub line_words : (word : List ℕ) (words : List (List ℕ)) → AllByRecursion IsWord (word ∷ words) → parts_of 32 (join_with_byte 32 (word ∷ words)) ≡ word ∷ words
+line_words word words h = joined_parts 32 word words h.0.0 (no_spaces words h.1)
 
 -- a line and what follows it
 pub line_same : (xs ys us vs : List ℕ) → Lacks 10 xs → Lacks 10 ys → (xs ++ 10 ∷ []) ++ us ≡ (ys ++ 10 ∷ []) ++ vs → (xs ≡ ys) × (us ≡ vs)
 line_same xs ys us vs h k e = cut_same 10 xs ys us vs h k (sym (append_assoc xs (10 ∷ []) us) ∙ e ∙ append_assoc ys (10 ∷ []) vs)
 
--- a line of words has exactly these words
 pub row_same : (word other : List ℕ) (words others : List (List ℕ)) (us vs : List ℕ) → AllByRecursion IsWord (word ∷ words) → AllByRecursion IsWord (other ∷ others) → row (word ∷ words) ++ us ≡ row (other ∷ others) ++ vs → (word ∷ words ≡ other ∷ others) × (us ≡ vs)
 row_same word other words others us vs h k e =
-    let cut = line_same (join_with_byte 32 (word ∷ words)) (join_with_byte 32 (other ∷ others)) us vs (join_lacks 10 (word ∷ words) refl (no_line_ends (word ∷ words) h)) (join_lacks 10 (other ∷ others) refl (no_line_ends (other ∷ others) k)) e in
-    (sym (joined_parts 32 word words h.0.0 (no_spaces words h.1)) ∙ ap (parts_of 32) cut.0 ∙ joined_parts 32 other others k.0.0 (no_spaces others k.1), cut.1)
+    let cut = line_same (join_with_byte 32 (word ∷ words)) (join_with_byte 32 (other ∷ others)) us vs (line_lacks (word ∷ words) h) (line_lacks (other ∷ others) k) e in
+    (sym (line_words word words h) ∙ ap (parts_of 32) cut.0 ∙ line_words other others k, cut.1)
 
 -- ---- numbers
 

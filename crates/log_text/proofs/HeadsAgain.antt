@@ -1,22 +1,13 @@
 -- A text that begins with the head of a log determines how its game was played.
-use Rattle.std.proofs.Common.{◌≡◌, ℕ, ◌+◌, List, [], ◌∷◌, ◌++◌, get_or, Option, Some, None, refl, sym, ap, ◌∙◌, append_assoc, arith, decimal}
-use Rattle.std.specs.Prelude.{codes, if◌then◌else◌}
-use Rattle.std.specs.Str.{bytes_eq}
-use Rattle.std.specs.List.{AllByRecursion, flat_map, enumerate_from}
+use Rattle.std.proofs.Common.{◌≡◌, ℕ, ◌+◌, List, [], ◌∷◌, ◌++◌, get_or, Option, Some, None, refl, sym, ap, ◌∙◌, append_assoc, arith, decimal, codes, if◌then◌else◌, bytes_eq, flat_map}
+use Rattle.std.specs.List.{AllByRecursion, enumerate_from}
 use Rattle.std.proofs.lemmas.Fmt.{decimal_injective}
 use Rattle.std.proofs.lemmas.List.{append_cancel_left}
 use Rattle.std.proofs.lemmas.Option.{same_Some}
-use Rattle.tac_base.specs.Numerals.{numeral}
+use Rattle.log_text.specs.{numeral, words_of, Verdict, Seated, Syntax, WrongWord, Taken, Lost, Cause, Quit, End, ReadFault, WriteFault, Budget, Head, Play, Serve, then_number, verdict_text, cause_text, link_line, end_line, missed_line, first_lines, IsNumber, IsVerdict, IsEnd, IsHead}
 use Rattle.tac_base.proofs.Signed.{Lacks}
-use Rattle.text_forms.specs.Words.{words_of}
 use Rattle.text_forms.proofs.Joins.{joined_parts}
-use Rattle.line_protocol.specs.declared.admission.Verdict.{Verdict}
-use Rattle.line_protocol.specs.declared.admission.Verdict.TheVariants.{Seated, Syntax, WrongWord, Taken, Lost}
-use Rattle.line_protocol.specs.declared.admission.Cause.{Cause}
-use Rattle.line_protocol.specs.declared.admission.Cause.TheVariants.{Quit, End, ReadFault, WriteFault, Budget}
 use Rattle.line_protocol.proofs.JoinedWords.{lacks}
-use Rattle.line_protocol.specs.Heads.{Head, Play, Serve}
-use Rattle.log_text.specs.{then_number, verdict_text, cause_text, link_line, end_line, missed_line, first_lines, IsNumber, IsVerdict, IsEnd, IsHead}
 use Rattle.log_text.proofs.Cuts.{IsWord, row, row_same, cut_same, lacks_append, number_word, number_again, pieces_cons}
 use Rattle.log_text.proofs.Trades.{known_word}
 
@@ -120,13 +111,13 @@ cause_word ReadFault = known_word (codes "readfault") refl refl
 cause_word WriteFault = known_word (codes "writefault") refl refl
 cause_word Budget = known_word (codes "budget") refl refl
 
-abbrev end_words : ℕ × Cause → List (List ℕ)
+abbrev pub end_words : ℕ × Cause → List (List ℕ)
 end_words end = codes "end" ∷ decimal end.0 ∷ cause_text end.1 ∷ []
 
-end_row : (end : ℕ × Cause) → end_line end ≡ row (end_words end)
+pub end_row : (end : ℕ × Cause) → end_line end ≡ row (end_words end)
 end_row end = simp append_assoc
 
-end_are : (end : ℕ × Cause) → IsEnd end → AllByRecursion IsWord (end_words end)
+pub end_are : (end : ℕ × Cause) → IsEnd end → AllByRecursion IsWord (end_words end)
 end_are end h = (known_word (codes "end") refl refl, (number_word end.0 h, (cause_word end.1, tt)))
 
 end_same : (end other : ℕ × Cause) (us vs : List ℕ) → IsEnd end → IsEnd other → end_line end ++ us ≡ end_line other ++ vs → (end ≡ other) × (us ≡ vs)
@@ -154,12 +145,18 @@ ends_same (end ∷ ends) (other ∷ others) us vs h k m n same =
 
 -- ---- the ticks that were missed
 
-missed_row : (missed : ℕ) → missed_line missed ≡ row (codes "missed" ∷ decimal missed ∷ [])
+abbrev pub missed_words : ℕ → List (List ℕ)
+missed_words missed = codes "missed" ∷ decimal missed ∷ []
+
+pub missed_row : (missed : ℕ) → missed_line missed ≡ row (missed_words missed)
 missed_row missed = simp append_assoc
+
+pub missed_are : (missed : ℕ) → IsNumber missed → AllByRecursion IsWord (missed_words missed)
+missed_are missed h = (known_word (codes "missed") refl refl, (number_word missed h, tt))
 
 missed_same : (missed other : ℕ) (us vs : List ℕ) → IsNumber missed → IsNumber other → missed_line missed ++ us ≡ missed_line other ++ vs → (missed ≡ other) × (us ≡ vs)
 missed_same missed other us vs h k same =
-    let cut = row_same (codes "missed") (codes "missed") (decimal missed ∷ []) (decimal other ∷ []) us vs (known_word (codes "missed") refl refl, (number_word missed h, tt)) (known_word (codes "missed") refl refl, (number_word other k, tt))
+    let cut = row_same (codes "missed") (codes "missed") (decimal missed ∷ []) (decimal other ∷ []) us vs (missed_are missed h) (missed_are other k)
     (ap (λ (line : List ℕ). line ++ us) (sym (missed_row missed)) ∙ same ∙ ap (λ (line : List ℕ). line ++ vs) (missed_row other)) in
     (decimal_injective missed other h k (ap (λ (ws : List (List ℕ)). get_or ws 1 []) cut.0), cut.1)
 

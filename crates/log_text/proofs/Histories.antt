@@ -1,20 +1,11 @@
 -- A text that begins with the first part of a log determines its game.
-use Rattle.std.proofs.Common.{◌≡◌, ℕ, List, [], ◌∷◌, ◌++◌, length, map, get_or, drop, refl, sym, ap, subst, ◌∙◌, append_assoc, arith, ℤ, decimal}
-use Rattle.std.specs.Prelude.{codes}
+use Rattle.std.proofs.Common.{◌≡◌, ℕ, List, [], ◌∷◌, ◌++◌, length, map, get_or, drop, refl, sym, ap, subst, ◌∙◌, append_assoc, arith, ℤ, decimal, codes, flat_map, append-nil}
 use Rattle.std.specs.Fmt.{signed_decimal}
-use Rattle.std.specs.List.{AllByRecursion, flat_map, join_with_byte}
+use Rattle.std.specs.List.{AllByRecursion, join_with_byte}
 use Rattle.std.proofs.lemmas.Fmt.{decimal_injective}
-use Rattle.std.proofs.lemmas.List.{append-nil}
 use Rattle.std.proofs.lemmas.List.Concat.{flat_map-cons}
-use Rattle.trade_ledger.specs.declared.cash_calls.CashCall.{CashCall}
-use Rattle.trade_ledger.specs.declared.cash_calls.CashCall.TheVariants.{Post, Read}
-use Rattle.trade_ledger.specs.declared.cash_calls.CashReply.{CashReply}
-use Rattle.trade_ledger.specs.declared.cash_calls.CashReply.TheVariants.{Done, Cash}
-use Rattle.trade_ledger.specs.declared.cash_calls.CashEntry.{CashEntry}
-use Rattle.auction_core.specs.ClosedGame.{ClosedGame}
-use Rattle.line_protocol.specs.Heads.{Head}
+use Rattle.log_text.specs.{CashCall, Post, Read, CashReply, Done, Cash, CashEntry, ClosedGame, Head, then_signed, cash_call_text, cash_reply_text, cash_entry_line, cash_line, cash_text, first_lines, play_part, IsNumber, IsSigned, AreCashNumbers, IsShownCashReply, FitsCall, IsCashEntry, IsHead, IsPlayed, HaveOneHistory}
 use Rattle.log_text.proofs.InOrder.{kept_text, in_order}
-use Rattle.log_text.specs.{then_signed, cash_call_text, cash_reply_text, cash_entry_line, cash_line, cash_text, first_lines, play_part, IsNumber, IsSigned, AreCashNumbers, IsShownCashReply, FitsCall, IsCashEntry, IsHead, IsPlayed, HaveOneHistory}
 use Rattle.log_text.proofs.Cuts.{IsWord, row, row_same, number_word, signed_word, signed_same, pieces_cons}
 use Rattle.log_text.proofs.HeadsAgain.{head_same}
 use Rattle.log_text.proofs.Trades.{known_word, auctions_same}
@@ -55,7 +46,7 @@ pub signed_are : (zs : List ℤ) → AllByRecursion IsSigned zs → AllByRecursi
 signed_are [] h = tt
 signed_are (z ∷ zs) h = (signed_word z h.0, signed_are zs h.1)
 
-cash_are : (caller : ℕ) (call : CashCall) (reply : CashReply) → IsNumber caller → AreCashNumbers call → IsShownCashReply reply → AllByRecursion IsWord (cash_words caller call reply)
+pub cash_are : (caller : ℕ) (call : CashCall) (reply : CashReply) → IsNumber caller → AreCashNumbers call → IsShownCashReply reply → AllByRecursion IsWord (cash_words caller call reply)
 cash_are caller (Post good position nets) reply n h k = (number_word caller n, (known_word (codes "post") refl refl, (number_word good h.0, (number_word position h.1, signed_are nets.dollars h.2))))
 cash_are caller (Read agent) Done n h k = (number_word caller n, (known_word (codes "read") refl refl, (known_word (codes "=") refl refl, tt)))
 cash_are caller (Read agent) (Cash dollars) n h k = (number_word caller n, (known_word (codes "read") refl refl, (known_word (codes "=") refl refl, (signed_word dollars k, tt))))
@@ -147,13 +138,16 @@ cash_entries_same (e ∷ es) (f ∷ fs) rest more h k n same =
 
 -- ---- the first part
 
-count_row : (count : ℕ) → cash_line count ≡ row (codes "cash" ∷ decimal count ∷ [])
+abbrev pub count_words : ℕ → List (List ℕ)
+count_words count = codes "cash" ∷ decimal count ∷ []
+
+pub count_row : (count : ℕ) → cash_line count ≡ row (count_words count)
 count_row count = simp append_assoc
 
-cash_parts : (cash : List CashEntry) (rest : List ℕ) → cash_text cash ++ rest ≡ row (codes "cash" ∷ decimal (length cash) ∷ []) ++ (flat_map cash_entry_line cash ++ rest)
+cash_parts : (cash : List CashEntry) (rest : List ℕ) → cash_text cash ++ rest ≡ row (count_words (length cash)) ++ (flat_map cash_entry_line cash ++ rest)
 cash_parts cash rest = append_assoc (cash_line (length cash)) (flat_map cash_entry_line cash) rest ∙ ap (λ (line : List ℕ). line ++ (flat_map cash_entry_line cash ++ rest)) (count_row (length cash))
 
-count_are : (count : ℕ) → IsNumber count → AllByRecursion IsWord (codes "cash" ∷ decimal count ∷ [])
+pub count_are : (count : ℕ) → IsNumber count → AllByRecursion IsWord (count_words count)
 count_are count h = (known_word (codes "cash") refl refl, (number_word count h, tt))
 
 cash_same : (cash other : List CashEntry) (rest more : List ℕ) → IsNumber (length cash) → IsNumber (length other) → AllByRecursion IsCashEntry cash → AllByRecursion IsCashEntry other → cash_text cash ++ rest ≡ cash_text other ++ more → (cash ≡ other) × (rest ≡ more)

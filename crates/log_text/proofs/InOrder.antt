@@ -1,12 +1,9 @@
 -- The auctions of a game stand in the order of their goods.
-use Rattle.std.proofs.Common.{◌≡◌, ℕ, zero, suc, ◌+◌, List, [], ◌∷◌, ◌++◌, length, map, refl, sym, ap, ◌∙◌}
-use Rattle.std.specs.List.{flat_map, enumerate_from}
+use Rattle.std.proofs.Common.{◌≡◌, ℕ, zero, suc, ◌+◌, List, [], ◌∷◌, ◌++◌, length, map, refl, sym, ap, ◌∙◌, flat_map}
+use Rattle.std.specs.List.{enumerate_from}
 use Rattle.std.proofs.lemmas.List.{length-map}
 use Rattle.std.proofs.lemmas.List.Concat.{flat_map-cons}
-use Rattle.auction_rules.specs.History.{Entry}
-use Rattle.auction_core.specs.Auctions.{AuctionHistory}
-use Rattle.auction_core.specs.ClosedGame.{ClosedGame, all_goods}
-use Rattle.log_text.specs.LogText.{auction_text, cash_text, histories_of, histories_text}
+use Rattle.log_text.specs.{Entry, AuctionHistory, ClosedGame, all_goods, auction_text, cash_text, histories_of, histories_text}
 
 -- the text of an auction of a game
 abbrev pub kept_text : AuctionHistory → List ℕ

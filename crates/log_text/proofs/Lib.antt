@@ -7,17 +7,4 @@ pub mod HeadsAgain
 pub mod Histories
 pub mod TreesCut
 pub mod SheetsAgain
-pub mod RowForms
-pub mod HeadFormLaws
-pub mod Sides
-pub mod EntryFormLaws
-pub mod CashFormLaws
-pub mod SheetFormLaws
-pub mod Taking
-pub mod LineTexts
 pub mod ShownNumbers
-pub mod LogTaking
-pub mod Giving
-pub mod LogGiving
-pub mod SheetGiving
-pub mod WorkedLogs

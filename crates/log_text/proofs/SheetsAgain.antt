@@ -1,21 +1,11 @@
 -- A sheet is determined by its text, whatever follows it.
-use Rattle.std.proofs.Common.{◌≡◌, ℕ, ◌+◌, ◌^◌, ◌<◌, ◌≤◌, List, [], ◌∷◌, ◌++◌, append_assoc, length, map, get_or, refl, sym, ap, ◌∙◌, arith, ℤ, pos, decimal}
-use Rattle.std.specs.Prelude.{codes, unsigned_abs, slice_index}
+use Rattle.std.proofs.Common.{◌≡◌, ℕ, ◌+◌, ◌^◌, ◌<◌, ◌≤◌, List, [], ◌∷◌, ◌++◌, append_assoc, length, map, get_or, refl, sym, ap, ◌∙◌, arith, ℤ, pos, decimal, codes, unsigned_abs, slice_index, length-append}
 use Rattle.std.specs.Fmt.{signed_decimal}
-use Rattle.std.specs.List.{AllByRecursion}
-use Rattle.text_forms.specs.Lines.{text_of}
-use Rattle.text_forms.specs.Steps.{lines_of_parts, one_line}
-use Rattle.packages.specs.declared.travel_packages.Package.{Package}
-use Rattle.packages.specs.declared.travel_packages.Package.TheVariants.{None, Trip}
-use Rattle.bound_cert.specs.Texts.{tree_lines}
-use Rattle.bound_cert.specs.Trees.{Tree}
-use Rattle.auction_core.specs.ClosedGame.{ClosedGame}
-use Rattle.settlement.specs.Sheets.{Scored}
-use Rattle.line_protocol.specs.Heads.{Head}
-use Rattle.log_text.specs.{IsNumber, IsSigned, IsHead, IsPlayed, HaveOneHistory, IsShownPackage, IsKnownScore, IsShownScore, IsShownSheet, score_line, package_line, cert_line, agent_lines, sheet_lines, sheet_part, log_text}
+use Rattle.std.specs.List.{AllByRecursion, join_with_byte}
+use Rattle.log_text.specs.{text_of, lines_of_parts, one_line, Package, None, Trip, tree_lines, Tree, ClosedGame, Scored, Head, IsNumber, IsSigned, IsHead, IsPlayed, HaveOneHistory, IsShownPackage, IsKnownScore, IsShownScore, IsShownSheet, score_line, package_line, cert_line, agent_lines, sheet_part, log_text}
 use Rattle.log_text.proofs.Cuts.{IsWord, row, row_same, number_word}
 use Rattle.log_text.proofs.Trades.{known_word}
-use Rattle.std.proofs.lemmas.List.{append_cancel_left, length-append, length-map}
+use Rattle.std.proofs.lemmas.List.{append_cancel_left, length-map}
 use Rattle.std.proofs.lemmas.List.Concat.{flat_map-cons}
 use Rattle.log_text.proofs.Histories.{signed_are, parts_same}
 use Rattle.log_text.proofs.TreesCut.{text_cons, text_both, numbers_same, tree_same}
@@ -31,40 +21,40 @@ small n low = omega (arith, low)
 
 -- ---- packages
 
-is_word_package : IsWord (codes "package")
+pub is_word_package : IsWord (codes "package")
 is_word_package = known_word (codes "package") refl refl
 
-abbrev none_words : ℕ → ℕ → List (List ℕ)
+abbrev pub none_words : ℕ → ℕ → List (List ℕ)
 none_words agent client = codes "package" ∷ decimal agent ∷ decimal client ∷ codes "none" ∷ []
 
-none_row : (agent client : ℕ) → ended (package_line agent client None) ≡ row (none_words agent client)
-none_row agent client = simp append_assoc
+pub none_line : (agent client : ℕ) → package_line agent client None ≡ join_with_byte 32 (none_words agent client)
+none_line agent client = simp append_assoc
 
-none_are : (agent client : ℕ) → agent < 9 → client < 9 → AllByRecursion IsWord (none_words agent client)
+pub none_are : (agent client : ℕ) → agent < 9 → client < 9 → AllByRecursion IsWord (none_words agent client)
 none_are agent client low low' = (is_word_package, (number_word agent (small agent low), (number_word client (small client low'), (known_word (codes "none") refl refl, tt))))
 
-abbrev trip_numbers : ℕ → ℕ → ℕ → ℕ → ℕ → List ℕ → List ℤ
+abbrev pub trip_numbers : ℕ → ℕ → ℕ → ℕ → ℕ → List ℕ → List ℤ
 trip_numbers agent client hotel arrive depart nights =
     pos agent ∷ pos client ∷ pos hotel ∷ pos arrive ∷ pos depart ∷ pos (slice_index nights 0) ∷ pos (slice_index nights 1) ∷ pos (slice_index nights 2) ∷ []
 
 -- three nights, one by one
-three : (nights : List ℕ) → length nights ≡ 3 → nights ≡ slice_index nights 0 ∷ slice_index nights 1 ∷ slice_index nights 2 ∷ []
-three [] n = absurd (omega (arith, n))
-three (a ∷ []) n = absurd (omega (arith, n))
-three (a ∷ b ∷ []) n = absurd (omega (arith, n))
-three (a ∷ b ∷ c ∷ []) n = refl
-three (a ∷ b ∷ c ∷ d ∷ nights) n = absurd (omega (arith, n))
+pub three_nights : (nights : List ℕ) → length nights ≡ 3 → nights ≡ slice_index nights 0 ∷ slice_index nights 1 ∷ slice_index nights 2 ∷ []
+three_nights [] n = absurd (omega (arith, n))
+three_nights (a ∷ []) n = absurd (omega (arith, n))
+three_nights (a ∷ b ∷ []) n = absurd (omega (arith, n))
+three_nights (a ∷ b ∷ c ∷ []) n = refl
+three_nights (a ∷ b ∷ c ∷ d ∷ nights) n = absurd (omega (arith, n))
 
-trip_are : (agent client hotel arrive depart : ℕ) (nights : List ℕ) → agent < 9 → client < 9 → IsShownPackage (Trip hotel arrive depart nights) → AllByRecursion IsSigned (trip_numbers agent client hotel arrive depart nights)
+pub trip_are : (agent client hotel arrive depart : ℕ) (nights : List ℕ) → agent < 9 → client < 9 → IsShownPackage (Trip hotel arrive depart nights) → AllByRecursion IsSigned (trip_numbers agent client hotel arrive depart nights)
 trip_are agent client hotel arrive depart nights low low' h =
     let all = h.3 in
     (small agent low, (small client low', (h.0, (h.1, (h.2, (all.first, (all.second, (all.third, tt))))))))
 
-not_none : (agent client : ℕ) (numbers : List ℤ) (us vs : List ℕ) → agent < 9 → client < 9 → length numbers ≡ 8 → AllByRecursion IsWord (codes "package" ∷ map signed_decimal numbers) →
+pub not_none : (agent client : ℕ) (numbers : List ℤ) (us vs : List ℕ) → agent < 9 → client < 9 → length numbers ≡ 8 → AllByRecursion IsWord (codes "package" ∷ map signed_decimal numbers) →
     ended (package_line agent client None) ++ us ≡ row (codes "package" ∷ map signed_decimal numbers) ++ vs → ⊥
 not_none agent client numbers us vs low low' eight are e =
     let cut = row_same (codes "package") (codes "package") (decimal agent ∷ decimal client ∷ codes "none" ∷ []) (map signed_decimal numbers) us vs (none_are agent client low low') are
-    (sym (ap (λ (line : List ℕ). line ++ us) (none_row agent client)) ∙ e) in
+    (sym (ap (λ (line : List ℕ). ended line ++ us) (none_line agent client)) ∙ e) in
     let long : 4 ≡ length (codes "package" ∷ map signed_decimal numbers) = ap (λ (ws : List (List ℕ)). length ws) cut.0 in
     omega (arith, long, length-map numbers signed_decimal, eight)
 
@@ -79,7 +69,7 @@ package_same agent client (Trip hotel arrive depart nights) (Trip hotel' arrive'
     let cut = numbers_same (codes "package") (trip_numbers agent client hotel arrive depart nights) (trip_numbers agent client hotel' arrive' depart' nights') us vs is_word_package
     (trip_are agent client hotel arrive depart nights low low' h) (trip_are agent client hotel' arrive' depart' nights' low low' k) e in
     let at : (i : ℕ) → number_at (trip_numbers agent client hotel arrive depart nights) i ≡ number_at (trip_numbers agent client hotel' arrive' depart' nights') i = λ i. ap (λ (zs : List ℤ). number_at zs i) cut.0 in
-    let same : nights ≡ nights' = three nights h.3.count ∙ ((λ i. at 5 i ∷ at 6 i ∷ at 7 i ∷ []) ∙ sym (three nights' k.3.count)) in
+    let same : nights ≡ nights' = three_nights nights h.3.count ∙ ((λ i. at 5 i ∷ at 6 i ∷ at 7 i ∷ []) ∙ sym (three_nights nights' k.3.count)) in
     ((λ i. Trip (at 2 i) (at 3 i) (at 4 i) (same i)), cut.1)
 
 abbrev package_lines : ℕ → ℕ → List Package → List (List ℕ)
@@ -98,14 +88,19 @@ packages_same agent from (p ∷ ps) (q ∷ qs) us vs low few n h k e =
 
 -- ---- the count of a certificate's lines
 
-cert_row : (agent count : ℕ) → ended (cert_line agent count) ≡ row (codes "cert" ∷ decimal agent ∷ decimal count ∷ [])
+abbrev pub cert_words : ℕ → ℕ → List (List ℕ)
+cert_words agent count = codes "cert" ∷ decimal agent ∷ decimal count ∷ []
+
+cert_row : (agent count : ℕ) → ended (cert_line agent count) ≡ row (cert_words agent count)
 cert_row agent count = simp append_assoc
+
+pub cert_are : (agent count : ℕ) → agent < 9 → IsNumber count → AllByRecursion IsWord (cert_words agent count)
+cert_are agent count low h = (known_word (codes "cert") refl refl, (number_word agent (small agent low), (number_word count h, tt)))
 
 cert_same : (agent count other : ℕ) (us vs : List ℕ) → agent < 9 → IsNumber count → IsNumber other → ended (cert_line agent count) ++ us ≡ ended (cert_line agent other) ++ vs → us ≡ vs
 cert_same agent count other us vs low h k e =
     (row_same (codes "cert") (codes "cert") (decimal agent ∷ decimal count ∷ []) (decimal agent ∷ decimal other ∷ []) us vs
-    (known_word (codes "cert") refl refl, (number_word agent (small agent low), (number_word count h, tt)))
-    (known_word (codes "cert") refl refl, (number_word agent (small agent low), (number_word other k, tt)))
+    (cert_are agent count low h) (cert_are agent other low k)
     (sym (ap (λ (line : List ℕ). line ++ us) (cert_row agent count)) ∙ e ∙ ap (λ (line : List ℕ). line ++ vs) (cert_row agent other))).1
 
 -- ---- an agent
@@ -173,22 +168,22 @@ log_same head other_head game other sheet other_sheet n o h k l m e =
 
 -- ---- a sheet whose text is short enough has certificates whose lines can be counted
 
-long : (lines : List (List ℕ)) → length lines ≤ length (text_of lines)
-long [] = omega arith
-long (line ∷ lines) =
+pub lines_short : (lines : List (List ℕ)) → length lines ≤ length (text_of lines)
+lines_short [] = omega arith
+lines_short (line ∷ lines) =
     let cons = ap (λ (text : List ℕ). length text) (flat_map-cons ended line lines) in
-    omega (arith, long lines, cons, length-append (ended line) (text_of lines), length-append line (10 ∷ []))
+    omega (arith, lines_short lines, cons, length-append (ended line) (text_of lines), length-append line (10 ∷ []))
 
-fewer : (agent : ℕ) (s : Scored) → length (tree_lines s.tree) ≤ length (agent_lines agent s)
-fewer agent s = omega (arith, length-append (package_lines agent 0 s.allocation) (cert_line agent (length (tree_lines s.tree)) ∷ tree_lines s.tree))
+pub agent_long : (agent : ℕ) (s : Scored) → length (tree_lines s.tree) ≤ length (agent_lines agent s)
+agent_long agent s = omega (arith, length-append (package_lines agent 0 s.allocation) (cert_line agent (length (tree_lines s.tree)) ∷ tree_lines s.tree))
 
 scores_shown : (from : ℕ) (ss : List Scored) → length (lines_of_parts agent_lines from ss) < 2 ^ 64 → AllByRecursion IsKnownScore ss → AllByRecursion IsShownScore ss
 scores_shown from [] few h = tt
 scores_shown from (s ∷ ss) few h =
     let both = length-append (agent_lines from s) (lines_of_parts agent_lines (from + 1) ss) in
-    (record { known = h.0; lines = omega (arith, few, both, fewer from s) }, scores_shown (from + 1) ss (omega (arith, few, both)) h.1)
+    (record { known = h.0; lines = omega (arith, few, both, agent_long from s) }, scores_shown (from + 1) ss (omega (arith, few, both)) h.1)
 
 pub shown_of : (sheet : List Scored) → length (sheet_part sheet) < 2 ^ 64 → length sheet ≡ 8 → AllByRecursion IsKnownScore sheet → IsShownSheet sheet
 shown_of sheet few eight h =
     let inner = length-append (lines_of_parts agent_lines 0 sheet) (codes "end" ∷ []) in
-    record { count = eight; scores = scores_shown 0 sheet (omega (arith, few, long (sheet_lines sheet), inner)) h }
+    record { count = eight; scores = scores_shown 0 sheet (omega (arith, few, lines_short (codes "sheet" ∷ [] ++ (lines_of_parts agent_lines 0 sheet ++ codes "end" ∷ [])), inner)) h }

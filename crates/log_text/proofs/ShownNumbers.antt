@@ -2,26 +2,37 @@
 use Rattle.std.proofs.Common.{◌≡◌, ℕ, ◌≤◌, length, arith, ℤ}
 use Rattle.std.proofs.lemmas.Int.{ints}
 use Rattle.std.proofs.lemmas.List.Elements.{recursion_from_All, All-weaker}
-use Rattle.tac_base.specs.declared.calls.Trade.{Trade}
-use Rattle.tac_base.specs.Ranges.{IsNet, IsTrade}
-use Rattle.auction_rules.specs.History.{Entry}
-use Rattle.trade_ledger.specs.declared.cash_calls.CashCall.{CashCall}
-use Rattle.trade_ledger.specs.declared.cash_calls.CashCall.TheVariants.{Post, Read}
-use Rattle.trade_ledger.specs.declared.cash_calls.CashReply.{CashReply}
-use Rattle.trade_ledger.specs.declared.cash_calls.CashReply.TheVariants.{Done, Cash}
-use Rattle.trade_ledger.specs.declared.cash_calls.CashEntry.{CashEntry}
+use Rattle.log_text.specs.{Call, Reply, Trade, IsCall, IsNet, IsReply, IsTrade, Entry, CashCall, Post, Read, CashReply, Done, Cash, CashEntry, AuctionHistory, IsEntry, IsHistory, IsNumber, IsSigned, IsShownCall, IsShownReply, AreTradeNumbers, IsShownEntry, IsAuction, AreCashNumbers, IsShownCashReply, FitsCall, IsCashEntry}
+use Rattle.tac_base.specs.declared.calls.Call.TheVariants as calls
+use Rattle.tac_base.specs.declared.calls.Reply.TheVariants as replies
 use Rattle.trade_ledger.specs.CashKeeping.{IsCashCall, IsCashReply, IsLoggableCash}
-use Rattle.auction_core.specs.Auctions.{AuctionHistory}
-use Rattle.auction_core.specs.Ranges.{IsEntry, IsHistory}
-use Rattle.log_text.specs.Logged.{IsNumber, IsSigned, AreTradeNumbers, IsShownEntry, IsAuction, AreCashNumbers, IsShownCashReply, FitsCall, IsCashEntry}
-use Rattle.log_text.proofs.EntryFormLaws.{logged_call, logged_reply}
 
 pub number_is : (n : ℕ) → n ≤ 4294967295 → IsNumber n
 number_is n low = omega (arith, low)
 
 -- ---- histories
 
-trade_is : (good : ℕ) (t : Trade) → IsTrade good t → AreTradeNumbers t
+pub logged_call : (call : Call) → IsCall call → IsShownCall call
+logged_call (calls.Bid points) h = h
+logged_call calls.Withdraw h = tt
+logged_call calls.Own h = tt
+logged_call (calls.Update tick draw) h = let le = h.1 in let few = h.2 in (omega (arith, le), omega (arith, few))
+logged_call calls.Publish h = tt
+logged_call calls.Close h = tt
+
+pub logged_reply : (reply : Reply) → IsReply reply → IsShownReply reply
+logged_reply (replies.Taken bought sold) h = let a = h.0 in let b = h.1 in (omega (arith, a), omega (arith, b))
+logged_reply (replies.Own holding left) h = let a = h.0 in (omega (arith, a), h.1)
+logged_reply (replies.Sold units price) h = let a = h.0 in let b = h.1 in (omega (arith, a), omega (arith, b))
+logged_reply replies.Done h = tt
+logged_reply replies.Closed h = tt
+logged_reply replies.WrongCall h = tt
+logged_reply replies.NoBid h = tt
+logged_reply replies.Sell h = tt
+logged_reply replies.SelfCross h = tt
+logged_reply (replies.BelowQuote need at offered) h = let a = h.0 in let b = h.1 in let c = h.2 in (omega (arith, a), omega (arith, b), omega (arith, c))
+
+pub trade_is : (good : ℕ) (t : Trade) → IsTrade good t → AreTradeNumbers t
 trade_is good t is = record {
   buyer = number_is t.buyer (let low = is.buyer in omega (arith, low));
   seller = number_is t.seller (let low = is.seller in omega (arith, low));

@@ -1,21 +1,14 @@
 -- Trades and entries of auctions are determined by their lines.
-use Rattle.std.proofs.Common.{◌≡◌, ℕ, ◌^◌, ◌<◌, true, false, not, eqb, List, [], ◌∷◌, ◌++◌, length, map, get_or, drop, refl, sym, ap, subst, ◌∙◌, append_assoc, arith, decimal}
-use Rattle.std.specs.Prelude.{codes}
+use Rattle.std.proofs.Common.{◌≡◌, ℕ, ◌^◌, ◌<◌, true, false, not, eqb, List, [], ◌∷◌, ◌++◌, length, map, get_or, drop, refl, sym, ap, subst, ◌∙◌, append_assoc, arith, decimal, codes, flat_map}
 use Rattle.std.specs.Str.{all_ascii_digits}
-use Rattle.std.specs.List.{AllByRecursion, list_all, flat_map}
+use Rattle.std.specs.List.{AllByRecursion, list_all}
 use Rattle.std.proofs.lemmas.Bool.Decides.{nat_tests}
 use Rattle.std.proofs.lemmas.Fmt.{decimal_injective, decimal_nonempty}
 use Rattle.std.proofs.lemmas.List.{append_cancel_right}
-use Rattle.tac_base.specs.declared.calls.Call.{Call}
-use Rattle.tac_base.specs.declared.calls.Reply.{Reply}
-use Rattle.tac_base.specs.declared.calls.Trade.{Trade}
+use Rattle.log_text.specs.{Call, Reply, Trade, reply_text, Entry, AuctionHistory, call_text, trade_line, entry_line, entry_text, auction_line, AreTradeNumbers, IsShownEntry, IsAuction}
 use Rattle.tac_base.proofs.NumeralLaws.{both_true, decimal_digits}
 use Rattle.line_protocol.proofs.JoinedWords.{lacks}
-use Rattle.line_protocol.specs.Replies.{reply_text}
-use Rattle.auction_rules.specs.History.{Entry}
-use Rattle.auction_core.specs.Auctions.{AuctionHistory}
 use Rattle.log_text.proofs.InOrder.{kept_text}
-use Rattle.log_text.specs.{call_text, trade_line, entry_line, entry_text, auction_line, AreTradeNumbers, IsShownEntry, IsAuction}
 use Rattle.log_text.proofs.Cuts.{cut_same, lacks_append, IsWord, row, row_same, number_word, pieces_cons}
 use Rattle.log_text.proofs.Items.{both_all}
 use Rattle.log_text.proofs.Answered.{call_same, reply_same, call_lacks, reply_lacks}
@@ -37,14 +30,14 @@ record IsShownTrade (g : ℕ) (t : Trade) : Type 0 where
 trades_of_good : (g : ℕ) (e : Entry) → IsShownEntry g e → AllByRecursion (IsShownTrade g) e.trades
 trades_of_good g e h = both_all (λ (t : Trade). t.good ≡ g) AreTradeNumbers (IsShownTrade g) (λ t good numbers. record { good = good; numbers = numbers }) e.trades h.goods h.numbers.trades
 
-abbrev trade_words : Trade → List (List ℕ)
+abbrev pub trade_words : Trade → List (List ℕ)
 trade_words t = codes "trade" ∷ decimal t.buyer ∷ decimal t.seller ∷ decimal t.units ∷ decimal t.price ∷ []
 
-trade_row : (t : Trade) → trade_line t ≡ row (trade_words t)
+pub trade_row : (t : Trade) → trade_line t ≡ row (trade_words t)
 trade_row t = simp append_assoc
 
-trade_are : (g : ℕ) (t : Trade) → IsShownTrade g t → AllByRecursion IsWord (trade_words t)
-trade_are g t h = (known_word (codes "trade") refl refl, (number_word t.buyer h.numbers.buyer, (number_word t.seller h.numbers.seller, (number_word t.units h.numbers.units, (number_word t.price h.numbers.price, tt)))))
+pub trade_are : (t : Trade) → AreTradeNumbers t → AllByRecursion IsWord (trade_words t)
+trade_are t are = (known_word (codes "trade") refl refl, (number_word t.buyer are.buyer, (number_word t.seller are.seller, (number_word t.units are.units, (number_word t.price are.price, tt)))))
 
 abbrev made_trade : ℕ → ℕ → ℕ → ℕ → ℕ → Trade
 made_trade buyer seller good units price = record { buyer = buyer; seller = seller; good = good; units = units; price = price }
@@ -74,7 +67,7 @@ trades_same g [] [] rest more h k none none' e = (refl, e)
 trades_same g [] (u ∷ us) rest more h k none none' e = absurd (is_trade rest _ none (e ∙ trades_cons u us more))
 trades_same g (t ∷ ts) [] rest more h k none none' e = absurd (is_trade more _ none' (sym e ∙ trades_cons t ts rest))
 trades_same g (t ∷ ts) (u ∷ us) rest more h k none none' e =
-    let cut = row_same _ _ _ _ (flat_map trade_line ts ++ rest) (flat_map trade_line us ++ more) (trade_are g t h.0) (trade_are g u k.0) (sym (trades_cons t ts rest) ∙ e ∙ trades_cons u us more) in
+    let cut = row_same _ _ _ _ (flat_map trade_line ts ++ rest) (flat_map trade_line us ++ more) (trade_are t h.0.numbers) (trade_are u k.0.numbers) (sym (trades_cons t ts rest) ∙ e ∙ trades_cons u us more) in
     let first = trade_same g t u h.0 k.0 cut.0 in
     let others = trades_same g ts us rest more h.1 k.1 none none' cut.1 in
     (ap (λ (x : Trade). x ∷ ts) first ∙ ap (λ (xs : List Trade). u ∷ xs) others.0, others.1)
@@ -145,13 +138,13 @@ entries_same g (e ∷ es) (f ∷ fs) rest more h k n none none' same =
 
 -- ---- auctions
 
-abbrev auction_words : ℕ → ℕ → List (List ℕ)
+abbrev pub auction_words : ℕ → ℕ → List (List ℕ)
 auction_words good count = codes "auction" ∷ decimal good ∷ decimal count ∷ []
 
-auction_row : (good count : ℕ) → auction_line good count ≡ row (auction_words good count)
+pub auction_row : (good count : ℕ) → auction_line good count ≡ row (auction_words good count)
 auction_row good count = simp append_assoc
 
-auction_are : (good count : ℕ) → good < 2 ^ 64 → count < 2 ^ 64 → AllByRecursion IsWord (auction_words good count)
+pub auction_are : (good count : ℕ) → good < 2 ^ 64 → count < 2 ^ 64 → AllByRecursion IsWord (auction_words good count)
 auction_are good count h k = (known_word (codes "auction") refl refl, (number_word good h, (number_word count k, tt)))
 
 counts_same : (good other m n : ℕ) → auction_words good m ≡ auction_words other n → decimal m ≡ decimal n

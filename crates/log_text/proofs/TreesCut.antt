@@ -1,20 +1,15 @@
 -- Certificates are determined by their lines, whatever follows them.
-use Rattle.std.proofs.Common.{◌≡◌, ℕ, zero, suc, ◌^◌, ◌<◌, ◌≤◌, ◌&&◌, true, eqb, leb, ltb, List, [], ◌∷◌, ◌++◌, append_assoc, length, map, drop, get_or, refl, sym, ap, ◌∙◌, arith, ℤ, pos}
-use Rattle.std.specs.Prelude.{codes, unsigned_abs}
+use Rattle.std.proofs.Common.{◌≡◌, ℕ, zero, suc, ◌^◌, ◌<◌, ◌≤◌, true, eqb, leb, List, [], ◌∷◌, ◌++◌, append_assoc, length, map, drop, get_or, refl, sym, ap, ◌∙◌, arith, ℤ, pos, codes, unsigned_abs}
 use Rattle.std.specs.Fmt.{signed_decimal}
 use Rattle.std.specs.List.{list_all, AllByRecursion}
-use Rattle.std.proofs.lemmas.Bool.{eqb-true}
 use Rattle.std.proofs.lemmas.Bool.Decides.{nat_tests}
 use Rattle.std.proofs.lemmas.Grind.{flat_map-append}
 use Rattle.tac_base.proofs.NumeralLaws.{both_true}
-use Rattle.text_forms.specs.Lines.{text_of}
-use Rattle.text_forms.specs.Rows.{row_text}
+use Rattle.log_text.specs.{text_of, row_text, tree_lines, forest_lines, Tree, leaf, split, Trees, no_trees, more, tree_count, are_prices, is_tree, are_trees, IsSigned}
 use Rattle.text_forms.proofs.Columns.{abs_pos}
 use Rattle.packages.specs.Features.{values_of}
 use Rattle.bound_cert.specs.NodeLines.{leaf_text, split_text}
-use Rattle.bound_cert.specs.Texts.{tree_lines, forest_lines}
-use Rattle.bound_cert.specs.Trees.{Tree, leaf, split, Trees, no_trees, more, tree_count, are_prices, is_tree, are_trees}
-use Rattle.log_text.specs.Logged.{IsSigned}
+use Rattle.bound_cert.proofs.TreesAgain.{split_parts}
 use Rattle.log_text.proofs.Cuts.{IsWord, row_same, pieces_cons}
 use Rattle.log_text.proofs.Trades.{known_word}
 use Rattle.log_text.proofs.Histories.{signed_are, dollars_same}
@@ -62,27 +57,12 @@ prices_signed (price ∷ prices) h =
 prices_are : (prices : List ℕ) → are_prices prices ≡ true → AllByRecursion IsSigned (map pos prices)
 prices_are prices h = prices_signed prices (both_true (eqb (length prices) 28) (list_all (λ p. leb p 14001) prices) h).1
 
--- what holds of a split of a certificate
-record IsSplit (depth client feature : ℕ) (children : Trees) : Type 0 where
-  client_signed : IsSigned (pos client)
-  feature_signed : IsSigned (pos feature)
-  counted : tree_count children ≡ values_of feature
-  below : are_trees depth children ≡ true
-
-split_is : (depth client feature : ℕ) (children : Trees) → is_tree (suc depth) (split client feature children) ≡ true → IsSplit depth client feature children
-split_is depth client feature children h =
-    let all = both_true (ltb client 8 && ltb feature 4 && eqb (tree_count children) (values_of feature)) (are_trees depth children) h in
-    let three = both_true (ltb client 8 && ltb feature 4) (eqb (tree_count children) (values_of feature)) all.0 in
-    let two = both_true (ltb client 8) (ltb feature 4) three.0 in
-    let low : client < 8 = by_test client 8 two.0 in
-    let low' : feature < 4 = by_test feature 4 two.1 in
-    record { client_signed = small client 8 low (omega arith); feature_signed = small feature 4 low' (omega arith); counted = eqb-true (tree_count children) (values_of feature) three.1; below = all.1 }
-  where
-    by_test : (a b : ℕ) → ltb a b ≡ true → a < b
-    by_test a b e = grind (arith, nat_tests)
-
-    small : (a b : ℕ) → a < b → b ≤ 8 → a < 2 ^ 64
-    small a b lt le = omega (arith, lt, le)
+-- the numbers of a split have one word each
+split_signed : (client feature : ℕ) → client < 8 → feature < 4 → IsSigned (pos client) × IsSigned (pos feature)
+split_signed client feature low low' =
+    let small : client < 2 ^ 64 = omega (arith, low) in
+    let small' : feature < 2 ^ 64 = omega (arith, low') in
+    (small, small')
 
 words_differ : (ms ns : List (List ℕ)) → word_leaf ∷ ms ≡ word_split ∷ ns → ⊥
 words_differ ms ns e =
@@ -112,21 +92,24 @@ mutual
       no : is_tree zero (split client feature children) ≡ true → ⊥
       no f = cc
   tree_same (suc depth) (leaf prices) (split client feature children) us vs h k e =
-      let is = split_is depth client feature children k in
-      absurd (leaf_not_split prices client feature us (text_of (forest_lines children) ++ vs) (prices_are prices h) is.client_signed is.feature_signed
+      let is = split_parts depth client feature children k in
+      let signed = split_signed client feature is.in_client is.in_feature in
+      absurd (leaf_not_split prices client feature us (text_of (forest_lines children) ++ vs) (prices_are prices h) signed.0 signed.1
       (sym (text_cons (leaf_text prices) [] us) ∙ e ∙ text_cons (split_text client feature) (forest_lines children) vs))
   tree_same zero (split client feature children) u us vs h k e = absurd cc
   tree_same (suc depth) (split client feature children) (leaf prices) us vs h k e =
-      let is = split_is depth client feature children h in
-      absurd (leaf_not_split prices client feature vs (text_of (forest_lines children) ++ us) (prices_are prices k) is.client_signed is.feature_signed
+      let is = split_parts depth client feature children h in
+      let signed = split_signed client feature is.in_client is.in_feature in
+      absurd (leaf_not_split prices client feature vs (text_of (forest_lines children) ++ us) (prices_are prices k) signed.0 signed.1
       (sym (text_cons (leaf_text prices) [] vs) ∙ sym e ∙ text_cons (split_text client feature) (forest_lines children) us))
   tree_same (suc depth) (split client feature children) (split client' feature' children') us vs h k e =
-      let is = split_is depth client feature children h in let is' = split_is depth client' feature' children' k in
+      let is = split_parts depth client feature children h in let is' = split_parts depth client' feature' children' k in
+      let signed = split_signed client feature is.in_client is.in_feature in let signed' = split_signed client' feature' is'.in_client is'.in_feature in
       let cut = numbers_same word_split (pos client ∷ pos feature ∷ []) (pos client' ∷ pos feature' ∷ []) (text_of (forest_lines children) ++ us) (text_of (forest_lines children') ++ vs) is_word_split
-      (is.client_signed, (is.feature_signed, tt)) (is'.client_signed, (is'.feature_signed, tt))
+      (signed.0, (signed.1, tt)) (signed'.0, (signed'.1, tt))
       (sym (text_cons (split_text client feature) (forest_lines children) us) ∙ e ∙ text_cons (split_text client' feature') (forest_lines children') vs) in
       let both = first_is client feature client' feature' cut.0 in
-      let rest = forest_same depth children children' us vs is.below is'.below (is.counted ∙ ap values_of both.1 ∙ sym is'.counted) cut.1 in
+      let rest = forest_same depth children children' us vs is.fit is'.fit (is.count ∙ ap values_of both.1 ∙ sym is'.count) cut.1 in
       ((λ i. split (both.0 i) (both.1 i) (rest.0 i)), rest.1)
 
   forest_same : (depth : ℕ) (ts us : Trees) (rest more_rest : List ℕ) → are_trees depth ts ≡ true → are_trees depth us ≡ true → tree_count ts ≡ tree_count us →

@@ -1,25 +1,9 @@
 -- The text of the log of a game. Each of its lines ends with the byte 10.
-use Rattle.std.specs.Prelude.{ℕ, ℤ, List, [], ◌∷◌, ◌++◌, length, map, decimal, codes}
+use Rattle.std.specs.Prelude.{ℕ, ℤ, List, [], ◌∷◌, ◌++◌, length, map, decimal, codes, flat_map}
 use Rattle.std.specs.Fmt.{signed_decimal}
-use Rattle.std.specs.List.{flat_map, join_with_byte, enumerate_from}
-use Rattle.tac_base.specs.declared.calls.Call.{Call}
+use Rattle.std.specs.List.{join_with_byte, enumerate_from}
+use Rattle.log_text.specs.Prelude.{Call, Reply, Trade, spelling, reply_text, Entry, CashCall, Post, Read, CashReply, Done, Cash, CashEntry, ClosedGame, Verdict, Seated, Syntax, WrongWord, Taken, Lost, Cause, Quit, End, ReadFault, WriteFault, Budget, Head, Play, Serve}
 use Rattle.tac_base.specs.declared.calls.Call.TheVariants.{Bid, Withdraw, Own, Update, Publish, Close}
-use Rattle.tac_base.specs.declared.calls.Reply.{Reply}
-use Rattle.tac_base.specs.declared.calls.Trade.{Trade}
-use Rattle.bid_strings.specs.Spelling.{spelling}
-use Rattle.line_protocol.specs.Replies.{reply_text}
-use Rattle.auction_rules.specs.History.{Entry}
-use Rattle.trade_ledger.specs.declared.cash_calls.CashCall.{CashCall}
-use Rattle.trade_ledger.specs.declared.cash_calls.CashCall.TheVariants.{Post, Read}
-use Rattle.trade_ledger.specs.declared.cash_calls.CashReply.{CashReply}
-use Rattle.trade_ledger.specs.declared.cash_calls.CashReply.TheVariants.{Done, Cash}
-use Rattle.trade_ledger.specs.declared.cash_calls.CashEntry.{CashEntry}
-use Rattle.auction_core.specs.ClosedGame.{ClosedGame}
-use Rattle.line_protocol.specs.declared.admission.Verdict.{Verdict}
-use Rattle.line_protocol.specs.declared.admission.Verdict.TheVariants.{Seated, Syntax, WrongWord, Taken, Lost}
-use Rattle.line_protocol.specs.declared.admission.Cause.{Cause}
-use Rattle.line_protocol.specs.declared.admission.Cause.TheVariants.{Quit, End, ReadFault, WriteFault, Budget}
-use Rattle.line_protocol.specs.Heads.{Head, Play, Serve}
 
 -- a space and a number
 abbrev pub then_number : ℕ → List ℕ

@@ -1,24 +1,10 @@
 -- Which games have different logs, and what a log shows of them.
 use Rattle.std.specs.Prelude.{◌≡◌, ℕ, ◌^◌, ◌<◌, ⊤, List, ℤ, None, unsigned_abs, length, map}
 use Rattle.std.specs.List.{AllByRecursion}
-use Rattle.tac_base.specs.declared.calls.Call.{Call}
+use Rattle.log_text.specs.Prelude.{Call, Reply, Trade, fault_of, left_fault, Entry, CashCall, Post, Read, CashReply, Done, Cash, CashEntry, Verdict, Cause, AuctionHistory, ClosedGame, all_goods, Head, Play, Serve}
 use Rattle.tac_base.specs.declared.calls.Call.TheVariants as calls
-use Rattle.tac_base.specs.declared.calls.Reply.{Reply}
 use Rattle.tac_base.specs.declared.calls.Reply.TheVariants as replies
-use Rattle.tac_base.specs.declared.calls.Trade.{Trade}
-use Rattle.tac_base.specs.Bids.{fault_of, left_fault}
-use Rattle.auction_rules.specs.History.{Entry}
-use Rattle.trade_ledger.specs.declared.cash_calls.CashCall.{CashCall}
-use Rattle.trade_ledger.specs.declared.cash_calls.CashCall.TheVariants.{Post, Read}
-use Rattle.trade_ledger.specs.declared.cash_calls.CashReply.{CashReply}
-use Rattle.trade_ledger.specs.declared.cash_calls.CashReply.TheVariants.{Done, Cash}
-use Rattle.trade_ledger.specs.declared.cash_calls.CashEntry.{CashEntry}
-use Rattle.line_protocol.specs.declared.admission.Verdict.{Verdict}
 use Rattle.line_protocol.specs.declared.admission.Verdict.TheVariants as verdicts
-use Rattle.line_protocol.specs.declared.admission.Cause.{Cause}
-use Rattle.auction_core.specs.Auctions.{AuctionHistory}
-use Rattle.auction_core.specs.ClosedGame.{ClosedGame, all_goods}
-use Rattle.line_protocol.specs.Heads.{Head, Play, Serve}
 
 -- numbers of 64 bits, which all shown numbers are
 abbrev pub IsNumber : ℕ → Type 0

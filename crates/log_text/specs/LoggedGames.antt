@@ -1,23 +1,8 @@
 -- What a log says, which values it may have, and its text.
-use Rattle.std.specs.Prelude.{◌≡◌, ℕ, ◌+◌, ◌<◌, ◌≤◌, ◌^◌, ⊤, List, [], ◌∷◌, ◌++◌, length, unsigned_abs}
-use Rattle.std.specs.List.{All}
-use Rattle.tac_base.specs.declared.limits.TheConstants.{AGENTS, BEST_TOTAL, CASH_ENTRIES, GOODS, TEXT_BYTES}
-use Rattle.tac_base.specs.Ranges.{IsPost, IsCashReading}
-use Rattle.auction_rules.specs.History.{Entry}
-use Rattle.auction_core.specs.Ranges.{IsHistory}
-use Rattle.trade_ledger.specs.declared.cash_calls.CashCall.{CashCall}
-use Rattle.trade_ledger.specs.declared.cash_calls.CashCall.TheVariants.{Post, Read}
-use Rattle.trade_ledger.specs.declared.cash_calls.CashReply.{CashReply}
-use Rattle.trade_ledger.specs.declared.cash_calls.CashReply.TheVariants.{Done, Cash}
-use Rattle.trade_ledger.specs.declared.cash_calls.CashEntry.{CashEntry}
+use Rattle.std.specs.Prelude.{◌≡◌, ℕ, ◌+◌, ◌<◌, ◌≤◌, ◌^◌, ⊤, List, [], ◌∷◌, ◌++◌, length, unsigned_abs, All}
+use Rattle.log_text.specs.Prelude.{AGENTS, BEST_TOTAL, CASH_ENTRIES, GOODS, TEXT_BYTES, IsPost, IsCashReading, Entry, IsHistory, CashCall, Post, Read, CashReply, Done, Cash, CashEntry, IsCertificate, tree_lines, Scored, Verdict, Cause, Head, Play, Serve}
 use Rattle.packages.specs.Packages.{IsPackage}
-use Rattle.bound_cert.specs.Trees.{IsCertificate}
-use Rattle.bound_cert.specs.Texts.{tree_lines}
-use Rattle.settlement.specs.Sheets.{Scored}
-use Rattle.line_protocol.specs.declared.admission.Verdict.{Verdict}
 use Rattle.line_protocol.specs.declared.admission.Verdict.TheVariants as verdicts
-use Rattle.line_protocol.specs.declared.admission.Cause.{Cause}
-use Rattle.line_protocol.specs.Heads.{Head, Play, Serve}
 use Rattle.log_text.specs.LogText.{first_lines, histories_text}
 use Rattle.log_text.specs.SheetText.{sheet_part}
 

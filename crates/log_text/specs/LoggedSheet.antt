@@ -1,12 +1,7 @@
 -- Which sheets have different texts.
 use Rattle.std.specs.Prelude.{◌≡◌, ℕ, ⊤, List, length, slice_index}
 use Rattle.std.specs.List.{AllByRecursion}
-use Rattle.tac_base.specs.declared.limits.TheConstants.{AGENTS}
-use Rattle.packages.specs.declared.travel_packages.Package.{Package}
-use Rattle.packages.specs.declared.travel_packages.Package.TheVariants.{None, Trip}
-use Rattle.bound_cert.specs.Texts.{tree_lines}
-use Rattle.bound_cert.specs.Trees.{IsCertificate}
-use Rattle.settlement.specs.Sheets.{Scored}
+use Rattle.log_text.specs.Prelude.{AGENTS, Package, None, Trip, tree_lines, IsCertificate, Scored}
 use Rattle.log_text.specs.Logged.{IsNumber, IsSigned}
 
 -- a night for each of the three ticket types

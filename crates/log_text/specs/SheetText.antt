@@ -1,14 +1,6 @@
 -- The text of a game's sheet: the second part of its log.
 use Rattle.std.specs.Prelude.{ℕ, List, [], ◌∷◌, ◌++◌, pos, length, codes, slice_index}
-use Rattle.text_forms.specs.Lines.{text_of}
-use Rattle.text_forms.specs.Rows.{row_text}
-use Rattle.text_forms.specs.Steps.{lines_of_parts, one_line}
-use Rattle.packages.specs.declared.travel_packages.Package.{Package}
-use Rattle.packages.specs.declared.travel_packages.Package.TheVariants.{None, Trip}
-use Rattle.bound_cert.specs.Texts.{tree_lines}
-use Rattle.settlement.specs.Sheets.{Scored}
-use Rattle.auction_core.specs.ClosedGame.{ClosedGame}
-use Rattle.line_protocol.specs.Heads.{Head}
+use Rattle.log_text.specs.Prelude.{text_of, row_text, lines_of_parts, one_line, Package, None, Trip, tree_lines, Scored, ClosedGame, Head}
 use Rattle.log_text.specs.LogText.{then_number, play_part}
 
 -- score A BEST CASH SHORT SCORE
@@ -29,16 +21,11 @@ cert_line agent count = codes "cert" ++ then_number agent ++ then_number count
 abbrev pub agent_lines : ℕ → Scored → List (List ℕ)
 agent_lines agent scored =
     score_line agent scored ∷ []
-    ++ (lines_of_parts (one_line (package_line agent)) 0 scored.allocation
-    ++ (cert_line agent (length (tree_lines scored.tree)) ∷ tree_lines scored.tree))
+    ++ (lines_of_parts (one_line (package_line agent)) 0 scored.allocation ++ (cert_line agent (length (tree_lines scored.tree)) ∷ tree_lines scored.tree))
 
--- the agents in order
-abbrev pub sheet_lines : List Scored → List (List ℕ)
-sheet_lines sheet = codes "sheet" ∷ [] ++ (lines_of_parts agent_lines 0 sheet ++ codes "end" ∷ [])
-
--- the second part of a log
+-- the second part of a log: the lines of the agents in order between `sheet` and `end`
 abbrev pub sheet_part : List Scored → List ℕ
-sheet_part sheet = text_of (sheet_lines sheet)
+sheet_part sheet = text_of (codes "sheet" ∷ [] ++ (lines_of_parts agent_lines 0 sheet ++ codes "end" ∷ []))
 
 -- the whole log of a game
 abbrev pub log_text : Head → ClosedGame → List Scored → List ℕ

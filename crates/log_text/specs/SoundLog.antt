@@ -1,23 +1,15 @@
 -- When the log of a game is sound.
 use Rattle.std.specs.Prelude.{◌≡◌, ℕ, ◌≤◌, ◌<◌, ◌==◌, ⊤, Bool, false, nat_lt, List, [], length, map, filter, count_by, slice_index_or}
 use Rattle.std.specs.List.{list_any, enumerate_from}
-use Rattle.tac_base.specs.declared.calls.Call.{Call}
-use Rattle.tac_base.specs.declared.limits.TheConstants.{GOODS, LINKS, TICKS}
+use Rattle.log_text.specs.Prelude.{Call, GOODS, LINKS, TICKS, Entry, AuctionHistory, IsSheet, Verdict, Seated, Syntax, WrongWord, Taken, Lost, Cause, Head, Play, Serve}
 use Rattle.tac_base.specs.Goods.{agents, clock}
 use Rattle.game_text.specs.Games.{GameFile}
 use Rattle.game_text.specs.Schedule.{clock_calls}
-use Rattle.auction_rules.specs.History.{Entry}
 use Rattle.auction_rules.specs.Legal.{Legal}
 use Rattle.trade_ledger.specs.CashHistory.{IsLegalCash}
 use Rattle.trade_ledger.specs.Posts.{Matched}
-use Rattle.auction_core.specs.Auctions.{AuctionHistory}
 use Rattle.auction_core.specs.Setups.{setup_of}
 use Rattle.settlement.specs.Settlement.{settlement_of}
-use Rattle.settlement.specs.Sheets.{IsSheet}
-use Rattle.line_protocol.specs.declared.admission.Verdict.{Verdict}
-use Rattle.line_protocol.specs.declared.admission.Verdict.TheVariants.{Seated, Syntax, WrongWord, Taken, Lost}
-use Rattle.line_protocol.specs.declared.admission.Cause.{Cause}
-use Rattle.line_protocol.specs.Heads.{Head, Play, Serve}
 use Rattle.log_text.specs.LoggedGames.{LoggedGame}
 
 -- the history of a good

@@ -1,7 +1,5 @@
 ghost use Rattle.std.specs.Prelude.{◌≡◌, ◌++◌, ℕ, List};
-ghost use Rattle.auction_core.specs.ClosedGame.{ClosedGame};
-ghost use Rattle.line_protocol.specs.Heads.{Head};
-ghost use Rattle.log_text.specs.{play_part, IsHead, IsPlayed, HaveOneHistory};
+ghost use Rattle.log_text.specs.{ClosedGame, Head, play_part, IsHead, IsPlayed, HaveOneHistory};
 
 /// The law of logs, as this call's contract: a text begins with at most one first part of a log. So games with
 /// different heads or histories have different parts, whatever follows them.

@@ -1,8 +1,5 @@
 ghost use Rattle.std.specs.Prelude.{◌≡◌, ◌++◌, ℕ, List};
-ghost use Rattle.auction_core.specs.ClosedGame.{ClosedGame};
-ghost use Rattle.settlement.specs.Sheets.{Scored};
-ghost use Rattle.line_protocol.specs.Heads.{Head};
-ghost use Rattle.log_text.specs.{IsHead, IsPlayed, HaveOneHistory, IsShownSheet, sheet_part, log_text};
+ghost use Rattle.log_text.specs.{ClosedGame, Scored, Head, IsHead, IsPlayed, HaveOneHistory, IsShownSheet, sheet_part, log_text};
 
 /// The law of sheets, as this call's contract: a text begins with at most one second part of a log.
 pub fn one_sheet()

@@ -1,13 +1,13 @@
 -- The list of all packages, computed.
-use Rattle.std.proofs.Common.{◌≡◌, ℕ, zero, suc, ◌&&◌, ◌-◌, ◌%◌, ◌<◌, ◌≤◌, Bool, true, List, [], ◌∷◌, Some, None, option_map, false, length, get_or, map, eqb, ltb, cond, refl, sym, ap, ◌∙◌, arith}
+use Rattle.std.proofs.Common.{◌≡◌, ℕ, zero, suc, ◌-◌, ◌%◌, ◌<◌, ◌≤◌, true, List, [], ◌∷◌, Some, None, option_map, false, length, get_or, map, eqb, ltb, cond, refl, sym, ap, ◌∙◌, arith, slice_get}
 use Rattle.std.proofs.lemmas.List.FromFn.{length-range_with_len, get_or-range_with_len}
 use Rattle.std.proofs.lemmas.Option.{slice_get-map, slice_get-get_or, slice_get_past}
 use Rattle.std.proofs.lemmas.Bool.Decides.{nat_tests}
-use Rattle.std.specs.List.{list_all, range_with_len, slice_get}
+use Rattle.std.specs.List.{list_all, range_with_len}
+use Rattle.std.proofs.lemmas.Bool.{and_parts}
 use Rattle.packages.specs.declared.travel_packages.Package.TheVariants.{None as None', Trip}
 use Rattle.packages.specs.declared.listing.TheConstants.{NIGHTS}
-use Rattle.packages.specs.Packages.{is_package}
-use Rattle.packages.specs.Listing.{packages, night_of}
+use Rattle.packages.specs.{is_package, packages, night_of}
 use Rattle.packages.specs.Decoding.{package_at, trip_package, trip_at, nights_at}
 
 pub length-packages : length packages ≡ 393
@@ -25,14 +25,6 @@ packages_are = refl
 
 pub small_nights : list_all (λ nights. list_all (λ night. ltb night 5) nights) NIGHTS ≡ true
 small_nights = refl
-
-and-left : (a b : Bool) → (a && b) ≡ true → a ≡ true
-and-left true b h = refl
-and-left false b h = h
-
-and-right : (a b : Bool) → (a && b) ≡ true → b ≡ true
-and-right true b h = h
-and-right false b h = cc
 
 pub package_is : (n : ℕ) → n < 393 → slice_get packages n ≡ Some (package_at n)
 package_is n h = ap (λ ps. slice_get ps n) packages_are ∙ slice_get-map package_at (range_with_len 0 393) n ∙ ap (option_map package_at) (slice_get-get_or (range_with_len 0 393) n 0 (omega (arith, length-range_with_len 0 393)) ∙ ap Some (get_or-range_with_len 0 393 n 0 h ∙ omega arith))
@@ -55,12 +47,12 @@ package_trip n hotel trip nights x y z some few is_hotel is_trip is_nights is_x 
 small_row : (row : List ℕ) → list_all (λ night. ltb night 5) row ≡ true → (k : ℕ) → get_or row k 0 < 5
 small_row [] h k = omega arith
 small_row (night ∷ row) h zero = grind (arith, nat_tests)
-small_row (night ∷ row) h (suc k) = small_row row (and-right (ltb night 5) (list_all (λ n. ltb n 5) row) h) k
+small_row (night ∷ row) h (suc k) = small_row row (and_parts (ltb night 5) (list_all (λ n. ltb n 5) row) h).1 k
 
 small_in : (rows : List (List ℕ)) → list_all (λ row. list_all (λ night. ltb night 5) row) rows ≡ true → (i k : ℕ) → get_or (get_or rows i []) k 0 < 5
 small_in [] h i k = omega arith
-small_in (row ∷ rows) h zero k = small_row row (and-left (list_all (λ night. ltb night 5) row) (list_all (λ row. list_all (λ night. ltb night 5) row) rows) h) k
-small_in (row ∷ rows) h (suc i) k = small_in rows (and-right (list_all (λ night. ltb night 5) row) (list_all (λ row. list_all (λ night. ltb night 5) row) rows) h) i k
+small_in (row ∷ rows) h zero k = small_row row (and_parts (list_all (λ night. ltb night 5) row) (list_all (λ row. list_all (λ night. ltb night 5) row) rows) h).0 k
+small_in (row ∷ rows) h (suc i) k = small_in rows (and_parts (list_all (λ night. ltb night 5) row) (list_all (λ row. list_all (λ night. ltb night 5) row) rows) h).1 i k
 
 -- a night of a ticket choice is at most 4
 pub night_small : (nights : List ℕ) (number k : ℕ) → nights ≡ nights_at number → get_or nights k 0 < 5

@@ -1,5 +1,5 @@
 -- Every package is in the list.
-use Rattle.std.proofs.Common.{◌≡◌, ℕ, ◌<◌, ◌&&◌, Bool, true, false, List, [], ◌∷◌, Contains, zero, suc, length, get_or, eqb, bytes_eq, IfSome, IsSome, IsTrue, is_some, inl, inr, not, Some, None as Nothing, Option, refl, sym, ap, subst, ◌∙◌, arith}
+use Rattle.std.proofs.Common.{◌≡◌, ℕ, ◌<◌, ◌&&◌, Bool, true, false, List, [], ◌∷◌, Contains, zero, suc, length, get_or, eqb, bytes_eq, IfSome, IsSome, IsTrue, is_some, inl, inr, not, Some, None as Nothing, Option, refl, sym, ap, subst, ◌∙◌, arith, filter, slice_get}
 use Rattle.std.proofs.lemmas.List.FromFn.{length-range_with_len, get_or-range_with_len}
 use Rattle.std.proofs.lemmas.List.Elements.{All-contains}
 use Rattle.std.proofs.lemmas.List.Sums.{AllPass-from_list_all}
@@ -7,11 +7,10 @@ use Rattle.std.proofs.lemmas.List.Folds.{Any-from_list_any, list_any_at}
 use Rattle.std.proofs.lemmas.Bool.{and_parts, false≢true, cases_lt}
 use Rattle.std.proofs.lemmas.Bool.Decides.{nat_tests}
 use Rattle.std.proofs.lemmas.Slice.Eq.{bytes_eq-Decides}
-use Rattle.std.specs.List.{list_all, list_any, filter, range_with_len, slice_get}
+use Rattle.std.specs.List.{list_all, list_any, range_with_len}
 use Rattle.packages.specs.declared.travel_packages.Package.{Package}
 use Rattle.packages.specs.declared.travel_packages.Package.TheVariants.{None, Trip}
-use Rattle.packages.specs.Packages.{is_package, is_night}
-use Rattle.packages.specs.Listing.{packages}
+use Rattle.packages.specs.{is_package, is_night, packages}
 use Rattle.packages.proofs.Decoded.{length-packages, all_packages, package_none, package_past}
 use Rattle.std.proofs.lemmas.Option.{get_or_from_slice_get, slice_get-get_or, slice_get_within}
 

@@ -4,4 +4,3 @@ pub mod Sums
 pub mod Trips
 pub mod Margins
 pub mod PriceLists
-pub mod Worked

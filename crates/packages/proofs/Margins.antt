@@ -1,9 +1,9 @@
 -- The greatest margin, package by package.
-use Rattle.std.proofs.Common.{IfSome, subst, ◌≡◌, ℕ, zero, suc, ◌+◌, ◌<◌, ◌≤◌, ℤ, pos, Bool, true, false, List, [], ◌∷◌, Option, Some, None, map, drop, length, refl, sym, ap, arith, drop-cons, add-one}
+use Rattle.std.proofs.Common.{IfSome, subst, ◌≡◌, ℕ, ◌+◌, ◌<◌, ◌≤◌, ℤ, pos, Bool, true, false, List, ◌∷◌, Option, Some, None, map, drop, length, refl, sym, ap, arith, drop-cons, add-one, filter, slice_get}
 use Rattle.std.proofs.lemmas.Int.{ints}
 use Rattle.std.proofs.lemmas.Option.{get_or_from_slice_get, slice_get_within}
 use Rattle.std.specs.Int.{int_max}
-use Rattle.std.specs.List.{filter, slice_get}
+use Rattle.std.proofs.lemmas.List.{drop_all}
 use Rattle.tac_base.specs.Clients.{Preferences}
 use Rattle.packages.specs.Bounds.{greater, greatest, plus, margins, Narrowing}
 
@@ -38,14 +38,8 @@ greater_none : (most : Option ℤ) → greater most None ≡ most
 greater_none None = refl
 greater_none (Some a) = refl
 
-pub drop_past : {X : Type 0} (xs : List X) (n : ℕ) → length xs ≤ n → drop n xs ≡ []
-drop_past [] zero h = refl
-drop_past [] (suc n) h = refl
-drop_past (x ∷ xs) zero h = absurd (omega arith)
-drop_past (x ∷ xs) (suc n) h = drop_past xs n (omega arith)
-
 pub greatest_done : {X : Type 0} (f : X → ℤ) (p : X → Bool) (xs : List X) (n : ℕ) (most : Option ℤ) → length xs ≤ n → greater most (greatest_from f p xs n) ≡ most
-greatest_done f p xs n most h = rw (drop_past xs n h) (greater_none most)
+greatest_done f p xs n most h = rw (drop_all n xs h) (greater_none most)
 
 pub if_some_is : (P : ℤ → Type 0) (a b : Option ℤ) → a ≡ b → IfSome b P → IfSome a P
 if_some_is P a b h p = subst (λ o. IfSome o P) (sym h) p
@@ -55,4 +49,4 @@ plus_zero None = refl
 plus_zero (Some a) = ap Some (omega (arith, ints))
 
 pub plus_done : (bound : Option ℤ) (left : Narrowing) (prices : List ℕ) (clients : List Preferences) (n : ℕ) → length clients ≤ n → plus bound (margins left prices n (drop n clients)) ≡ bound
-plus_done bound left prices clients n h = rw (drop_past clients n h) (plus_zero bound)
+plus_done bound left prices clients n h = rw (drop_all n clients h) (plus_zero bound)

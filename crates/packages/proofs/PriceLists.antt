@@ -1,6 +1,5 @@
 -- Prices in their range.
-use Rattle.std.proofs.Common.{ℕ, ◌≤◌, refl}
-use Rattle.std.proofs.Math.ListN.{replicate}
+use Rattle.std.proofs.Common.{ℕ, ◌≤◌, refl, replicate}
 use Rattle.std.proofs.lemmas.List.Elements.{All-replicate}
 use Rattle.tac_base.specs.declared.limits.TheConstants.{DUAL_PRICE}
 use Rattle.packages.specs.Prices.{ArePrices}

@@ -2,8 +2,7 @@
 use Rattle.std.proofs.Common.{◌≡◌, ℕ, zero, suc, ◌+◌, ◌-◌, ◌*◌, ◌<◌, ◌≤◌, ◌&&◌, Bool, true, false, List, cond, eqb, ltb, leb, get_or, ◌∙◌, arith}
 use Rattle.std.proofs.lemmas.Bool.Decides.{nat_tests}
 use Rattle.packages.specs.declared.travel_packages.Package.TheVariants.{None, Trip}
-use Rattle.packages.specs.Packages.{is_package, one_if, use_of}
-use Rattle.packages.specs.Bounds.{cost_of}
+use Rattle.packages.specs.{is_package, one_if, use_of, cost_of}
 use Rattle.tac_base.specs.Goods.{hotel_night}
 use Rattle.packages.specs.Costs.{rooms_price, ticket_price}
 use Rattle.packages.proofs.Found.{ranges_of, night_ranges}

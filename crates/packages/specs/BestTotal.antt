@@ -1,6 +1,5 @@
 -- What eight packages use and are worth together, and the best that they can be worth.
-use Rattle.std.specs.Prelude.{◌≡◌, ℕ, ◌+◌, ◌<◌, ◌≤◌, List, [], ◌∷◌, length}
-use Rattle.std.specs.List.{All, sum_by}
+use Rattle.std.specs.Prelude.{◌≡◌, ℕ, ◌+◌, ◌<◌, ◌≤◌, List, [], ◌∷◌, length, All, sum_by}
 use Rattle.tac_base.specs.Clients.{Preferences}
 use Rattle.tac_base.specs.declared.limits.TheConstants.{GOODS}
 use Rattle.game_text.specs.Accounts.{AccountFile}

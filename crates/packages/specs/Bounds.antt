@@ -1,6 +1,5 @@
 -- What prices say about every allocation.
-use Rattle.std.specs.Prelude.{ℕ, zero, suc, ◌+◌, ◌*◌, ℤ, pos, ◌+ℤ◌, ◌-ℤ◌, Bool, List, [], ◌∷◌, map, Option, Some, None, slice_index}
-use Rattle.std.specs.List.{filter}
+use Rattle.std.specs.Prelude.{ℕ, zero, suc, ◌+◌, ◌*◌, ℤ, pos, ◌+ℤ◌, ◌-ℤ◌, Bool, List, [], ◌∷◌, map, Option, Some, None, slice_index, filter}
 use Rattle.std.specs.Int.{int_max}
 use Rattle.tac_base.specs.Clients.{Preferences}
 use Rattle.tac_base.specs.declared.limits.TheConstants.{GOODS}

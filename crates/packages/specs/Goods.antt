@@ -22,7 +22,7 @@ good_number (ticket kind night) = ticket_night kind night
 -- the good of a number
 abbrev pub thing_of : ℕ → Thing
 thing_of good =
-    if nat_lt good (outbound_flight 2) then inbound (good + 1)
-    else if nat_lt good (hotel_night 0 1) then outbound (good - 2)
-    else if nat_lt good (ticket_night 0 1) then room ((good - hotel_night 0 1) / 4) ((good - hotel_night 0 1) % 4 + 1)
-    else ticket ((good - ticket_night 0 1) / 4) ((good - ticket_night 0 1) % 4 + 1)
+    if nat_lt good 4 then inbound (good + 1)
+    else if nat_lt good 8 then outbound (good - 2)
+    else if nat_lt good 16 then room ((good - 8) / 4) ((good - 8) % 4 + 1)
+    else ticket ((good - 16) / 4) ((good - 16) % 4 + 1)

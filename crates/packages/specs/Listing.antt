@@ -1,6 +1,5 @@
 -- All packages, each once.
-use Rattle.std.specs.Prelude.{ℕ, zero, suc, ◌+◌, ◌-◌, ◌==◌, ◌&&◌, List, [], ◌∷◌, ◌++◌, map, max, if◌then◌else◌}
-use Rattle.std.specs.List.{flat_map, filter, fold}
+use Rattle.std.specs.Prelude.{ℕ, zero, suc, ◌+◌, ◌-◌, ◌==◌, ◌&&◌, List, [], ◌∷◌, ◌++◌, map, max, if◌then◌else◌, flat_map, filter, fold}
 use Rattle.packages.specs.declared.travel_packages.Package.{Package}
 use Rattle.packages.specs.declared.travel_packages.Package.TheVariants.{None, Trip}
 use Rattle.packages.specs.Packages.{are_apart}

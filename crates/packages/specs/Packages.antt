@@ -1,6 +1,7 @@
 -- What a package is, what it uses and what it is worth to a client.
 use Rattle.std.specs.Prelude.{ℕ, ◌+◌, ◌-◌, ◌*◌, ◌==◌, ◌&&◌, ◌||◌, not, Bool, true, List, [], ◌∷◌, length, nat_lt, nat_le, slice_index, IsTrue, if◌then◌else◌}
 use Rattle.std.specs.List.{list_all, list_any}
+use Rattle.std.specs.Int.{abs_diff}
 use Rattle.tac_base.specs.Clients.{Preferences}
 use Rattle.packages.specs.declared.travel_packages.Package.{Package}
 use Rattle.packages.specs.declared.travel_packages.Package.TheVariants.{None, Trip}
@@ -40,10 +41,6 @@ used (Trip hotel arrive depart nights) (ticket kind night) = one_if (slice_index
 abbrev pub use_of : Package → ℕ → ℕ
 use_of p good = used p (thing_of good)
 
--- how many days lie between
-abbrev pub distance : ℕ → ℕ → ℕ
-distance a b = (a - b) + (b - a)
-
 -- the value of a ticket type, if it has a night
 abbrev pub fun_of : List ℕ → List ℕ → ℕ → ℕ
 fun_of values nights kind = if slice_index nights kind == 0 then 0 else slice_index values kind
@@ -52,6 +49,5 @@ fun_of values nights kind = if slice_index nights kind == 0 then 0 else slice_in
 abbrev pub utility_of : Preferences → Package → ℕ
 utility_of client None = 0
 utility_of client (Trip hotel arrive depart nights) =
-    1000 - 100 * (distance arrive client.arrive + distance depart client.depart)
-    + (if hotel == 1 then client.premium else 0)
+    1000 - 100 * (abs_diff arrive client.arrive + abs_diff depart client.depart) + (if hotel == 1 then client.premium else 0)
     + fun_of client.values nights 0 + fun_of client.values nights 1 + fun_of client.values nights 2

@@ -1,6 +1,5 @@
 -- What prices are.
-use Rattle.std.specs.Prelude.{◌≡◌, ℕ, ◌≤◌, List, length}
-use Rattle.std.specs.List.{All}
+use Rattle.std.specs.Prelude.{◌≡◌, ℕ, ◌≤◌, List, length, All}
 use Rattle.tac_base.specs.declared.limits.TheConstants.{DUAL_PRICE, GOODS}
 
 -- a price for each of the 28 goods, none of which is above the highest

@@ -1,6 +1,5 @@
 // What eight packages use and are worth together.
-ghost use Rattle.std.specs.Prelude.{◌≡◌, ℕ, ◌<◌, ◌≤◌, false, nat_le, length, IsTrue};
-ghost use Rattle.std.specs.List.{All};
+ghost use Rattle.std.specs.Prelude.{◌≡◌, ℕ, ◌<◌, ◌≤◌, false, nat_le, length, IsTrue, All};
 ghost use Rattle.tac_base.specs.declared.limits.TheConstants.{BEST_TOTAL};
 ghost use Rattle.packages.specs.BestTotal.{total_of, used_by};
 ghost use Rattle.packages.specs.Packages.{IsPackage};

@@ -1,8 +1,7 @@
 ghost use Rattle.std.specs.Prelude.{◌≡◌, ◌<◌, ◌≤◌, ◌*◌, ◌+◌, slice_index};
 ghost use Rattle.tac_base.specs.declared.limits.TheConstants.{DUAL_PRICE};
-ghost use Rattle.packages.specs.Bounds.{cost_of};
+ghost use Rattle.packages.specs.{cost_of, IsPackage};
 ghost use Rattle.packages.specs.Costs.{rooms_price, ticket_price};
-ghost use Rattle.packages.specs.Packages.{IsPackage};
 
 use crate::prices::Prices;
 use crate::travel_packages::Package;

@@ -1,7 +1,6 @@
 ghost use Rattle.std.specs.Prelude.{◌≡◌, ◌≢◌, ℕ, ◌<◌, ◌↔◌, Contains, IsSome, IfSome, slice_get};
 ghost use Rattle.packages.specs.declared.travel_packages.Package.{Package};
-ghost use Rattle.packages.specs.Packages.{IsPackage};
-ghost use Rattle.packages.specs.Listing.{packages, night_of};
+ghost use Rattle.packages.specs.{IsPackage, packages, night_of};
 ghost use Rattle.packages.specs.Decoding.{trip_at, nights_at};
 
 use crate::travel_packages::Package;

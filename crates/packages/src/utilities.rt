@@ -1,12 +1,13 @@
 ghost use Rattle.std.specs.Prelude.{◌≡◌, ◌<◌, ◌≤◌};
-ghost use Rattle.packages.specs.Packages.{IsPackage, distance, fun_of, utility_of};
+ghost use Rattle.std.specs.Int.{abs_diff};
+ghost use Rattle.packages.specs.Packages.{IsPackage, fun_of, utility_of};
 
 use crate::travel_packages::Package;
 use tac_base::Client;
 
 /// How many days lie between.
 fn days_between(a: u8, b: u8) -> u32
-    ensures { result ≡ distance a b }
+    ensures { result ≡ abs_diff a b }
 {
     u32::from(a.abs_diff(b))
 }

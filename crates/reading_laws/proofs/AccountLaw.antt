@@ -1,12 +1,8 @@
 -- The first bad line of account files.
-use Rattle.std.proofs.Common.{◌≡◌, ℕ, ◌≤◌, ◌↔◌, true, false, ltb, List, length, Ok, refl, sym, ap, ◌∙◌}
-use Rattle.std.proofs.lemmas.Bool.{le-ltb}
-use Rattle.text_forms.specs.Lines.{reason_number}
+use Rattle.std.proofs.Common.{◌≡◌, ℕ, ◌≤◌, ◌↔◌, true, false, ltb, List, length, Ok, refl, sym, ap, ◌∙◌, le-ltb}
+use Rattle.reading_laws.specs.{reason_number, or_game_fault, AccountFile, account_lines, account_in, account_of, IsFirstBadLine}
 use Rattle.text_forms.proofs.PrintedLines.{left_ahead}
-use Rattle.game_text.specs.Faults.{or_game_fault}
-use Rattle.game_text.specs.Accounts.{AccountFile, account_lines, account_in, account_of}
 use Rattle.game_text.proofs.AccountLaws.{account_in_is, account_in_again}
-use Rattle.reading_laws.specs.FirstBadLine.{IsFirstBadLine}
 use Rattle.reading_laws.specs.Games.{IsTextOfAccount, IsRefusedAccountAt}
 use Rattle.reading_laws.proofs.Steady.{any_line, Never}
 use Rattle.reading_laws.proofs.Law.{left_of, is_first, is_refused}

@@ -1,13 +1,7 @@
 -- The reader of account files goes from line to line.
-use Rattle.std.proofs.Common.{◌≡◌, ℕ, zero, suc, ◌<◌, List, Ok, refl, arith, lit≤, pos}
-use Rattle.std.specs.Prelude.{codes, replicate}
-use Rattle.tac_base.specs.Numerals.{numeral, signed_numeral}
-use Rattle.text_forms.specs.Rows.{row}
-use Rattle.text_forms.specs.Steps.{read_by, repeat}
+use Rattle.std.proofs.Common.{◌≡◌, ℕ, zero, suc, ◌<◌, List, Ok, refl, arith, lit≤, pos, codes, replicate}
+use Rattle.reading_laws.specs.Prelude.{numeral, signed_numeral, row, read_by, repeat, title_of, hold_of, owned_of, owned_part, account_in, read_end_line, quiet_client}
 use Rattle.text_forms.proofs.PrintedLines.{lacks_from}
-use Rattle.game_text.specs.Accounts.{title_of, hold_of, owned_of, owned_part, account_in}
-use Rattle.game_text.specs.Headers.{read_end_line}
-use Rattle.game_text.specs.QuietGames.{quiet_client}
 use Rattle.reading_laws.proofs.Steady.{any_line, Never, Closes, IsPlain}
 use Rattle.reading_laws.proofs.LineSteps.{IsBadAt, line_goes_on, parts_go_on, text_ends}
 use Rattle.reading_laws.proofs.GameSteps.{Goes, then_closes, end_goes}

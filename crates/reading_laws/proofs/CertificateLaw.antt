@@ -1,13 +1,10 @@
 -- The first bad line of certificates.
 use Rattle.std.proofs.Common.{◌≡◌, ℕ, ◌≤◌, ◌↔◌, false, List, length, Ok, Err, refl, sym, ap, ◌∙◌}
-use Rattle.bound_cert.specs.declared.faults.CertFault.{CertFault}
+use Rattle.reading_laws.specs.{CertFault, root_in, cert_of, Tree, IsFirstBadLine}
 use Rattle.bound_cert.specs.declared.faults.CertFault.TheVariants.{Line, TooLong, Memory}
-use Rattle.bound_cert.specs.Reading.{root_in, cert_of}
-use Rattle.bound_cert.specs.Trees.{Tree}
 use Rattle.bound_cert.proofs.RootCases.{short_text}
 use Rattle.bound_cert.proofs.TreeTexts.{root_printed}
 use Rattle.bound_cert.proofs.TreesAgain.{spelling_again}
-use Rattle.reading_laws.specs.FirstBadLine.{IsFirstBadLine}
 use Rattle.reading_laws.specs.Certificates.{IsCertificateText, IsRefusedAt}
 use Rattle.reading_laws.proofs.Steady.{any_line, Never}
 use Rattle.reading_laws.proofs.Law.{left_of, is_first, is_refused}

@@ -1,30 +1,15 @@
 -- The line that says how long the certificate of an agent is stands in a log only where it is due: whatever follows the lines before it is read as
 -- that certificate.
-use Rattle.std.proofs.Common.{◌≡◌, ℕ, zero, suc, ◌+◌, ◌<◌, ◌≤◌, ◌⊎◌, inl, inr, lit≤, Bool, true, false, eqb, List, [], ◌∷◌, ◌++◌, Option, Some, None, Result, Ok, Err, drop, refl, sym, ap, subst, ◌∙◌, arith, append_assoc}
-use Rattle.std.specs.Prelude.{codes, decimal}
+use Rattle.std.proofs.Common.{◌≡◌, ℕ, zero, suc, ◌+◌, ◌<◌, ◌≤◌, ◌⊎◌, inl, inr, lit≤, Bool, true, false, eqb, List, [], ◌∷◌, ◌++◌, Option, Some, None, Result, Ok, Err, drop, refl, sym, ap, subst, ◌∙◌, arith, append_assoc, codes, decimal}
 use Rattle.std.specs.List.{AllByRecursion}
 use Rattle.std.proofs.lemmas.Fmt.{decimal_digit}
 use Rattle.std.proofs.lemmas.List.{append_cancel_right, map-append}
-use Rattle.text_forms.specs.declared.lines.BadLine.{BadLine}
-use Rattle.text_forms.specs.declared.lines.Reason.TheVariants.{Spelling}
-use Rattle.text_forms.specs.Lines.{NumberedLine, Remaining, block_of, nothing_left, text_of}
-use Rattle.text_forms.specs.Rows.{row}
-use Rattle.text_forms.specs.Steps.{◌>>=◌, repeat}
-use Rattle.text_forms.specs.Words.{parts_of, words_of}
+use Rattle.reading_laws.specs.Prelude.{BadLine, Spelling, NumberedLine, Remaining, block_of, nothing_left, text_of, row, ◌>>=◌, repeat, parts_of, words_of, cert_of, tree_lines, forest_lines, Tree, leaf, split, Trees, no_trees, more, Play, Serve, cert_line, is_text, link_of_words, read_link, end_of_words, read_end, read_missed, first_is, auction_of, trade_of, read_entry, read_cash_line, cash_entry_of, read_score, package_of, read_count, line_by, begins, as_long_as, is_served, served_in, head_by, head_in, entry_in, history_in, cash_in, cert_in, score_in, log_in}
 use Rattle.text_forms.proofs.Reading.{bind_ok, ok_is}
-use Rattle.bound_cert.specs.Reading.{cert_of}
-use Rattle.bound_cert.specs.Texts.{tree_lines, forest_lines}
-use Rattle.bound_cert.specs.Trees.{Tree, leaf, split, Trees, no_trees, more}
 use Rattle.bound_cert.proofs.TreesAgain.{parts_again, tree_lines_lack}
 use Rattle.bound_cert.proofs.TreeTexts.{cert_printed}
-use Rattle.line_protocol.specs.Heads.{Play, Serve}
-use Rattle.log_text.specs.SheetText.{cert_line}
-use Rattle.log_text.specs.HeadForms.{is_text, link_of_words, read_link, end_of_words, read_end, read_missed}
-use Rattle.log_text.specs.EntryForms.{first_is, auction_of, trade_of, read_entry, read_cash_line, cash_entry_of}
-use Rattle.log_text.specs.SheetForms.{read_score, package_of, read_count}
-use Rattle.log_text.specs.LogReading.{line_by, begins, as_long_as, is_served, served_in, head_by, head_in, entry_in, history_in, cash_in, cert_in, score_in, log_in}
-use Rattle.log_text.proofs.SheetFormLaws.{count_is}
-use Rattle.log_text.proofs.Taking.{later_lines}
+use Rattle.log_reader.proofs.SheetFormLaws.{count_is}
+use Rattle.log_reader.proofs.Taking.{later_lines}
 use Rattle.reading_laws.proofs.Steady.{Reader, Step, onto, bytes_of}
 use Rattle.reading_laws.proofs.Spots.{AllLack, front_lacks}
 use Rattle.reading_laws.proofs.Runs.{stops, full, goes}

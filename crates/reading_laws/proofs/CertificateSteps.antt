@@ -1,20 +1,12 @@
 -- The reader of certificates goes from line to line.
-use Rattle.std.proofs.Common.{◌≡◌, ℕ, zero, suc, ◌⊎◌, inl, inr, List, [], ◌∷◌, Result, Ok, Err, refl, subst}
-use Rattle.std.specs.Prelude.{codes, replicate}
-use Rattle.tac_base.specs.Numerals.{numeral}
-use Rattle.text_forms.specs.declared.lines.Reason.{Reason}
-use Rattle.text_forms.specs.Lines.{NumberedLine, Remaining, due_of, at_line, nothing_left, reason_number}
-use Rattle.text_forms.specs.Rows.{row}
-use Rattle.text_forms.specs.Steps.{◌>>=◌}
+use Rattle.std.proofs.Common.{◌≡◌, ℕ, zero, suc, ◌⊎◌, inl, inr, List, [], ◌∷◌, Result, Ok, Err, refl, subst, codes, replicate}
+use Rattle.reading_laws.specs.Prelude.{numeral, Reason, NumberedLine, Remaining, due_of, at_line, nothing_left, reason_number, row, ◌>>=◌, CertFault, forest_by, node_by, tree_in, root_in, Tree, leaf, split, no_trees, more}
 use Rattle.text_forms.proofs.PrintedLines.{lacks_from}
 use Rattle.packages.specs.Features.{values_of}
-use Rattle.bound_cert.specs.declared.faults.CertFault.{CertFault}
 use Rattle.bound_cert.specs.declared.faults.CertFault.TheVariants.{Line, TooLong, Memory}
 use Rattle.bound_cert.specs.Faults.{or_cert_fault}
 use Rattle.bound_cert.specs.NodeLines.{node_line_of}
-use Rattle.bound_cert.specs.Reading.{forest_by, node_by, tree_in, root_in}
 use Rattle.bound_cert.proofs.NodeCases.{SaidNode, said_node}
-use Rattle.bound_cert.specs.Trees.{Tree, leaf, split, no_trees, more}
 use Rattle.reading_laws.proofs.Steady.{Step, onto, any_line, Never, Steady, ReadsLine, steady_line, steady_then, steady_done, Closes, closes_then, closes_end}
 
 -- a fault is at a line

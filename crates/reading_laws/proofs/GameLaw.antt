@@ -1,14 +1,9 @@
 -- The first bad line of game files.
-use Rattle.std.proofs.Common.{◌≡◌, ℕ, ◌≤◌, ◌↔◌, true, false, ltb, List, length, Result, Ok, Err, refl, sym, ap, ◌∙◌}
-use Rattle.std.proofs.lemmas.Bool.{le-ltb}
-use Rattle.text_forms.specs.declared.lines.BadLine.{BadLine}
-use Rattle.text_forms.specs.Lines.{reason_number}
+use Rattle.std.proofs.Common.{◌≡◌, ℕ, ◌≤◌, ◌↔◌, true, false, ltb, List, length, Result, Ok, Err, refl, sym, ap, ◌∙◌, le-ltb}
+use Rattle.reading_laws.specs.{BadLine, reason_number, or_game_fault, GameFile, game_lines, game_in, game_of, IsFirstBadLine}
 use Rattle.text_forms.proofs.PrintedLines.{left_ahead}
 use Rattle.game_text.specs.declared.fault.GameFault.TheVariants.{Line}
-use Rattle.game_text.specs.Faults.{or_game_fault}
-use Rattle.game_text.specs.Games.{GameFile, game_lines, game_in, game_of}
 use Rattle.game_text.proofs.GameLaws.{game_in_is, game_in_again}
-use Rattle.reading_laws.specs.FirstBadLine.{IsFirstBadLine}
 use Rattle.reading_laws.specs.Games.{IsGameText, IsRefusedGameAt}
 use Rattle.reading_laws.proofs.Steady.{any_line, Never}
 use Rattle.reading_laws.proofs.Law.{left_of, is_first, is_refused}

@@ -1,12 +1,8 @@
 -- The reader of game files goes from line to line.
-use Rattle.std.proofs.Common.{◌≡◌, ℕ, ◌<◌, Bool, true, false, cond, List, Ok, refl, arith, lit≤}
-use Rattle.std.specs.Prelude.{codes, replicate, ◌==◌}
+use Rattle.std.proofs.Common.{◌≡◌, ℕ, ◌<◌, Bool, true, false, cond, List, Ok, refl, arith, lit≤, codes, replicate, ◌==◌}
 use Rattle.std.proofs.lemmas.List.Elements.{All-head}
 use Rattle.tac_base.specs.Clients.{IsClient}
-use Rattle.tac_base.specs.Numerals.{numeral}
-use Rattle.text_forms.specs.declared.lines.BadLine.{BadLine}
-use Rattle.text_forms.specs.Rows.{row}
-use Rattle.text_forms.specs.Steps.{◌>>=◌, read_by, repeat}
+use Rattle.reading_laws.specs.Prelude.{numeral, BadLine, row, ◌>>=◌, read_by, repeat, header_of, header_text, read_end_line, game_in, flight_part, quiet_client, quiet_flight, quiet_game}
 use Rattle.text_forms.proofs.PrintedLines.{lacks_from}
 use Rattle.game_text.specs.SeatWords.{numbered_seats, seats_of, seats_text}
 use Rattle.game_text.specs.Flights.{flight_of, flight_text}
@@ -15,10 +11,7 @@ use Rattle.game_text.specs.Endowments.{IsEndowment, endow_of, endow_text}
 use Rattle.game_text.specs.ClientLines.{client_of, client_text}
 use Rattle.game_text.specs.AgentLines.{AreClients, agents_in, agent_part, endow_part, client_part}
 use Rattle.game_text.specs.HotelNights.{nights_in, stated_nights_in, plain_nights, read_rooms, quotes_of}
-use Rattle.game_text.specs.Headers.{header_of, header_text, read_end_line}
-use Rattle.game_text.specs.Games.{game_in, flight_part}
 use Rattle.game_text.specs.Schedule.{hotel_nights}
-use Rattle.game_text.specs.QuietGames.{quiet_client, quiet_flight, quiet_game}
 use Rattle.game_text.proofs.QuietRanges as quiet
 use Rattle.game_text.proofs.HeaderLaws.{header_again, header_line, end_again, end_line, seats_again, seats_line}
 use Rattle.game_text.proofs.FlightLaws.{flight_again, flight_line}

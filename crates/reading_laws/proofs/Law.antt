@@ -3,12 +3,10 @@ use Rattle.std.proofs.Common.{◌≡◌, ℕ, suc, ◌+◌, ◌-◌, ◌<◌, �
 use Rattle.std.proofs.Math.Seq.{take-length}
 use Rattle.std.proofs.lemmas.Bool.Decides.{nat_tests}
 use Rattle.std.proofs.lemmas.List.{length-map}
-use Rattle.text_forms.specs.Words.{parts_of}
-use Rattle.text_forms.specs.Lines.{NumberedLine, Remaining, is_comment, lines_from, text_of}
+use Rattle.reading_laws.specs.{parts_of, NumberedLine, Remaining, is_comment, lines_from, text_of, lines_with_ends, with_ends, BeginsText, IsFirstBadLine}
 use Rattle.text_forms.proofs.Stepping.{HasPart, has_part, chosen}
 use Rattle.bound_cert.proofs.TreesAgain.{parts_again, lines_lack-append}
-use Rattle.log_text.proofs.LogTaking.{part_lacks}
-use Rattle.reading_laws.specs.FirstBadLine.{lines_with_ends, with_ends, BeginsText, IsFirstBadLine}
+use Rattle.log_reader.proofs.LogTaking.{part_lacks}
 use Rattle.reading_laws.proofs.Steady.{Reader, onto, ending, Ends, Closes, OutcomeAtEnd, Refuses, AtLine, AtEnd, Within}
 use Rattle.reading_laws.proofs.Spots.{AllLack, Front, with_end, front_lacks, plain_lacks, spot, end_spot, numbered, part_after, front_again, last_lacks, take_before, agree_before, ends_append, same_front, same_end}
 

@@ -1,10 +1,6 @@
 -- Steps that read a line by its form, and a number of parts one after another.
 use Rattle.std.proofs.Common.{◌≡◌, ℕ, zero, suc, ◌+◌, ◌<◌, ◌≤◌, ◌⊎◌, inl, inr, Bool, true, List, [], ◌∷◌, Result, Ok, Err, refl, sym, ◌∙◌, arith}
-use Rattle.text_forms.specs.declared.lines.Reason.{Reason}
-use Rattle.text_forms.specs.declared.lines.Reason.TheVariants.{TextEnd}
-use Rattle.text_forms.specs.declared.lines.BadLine.{BadLine}
-use Rattle.text_forms.specs.Lines.{NumberedLine, Remaining, nothing_left}
-use Rattle.text_forms.specs.Steps.{◌>>=◌, read_by, repeat}
+use Rattle.reading_laws.specs.Prelude.{Reason, TextEnd, BadLine, NumberedLine, Remaining, nothing_left, ◌>>=◌, read_by, repeat}
 use Rattle.text_forms.proofs.PrintedLines.{IsLine}
 use Rattle.reading_laws.proofs.Steady.{Step, onto, IsPlain, Steady, ReadsLine, steady_line, steady_then, steady_done, Closes, closes_end}
 

@@ -1,39 +1,21 @@
 -- The first bad line of logs, and the exception of certificates.
-use Rattle.std.proofs.Common.{◌≡◌, ℕ, zero, suc, ◌+◌, ◌<◌, ◌≤◌, ◌↔◌, ◌⊎◌, inl, inr, lit≤, Bool, true, false, cond, eqb, ltb, List, [], ◌∷◌, ◌++◌, Option, Some, None, Result, Ok, Err, length, map, take, flat_map, refl, sym, ap, subst, ◌∙◌, arith, append_assoc}
-use Rattle.std.specs.Prelude.{codes, ◌==◌}
-use Rattle.std.specs.List.{All}
-use Rattle.std.proofs.lemmas.Bool.{le-ltb, eq-eqb}
+use Rattle.std.proofs.Common.{◌≡◌, ℕ, zero, suc, ◌+◌, ◌<◌, ◌≤◌, ◌↔◌, ◌⊎◌, inl, inr, lit≤, Bool, true, false, cond, eqb, ltb, List, [], ◌∷◌, ◌++◌, Option, Some, None, Result, Ok, Err, length, map, take, flat_map, refl, sym, ap, subst, ◌∙◌, arith, append_assoc, codes, ◌==◌, All, le-ltb, eq-eqb}
 use Rattle.std.proofs.lemmas.Bool.Decides.{nat_tests}
 use Rattle.std.proofs.lemmas.List.{append_cancel_left, length-map}
 use Rattle.std.proofs.lemmas.List.Concat.{flat_map-cons}
 use Rattle.std.proofs.lemmas.List.Elements.{All-nil, All-cons, All-head, All-tail}
-use Rattle.text_forms.specs.declared.lines.BadLine.{BadLine}
-use Rattle.text_forms.specs.declared.lines.Reason.TheVariants.{TextEnd}
-use Rattle.text_forms.specs.Words.{parts_of}
-use Rattle.text_forms.specs.Lines.{NumberedLine, Remaining, lines_from, due_of, at_line, first_number, block_in, block_of, nothing_left}
-use Rattle.text_forms.specs.Steps.{◌>>=◌, repeat}
+use Rattle.reading_laws.specs.{BadLine, TextEnd, parts_of, NumberedLine, Remaining, lines_from, due_of, at_line, first_number, block_in, block_of, nothing_left, ◌>>=◌, repeat, CertFault, cert_of, cert_text, Tree, cert_line, LoggedGame, IsLoggedScore, formed, is_text, read_score, package_of, read_count, line_by, head_in, history_in, cash_in, cert_by, block_by, cert_in, score_in, log_in, log_of, with_ends}
 use Rattle.text_forms.proofs.Reading.{bind_ok, ok_is}
-use Rattle.bound_cert.specs.declared.faults.CertFault.{CertFault}
 use Rattle.bound_cert.specs.declared.faults.CertFault.TheVariants as certs
-use Rattle.bound_cert.specs.Reading.{cert_of}
-use Rattle.bound_cert.specs.Texts.{cert_text}
-use Rattle.bound_cert.specs.Trees.{Tree}
 use Rattle.bound_cert.proofs.RootCases.{long_text}
 use Rattle.bound_cert.proofs.TreeTexts.{cert_printed}
 use Rattle.settlement.specs.Sheets.{Scored}
-use Rattle.log_text.specs.SheetText.{cert_line}
-use Rattle.log_text.specs.HeadForms.{formed, is_text}
-use Rattle.log_text.specs.SheetForms.{read_score, package_of, read_count}
-use Rattle.log_text.specs.LogReading.{line_by, head_in, history_in, cash_in, cert_by, block_by, cert_in, score_in, log_in}
-use Rattle.log_text.specs.LoggedGames.{LoggedGame, IsLoggedScore}
-use Rattle.log_text.proofs.SheetFormLaws.{count_body, count_again}
-use Rattle.log_text.proofs.LogTaking.{part_lacks, lines_lack, log_is}
-use Rattle.log_text.proofs.Taking.{AllFrom}
-use Rattle.log_text.proofs.SheetGiving.{IsScore, log_given_by}
 use Rattle.log_reader.specs.declared.fault.LogFault.TheVariants.{Line}
 use Rattle.log_reader.specs.Faults.{or_log_fault}
-use Rattle.log_reader.specs.Logs.{log_of}
-use Rattle.reading_laws.specs.FirstBadLine.{with_ends}
+use Rattle.log_reader.proofs.SheetFormLaws.{count_body, count_again}
+use Rattle.log_reader.proofs.LogTaking.{part_lacks, lines_lack, log_is}
+use Rattle.log_reader.proofs.Taking.{AllFrom}
+use Rattle.log_reader.proofs.SheetGiving.{IsScore, log_given_by}
 use Rattle.reading_laws.specs.Logs.{HasShortText, IsLogText, IsRefusedLogAt, IsCertificateDue, IsBadAfter, IsBadCertificateLine, IsBadLogLine, bad_line_after}
 use Rattle.reading_laws.proofs.Steady.{bytes_of}
 use Rattle.reading_laws.proofs.Spots.{AllLack, Front, with_end, part_after, all_front, spot, ends_append, same_prior, cut}

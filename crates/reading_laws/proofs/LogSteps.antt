@@ -1,40 +1,23 @@
 -- The reader of logs goes from line to line, but for the block of a certificate.
-use Rattle.std.proofs.Common.{◌≡◌, ℕ, ◌+◌, ◌<◌, ◌≤◌, inl, inr, Bool, true, false, not, ◌&&◌, eqb, cond, List, [], ◌∷◌, ◌++◌, Option, Some, None, Result, Ok, Err, refl, sym, ap, subst, ◌∙◌, arith, lit≤, lit<, pos}
-use Rattle.std.specs.Prelude.{codes, decimal, replicate, ◌==◌}
-use Rattle.std.proofs.lemmas.Bool.{eq-eqb}
+use Rattle.std.proofs.Common.{◌≡◌, ℕ, ◌+◌, ◌<◌, ◌≤◌, inl, inr, Bool, true, false, not, ◌&&◌, eqb, cond, List, [], ◌∷◌, ◌++◌, Option, Some, None, Result, Ok, Err, refl, sym, ap, subst, ◌∙◌, arith, lit≤, lit<, pos, codes, decimal, replicate, ◌==◌, eq-eqb}
 use Rattle.std.proofs.lemmas.Fmt.{decimal_digit}
-use Rattle.tac_base.specs.Numerals.{numeral}
+use Rattle.reading_laws.specs.Prelude.{numeral, BadLine, TextEnd, Spelling, NumberedLine, Remaining, block_of, row, ◌>>=◌, repeat, words_of, CertFault, cert_of, cert_text, Tree, leaf, Play, Serve, package_line, formed, is_text, read_link, read_end, read_missed, first_is, auction_of, trade_of, read_entry, read_cash_line, cash_entry_of, read_score, package_of, read_count, line_by, as_long_as, is_served, served_in, head_by, head_in, entry_in, history_in, cash_in, cert_by, block_by, cert_in, score_in, log_in}
 use Rattle.tac_base.specs.declared.calls.Call.TheVariants as calls
 use Rattle.tac_base.specs.declared.calls.Reply.TheVariants as replies
 use Rattle.tac_base.proofs.Signed.{decimal_lacks}
 use Rattle.trade_ledger.specs.declared.cash_calls.CashCall.TheVariants.{Read}
 use Rattle.trade_ledger.specs.declared.cash_calls.CashReply.TheVariants.{Cash}
 use Rattle.trade_ledger.specs.declared.cash_calls.CashEntry.{CashEntry}
-use Rattle.text_forms.specs.declared.lines.BadLine.{BadLine}
-use Rattle.text_forms.specs.declared.lines.Reason.TheVariants.{TextEnd, Spelling}
-use Rattle.text_forms.specs.Lines.{NumberedLine, Remaining, block_of}
-use Rattle.text_forms.specs.Rows.{row}
-use Rattle.text_forms.specs.Steps.{◌>>=◌, repeat}
-use Rattle.text_forms.specs.Words.{words_of}
 use Rattle.text_forms.proofs.PrintedLines.{lacks_from, join_lacks}
 use Rattle.text_forms.proofs.Reading.{ok_is}
 use Rattle.packages.specs.declared.travel_packages.Package.TheVariants as packages
-use Rattle.bound_cert.specs.declared.faults.CertFault.{CertFault}
 use Rattle.bound_cert.specs.declared.faults.CertFault.TheVariants as certs
-use Rattle.bound_cert.specs.Reading.{cert_of}
-use Rattle.bound_cert.specs.Texts.{cert_text}
-use Rattle.bound_cert.specs.Trees.{Tree, leaf}
 use Rattle.bound_cert.proofs.TreesAgain.{text_again}
-use Rattle.line_protocol.specs.Heads.{Play, Serve}
-use Rattle.log_text.specs.SheetText.{package_line}
-use Rattle.log_text.specs.HeadForms.{formed, is_text, read_link, read_end, read_missed}
-use Rattle.log_text.specs.EntryForms.{first_is, auction_of, trade_of, read_entry, read_cash_line, cash_entry_of}
-use Rattle.log_text.specs.SheetForms.{read_score, package_of, read_count}
-use Rattle.log_text.specs.LogReading.{line_by, as_long_as, is_served, served_in, head_by, head_in, entry_in, history_in, cash_in, cert_by, block_by, cert_in, score_in, log_in}
-use Rattle.log_text.proofs.EntryFormLaws.{auction_again, auction_body, entry_again, entry_body, cash_again, cash_body}
-use Rattle.log_text.proofs.CashFormLaws.{cash_entry_again, cash_entry_body}
-use Rattle.log_text.proofs.LogGiving.{words_line}
-use Rattle.log_text.proofs.SheetFormLaws.{score_body, score_again, score_lacks, package_again, package_lacks, count_again, count_is, count_body}
+use Rattle.log_text.proofs.Cuts.{line_lacks, line_words}
+use Rattle.log_text.proofs.Trades.{auction_words, auction_are}
+use Rattle.log_reader.proofs.EntryFormLaws.{auction_again, auction_body, entry_again, entry_body, cash_again, cash_body}
+use Rattle.log_reader.proofs.CashFormLaws.{cash_entry_again, cash_entry_body}
+use Rattle.log_reader.proofs.SheetFormLaws.{score_body, score_again, score_lacks, package_again, package_lacks, count_again, count_is, count_body}
 use Rattle.reading_laws.proofs.Steady.{Step, IsPlain, onto, bytes_of, any_line, Steady, Completes, Outcome, ReadsLine, steady_then, steady_done, Closes, closes_then}
 use Rattle.reading_laws.proofs.LineSteps.{IsBadAt, line_goes_on, line_reads, parts_go_on, text_ends}
 use Rattle.reading_laws.proofs.Runs.{run_goes_on, closes_after_line}
@@ -147,12 +130,12 @@ entry_calmly good =
 
 -- the line of an auction without entries
 auction_plain : (good : ℕ) → good ≤ 27 → IsPlain (auction_body good 0)
-auction_plain good low = record { lacks = join_lacks 10 (codes "auction" ∷ decimal good ∷ decimal 0 ∷ []) refl (lacks_from 10 (codes "auction") refl, (decimal_lacks 10 good (lit< tt) (omega (arith, low)), (decimal_lacks 10 0 (lit< tt) (lit< tt), tt))); kept = refl }
+auction_plain good low = record { lacks = line_lacks (auction_words good 0) (auction_are good 0 (omega (arith, low)) (lit< tt)); kept = refl }
 
 auction_calm : (good : ℕ) → good ≤ 27 → is_calm (auction_body good 0) ≡ true
 auction_calm good low =
     let words : words_of (auction_body good 0) ≡ codes "auction" ∷ decimal good ∷ decimal 0 ∷ [] =
-    words_line (codes "auction") (decimal good ∷ decimal 0 ∷ []) (lacks_from 32 (codes "auction") refl) (decimal_lacks 32 good (lit< tt) (omega (arith, low)), (decimal_lacks 32 0 (lit< tt) (lit< tt), tt)) in
+    line_words (codes "auction") (decimal good ∷ decimal 0 ∷ []) (auction_are good 0 (omega (arith, low)) (lit< tt)) in
     ap (λ (ws : List (List ℕ)). not (first_is (codes "link") ws) && (not (first_is (codes "end") ws) && not (first_is (codes "trade") ws))) words
 
 history_calmly : (good : ℕ) → good < 28 → Calmly (history_in good)

@@ -1,12 +1,6 @@
 -- Parts that are read as long as the next line begins with a word, and readers of which only the first line is looked at before.
 use Rattle.std.proofs.Common.{◌≡◌, ℕ, zero, suc, ◌+◌, ◌⊎◌, inl, inr, Bool, true, false, List, [], ◌∷◌, ◌++◌, Option, Some, None, Result, Ok, Err, refl, sym, ap, subst, ◌∙◌}
-use Rattle.text_forms.specs.declared.lines.Reason.TheVariants.{TextEnd, Spelling}
-use Rattle.text_forms.specs.declared.lines.BadLine.{BadLine}
-use Rattle.text_forms.specs.Lines.{NumberedLine, Remaining}
-use Rattle.text_forms.specs.Words.{words_of}
-use Rattle.text_forms.specs.Steps.{◌>>=◌}
-use Rattle.log_text.specs.EntryForms.{first_is}
-use Rattle.log_text.specs.LogReading.{line_by, begins_in, begins, refused_line, as_long_as}
+use Rattle.reading_laws.specs.Prelude.{TextEnd, Spelling, BadLine, NumberedLine, Remaining, words_of, ◌>>=◌, first_is, line_by, begins_in, begins, refused_line, as_long_as}
 use Rattle.reading_laws.proofs.Steady.{Reader, Step, onto, bytes_of, ending, any_line, IsCalm, Follows, Completes, Outcome, Steady, AtLine, AtEnd, Within, ReadsLine, Ends, OutcomeAtEnd, Closes, no_lines}
 use Rattle.reading_laws.proofs.LineSteps.{IsBadAt}
 

@@ -1,6 +1,5 @@
 -- Where a line that is left stands in the text, and what another text with the same lines before it has there.
-use Rattle.std.proofs.Common.{◌≡◌, ℕ, zero, suc, ◌+◌, ◌≤◌, Bool, true, false, eqb, List, [], ◌∷◌, ◌++◌, length, map, take, refl, sym, ap, subst, ◌∙◌, arith}
-use Rattle.std.specs.Prelude.{◌&&◌}
+use Rattle.std.proofs.Common.{◌≡◌, ℕ, zero, suc, ◌+◌, ◌≤◌, Bool, true, false, eqb, List, [], ◌∷◌, ◌++◌, length, map, take, refl, sym, ap, subst, ◌∙◌, arith, ◌&&◌}
 use Rattle.std.specs.List.{AllByRecursion}
 use Rattle.tac_base.proofs.Signed.{Lacks}
 use Rattle.text_forms.specs.Lines.{NumberedLine, Remaining, is_comment, lines_from}

@@ -2,8 +2,7 @@
 use Rattle.std.proofs.Common.{◌≡◌, ℕ, ◌⊎◌, inl, inr, true, false, Bool, List, [], ◌∷◌, ◌++◌, Result, Ok, Err, map, refl, sym, ap, subst, ◌∙◌, append_assoc, append-nil}
 use Rattle.std.specs.List.{AllByRecursion}
 use Rattle.tac_base.proofs.Signed.{Lacks}
-use Rattle.text_forms.specs.Lines.{NumberedLine, Remaining, is_comment}
-use Rattle.text_forms.specs.Steps.{◌>>=◌}
+use Rattle.reading_laws.specs.Prelude.{NumberedLine, Remaining, is_comment, ◌>>=◌}
 
 -- a line that may stand in a text, and that is never skipped
 pub record IsPlain (line : List ℕ) : Type 0 where

@@ -1,9 +1,7 @@
 -- The texts of certificates, and when a text is refused as one at a line.
 use Rattle.std.specs.Prelude.{◌≡◌, ℕ, List, Err}
 use Rattle.bound_cert.specs.declared.faults.CertFault.TheVariants.{Line}
-use Rattle.bound_cert.specs.Reading.{cert_of}
-use Rattle.bound_cert.specs.Texts.{cert_text}
-use Rattle.bound_cert.specs.Trees.{Tree, IsCertificate}
+use Rattle.reading_laws.specs.Prelude.{cert_of, cert_text, Tree, IsCertificate}
 
 -- the text of some certificate
 abbrev pub IsCertificateText : List ℕ → Type 0

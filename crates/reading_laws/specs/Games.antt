@@ -1,8 +1,7 @@
 -- The texts of games and of accounts, and when a text is refused as one at a line.
 use Rattle.std.specs.Prelude.{◌≡◌, ℕ, List, Err}
 use Rattle.game_text.specs.declared.fault.GameFault.TheVariants.{Line}
-use Rattle.game_text.specs.Accounts.{AccountFile, IsAccount, IsAccountText, account_of}
-use Rattle.game_text.specs.Games.{GameFile, IsGame, IsTextOf, game_of}
+use Rattle.reading_laws.specs.Prelude.{AccountFile, IsAccount, IsAccountText, account_of, GameFile, IsGame, IsTextOf, game_of}
 
 -- a text of some game
 abbrev pub IsGameText : List ℕ → Type 0

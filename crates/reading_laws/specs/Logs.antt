@@ -1,16 +1,9 @@
 -- The texts of logs, and when a text is refused as one at a line.
-use Rattle.std.specs.Prelude.{◌≡◌, ◌+◌, ◌<◌, ◌≤◌, ◌==◌, ◌⊎◌, ℕ, List, [], ◌∷◌, ◌++◌, Err, flat_map, if◌then◌else◌, length, take}
-use Rattle.std.specs.List.{All}
+use Rattle.std.specs.Prelude.{◌≡◌, ◌+◌, ◌<◌, ◌≤◌, ◌==◌, ◌⊎◌, ℕ, List, [], ◌∷◌, ◌++◌, Err, flat_map, if◌then◌else◌, length, take, All}
 use Rattle.tac_base.specs.declared.limits.TheConstants.{AGENTS, TEXT_BYTES}
-use Rattle.bound_cert.specs.declared.faults.CertFault.{CertFault}
+use Rattle.reading_laws.specs.Prelude.{CertFault, cert_of, cert_text, Tree, cert_line, LoggedGame, IsLogged, logged_text, log_of}
 use Rattle.bound_cert.specs.declared.faults.CertFault.TheVariants as certs
-use Rattle.bound_cert.specs.Reading.{cert_of}
-use Rattle.bound_cert.specs.Texts.{cert_text}
-use Rattle.bound_cert.specs.Trees.{Tree}
-use Rattle.log_text.specs.SheetText.{cert_line}
-use Rattle.log_text.specs.LoggedGames.{LoggedGame, IsLogged, logged_text}
 use Rattle.log_reader.specs.declared.fault.LogFault.TheVariants.{Line}
-use Rattle.log_reader.specs.Logs.{log_of}
 use Rattle.reading_laws.specs.FirstBadLine.{lines_with_ends, IsFirstBadLine}
 
 -- a certificate whose text may be read

@@ -1,14 +1,10 @@
 -- The range of each feature of a package.
-use Rattle.std.proofs.Common.{◌≡◌, ℕ, zero, suc, ◌+◌, ◌<◌, true, ltb, Some, get_or, refl, subst, arith}
-use Rattle.std.specs.List.{list_all, slice_get}
-use Rattle.std.proofs.lemmas.Bool.Decides.{nat_tests}
+use Rattle.std.proofs.Common.{◌≡◌, ℕ, zero, suc, ◌+◌, ◌<◌, true, ltb, Some, get_or, refl, subst, arith, slice_get, ltb-true}
+use Rattle.std.specs.List.{list_all}
 use Rattle.std.proofs.lemmas.List.Sums.{AllPass-from_list_all}
 use Rattle.std.proofs.lemmas.Option.{get_or_from_slice_get, slice_get_within}
-use Rattle.packages.specs.declared.travel_packages.Package.{Package}
+use Rattle.relaxation.specs.{Package, feature_of, values_of, packages, features_of}
 use Rattle.packages.specs.declared.travel_packages.Package.TheVariants as kinds
-use Rattle.packages.specs.Features.{feature_of, values_of}
-use Rattle.packages.specs.Listing.{packages}
-use Rattle.relaxation.specs.Tables.{features_of}
 
 all_in : (feature : ℕ) → feature < 4 → list_all (λ p. ltb (feature_of feature p) (values_of feature)) packages ≡ true
 unfolding packages
@@ -18,16 +14,13 @@ all_in (suc (suc zero)) lt = refl
 all_in (suc (suc (suc zero))) lt = refl
 all_in (suc (suc (suc (suc n)))) lt = absurd (omega (arith, lt))
 
-below : (a b : ℕ) → ltb a b ≡ true → a < b
-below a b h = grind (arith, nat_tests)
-
 -- each feature has one of its values
 pub value_in : (feature n : ℕ) (p : Package) → feature < 4 → slice_get packages n ≡ Some p → feature_of feature p < values_of feature
 value_in feature n p lt at =
     let within = slice_get_within packages n p at in
     let here = get_or_from_slice_get packages n p kinds.None at in
     let test = AllPass-from_list_all (λ q. ltb (feature_of feature q) (values_of feature)) packages (all_in feature lt) n kinds.None within in
-    below (feature_of feature p) (values_of feature) (subst (λ q. ltb (feature_of feature q) (values_of feature) ≡ true) here test)
+    ltb-true (feature_of feature p) (values_of feature) (subst (λ q. ltb (feature_of feature q) (values_of feature) ≡ true) here test)
 
 above_nights : (value : ℕ) → value < 5 → value < 21
 above_nights value lt = omega (arith, lt)

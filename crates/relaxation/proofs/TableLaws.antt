@@ -1,16 +1,10 @@
 -- What tables of packages hold.
-use Rattle.std.proofs.Common.{◌≡◌, ◌≢◌, ℕ, ◌+◌, ◌*◌, ◌<◌, ◌≤◌, ℤ, pos, ◌<ℤ◌, List, Some, length, get_or, set, inl, inr, refl, sym, ap, subst, ◌∙◌, arith}
-use Rattle.std.specs.List.{slice_get}
+use Rattle.std.proofs.Common.{◌≡◌, ◌≢◌, ℕ, ◌+◌, ◌*◌, ◌<◌, ◌≤◌, ℤ, pos, ◌<ℤ◌, List, Some, length, get_or, set, inl, inr, refl, sym, ap, subst, ◌∙◌, arith, slice_get, get_or-set_same, get_or-set_other}
 use Rattle.std.proofs.lemmas.Bool.{cases_eq}
-use Rattle.std.proofs.lemmas.List.{get_or-set_same, get_or-set_other}
 use Rattle.std.proofs.lemmas.Option.{slice_get_within}
-use Rattle.tac_base.specs.Clients.{Preferences}
+use Rattle.relaxation.specs.{Preferences, Package, utility_of, packages, dollars_at, HasWorths, IsPut}
 use Rattle.game_text.specs.Accounts.{AccountFile, IsAccount}
-use Rattle.packages.specs.declared.travel_packages.Package.{Package}
-use Rattle.packages.specs.Packages.{utility_of}
-use Rattle.packages.specs.Listing.{packages}
 use Rattle.packages.proofs.Decoded.{length-packages}
-use Rattle.relaxation.specs.Tables.{dollars_at, HasWorths, IsPut}
 
 same_package : (n : ℕ) (p q : Package) → slice_get packages n ≡ Some p → slice_get packages n ≡ Some q → p ≡ q
 same_package n p q hp hq = cc

@@ -1,10 +1,6 @@
 -- Tables of what packages are and of what they are worth.
 use Rattle.std.specs.Prelude.{◌≡◌, ◌≢◌, ℕ, ◌+◌, ◌*◌, ◌<◌, ◌<ℤ◌, ℤ, pos, List, [], ◌∷◌, Some, slice_get, slice_index_or}
-use Rattle.tac_base.specs.Clients.{Preferences}
-use Rattle.packages.specs.declared.travel_packages.Package.{Package}
-use Rattle.packages.specs.Packages.{utility_of}
-use Rattle.packages.specs.Listing.{packages}
-use Rattle.packages.specs.Features.{feature_of, values_of}
+use Rattle.relaxation.specs.Prelude.{Preferences, Package, utility_of, packages, feature_of, values_of}
 
 -- the dollars of a client and a package, by number, in a table that has 393 places for each client
 abbrev pub dollars_at : List ℤ → ℕ → ℕ → ℤ

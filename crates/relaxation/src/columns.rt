@@ -31,7 +31,7 @@ pub(crate) struct ClientPackage {
 
 /// A column, whose amount is a variable of the linear program.
 #[derive(Clone, Copy)]
-pub(crate) enum Column {
+pub(crate) enum SimplexColumn {
     /// The slack of a good: what is left over of it.
     Slack(GoodRow),
     /// The surplus of a good: what is got of it beyond what there is.
@@ -43,7 +43,7 @@ pub(crate) enum Column {
 /// A nonbasic column that enters the basis.
 #[derive(Clone, Copy)]
 pub(crate) struct Entering {
-    pub(crate) column: Column,
+    pub(crate) column: SimplexColumn,
     /// What one more of the column adds to the value; below 0 in a dual step.
     pub(crate) reduced_cost: f64,
 }
@@ -57,14 +57,14 @@ impl ClientPackage {
     }
 }
 
-impl Column {
+impl SimplexColumn {
     /// The place of a column in the order that breaks ties, so that the simplex cannot cycle: slack and surplus of each good, and then the
     /// shares of each client.
     pub(crate) fn order(&self) -> usize {
         match self {
-            Column::Slack(row) => 2 * row.good,
-            Column::Surplus(row) => 2 * row.good + 1,
-            Column::Share(share) => 2 * GOOD_ROWS + 393 * share.client + share.number,
+            SimplexColumn::Slack(row) => 2 * row.good,
+            SimplexColumn::Surplus(row) => 2 * row.good + 1,
+            SimplexColumn::Share(share) => 2 * GOOD_ROWS + 393 * share.client + share.number,
         }
     }
 }

@@ -3,7 +3,7 @@ ghost use Rattle.std.specs.Prelude.{◌<◌};
 ghost use Rattle.relaxation.specs.declared.columns.TheConstants.{ROWS};
 
 use crate::charges::charge;
-use crate::columns::{ClientPackage, Column, Entering, GOOD_ROWS, GoodRow, ROWS};
+use crate::columns::{ClientPackage, Entering, GOOD_ROWS, GoodRow, ROWS, SimplexColumn};
 use crate::rounding::best_margin;
 use crate::tableau::{AMOUNT, Row, TOLERANCE, Tableau, WIDTH};
 use crate::worth_table::WorthTable;
@@ -68,7 +68,7 @@ impl Tableau {
         requires { row < ROWS }
     {
         match &self.basis[row] {
-            Column::Share(of) => worths.is_excluded(of),
+            SimplexColumn::Share(of) => worths.is_excluded(of),
             _ => false,
         }
     }
@@ -165,7 +165,7 @@ impl Tableau {
         }
         (
             Entering {
-                column: Column::Share(ClientPackage {
+                column: SimplexColumn::Share(ClientPackage {
                     client,
                     number: first,
                 }),
@@ -192,7 +192,7 @@ fn entering_slack(prices: &Row, direction: &Direction, most: f64) -> (Option<Ent
         if entry > TOLERANCE && prices[good] < least * entry {
             least = prices[good] / entry;
             found = Some(Entering {
-                column: Column::Slack(GoodRow { good }),
+                column: SimplexColumn::Slack(GoodRow { good }),
                 reduced_cost: -prices[good],
             });
         }

@@ -1,10 +1,6 @@
 // The features of all packages.
 ghost use Rattle.std.specs.Prelude.{◌≡◌, ◌+◌, ◌<◌, [], Some, slice_get};
-ghost use Rattle.packages.specs.declared.travel_packages.Package.{Package};
-ghost use Rattle.packages.specs.Packages.{IsPackage};
-ghost use Rattle.packages.specs.Listing.{packages};
-ghost use Rattle.packages.specs.Features.{feature_of};
-ghost use Rattle.relaxation.specs.Tables.{AreEntries, features_of};
+ghost use Rattle.relaxation.specs.{Package, IsPackage, packages, feature_of, AreEntries, features_of};
 
 use packages::{Package, feature_value, package};
 

@@ -2,7 +2,7 @@
 ghost use Rattle.std.specs.Prelude.{◌≡◌, ◌<◌, length};
 
 use crate::charges::charge;
-use crate::columns::{ClientPackage, Column, Entering, GOOD_ROWS, GoodRow};
+use crate::columns::{ClientPackage, Entering, GOOD_ROWS, GoodRow, SimplexColumn};
 use crate::tableau::{Row, TOLERANCE, Tableau};
 use crate::worth_table::WorthTable;
 use tac_base::limits::{DUAL_PRICE, GOODS};
@@ -79,7 +79,7 @@ impl Tableau {
                 let reduced_cost = f64::from(worths[number]) - charges[number] - gained;
                 if reduced_cost > TOLERANCE {
                     return Some(Entering {
-                        column: Column::Share(ClientPackage { client, number }),
+                        column: SimplexColumn::Share(ClientPackage { client, number }),
                         reduced_cost,
                     });
                 }
@@ -122,7 +122,7 @@ impl Tableau {
         let (number, most) = best_package(worths.row(client), charges);
         if most - gained > TOLERANCE {
             Some(Entering {
-                column: Column::Share(ClientPackage { client, number }),
+                column: SimplexColumn::Share(ClientPackage { client, number }),
                 reduced_cost: most - gained,
             })
         } else {
@@ -132,12 +132,12 @@ impl Tableau {
 }
 
 /// The client that is asked next once a column has entered: the one after its own.
-fn after(turn: usize, column: &Column) -> usize
+fn after(turn: usize, column: &SimplexColumn) -> usize
     requires { turn < 8 }
     ensures { result < 8 }
 {
     match column {
-        Column::Share(of) => (of.client + 1) % 8,
+        SimplexColumn::Share(of) => (of.client + 1) % 8,
         _ => turn,
     }
 }
@@ -151,12 +151,12 @@ fn beyond(prices: &Row, limits: &Limits, good: usize) -> Entering
     let above = prices[good] - limits.high[good];
     if below >= above {
         Entering {
-            column: Column::Slack(GoodRow { good }),
+            column: SimplexColumn::Slack(GoodRow { good }),
             reduced_cost: below,
         }
     } else {
         Entering {
-            column: Column::Surplus(GoodRow { good }),
+            column: SimplexColumn::Surplus(GoodRow { good }),
             reduced_cost: above,
         }
     }

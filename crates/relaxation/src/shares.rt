@@ -1,10 +1,9 @@
 // The shares that clients have of packages, and the packages that they have whole.
-ghost use Rattle.std.specs.Prelude.{◌≡◌, ◌<◌, length, IfSome};
-ghost use Rattle.std.specs.List.{All};
+ghost use Rattle.std.specs.Prelude.{◌≡◌, ◌<◌, length, IfSome, All};
 ghost use Rattle.packages.specs.Packages.{IsPackage};
 
 use crate::charges::charge;
-use crate::columns::{ClientPackage, Column, ROWS};
+use crate::columns::{ClientPackage, ROWS, SimplexColumn};
 use crate::primal_simplex::best_package;
 use crate::relaxing::Relaxation;
 use crate::rounding::row_of;
@@ -43,7 +42,7 @@ impl Relaxation {
     {
         let mut number = 0;
         for row in 0..ROWS {
-            if let Column::Share(of) = &self.tableau.basis[row] {
+            if let SimplexColumn::Share(of) = &self.tableau.basis[row] {
                 if of.client == client && self.tableau.rows[row][AMOUNT] > 1.0 - TOLERANCE {
                     number = of.number;
                 }
@@ -75,7 +74,7 @@ impl Relaxation {
     {
         let mut shares = [0.0; 21];
         for row in 0..ROWS {
-            if let Column::Share(of) = &self.tableau.basis[row] {
+            if let SimplexColumn::Share(of) = &self.tableau.basis[row] {
                 if of.client == client {
                     let value = self.worths.features.value_of(of.number, feature);
                     shares[usize::from(value)] += self.tableau.rows[row][AMOUNT];

@@ -2,7 +2,9 @@
 ghost use Rattle.std.specs.Prelude.{◌<◌, IfSome};
 ghost use Rattle.packages.specs.Packages.{IsPackage};
 
-use crate::columns::{ClientPackage, Column, Entering, GOOD_ROWS, GoodRow, ROWS, row_of_good};
+use crate::columns::{
+    ClientPackage, Entering, GOOD_ROWS, GoodRow, ROWS, SimplexColumn, row_of_good,
+};
 use packages::Package;
 use tac_base::Good;
 use tac_base::limits::DUAL_PRICE;
@@ -30,7 +32,7 @@ pub(crate) struct Tableau {
     /// The dual prices: of the goods and then of the clients, of which each is what the client gains; last the value.
     pub(crate) prices: Row,
     /// The basic variable of each row.
-    pub(crate) basis: [Column; ROWS],
+    pub(crate) basis: [SimplexColumn; ROWS],
 }
 
 impl Tableau {
@@ -39,7 +41,7 @@ impl Tableau {
         Tableau {
             rows: [[0.0; WIDTH]; ROWS],
             prices: [0.0; WIDTH],
-            basis: [Column::Slack(GoodRow { good: 0 }); ROWS],
+            basis: [SimplexColumn::Slack(GoodRow { good: 0 }); ROWS],
         }
     }
 
@@ -51,12 +53,15 @@ impl Tableau {
             self.rows[good][good] = 1.0;
             self.rows[good][AMOUNT] = stock[good].min(9.0);
             self.prices[good] = first_price(stock[good]);
-            self.basis[good] = Column::Slack(GoodRow { good });
+            self.basis[good] = SimplexColumn::Slack(GoodRow { good });
         }
         for client in 0..8 {
             self.rows[GOOD_ROWS + client][GOOD_ROWS + client] = 1.0;
             self.rows[GOOD_ROWS + client][AMOUNT] = 1.0;
-            self.basis[GOOD_ROWS + client] = Column::Share(ClientPackage { client, number: 0 });
+            self.basis[GOOD_ROWS + client] = SimplexColumn::Share(ClientPackage {
+                client,
+                number: 0,
+            });
         }
     }
 
@@ -66,20 +71,20 @@ impl Tableau {
     }
 
     /// The pivot column: what one more of a column takes from each basic variable.
-    pub(crate) fn pivot_column(&self, column: &Column) -> [f64; ROWS] {
+    pub(crate) fn pivot_column(&self, column: &SimplexColumn) -> [f64; ROWS] {
         let mut entries = [0.0; ROWS];
         match column {
-            Column::Slack(of) => {
+            SimplexColumn::Slack(of) => {
                 for row in 0..ROWS {
                     entries[row] = self.rows[row][of.good];
                 }
             }
-            Column::Surplus(of) => {
+            SimplexColumn::Surplus(of) => {
                 for row in 0..ROWS {
                     entries[row] = -self.rows[row][of.good];
                 }
             }
-            Column::Share(of) => {
+            SimplexColumn::Share(of) => {
                 let package = of.package();
                 for row in 0..ROWS {
                     entries[row] = share_entry(&self.rows[row], of.client, &package);

@@ -1,9 +1,6 @@
 // What the packages are worth to the clients that have them left, in one table.
 ghost use Rattle.std.specs.Prelude.{◌≡◌, Some, slice_get, ◌<◌, ◌≤ℤ◌, pos, length};
-ghost use Rattle.tac_base.specs.Clients.{Preferences};
-ghost use Rattle.packages.specs.Packages.{IsPackage, utility_of};
-ghost use Rattle.packages.specs.Features.{feature_of};
-ghost use Rattle.relaxation.specs.Tables.{HasWorths, IsNarrowed, IsPut};
+ghost use Rattle.relaxation.specs.{Preferences, IsPackage, utility_of, feature_of, HasWorths, IsNarrowed, IsPut};
 
 use crate::columns::ClientPackage;
 use crate::features::Features;

@@ -1,16 +1,11 @@
 -- A piece of a script is answered.
-use Rattle.std.proofs.Common.{◌≡◌, ℕ, List, [], ◌++◌, sym, ap, ◌∙◌, subst, append-nil, Result, Ok, Err}
-use Rattle.std.specs.Prelude.{MatchResult}
-use Rattle.text_forms.specs.Words.{parts_of}
-use Rattle.tac_io.specs.States.{SinkState}
-use Rattle.game_text.specs.Games.{GameFile}
-use Rattle.tac_io.specs.Taken.{TookWhole, TookPart}
+use Rattle.std.proofs.Common.{◌≡◌, ℕ, List, [], ◌++◌, sym, ap, ◌∙◌, subst, append-nil, Result, Ok, Err, MatchResult}
+use Rattle.script_run.specs.{parts_of, SinkState, GameFile, TookWhole, TookPart, Heard, heard_from, replies, Answered, HasAnswered, IsStepping, StopsAtLine, stopped_by}
 use Rattle.game_log.proofs.Writing.{then_some, then_whole}
 use Rattle.script_run.specs.declared.fault.ScriptFault.{ScriptFault}
 use Rattle.script_run.specs.declared.fault.ScriptFault.TheVariants as scripts
 use Rattle.script_run.specs.declared.game.lines.GameLine.{GameLine}
 use Rattle.script_run.specs.declared.game.stepping.Stepper.{Stepper}
-use Rattle.script_run.specs.{Heard, heard_from, replies, Answered, HasAnswered, IsStepping, StopsAt, stopped_by}
 use Rattle.script_run.proofs.Hearing.{heard_rest}
 
 -- all replies are written once no text is left
@@ -35,7 +30,7 @@ module _ (game : GameFile) (given piece : List ℕ) (start sink sink' : SinkStat
   }
 
   -- a line was bad, and the replies to the lines before it were written
-  pub answers_bad : (heard after : Stepper) (fault : ScriptFault) → heard.run.text.items ≡ text → StopsAt game (given ++ piece) has.written heard fault → TookWhole sink sink' text →
+  pub answers_bad : (heard after : Stepper) (fault : ScriptFault) → heard.run.text.items ≡ text → StopsAtLine game (given ++ piece) has.written heard fault → TookWhole sink sink' text →
       Answered game (given ++ piece) start after sink' (Err (stopped_by fault))
   answers_bad heard after (scripts.Line line reason) is stop took = (
     stop.0,
@@ -48,7 +43,7 @@ module _ (game : GameFile) (given piece : List ℕ) (start sink sink' : SinkStat
 
   -- a write failed
   pub answers_part : (heard : Stepper) (result : Result (Unit {0}) ScriptFault) → heard.run.text.items ≡ text →
-      MatchResult result (λ _. IsStepping game (given ++ piece) has.written heard) (StopsAt game (given ++ piece) has.written heard) → TookPart sink sink' text →
+      MatchResult result (λ _. IsStepping game (given ++ piece) has.written heard) (StopsAtLine game (given ++ piece) has.written heard) → TookPart sink sink' text →
       TookPart start sink' (replies game (heard_from [] (parts_of 10 (given ++ piece))).0)
   answers_part heard result is lines took = subst (TookPart start sink') (by_result result lines) (then_some has.written text start sink sink' has.took took)
     where
@@ -56,14 +51,14 @@ module _ (game : GameFile) (given piece : List ℕ) (start sink sink' : SinkStat
           has.written ++ text ≡ replies game (heard_from [] (parts_of 10 (given ++ piece))).0
       all lines due same = ap (λ (l : List ℕ). has.written ++ l) (sym is) ∙ (due ∙ ap (replies game) (sym same))
 
-      of_fault : (fault : ScriptFault) → StopsAt game (given ++ piece) has.written heard fault → has.written ++ text ≡ replies game (heard_from [] (parts_of 10 (given ++ piece))).0
+      of_fault : (fault : ScriptFault) → StopsAtLine game (given ++ piece) has.written heard fault → has.written ++ text ≡ replies game (heard_from [] (parts_of 10 (given ++ piece))).0
       of_fault (scripts.Line line reason) stop =
           all stop.0 stop.2 (ap (λ (h : Heard). h.0) (ap (λ (l : List ℕ). heard_from [] (parts_of 10 l)) (sym (append-nil (given ++ piece))) ∙ stop.1 []))
       of_fault scripts.TooLong stop = absurd stop
       of_fault scripts.Failed stop = absurd stop
       of_fault scripts.Memory stop = absurd stop
 
-      by_result : (r : Result (Unit {0}) ScriptFault) → MatchResult r (λ _. IsStepping game (given ++ piece) has.written heard) (StopsAt game (given ++ piece) has.written heard) →
+      by_result : (r : Result (Unit {0}) ScriptFault) → MatchResult r (λ _. IsStepping game (given ++ piece) has.written heard) (StopsAtLine game (given ++ piece) has.written heard) →
           has.written ++ text ≡ replies game (heard_from [] (parts_of 10 (given ++ piece))).0
       by_result (Ok done) s = all s.lines s.ran.text (ap (λ (h : Heard). h.0) (heard_in game (given ++ piece) has.written heard s))
       by_result (Err fault) stop = of_fault fault stop

@@ -1,18 +1,8 @@
 -- A cash history with one entry more.
-use Rattle.std.proofs.Common.{◌≡◌, ℕ, List, [], ◌∷◌, ◌++◌, length, take, refl, sym, ap, ◌∙◌, arith}
-use Rattle.std.specs.Prelude.{Some, slice_get}
+use Rattle.std.proofs.Common.{◌≡◌, ℕ, List, [], ◌∷◌, ◌++◌, length, take, refl, sym, ap, ◌∙◌, arith, Some, slice_get, append-nil}
 use Rattle.std.proofs.Math.Seq.{take-append_seam}
-use Rattle.std.proofs.lemmas.List.{append-nil}
-use Rattle.tac_base.specs.declared.calls.Trade.{Trade}
+use Rattle.script_run.specs.Prelude.{Trade, nets, Entry, post_for, due_post, CashCall, Post, Done, CashEntry, IsLegalCash, cash_reply_of}
 use Rattle.tac_base.specs.declared.calls.Nets.{Nets}
-use Rattle.auction_rules.specs.Effects.{nets}
-use Rattle.auction_rules.specs.History.{Entry}
-use Rattle.trade_ledger.specs.Posts.{post_for, due_post}
-use Rattle.trade_ledger.specs.declared.cash_calls.CashCall.{CashCall}
-use Rattle.trade_ledger.specs.declared.cash_calls.CashCall.TheVariants.{Post}
-use Rattle.trade_ledger.specs.declared.cash_calls.CashReply.TheVariants.{Done}
-use Rattle.trade_ledger.specs.declared.cash_calls.CashEntry.{CashEntry}
-use Rattle.trade_ledger.specs.CashHistory.{IsLegalCash, cash_reply_of}
 
 get_last : (cash : List CashEntry) (e : CashEntry) → slice_get (cash ++ e ∷ []) (length cash) ≡ Some e
 get_last [] e = refl

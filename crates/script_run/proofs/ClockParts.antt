@@ -1,24 +1,14 @@
 -- The clock's calls in the pasts of a game are those of its ticks.
-use Rattle.std.proofs.Common.{◌≡◌, ◌≢◌, ℕ, ◌+◌, ◌-◌, ◌<◌, ◌≤◌, Bool, true, false, cond, List, [], ◌∷◌, ◌++◌, length, map, reverse, take, refl, sym, ap, ◌∙◌, subst, arith, append_assoc, eq-eqb, ne_eqb, length-set}
-use Rattle.std.specs.Prelude.{◌==◌, filter}
-use Rattle.std.specs.List.{All, AllByRecursion, flat_map}
-use Rattle.std.proofs.lemmas.List.{reverse-append, map-append, append-nil, get_or-set_same, get_or-set_other}
+use Rattle.std.proofs.Common.{◌≡◌, ◌≢◌, ℕ, ◌+◌, ◌-◌, ◌<◌, ◌≤◌, Bool, true, false, cond, List, [], ◌∷◌, ◌++◌, length, map, reverse, take, refl, sym, ap, ◌∙◌, subst, arith, append_assoc, eq-eqb, ne_eqb, length-set, ◌==◌, filter, All, flat_map, append-nil, get_or-set_same, get_or-set_other}
+use Rattle.std.specs.List.{AllByRecursion}
+use Rattle.std.proofs.lemmas.List.{reverse-append, map-append}
 use Rattle.std.proofs.lemmas.List.Elements.{filter-append, recursion_from_All, All-weaker}
 use mathlib.Core.Logic.{dite}
 use native.Mathlib.Decide.{ℕ_discrete}
-use Rattle.tac_base.specs.declared.calls.Call.{Call}
-use Rattle.tac_base.specs.declared.calls.Call.TheVariants.{Bid, Withdraw, Own, Update, Publish, Close}
-use Rattle.tac_base.specs.Goods.{clock}
-use Rattle.game_text.specs.Games.{GameFile}
-use Rattle.game_text.specs.Schedule.{calls_at, ticks}
-use Rattle.auction_rules.specs.History.{Entry}
+use Rattle.script_run.specs.Prelude.{Call, Bid, Withdraw, Own, Update, Publish, Close, clock, GameFile, calls_at, ticks, Entry, part, setup_of, IsFor, IsDueCall, calls_until}
 use Rattle.auction_rules.proofs.Histories.{entry_caller, entry_call}
-use Rattle.turn_lock.specs.Part.{part}
 use Rattle.turn_lock.proofs.Parts.{part_mine, part_other}
-use Rattle.auction_core.specs.Setups.{setup_of}
 use Rattle.auction_core.proofs.Counting.{by}
-use Rattle.clock_events.specs.Laws.{IsFor, IsDueCall}
-use Rattle.clock_events.specs.MadeCalls.{calls_until}
 use Rattle.clock_events.proofs.MadeCalls.{calls_of_good}
 use Rattle.clock_events.proofs.TickCalls.{tick_done}
 use Rattle.script_run.specs.{GameState, past_at, entry_at, called, clocked, calls_by}

@@ -1,17 +1,11 @@
 -- The counts of a game's histories are those of its pasts.
-use Rattle.std.proofs.Common.{◌≡◌, ℕ, ◌+◌, List, [], ◌∷◌, length, map, reverse, refl, sym, ap, ◌∙◌, arith}
-use Rattle.std.specs.Prelude.{sum_by}
+use Rattle.std.proofs.Common.{◌≡◌, ℕ, ◌+◌, List, [], ◌∷◌, length, map, reverse, refl, sym, ap, ◌∙◌, arith, sum_by}
 use Rattle.std.specs.List.{enumerate_from}
 use Rattle.std.proofs.lemmas.List.{reverse-append, length-reverse}
 use Rattle.std.proofs.lemmas.List.Sums.{sum_by-cons, sum_by_push}
 use Rattle.std.proofs.lemmas.List.Concat.{length-flat_map}
-use Rattle.game_text.specs.Games.{GameFile}
-use Rattle.auction_rules.specs.History.{Entry}
-use Rattle.auction_rules.specs.Effects.{all_trades}
-use Rattle.auction_core.specs.Auctions.{AuctionHistory}
-use Rattle.auction_core.specs.ClosedGame.{ClosedGame}
+use Rattle.script_run.specs.{GameFile, Entry, all_trades, AuctionHistory, ClosedGame, GameState, auction_with, closed_of, count_in}
 use Rattle.script_run.specs.declared.game.play_count.PlayCount.{PlayCount}
-use Rattle.script_run.specs.{GameState, auction_with, closed_of, count_in}
 
 sum_reversed : {X : Type 0} (f : X → ℕ) (xs : List X) → sum_by f (reverse xs) ≡ sum_by f xs
 sum_reversed f [] = refl

@@ -1,21 +1,11 @@
 -- How many entries, posts and readings there are after one more.
-use Rattle.std.proofs.Common.{◌≡◌, ◌≢◌, ℕ, zero, suc, ◌+◌, ◌*◌, ◌<◌, ◌≤◌, Bool, true, false, cond, List, [], ◌∷◌, ◌++◌, length, reverse, get_or, set, refl, sym, ap, ◌∙◌, arith, eq-eqb, ne_eqb, length-append}
-use Rattle.std.specs.Prelude.{◌==◌, ◌&&◌}
-use Rattle.std.proofs.lemmas.List.{reverse-append, append-nil, get_or-set_same, get_or-set_other}
+use Rattle.std.proofs.Common.{◌≡◌, ◌≢◌, ℕ, zero, suc, ◌+◌, ◌*◌, ◌<◌, ◌≤◌, Bool, true, false, cond, List, [], ◌∷◌, ◌++◌, length, reverse, get_or, set, refl, sym, ap, ◌∙◌, arith, eq-eqb, ne_eqb, length-append, ◌==◌, ◌&&◌, append-nil, get_or-set_same, get_or-set_other}
+use Rattle.std.proofs.lemmas.List.{reverse-append}
 use Rattle.std.proofs.lemmas.List.Sums.{sum_by-cons, sum_by_push, sum_by-set}
 use mathlib.Core.Logic.{dite}
 use native.Mathlib.Decide.{ℕ_discrete}
-use Rattle.tac_base.specs.declared.calls.Trade.{Trade}
-use Rattle.auction_rules.specs.History.{Entry}
-use Rattle.auction_rules.specs.Effects.{nets}
-use Rattle.auction_rules.specs.Legal.{entries_of}
-use Rattle.turn_lock.specs.Part.{part}
+use Rattle.script_run.specs.{Trade, Entry, nets, entries_of, part, Post, Done, CashEntry, post_for, due_post, past_at, reads, readings_of, reading_of, made}
 use Rattle.turn_lock.proofs.Parts.{part_mine, part_other}
-use Rattle.trade_ledger.specs.declared.cash_calls.CashCall.TheVariants.{Post}
-use Rattle.trade_ledger.specs.declared.cash_calls.CashReply.TheVariants.{Done}
-use Rattle.trade_ledger.specs.declared.cash_calls.CashEntry.{CashEntry}
-use Rattle.trade_ledger.specs.Posts.{post_for, due_post}
-use Rattle.script_run.specs.{past_at, reads, readings_of, reading_of, made}
 
 abbrev pub one_if : Bool → ℕ
 one_if b = cond b 1 0
@@ -51,7 +41,7 @@ and_true : (b c : Bool) → c ≡ true → one_if (b && c) ≡ one_if b
 and_true true c is = ap one_if is
 and_true false c is = refl
 
-and_false : (b c : Bool) → c ≡ false → one_if (b && c) ≡ 0
+pub and_false : (b c : Bool) → c ≡ false → one_if (b && c) ≡ 0
 and_false true c is = ap one_if is
 and_false false c is = refl
 

@@ -1,17 +1,13 @@
 -- The counts of a game script with one line more.
-use Rattle.std.proofs.Common.{◌≡◌, ℕ, ◌+◌, ◌<◌, ◌≤◌, Bool, true, false, cond, List, ◌∷◌, length, get_or, set, refl, sym, ap, ◌∙◌, arith, eq-eqb, ne_eqb}
-use Rattle.std.specs.Prelude.{◌&&◌, ◌||◌, nat_le, Result, Ok}
-use Rattle.std.proofs.lemmas.List.{get_or-set_same, get_or-set_other}
+use Rattle.std.proofs.Common.{◌≡◌, ℕ, ◌+◌, ◌<◌, ◌≤◌, Bool, true, false, cond, List, ◌∷◌, length, get_or, set, refl, sym, ap, ◌∙◌, arith, eq-eqb, ne_eqb, ◌&&◌, ◌||◌, nat_le, Result, Ok, get_or-set_same, get_or-set_other}
 use Rattle.std.proofs.lemmas.List.Sums.{sum_by-cons}
 use Rattle.std.proofs.lemmas.Bool.Decides.{nat_tests}
 use mathlib.Core.Logic.{dite}
 use native.Mathlib.Decide.{ℕ_discrete}
-use Rattle.line_protocol.specs.declared.asking.Request.{Request}
-use Rattle.line_protocol.specs.declared.asking.RequestFault.{RequestFault}
+use Rattle.script_run.specs.{Request, RequestFault, is_tick_line, is_line_of, is_quit, count_of_agent, has_quit, limited_game_line, AreGameCounts}
 use Rattle.script_run.specs.declared.game.lines.GameLine.{GameLine}
 use Rattle.script_run.specs.declared.game.lines.GameLine.TheVariants.{Asks}
 use Rattle.script_run.specs.declared.game.counts.GameCounts.{GameCounts}
-use Rattle.script_run.specs.{is_tick_line, is_line_of, is_quit, count_of_agent, has_quit, limited_game_line, AreGameCounts}
 use Rattle.script_run.proofs.Counted.{count_set}
 
 -- a line of an agent that may stand here

@@ -1,20 +1,13 @@
 -- A script that is heard piece by piece, up to what ends the game.
-use Rattle.std.proofs.Common.{◌≡◌, ℕ, ◌+◌, ◌<◌, ◌≤◌, false, List, [], ◌++◌, length, length-append, take, refl, sym, ap, ◌∙◌, subst, arith, inl, inr}
-use Rattle.std.specs.Prelude.{◌⊎◌, Result, Ok, Err}
-use Rattle.text_forms.specs.Words.{parts_of}
-use Rattle.tac_io.specs.Counts.{Rose}
-use Rattle.tac_io.specs.States.{FilesState, SinkState}
-use Rattle.tac_io.specs.Known.{IsAtEnd, then_known}
+use Rattle.std.proofs.Common.{◌≡◌, ℕ, ◌+◌, ◌<◌, ◌≤◌, false, List, [], ◌++◌, length, length-append, take, refl, sym, ap, ◌∙◌, subst, arith, inl, inr, ◌⊎◌, Result, Ok, Err}
+use Rattle.script_run.specs.{parts_of, Rose, FilesState, SinkState, IsAtEnd, then_known, GameFile, TookWhole, TookPart, HasRunGame, Heard, heard, heard_from, heard_lines, Reading, AtEnd, AtFault, Before, Standing, Whole, BadAt, Overlong, BrokenOff, Open, script_standing, standing_after, replies, BadLine, HasReadCause, IsPrompt, StopsThere, StepsGame, Tells, Answered, EndsScript, HasAnswered, HearsLines, IsStepping, TookMore}
 use Rattle.tac_io.proofs.KnownPieces.{known_then-nothing, then_known-nothing, then_known-twice}
 use Rattle.tac_io.proofs.WholeFiles.{still_at_end}
-use Rattle.game_text.specs.Games.{GameFile}
-use Rattle.tac_io.specs.Taken.{TookWhole, TookPart}
 use Rattle.script_run.specs.declared.fault.StepFault.{StepFault}
 use Rattle.script_run.specs.declared.fault.StepFault.TheVariants.{Line, TooLong, Unread, Unwritten, Memory}
 use Rattle.script_run.specs.declared.game.lines.GameLine.{GameLine}
 use Rattle.script_run.specs.declared.game.run.GameRun.{GameRun}
 use Rattle.script_run.specs.declared.game.stepping.Stepper.{Stepper}
-use Rattle.script_run.specs.{HasRunGame, Heard, heard, heard_from, heard_lines, Reading, AtEnd, AtFault, Before, Standing, Whole, BadAt, Overlong, BrokenOff, Open, standing, standing_after, replies, BadLine, HasReadCause, IsPrompt, StopsThere, StepsGame, Tells, Answered, Ends, HasAnswered, HearsLines, IsStepping, TookMore}
 use Rattle.script_run.proofs.Answering.{all_written}
 use Rattle.script_run.proofs.SteppedGames.{heard_beyond, heard_so_far, heard_within, open_stands, prompt_after, prompt_now, stands_beyond, stands_within, tells_as, took_none, took_replies}
 
@@ -45,7 +38,7 @@ hears_nothing game files start stepper none s = record {
 
 module _ (game : GameFile) (files : FilesState) (start : SinkState) where
   -- what ended the game
-  ends : (given : List ℕ) (reading : Reading) (stands : Standing) (files' : FilesState) (sink' : SinkState) (result : Result (Unit {0}) StepFault) → standing given reading ≡ stands →
+  ends : (given : List ℕ) (reading : Reading) (stands : Standing) (files' : FilesState) (sink' : SinkState) (result : Result (Unit {0}) StepFault) → script_standing given reading ≡ stands →
       files.left ≡ then_known given files'.left → StopsThere reading files'.left → HasReadCause stands files.faults files'.faults → Tells game given stands start sink' result →
       IsPrompt game given start sink' → StepsGame game files files' start sink' result
   ends given reading stands files' sink' result is left stops cause tells prompt = inr (
@@ -87,10 +80,10 @@ module _ (game : GameFile) (files : FilesState) (start : SinkState) where
         left_at_end : files.left ≡ then_known h.given files''.left
         left_at_end = h.left ∙ ap (then_known h.given) (gave ∙ (ap (λ (k : ℕ). then_known (take k piece) files''.left) none ∙ then_known-nothing files''.left))
 
-        pub at_end : (result : Result GameRun StepFault) → Ends game (h.answered.stepping).lines (h.answered.stepping).rest h.answered.written result → HearsLines game files files'' start sink result
+        pub at_end : (result : Result GameRun StepFault) → EndsScript game (h.answered.stepping).lines (h.answered.stepping).rest h.answered.written result → HearsLines game files files'' start sink result
         at_end (Ok run) ended =
             let lines_are : (h.answered.stepping).lines ≡ heard_lines h.given = ap (λ (x : Heard). x.0) (sym so_far) in
-            let whole : standing h.given AtEnd ≡ Whole =
+            let whole : script_standing h.given AtEnd ≡ Whole =
             stands_within h.given AtEnd (h.answered.stepping).lines (Ok (h.answered.stepping).rest) short so_far
             ∙ ap (λ (rest : List ℕ). standing_after (h.answered.stepping).lines (Ok rest) false AtEnd) ended.0 in (
               h.given,
@@ -138,7 +131,7 @@ module _ (game : GameFile) (files : FilesState) (start : SinkState) where
             part : TookPart start sink' (replies game (heard_lines (h.given ++ take n piece)))
             part = subst (λ (x : Heard). TookPart start sink' (replies game x.0)) (sym is) answer
 
-            stands : standing (h.given ++ take n piece) Before ≡ standing_after (heard_from [] (parts_of 10 (h.given ++ take n piece))).0 (heard_from [] (parts_of 10 (h.given ++ take n piece))).1 false Before
+            stands : script_standing (h.given ++ take n piece) Before ≡ standing_after (heard_from [] (parts_of 10 (h.given ++ take n piece))).0 (heard_from [] (parts_of 10 (h.given ++ take n piece))).1 false Before
             stands = stands_within (h.given ++ take n piece) Before (heard_from [] (parts_of 10 (h.given ++ take n piece))).0 (heard_from [] (parts_of 10 (h.given ++ take n piece))).1 short' is
 
             kept : IsPrompt game (h.given ++ take n piece) start sink'

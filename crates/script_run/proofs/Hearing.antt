@@ -1,13 +1,10 @@
 -- What is heard of a script whose bytes come piece by piece.
-use Rattle.std.proofs.Common.{◌≡◌, ◌≢◌, ℕ, zero, suc, inl, inr, ◌+◌, ◌≤◌, false, List, [], ◌∷◌, ◌++◌, length, length-append, refl, sym, ap, ◌∙◌, arith, append_assoc}
-use Rattle.std.specs.Prelude.{◌==◌, Result, Ok, Err}
+use Rattle.std.proofs.Common.{◌≡◌, ◌≢◌, ℕ, zero, suc, inl, inr, ◌+◌, ◌≤◌, false, List, [], ◌∷◌, ◌++◌, length, length-append, refl, sym, ap, ◌∙◌, arith, append_assoc, ◌==◌, Result, Ok, Err}
 use Rattle.std.proofs.lemmas.Bool.Decides.{nat_tests}
-use Rattle.text_forms.specs.Words.{parts_of}
-use Rattle.tac_io.specs.LineText.{has_end}
+use Rattle.script_run.specs.{parts_of, has_end, judge_game_line, game_script, Heard, heard_from, BadLine, script_lines_from, script_reason_number}
 use Rattle.script_run.specs.declared.game.lines.GameLine.{GameLine}
 use Rattle.script_run.specs.declared.fault.ScriptReason.{ScriptReason}
 use Rattle.script_run.specs.declared.fault.ScriptReason.TheVariants.{NoLineEnd}
-use Rattle.script_run.specs.{judge_game_line, game_script, Heard, heard_from, BadLine, script_lines_from, script_reason_number}
 use Rattle.script_run.specs.HeardScripts as heard
 use Rattle.script_run.specs.ScriptLines as scripts
 use Rattle.script_run.proofs.LineParts.{Splits, first_line, line_part, one_part}

@@ -1,26 +1,12 @@
 -- A game that one thread plays to its end is legal.
-use Rattle.std.proofs.Common.{◌≡◌, ℕ, ◌+◌, ◌<◌, ◌≤◌, List, [], ◌∷◌, length, map, reverse, get_or, refl, sym, ap, ◌∙◌, subst, arith}
-use Rattle.std.specs.Prelude.{Ok}
-use Rattle.std.specs.List.{All, AllByRecursion, enumerate_from, range_with_len}
+use Rattle.std.proofs.Common.{◌≡◌, ℕ, ◌+◌, ◌<◌, ◌≤◌, List, [], ◌∷◌, length, map, reverse, get_or, refl, sym, ap, ◌∙◌, subst, arith, Ok, All}
+use Rattle.std.specs.List.{AllByRecursion, enumerate_from, range_with_len}
 use Rattle.std.proofs.lemmas.List.{reverse-append, reverse-reverse, get_or-map, length-map}
 use mathlib.Core.Logic.{dite}
 use native.Mathlib.Decide.{ℕ_discrete}
-use Rattle.tac_base.specs.Goods.{clock}
-use Rattle.game_text.specs.Games.{GameFile}
-use Rattle.game_text.specs.Schedule.{calls_at, clock_calls}
-use Rattle.auction_rules.specs.History.{Entry}
-use Rattle.auction_rules.specs.Setup.{Setup}
-use Rattle.auction_rules.specs.Legal.{Legal, IsLawful, cap, entries_of}
-use Rattle.turn_lock.specs.Part.{part}
-use Rattle.auction_core.specs.Auctions.{AuctionHistory}
-use Rattle.auction_core.specs.Setups.{setup_of}
+use Rattle.script_run.specs.{clock, GameFile, calls_at, clock_calls, Entry, Setup, Legal, IsLawful, cap, entries_of, part, AuctionHistory, setup_of, IsDueCall, calls_until, Matched, histories_of, GameState, past_at, auction_with, closed_of, whole_game, closed_game, game_script, closed_history, calls_by, IsLawfulGame}
 use Rattle.auction_core.proofs.Counting.{by, length-part, called_snoc}
-use Rattle.clock_events.specs.Laws.{IsDueCall}
-use Rattle.clock_events.specs.MadeCalls.{calls_until}
-use Rattle.trade_ledger.specs.Posts.{Matched}
-use Rattle.game_log.specs.LogText.{histories_of}
 use Rattle.script_run.specs.declared.game.lines.GameLine.{GameLine}
-use Rattle.script_run.specs.{GameState, past_at, auction_with, closed_of, whole_game, closed_game, game_script, closed_history, calls_by, IsLawfulGame}
 use Rattle.script_run.proofs.Counted.{entries_of-reverse}
 use Rattle.script_run.proofs.LawfulSteps.{IsOnTime, time_whole}
 use Rattle.script_run.proofs.LineRanges.{script_low}

@@ -1,40 +1,19 @@
 -- Each step of a game that one thread plays keeps its histories legal.
-use Rattle.std.proofs.Common.{◌≡◌, ℕ, zero, suc, ◌+◌, ◌-◌, ◌<◌, ◌≤◌, Bool, true, false, cond, List, [], ◌∷◌, ◌++◌, length, get_or, refl, sym, ap, ◌∙◌, subst, arith, length-set}
-use Rattle.std.specs.Prelude.{◌==◌, nat_le, replicate, sum_by, None, Some, Result, Ok, Err}
-use Rattle.std.specs.List.{All, AllByRecursion}
+use Rattle.std.proofs.Common.{◌≡◌, ℕ, zero, suc, ◌+◌, ◌-◌, ◌<◌, ◌≤◌, Bool, true, false, cond, List, [], ◌∷◌, ◌++◌, length, get_or, refl, sym, ap, ◌∙◌, subst, arith, length-set, ◌==◌, nat_le, replicate, sum_by, None, Some, Result, Ok, Err, All, append-nil}
+use Rattle.std.specs.List.{AllByRecursion}
 use Rattle.std.proofs.lemmas.Bool.Decides.{nat_tests}
-use Rattle.std.proofs.lemmas.List.{append-nil}
 use Rattle.std.proofs.lemmas.List.Sums.{sum_by-cons}
 use mathlib.Core.Logic.{dite}
 use native.Mathlib.Decide.{ℕ_discrete}
-use Rattle.tac_base.specs.declared.calls.Call.{Call}
+use Rattle.script_run.specs.{Call, Trade, clock, GameFile, calls_at, Entry, nets, IsLawful, entries_of, Post, Done, CashEntry, IsLegalCash, posts_of, post_for, due_post, setup_of, IsDueCall, calls_until, Request, RequestFault, Said, GameState, opening, past_at, entry_at, called, reading_of, readings_of, call_turn, cash_turn, turn, clocked, ticked, played, ticked_often, whole_game, IsAskedInRange, IsLine}
 use Rattle.tac_base.specs.declared.calls.Call.TheVariants as calls
-use Rattle.tac_base.specs.declared.calls.Trade.{Trade}
-use Rattle.tac_base.specs.Goods.{clock}
-use Rattle.game_text.specs.Games.{GameFile}
-use Rattle.game_text.specs.Schedule.{calls_at}
-use Rattle.auction_rules.specs.History.{Entry}
-use Rattle.auction_rules.specs.Effects.{nets}
-use Rattle.auction_rules.specs.Legal.{IsLawful, entries_of}
 use Rattle.auction_rules.proofs.Histories.{entry_caller, lawful_more}
-use Rattle.trade_ledger.specs.declared.cash_calls.CashCall.TheVariants.{Post}
-use Rattle.trade_ledger.specs.declared.cash_calls.CashReply.TheVariants.{Done}
-use Rattle.trade_ledger.specs.declared.cash_calls.CashEntry.{CashEntry}
-use Rattle.trade_ledger.specs.CashHistory.{IsLegalCash}
-use Rattle.trade_ledger.specs.Posts.{posts_of, post_for, due_post}
 use Rattle.trade_ledger.proofs.CashSteps.{legal_snoc}
-use Rattle.auction_core.specs.Setups.{setup_of}
-use Rattle.clock_events.specs.Laws.{IsDueCall}
-use Rattle.clock_events.specs.MadeCalls.{calls_until}
 use Rattle.clock_events.proofs.MadeCalls.{calls_of_good}
-use Rattle.line_protocol.specs.declared.asking.Request.{Request}
 use Rattle.line_protocol.specs.declared.asking.Request.TheVariants as requests
-use Rattle.line_protocol.specs.declared.asking.RequestFault.{RequestFault}
-use Rattle.line_protocol.specs.declared.saying.Said.{Said}
 use Rattle.line_protocol.specs.declared.saying.Said.TheVariants as said
 use Rattle.script_run.specs.declared.game.lines.GameLine.{GameLine}
 use Rattle.script_run.specs.declared.game.lines.GameLine.TheVariants.{Tick, Asks}
-use Rattle.script_run.specs.{GameState, opening, past_at, entry_at, called, reading_of, readings_of, call_turn, cash_turn, turn, clocked, ticked, played, ticked_often, whole_game, IsAskedInRange, IsLine}
 use Rattle.script_run.proofs.ClockParts.{clock_made, agent_made, clocked_made, past_there, past_elsewhere, IsOfGood, tick_low, until_next}
 use Rattle.script_run.proofs.Counted.{one_if, one_if_other, one_if_le, with_entry}
 use Rattle.script_run.proofs.OwedPosts.{owed, owed_more, posts_more, posts_read}

@@ -1,26 +1,24 @@
 -- The parts of a text that is cut at its line ends.
-use Rattle.std.proofs.Common.{◌≡◌, ◌≢◌, ℕ, ◌+◌, Bool, true, false, cond, List, [], ◌∷◌, ◌++◌, length, refl, sym, ap, ◌∙◌, arith, inl, inr}
-use Rattle.std.specs.Prelude.{◌==◌, ◌⊎◌, count_by}
-use Rattle.std.specs.List.{join_with_byte, onto_first}
+use Rattle.std.proofs.Common.{◌≡◌, ℕ, ◌+◌, Bool, true, false, cond, List, [], ◌∷◌, ◌++◌, length, refl, sym, ap, ◌∙◌, arith, inl, inr, ◌==◌, ◌⊎◌, count_by}
+use Rattle.std.specs.List.{onto_first}
 use Rattle.std.proofs.lemmas.List.Sums.{sum_by-append, sum_by-cons}
-use Rattle.std.proofs.lemmas.List.Splits.{join_with_byte-slice_split, length-slice_split, slice_split-cons_no, slice_split-cons_yes}
-use Rattle.text_forms.specs.Words.{parts_of}
-use Rattle.tac_io.specs.LineText.{has_end}
-use Rattle.tac_io.proofs.LineEnds.{neither}
-use Rattle.script_run.proofs.ScriptReading.{some_part}
+use Rattle.std.proofs.lemmas.List.Splits.{length-slice_split, slice_split-cons_no, slice_split-cons_yes}
+use Rattle.std.proofs.lemmas.Bool.{or_parts}
+use Rattle.script_run.specs.Prelude.{parts_of, has_end}
+use Rattle.text_forms.proofs.BlockSteps.{cut_whole}
 
 -- a line that has its end is a part
 pub line_part : (line more : List ℕ) → has_end line ≡ false → parts_of 10 (line ++ 10 ∷ more) ≡ line ∷ parts_of 10 more
 line_part [] more none = slice_split-cons_yes (λ b. b == 10) 10 more refl
 line_part (byte ∷ line) more none =
-    let both = neither (byte == 10) (has_end line) none in
+    let both = or_parts (byte == 10) (has_end line) none in
     slice_split-cons_no (λ b. b == 10) byte (line ++ 10 ∷ more) both.0 ∙ ap (onto_first byte) (line_part line more both.1)
 
 -- what has no line end is one part
 pub one_part : (rest : List ℕ) → has_end rest ≡ false → parts_of 10 rest ≡ rest ∷ []
 one_part [] none = refl
 one_part (byte ∷ rest) none =
-    let both = neither (byte == 10) (has_end rest) none in
+    let both = or_parts (byte == 10) (has_end rest) none in
     slice_split-cons_no (λ b. b == 10) byte rest both.0 ∙ ap (onto_first byte) (one_part rest both.1)
 
 -- bytes have no line end, or begin with a line and its end
@@ -50,19 +48,10 @@ none_counted (byte ∷ bytes) none = by_test (byte == 10) refl (sym (sum_by-cons
 pub one_part_only : (bytes : List ℕ) → parts_of 10 bytes ≡ bytes ∷ [] → has_end bytes ≡ false
 one_part_only bytes one = none_counted bytes (omega (arith, length-slice_split (λ b. b == 10) bytes, ap length one))
 
-joined : (part : List ℕ) (parts : List (List ℕ)) → length parts ≢ 0 → join_with_byte 10 (part ∷ parts) ≡ part ++ 10 ∷ join_with_byte 10 parts
-joined part [] some = absurd (some refl)
-joined part (next ∷ parts) some = refl
-
--- the bytes that were cut
-pub cut_bytes : (bytes part after : List ℕ) → parts_of 10 bytes ≡ part ∷ parts_of 10 after → bytes ≡ part ++ 10 ∷ after
-cut_bytes bytes part after e =
-    sym (join_with_byte-slice_split 10 bytes) ∙ (ap (join_with_byte 10) e ∙ (joined part (parts_of 10 after) (some_part after) ∙ ap (λ (l : List ℕ). part ++ 10 ∷ l) (join_with_byte-slice_split 10 after)))
-
 pub cut_part : (bytes part after : List ℕ) → parts_of 10 bytes ≡ part ∷ parts_of 10 after → has_end part ≡ false
 cut_part bytes part after e =
     let whole = length-slice_split (λ b. b == 10) bytes in
     let rest = length-slice_split (λ b. b == 10) after in
-    let both = ap (count_by (λ b. b == 10)) (cut_bytes bytes part after e) ∙ sum_by-append (λ (b : ℕ). cond (b == 10) 1 0) part (10 ∷ after) in
+    let both = ap (count_by (λ b. b == 10)) (cut_whole bytes part after e) ∙ sum_by-append (λ (b : ℕ). cond (b == 10) 1 0) part (10 ∷ after) in
     let own = sum_by-cons (λ (b : ℕ). cond (b == 10) 1 0) 10 after in
     none_counted part (omega (arith, whole, rest, both, own, ap length e))

@@ -1,19 +1,14 @@
 -- The lines of a script are in range.
-use Rattle.std.proofs.Common.{◌≡◌, ℕ, ◌+◌, ◌-◌, ◌≤◌, Bool, true, false, cond, List, [], ◌∷◌, length, refl, subst, arith, Option, Some, None}
-use Rattle.std.specs.Prelude.{◌==◌, ◌&&◌, nat_le, nat_lt, codes, Result, Ok, Err}
+use Rattle.std.proofs.Common.{◌≡◌, ℕ, ◌+◌, ◌-◌, ◌≤◌, Bool, true, false, cond, List, [], ◌∷◌, length, refl, subst, arith, Option, Some, None, ◌==◌, ◌&&◌, nat_le, nat_lt, codes, Result, Ok, Err, bytes_eq}
 use Rattle.std.specs.List.{AllByRecursion}
-use Rattle.std.specs.Str.{bytes_eq}
 use Rattle.std.proofs.lemmas.Bool.Decides.{nat_tests}
-use Rattle.text_forms.specs.Words.{parts_of}
-use Rattle.line_protocol.specs.declared.asking.Request.{Request}
-use Rattle.line_protocol.specs.declared.asking.RequestFault.{RequestFault}
+use Rattle.script_run.specs.{parts_of, Request, RequestFault, agent_of, BadLine, script_reason_number, then_lines, script_lines_from, ticks_of, count_of_agent, has_quit, limited_game_line, judged_game_line, judge_game_line, game_script, IsAskedInRange, IsLine}
 use Rattle.line_protocol.specs.Requests.{request_of}
 use Rattle.line_protocol.proofs.RequestLaws.{request_is}
 use Rattle.script_run.specs.declared.fault.ScriptReason.{ScriptReason}
 use Rattle.script_run.specs.declared.fault.ScriptReason.TheVariants.{Form, Ended, NoLineEnd, TooMany}
 use Rattle.script_run.specs.declared.game.lines.GameLine.{GameLine}
 use Rattle.script_run.specs.declared.game.lines.GameLine.TheVariants.{Tick, Asks}
-use Rattle.script_run.specs.{agent_of, BadLine, script_reason_number, then_lines, script_lines_from, ticks_of, count_of_agent, has_quit, limited_game_line, judged_game_line, judge_game_line, game_script, IsAskedInRange, IsLine}
 use Rattle.script_run.specs.GameLines.{asks_of, request_line, game_line_of}
 
 abbrev read : GameLine → Result GameLine ScriptReason

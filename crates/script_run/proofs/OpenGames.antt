@@ -4,20 +4,8 @@ use Rattle.std.proofs.lemmas.List.{length-map, map-set, reverse-reverse, get_or-
 use Rattle.std.proofs.Math.Seq.{map-set_same}
 use Rattle.std.proofs.lemmas.List.FromFn.{get_or-map-range_with_len}
 use Rattle.std.specs.List.{enumerate_from, range_with_len}
-use Rattle.tac_base.specs.declared.calls.Call.{Call}
-use Rattle.game_text.specs.Games.{GameFile}
-use Rattle.auction_rules.specs.Setup.{Setup}
-use Rattle.auction_rules.specs.History.{Entry}
-use Rattle.auction_rules.specs.Board.{board}
-use Rattle.auction_rules.specs.Legal.{entry_of, entries_of}
-use Rattle.turn_lock.specs.Part.{part}
+use Rattle.script_run.specs.{Call, GameFile, Setup, Entry, board, entry_of, entries_of, part, CashEntry, due_post, setup_of, AuctionHistory, all_goods, past_at, called, auction_with, closed_of, pasts_of, setups_of, all_setups, state_of}
 use Rattle.auction_core.proofs.Counting.{by, length-part}
-use Rattle.trade_ledger.specs.declared.cash_calls.CashEntry.{CashEntry}
-use Rattle.trade_ledger.specs.Posts.{due_post}
-use Rattle.auction_core.specs.Setups.{setup_of}
-use Rattle.auction_core.specs.Auctions.{AuctionHistory}
-use Rattle.auction_core.specs.ClosedGame.{all_goods}
-use Rattle.script_run.specs.{past_at, called, auction_with, closed_of, pasts_of, setups_of, all_setups, state_of}
 use Rattle.script_run.proofs.Counted.{entries_of-reverse}
 
 -- the auction of a good before the first call

@@ -1,19 +1,11 @@
 -- The posts that are due to the pasts of a game, by their weight.
-use Rattle.std.proofs.Common.{◌≡◌, ℕ, zero, suc, ◌+◌, ◌<◌, true, List, [], ◌∷◌, ◌++◌, length, map, reverse, get_or, set, refl, sym, ap, ◌∙◌, arith}
-use Rattle.std.specs.Prelude.{sum_by}
-use Rattle.std.specs.List.{enumerate_from, flat_map}
-use Rattle.std.proofs.lemmas.List.{reverse-append, length-reverse, append-nil}
+use Rattle.std.proofs.Common.{◌≡◌, ℕ, zero, suc, ◌+◌, ◌<◌, true, List, [], ◌∷◌, ◌++◌, length, map, reverse, get_or, set, refl, sym, ap, ◌∙◌, arith, sum_by, flat_map, append-nil}
+use Rattle.std.specs.List.{enumerate_from}
+use Rattle.std.proofs.lemmas.List.{reverse-append, length-reverse}
 use Rattle.std.proofs.lemmas.List.Concat.{flat_map-append}
 use Rattle.std.proofs.lemmas.List.Elements.{filter-append}
 use Rattle.std.proofs.lemmas.List.Sums.{sum_by-append}
-use Rattle.tac_base.specs.declared.calls.Trade.{Trade}
-use Rattle.auction_rules.specs.History.{Entry}
-use Rattle.auction_rules.specs.Effects.{nets}
-use Rattle.trade_ledger.specs.declared.cash_calls.CashCall.TheVariants.{Post}
-use Rattle.trade_ledger.specs.declared.cash_calls.CashReply.TheVariants.{Done}
-use Rattle.trade_ledger.specs.declared.cash_calls.CashEntry.{CashEntry}
-use Rattle.trade_ledger.specs.Posts.{is_post, posts_of, post_for, due_post, due_to, Matched}
-use Rattle.script_run.specs.GameStates.{past_at, reading_of}
+use Rattle.script_run.specs.{Trade, Entry, nets, Post, Done, CashEntry, is_post, posts_of, post_for, due_post, due_to, Matched, past_at, reading_of}
 use Rattle.script_run.proofs.Counted.{with_entry}
 
 -- ---- one good

@@ -1,17 +1,7 @@
 -- A game that is played line by line, and then written.
 use Rattle.std.proofs.Common.{◌≡◌, ℕ, List, [], ◌∷◌, ◌++◌, sym, ap, ◌∙◌, subst, inl, inr, Ok, Err}
-use Rattle.tac_io.specs.States.{SinkState}
-use Rattle.text_forms.specs.Words.{parts_of}
-use Rattle.game_text.specs.Games.{GameFile}
-use Rattle.auction_core.specs.ClosedGame.{ClosedGame}
-use Rattle.score_sheet.specs.Sheets.{Scored}
-use Rattle.game_log.specs.LogText.{play_part}
-use Rattle.game_log.specs.SheetText.{sheet_part}
-use Rattle.game_log.specs.ScoredGames.{IsSheetOf}
+use Rattle.script_run.specs.{SinkState, parts_of, GameFile, ClosedGame, Scored, play_part, sheet_part, IsSheetOf, IsShowable, TookWhole, Play, judge_game_line, HasRunGame, PlaysGameLine, PlaysLines, closed_game, first_out, play_out, IsGoodScript, IsPlayOut, IsFirstOut, PlaysScript, whole_game, count_in, HasPlayed, PlaysToEnd, WritesPlayed, first_text, PlaysQuietly}
 use Rattle.game_log.specs.SheetWritten.{WritesSheet}
-use Rattle.game_log.specs.ShownGames.{IsShowable}
-use Rattle.tac_io.specs.Taken.{TookWhole}
-use Rattle.line_protocol.specs.Heads.{Play}
 use Rattle.game_log.specs.declared.fault.LogWriteFault.TheVariants as log
 use Rattle.game_log.proofs.Writing.{then_some}
 use Rattle.script_run.specs.declared.game.lines.GameLine.{GameLine}
@@ -20,7 +10,6 @@ use Rattle.script_run.specs.declared.fault.ScriptFault.{ScriptFault}
 use Rattle.script_run.specs.declared.fault.ScriptFault.TheVariants.{Line, TooLong, Failed, Memory}
 use Rattle.script_run.specs.declared.game.play_count.PlayCount.{PlayCount}
 use Rattle.script_run.specs.declared.game.playing.FinishedGame.{FinishedGame}
-use Rattle.script_run.specs.{judge_game_line, HasRunGame, PlaysGameLine, PlaysLines, closed_game, first_out, play_out, IsGoodScript, IsPlayOut, IsFirstOut, PlaysScript, whole_game, count_in, HasPlayed, PlaysToEnd, WritesPlayed, first_text, PlaysQuietly}
 use Rattle.script_run.proofs.ClosedCounts.{counted, count_closed}
 use Rattle.script_run.proofs.ScriptReading.{HasRead, stops}
 

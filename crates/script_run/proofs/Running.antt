@@ -1,20 +1,13 @@
 -- A script's lines, read one after the other.
-use Rattle.std.proofs.Common.{◌≡◌, ℕ, suc, ◌<◌, List, [], ◌∷◌, ◌++◌, length, map, reverse, refl, sym, ap, ◌∙◌, subst, arith, Bool, true, false, cond, Some}
-use Rattle.std.specs.Prelude.{◌==◌, nat_le, slice_get, Result, Ok, Err}
+use Rattle.std.proofs.Common.{◌≡◌, ℕ, suc, ◌<◌, List, [], ◌∷◌, ◌++◌, length, map, reverse, refl, sym, ap, ◌∙◌, subst, arith, Bool, true, false, cond, Some, ◌==◌, nat_le, slice_get, Result, Ok, Err}
 use Rattle.std.proofs.lemmas.Bool.Decides.{nat_tests}
 use Rattle.std.proofs.lemmas.List.{reverse-append, reverse-reverse, length-reverse}
 use Rattle.std.proofs.lemmas.List.Sums.{sum_by-cons, sum_by_push}
-use Rattle.text_forms.specs.Words.{parts_of}
-use Rattle.tac_base.specs.declared.calls.Trade.{Trade}
-use Rattle.auction_rules.specs.History.{Entry}
-use Rattle.auction_rules.specs.Legal.{cap, entries_of, entry_of}
+use Rattle.script_run.specs.{parts_of, Trade, Entry, cap, entries_of, entry_of, part, AuctionHistory, asked, count_of_caller, judged_hotel_line, judge_hotel_line, one_hotel, script_past, hotel_entry_text, hotel_out, hotel_called, HasRunHotel, RunsHotelLine, RunsLines}
 use Rattle.auction_rules.proofs.Histories.{entry_caller}
-use Rattle.turn_lock.specs.Part.{part}
-use Rattle.auction_core.specs.Auctions.{AuctionHistory}
 use Rattle.auction_core.proofs.Counting.{length-part}
 use Rattle.script_run.specs.declared.hotel.lines.HotelLine.{HotelLine}
 use Rattle.script_run.specs.declared.hotel.run.HotelRun.{HotelRun}
-use Rattle.script_run.specs.{asked, count_of_caller, judged_hotel_line, judge_hotel_line, one_hotel, script_past, hotel_entry_text, hotel_out, hotel_called, HasRunHotel, RunsHotelLine, RunsLines}
 use Rattle.script_run.specs.declared.fault.ScriptReason.{ScriptReason}
 use Rattle.script_run.specs.declared.fault.ScriptReason.TheVariants.{TooMany, TooManyOfCaller}
 use Rattle.script_run.specs.declared.fault.ScriptFault.{ScriptFault}

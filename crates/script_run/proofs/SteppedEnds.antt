@@ -1,17 +1,7 @@
 -- A game that was played line by line to its end, and then written.
-use Rattle.std.proofs.Common.{◌≡◌, ℕ, List, ◌++◌, take, sym, ap, ◌∙◌, subst, inl, inr, append_assoc, Result, Ok, Err}
-use Rattle.std.specs.Prelude.{◌⊎◌}
-use Rattle.tac_io.specs.States.{FilesState, SinkState}
-use Rattle.game_text.specs.Games.{GameFile}
-use Rattle.auction_core.specs.ClosedGame.{ClosedGame}
-use Rattle.score_sheet.specs.Sheets.{Scored}
-use Rattle.game_log.specs.LogText.{play_part}
-use Rattle.game_log.specs.SheetText.{sheet_part}
-use Rattle.game_log.specs.ScoredGames.{IsSheetOf}
-use Rattle.game_log.specs.ShownGames.{IsShowable}
-use Rattle.tac_io.specs.Taken.{TookPart}
+use Rattle.std.proofs.Common.{◌≡◌, ℕ, List, ◌++◌, take, sym, ap, ◌∙◌, subst, inl, inr, append_assoc, Result, Ok, Err, ◌⊎◌}
+use Rattle.script_run.specs.{FilesState, SinkState, GameFile, ClosedGame, Scored, play_part, sheet_part, IsSheetOf, IsShowable, TookPart, Play, first_out, IsGoodScript, HasRunGame, heard_lines, AtEnd, Whole, replies, IsPlayedToEnd, WritesPlayed, first_text, IsFirstOut, IsPlayOut, StepsGame, TellsGame, HearsLines, TookMore, stopped_by}
 use Rattle.game_log.proofs.Writing.{then_some, then_whole}
-use Rattle.line_protocol.specs.Heads.{Play}
 use Rattle.script_run.specs.declared.fault.ScriptFault.{ScriptFault}
 use Rattle.script_run.specs.declared.fault.ScriptFault.TheVariants as scripts
 use Rattle.script_run.specs.declared.fault.StepFault.{StepFault}
@@ -19,19 +9,18 @@ use Rattle.script_run.specs.declared.fault.StepFault.TheVariants.{Unwritten, Mem
 use Rattle.script_run.specs.declared.game.lines.GameLine.{GameLine}
 use Rattle.script_run.specs.declared.game.run.GameRun.{GameRun}
 use Rattle.script_run.specs.declared.game.playing.FinishedGame.{FinishedGame}
-use Rattle.script_run.specs.{first_out, IsGoodScript, HasRunGame, heard_lines, AtEnd, Whole, replies, IsEnd, WritesPlayed, first_text, IsFirstOut, IsPlayOut, StepsGame, TellsGame, HearsLines, TookMore, stopped_by}
 use Rattle.script_run.proofs.SteppedGames.{prompt_now, tells_as}
 use Rattle.script_run.proofs.StoodScripts.{whole_is}
 
 module _ (game : GameFile) (files files' : FilesState) (start sink sink' : SinkState) (run : GameRun) (played : FinishedGame) (heard : HearsLines game files files' start sink (Ok run))
-    (close : (lines : List GameLine) (written : List ℕ) → HasRunGame game lines written run → IsEnd game lines written played) where
+    (close : (lines : List GameLine) (written : List ℕ) → HasRunGame game lines written run → IsPlayedToEnd game lines written played) where
   abbrev lines : List GameLine
   lines = heard_lines heard.0
 
   abbrev answered : List ℕ
   answered = replies game (heard_lines heard.0)
 
-  end : IsEnd game lines answered played
+  end : IsPlayedToEnd game lines answered played
   end = close lines answered heard.3
 
   good : IsGoodScript heard.0 lines

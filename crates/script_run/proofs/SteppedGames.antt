@@ -1,18 +1,12 @@
 -- What a game that is played line by line tells, once it ends.
-use Rattle.std.proofs.Common.{◌≡◌, ℕ, ◌<◌, ◌≤◌, Bool, true, false, List, [], ◌++◌, length, refl, sym, ap, ◌∙◌, subst, arith, append_assoc, append-nil, inl, inr}
-use Rattle.std.specs.Prelude.{◌⊎◌, nat_lt, Result, Ok, Err}
+use Rattle.std.proofs.Common.{◌≡◌, ℕ, ◌<◌, ◌≤◌, Bool, true, false, List, [], ◌++◌, length, refl, sym, ap, ◌∙◌, subst, arith, append_assoc, append-nil, inl, inr, ◌⊎◌, nat_lt, Result, Ok, Err, take_all}
 use Rattle.std.proofs.lemmas.Bool.Decides.{nat_tests}
-use Rattle.std.proofs.lemmas.List.{take_all, take-append-le}
-use Rattle.text_forms.specs.Words.{parts_of}
-use Rattle.tac_io.specs.States.{SinkState}
-use Rattle.tac_io.specs.Known.{known_then}
+use Rattle.std.proofs.lemmas.List.{take-append-le}
+use Rattle.script_run.specs.{parts_of, SinkState, known_then, GameFile, TookWhole, Heard, heard, heard_from, heard_lines, Reading, Before, Standing, Overlong, Open, script_standing, standing_after, replies, BadLine, IsPrompt, Tells, IsStepping, HasAnswered, TookMore}
 use Rattle.tac_io.proofs.KnownPieces.{known_then-nothing, known_then-twice}
-use Rattle.game_text.specs.Games.{GameFile}
-use Rattle.tac_io.specs.Taken.{TookWhole}
 use Rattle.script_run.specs.declared.fault.StepFault.{StepFault}
 use Rattle.script_run.specs.declared.game.lines.GameLine.{GameLine}
 use Rattle.script_run.specs.declared.game.stepping.Stepper.{Stepper}
-use Rattle.script_run.specs.{Heard, heard, heard_from, heard_lines, Reading, Before, Standing, Overlong, Open, standing, standing_after, replies, BadLine, IsPrompt, Tells, IsStepping, HasAnswered, TookMore}
 use Rattle.script_run.proofs.Hearing.{heard_rest}
 
 -- ---- what was heard of bytes within the limit
@@ -31,13 +25,13 @@ heard_so_far game given written stepper short s =
 
 -- a script within the limit
 pub stands_within : (given : List ℕ) (reading : Reading) (lines : List GameLine) (end : Result (List ℕ) BadLine) → length given ≤ 67108864 → heard given ≡ (lines, end) →
-    standing given reading ≡ standing_after lines end false reading
+    script_standing given reading ≡ standing_after lines end false reading
 stands_within given reading lines end short is =
     let test : nat_lt 67108864 (length given) ≡ false = grind (arith, nat_tests) in
     ap (λ (h : Heard). standing_after h.0 h.1 (nat_lt 67108864 (length given)) reading) is ∙ ap (λ (b : Bool). standing_after lines end b reading) test
 
 -- and one that is longer, whose lines are good so far
-pub stands_beyond : (given : List ℕ) (reading : Reading) (lines : List GameLine) (rest : List ℕ) → 67108864 < length given → heard given ≡ (lines, Ok rest) → standing given reading ≡ Overlong
+pub stands_beyond : (given : List ℕ) (reading : Reading) (lines : List GameLine) (rest : List ℕ) → 67108864 < length given → heard given ≡ (lines, Ok rest) → script_standing given reading ≡ Overlong
 stands_beyond given reading lines rest long is =
     let test : nat_lt 67108864 (length given) ≡ true = grind (arith, nat_tests) in
     ap (λ (h : Heard). standing_after h.0 h.1 (nat_lt 67108864 (length given)) reading) is ∙ ap (λ (b : Bool). standing_after lines (Ok rest) b reading) test
@@ -80,8 +74,8 @@ pub prompt_now : (game : GameFile) (given : List ℕ) (start sink sink' : SinkSt
 prompt_now game given start sink sink' took more =
     subst (λ (l : List ℕ). IsPrompt game l start sink') (append-nil given) (prompt_after game given [] start sink sink' (omega arith) took more)
 
-pub tells_as : (game : GameFile) (given : List ℕ) (reading : Reading) (stands : Standing) (sink sink' : SinkState) (result : Result (Unit {0}) StepFault) → standing given reading ≡ stands →
-    Tells game given stands sink sink' result → Tells game given (standing given reading) sink sink' result
+pub tells_as : (game : GameFile) (given : List ℕ) (reading : Reading) (stands : Standing) (sink sink' : SinkState) (result : Result (Unit {0}) StepFault) → script_standing given reading ≡ stands →
+    Tells game given stands sink sink' result → Tells game given (script_standing given reading) sink sink' result
 tells_as game given reading stands sink sink' result is tells = subst (λ (s : Standing). Tells game given s sink sink' result) (sym is) tells
 
 -- what was answered stays answered

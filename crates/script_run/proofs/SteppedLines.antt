@@ -1,13 +1,9 @@
 -- A script's lines, as its bytes come.
-use Rattle.std.proofs.Common.{◌≡◌, ℕ, ◌+◌, ◌<◌, Bool, true, false, cond, List, [], ◌∷◌, ◌++◌, length, refl, sym, ap, ◌∙◌, subst, arith, append_assoc, Option, Some, None}
-use Rattle.std.specs.Prelude.{◌==◌, nat_lt, codes, Result, Ok, Err}
-use Rattle.std.specs.Str.{bytes_eq}
+use Rattle.std.proofs.Common.{◌≡◌, ℕ, ◌+◌, ◌<◌, Bool, true, false, cond, List, [], ◌∷◌, ◌++◌, length, refl, sym, ap, ◌∙◌, subst, arith, append_assoc, Option, Some, None, ◌==◌, nat_lt, codes, Result, Ok, Err, bytes_eq}
 use Rattle.std.proofs.lemmas.Bool.Decides.{nat_tests}
 use Rattle.std.proofs.lemmas.Slice.Eq.{bytes_eq-Decides}
-use Rattle.text_forms.specs.Words.{parts_of}
-use Rattle.tac_io.specs.LineText.{has_end}
+use Rattle.script_run.specs.{parts_of, has_end, GameFile, HasRunGame, IsGranted, PlaysGameLine, judge_game_line, judged_game_line, heard_from, IsHeld, agent_of, replies, script_reason_number, IsStepping, StopsAtLine}
 use Rattle.tac_io.proofs.LineEnds.{no_end-append}
-use Rattle.game_text.specs.Games.{GameFile}
 use Rattle.script_run.specs.declared.fault.ScriptReason.{ScriptReason}
 use Rattle.script_run.specs.declared.fault.ScriptReason.TheVariants.{Form}
 use Rattle.script_run.specs.declared.fault.ScriptFault.{ScriptFault}
@@ -15,7 +11,6 @@ use Rattle.script_run.specs.declared.fault.ScriptFault.TheVariants as scripts
 use Rattle.script_run.specs.declared.game.lines.GameLine.{GameLine}
 use Rattle.script_run.specs.declared.game.stepping.Stepper.{Stepper}
 use Rattle.script_run.specs.GameLines.{asks_of, request_line, game_line_of}
-use Rattle.script_run.specs.{HasRunGame, IsGranted, PlaysGameLine, judge_game_line, judged_game_line, heard_from, IsHeld, agent_of, replies, script_reason_number, IsStepping, StopsAt}
 use Rattle.script_run.proofs.Hearing.{heard_next}
 
 -- ---- a line that is longer than any good one
@@ -84,7 +79,7 @@ module _ (game : GameFile) (given written : List ℕ) (stepper stepper' : Steppe
 
   -- a line is bad
   pub stopped : (why : ScriptReason) (line reason : ℕ) → line ≡ stepper.number → reason ≡ script_reason_number why → judge_game_line s.lines s.rest ≡ Err why → written ++ stepper'.run.text.items ≡ replies game s.lines →
-      StopsAt game (given ++ 10 ∷ []) written stepper' (scripts.Line line reason)
+      StopsAtLine game (given ++ 10 ∷ []) written stepper' (scripts.Line line reason)
   stopped why line reason at due is text = (
     s.lines,
     λ more. at_end (Err why) is more ∙ (heard_next s.lines s.rest more (Err why) s.no_end is
@@ -94,7 +89,7 @@ module _ (game : GameFile) (given written : List ℕ) (stepper stepper' : Steppe
 
   -- the step at the end of a line failed, though memory was not refused
   pub failed : (fault : ScriptFault) (line : List ℕ) → line ≡ s.rest → PlaysGameLine game s.lines written (record { number = stepper.number; bytes = line }) stepper'.run (Err fault) → IsGranted (Err fault) →
-      StopsAt game (given ++ 10 ∷ []) written stepper' fault
+      StopsAtLine game (given ++ 10 ∷ []) written stepper' fault
   failed (scripts.Line number reason) line is steps granted =
       stopped steps.0 number reason steps.1 steps.2 (subst (λ (l : List ℕ). judge_game_line s.lines l ≡ Err steps.0) is steps.3) steps.4
   failed scripts.TooLong line is steps granted = absurd steps
@@ -102,7 +97,7 @@ module _ (game : GameFile) (given written : List ℕ) (stepper stepper' : Steppe
   failed scripts.Memory line is steps granted = absurd granted
 
 -- a bad line stays bad, with more bytes behind it
-pub stopped_before : (game : GameFile) (given after written : List ℕ) (stepper : Stepper) (fault : ScriptFault) → StopsAt game given written stepper fault → StopsAt game (given ++ after) written stepper fault
+pub stopped_before : (game : GameFile) (given after written : List ℕ) (stepper : Stepper) (fault : ScriptFault) → StopsAtLine game given written stepper fault → StopsAtLine game (given ++ after) written stepper fault
 stopped_before game given after written stepper (scripts.Line line reason) stop = (
   stop.0,
   λ more. ap (λ (l : List ℕ). heard_from [] (parts_of 10 l)) (append_assoc given after more) ∙ stop.1 (after ++ more),
@@ -153,10 +148,10 @@ module _ (before after held : Stepper) (piece rest part : List ℕ) (hears : Hea
     }
 
     -- a line was bad
-    pub hears_bad : (ended : Stepper) (fault : ScriptFault) → ((game : GameFile) (given written : List ℕ) → IsStepping game given written held → StopsAt game (given ++ 10 ∷ []) written ended fault) →
-        (game : GameFile) (given written : List ℕ) → IsStepping game given written before → StopsAt game (given ++ piece) written ended fault
+    pub hears_bad : (ended : Stepper) (fault : ScriptFault) → ((game : GameFile) (given written : List ℕ) → IsStepping game given written held → StopsAtLine game (given ++ 10 ∷ []) written ended fault) →
+        (game : GameFile) (given written : List ℕ) → IsStepping game given written before → StopsAtLine game (given ++ piece) written ended fault
     hears_bad ended fault bad game given written s =
-        let stop : StopsAt game (given ++ front) written ended fault =
-        subst (λ (l : List ℕ). StopsAt game l written ended fault) (bytes_so_far given) (bad game ((given ++ hears.front) ++ part) written (part_joined game given written s)) in
+        let stop : StopsAtLine game (given ++ front) written ended fault =
+        subst (λ (l : List ℕ). StopsAtLine game l written ended fault) (bytes_so_far given) (bad game ((given ++ hears.front) ++ part) written (part_joined game given written s)) in
         let bytes : (given ++ front) ++ left ≡ given ++ piece = append_assoc given front left ∙ ap (λ (l : List ℕ). given ++ l) (sym cut_behind) in
-        subst (λ (l : List ℕ). StopsAt game l written ended fault) bytes (stopped_before game (given ++ front) left written ended fault stop)
+        subst (λ (l : List ℕ). StopsAtLine game l written ended fault) bytes (stopped_before game (given ++ front) left written ended fault stop)

@@ -1,11 +1,10 @@
 -- What the way in which a script stands says of the whole script.
-use Rattle.std.proofs.Common.{◌≡◌, ℕ, ◌+◌, ◌<◌, ◌≤◌, Bool, true, false, List, [], ◌∷◌, ◌++◌, length, length-append, refl, sym, ap, ◌∙◌, arith, append-nil}
-use Rattle.std.specs.Prelude.{nat_lt, Result, Ok, Err}
+use Rattle.std.proofs.Common.{◌≡◌, ℕ, ◌+◌, ◌<◌, ◌≤◌, Bool, true, false, List, [], ◌∷◌, ◌++◌, length, length-append, refl, sym, ap, ◌∙◌, arith, append-nil, nat_lt, Result, Ok, Err}
 use Rattle.std.proofs.lemmas.Bool.Decides.{nat_tests}
 use Rattle.text_forms.specs.Words.{parts_of}
 use Rattle.script_run.specs.declared.fault.ScriptReason.TheVariants.{NoLineEnd}
 use Rattle.script_run.specs.declared.game.lines.GameLine.{GameLine}
-use Rattle.script_run.specs.{game_script, heard, heard_from, heard_lines, Reading, AtEnd, AtFault, Before, Whole, BadAt, Overlong, standing, standing_after, BadLine, script_reason_number}
+use Rattle.script_run.specs.{game_script, heard, heard_from, heard_lines, Reading, AtEnd, AtFault, Before, Whole, BadAt, Overlong, script_standing, standing_after, BadLine, script_reason_number}
 use Rattle.script_run.proofs.Hearing.{bad_stays, lines_in, script_heard}
 use Rattle.script_run.proofs.SteppedGames.{heard_within}
 
@@ -31,7 +30,7 @@ pub record IsWhole (given : List ℕ) (reading : Reading) : Type 0 where
   pub within : length given ≤ 67108864
   pub good : game_script given ≡ Ok (heard_lines given)
 
-pub whole_is : (given : List ℕ) (reading : Reading) → standing given reading ≡ Whole → IsWhole given reading
+pub whole_is : (given : List ℕ) (reading : Reading) → script_standing given reading ≡ Whole → IsWhole given reading
 whole_is given reading is =
     let so = whole_so (heard given).0 (heard given).1 (nat_lt 67108864 (length given)) reading is in
     let short = within given so.1 in
@@ -63,7 +62,7 @@ bad_so lines (Ok (byte ∷ rest)) false AtEnd line reason is =
     AtLast refl (λ i. Err (at i, why i))
 
 -- such a script is refused for that line, if it is not too long
-pub bad_is : (given rest : List ℕ) (reading : Reading) (line reason : ℕ) → standing given reading ≡ BadAt line reason → (reading ≡ AtEnd → rest ≡ []) → length (given ++ rest) ≤ 67108864 →
+pub bad_is : (given rest : List ℕ) (reading : Reading) (line reason : ℕ) → script_standing given reading ≡ BadAt line reason → (reading ≡ AtEnd → rest ≡ []) → length (given ++ rest) ≤ 67108864 →
     game_script (given ++ rest) ≡ Err (line, reason)
 bad_is given rest reading line reason is all short = by_so (bad_so (heard given).0 (heard given).1 (nat_lt 67108864 (length given)) reading line reason is)
   where
@@ -89,5 +88,5 @@ overlong_so lines (Ok rest) false Before is = absurd cc
 overlong_so lines (Ok []) false AtEnd is = absurd cc
 overlong_so lines (Ok (byte ∷ rest)) false AtEnd is = absurd cc
 
-pub overlong_is : (given : List ℕ) (reading : Reading) → standing given reading ≡ Overlong → 67108864 < length given
+pub overlong_is : (given : List ℕ) (reading : Reading) → script_standing given reading ≡ Overlong → 67108864 < length given
 overlong_is given reading is = beyond given (overlong_so (heard given).0 (heard given).1 (nat_lt 67108864 (length given)) reading is)

@@ -1,7 +1,5 @@
 -- The counts beside a game after a call, a reading, and the calls of a tick.
-use Rattle.std.proofs.Common.{◌≡◌, ℕ, zero, suc, ◌+◌, ◌*◌, ◌<◌, ◌≤◌, Bool, true, false, cond, List, [], ◌∷◌, ◌++◌, length, refl, sym, ap, ◌∙◌, subst, arith, ne_eqb, add-one, get_or, drop, length-set, slice_index}
-use Rattle.std.specs.Prelude.{◌==◌, ◌&&◌, count_by}
-use Rattle.std.specs.Prelude.{All, Option, Some, None, nat_le, slice_get, replicate}
+use Rattle.std.proofs.Common.{◌≡◌, ℕ, zero, suc, ◌+◌, ◌*◌, ◌<◌, ◌≤◌, Bool, true, false, cond, List, [], ◌∷◌, ◌++◌, length, refl, sym, ap, ◌∙◌, subst, arith, ne_eqb, add-one, get_or, drop, length-set, slice_index, ◌==◌, ◌&&◌, count_by, All, Option, Some, None, nat_le, slice_get, replicate}
 use Rattle.std.proofs.lemmas.Bool.Decides.{nat_tests}
 use Rattle.std.proofs.lemmas.List.Sums.{sum_by-cons, sum_by-take-le, sum_by_more}
 use Rattle.std.proofs.lemmas.List.Concat.{length-flat_map}
@@ -9,26 +7,12 @@ use Rattle.std.proofs.lemmas.List.FromFn.{get_or-range_with_len}
 use Rattle.std.proofs.lemmas.Option.{get_or_from_slice_get, slice_get_within}
 use mathlib.Core.Logic.{dite}
 use native.Mathlib.Decide.{ℕ_discrete}
-use Rattle.tac_base.specs.declared.calls.Call.{Call}
-use Rattle.tac_base.specs.declared.calls.Call.TheVariants.{Bid, Withdraw, Own, Update, Publish, Close}
-use Rattle.tac_base.specs.declared.calls.Reply.{Reply}
-use Rattle.line_protocol.specs.declared.saying.Said.{Said}
-use Rattle.line_protocol.specs.declared.saying.Said.TheVariants.{At, Spent}
-use Rattle.game_text.specs.Games.{GameFile}
-use Rattle.tac_base.specs.Goods.{clock}
-use Rattle.auction_rules.specs.History.{Entry}
-use Rattle.auction_rules.specs.Legal.{cap, entries_of}
+use Rattle.script_run.specs.{Call, Bid, Withdraw, Own, Update, Publish, Close, Reply, Said, At, Spent, GameFile, clock, Entry, cap, entries_of, part, cash_cap, setup_of, IsFit, tick_calls_of, IsFor, IsDueCall, count_at, no_calls_counted, GameState, opening, call_turn, clocked, past_at, entry_at, called, readings_of, reading_of, SeenGame, made, due, HasClockRoom, AreCounted}
 use Rattle.auction_rules.proofs.Histories.{entry_caller}
-use Rattle.turn_lock.specs.Part.{part}
-use Rattle.trade_ledger.specs.CashHistory.{cash_cap}
-use Rattle.auction_core.specs.Setups.{setup_of}
-use Rattle.auction_core.specs.Calls.{IsFit}
 use Rattle.game_text.specs.Schedule as schedule
-use Rattle.clock_events.specs.Laws.{tick_calls_of, IsFor, IsDueCall}
 use Rattle.script_run.specs.declared.game.call_counts.CallCounts.{CallCounts}
 use Rattle.script_run.specs.declared.game.call_counts.GoodCounts.{GoodCounts}
-use Rattle.script_run.specs.{count_at, no_calls_counted, GameState, opening, call_turn, clocked, past_at, entry_at, called, readings_of, reading_of, SeenGame, made, due, HasClockRoom, AreCounted}
-use Rattle.script_run.proofs.Counted.{by, one_if, one_if_le, one_if_same, one_if_other, entries_called, made_called, made_below, made_most, part_posts, part_read, readings_posts, readings_read}
+use Rattle.script_run.proofs.Counted.{by, one_if, one_if_le, one_if_same, one_if_other, entries_called, made_called, made_below, made_most, part_posts, part_read, readings_posts, readings_read, and_false}
 
 caps : (b : Bool) → b ≡ false → (cond {A = ℕ} b 64 1024 ≡ 1024) × (cond {A = ℕ} b 480 29696 ≡ 29696)
 caps true h = absurd cc
@@ -74,12 +58,8 @@ still_few : (agent good other place old new : ℕ) → new ≡ old + one_if ((ag
 still_few agent good other place old new is few room = dite (ℕ_discrete agent other)
     (λ a. dite (ℕ_discrete good place)
     (λ g. let lt = room a g in let le = one_if_le ((agent == other) && (good == place)) in omega arith)
-    (λ g. let none : one_if ((agent == other) && (good == place)) ≡ 0 = no_right (agent == other) (good == place) (ne_eqb good place g) in omega arith))
+    (λ g. let none : one_if ((agent == other) && (good == place)) ≡ 0 = and_false (agent == other) (good == place) (ne_eqb good place g) in omega arith))
     (λ a. let none = one_if_other agent other a in let le = both_le (agent == other) (good == place) in omega arith)
-  where
-    no_right : (b c : Bool) → c ≡ false → one_if (b && c) ≡ 0
-    no_right true c is = ap one_if is
-    no_right false c is = refl
 
 -- ---- an agent's call
 
@@ -315,12 +295,6 @@ pub record IsTicking (game : GameFile) (first : GameState) (tick n : ℕ) (seen 
   pub ticks : tick ≡ seen.state.ticks
   pub room : HasClockRoom game seen.state (drop n (schedule.calls_at game tick))
   pub same : clocked game (drop n (schedule.calls_at game tick)) seen.state ≡ clocked game (schedule.calls_at game tick) first
-
-pub drop_all : {A : Type 0} (xs : List A) (n : ℕ) → length xs ≤ n → drop n xs ≡ []
-drop_all [] zero le = refl
-drop_all [] (suc n) le = refl
-drop_all (x ∷ xs) zero le = absurd (omega arith)
-drop_all (x ∷ xs) (suc n) le = drop_all xs n (omega arith)
 
 -- where a tick begins, the clock may make its calls
 pub tick_room : (game : GameFile) (state : GameState) (counts : CallCounts) (read : List ℕ) (tick : ℕ) → AreCounted game state counts read → state.ticks < 54 → tick ≡ state.ticks + 1 →

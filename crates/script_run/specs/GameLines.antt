@@ -1,6 +1,5 @@
 -- What a line of a game script asks.
-use Rattle.std.specs.Prelude.{ℕ, ◌==◌, nat_lt, if◌then◌else◌, List, [], ◌∷◌, length, Option, Some, None, Result, Ok, Err, codes}
-use Rattle.std.specs.Str.{bytes_eq}
+use Rattle.std.specs.Prelude.{ℕ, ◌==◌, nat_lt, if◌then◌else◌, List, [], ◌∷◌, length, Option, Some, None, Result, Ok, Err, codes, bytes_eq}
 use Rattle.tac_base.specs.declared.limits.TheConstants.{LINE_BYTES}
 use Rattle.line_protocol.specs.Requests.{request_of}
 use Rattle.script_run.specs.HotelLines.{agent_of}

@@ -1,12 +1,6 @@
 -- What playing a game script writes.
 use Rattle.std.specs.Prelude.{◌≡◌, ℕ, ◌≤◌, List, ◌++◌, length, Ok}
-use Rattle.game_text.specs.Games.{GameFile}
-use Rattle.tac_base.specs.declared.limits.TheConstants.{TEXT_BYTES}
-use Rattle.auction_core.specs.ClosedGame.{ClosedGame}
-use Rattle.score_sheet.specs.Sheets.{Scored}
-use Rattle.game_log.specs.LogText.{play_part}
-use Rattle.game_log.specs.SheetText.{sheet_part}
-use Rattle.line_protocol.specs.Heads.{Play}
+use Rattle.script_run.specs.Prelude.{GameFile, TEXT_BYTES, ClosedGame, Scored, play_part, sheet_part, Play}
 use Rattle.script_run.specs.declared.game.lines.GameLine.{GameLine}
 use Rattle.script_run.specs.GameScripts.{game_script}
 use Rattle.script_run.specs.OneThreadRun.{replies, closed_of, whole_game}

@@ -1,10 +1,8 @@
 -- Which game scripts are played.
 use Rattle.std.specs.Prelude.{ℕ, ◌==◌, ◌&&◌, Bool, true, false, nat_le, if◌then◌else◌, List, count_by, Result, Ok, Err}
 use Rattle.std.specs.List.{list_any}
-use Rattle.tac_base.specs.declared.limits.TheConstants.{TICKS, SESSION_LINES}
-use Rattle.line_protocol.specs.declared.asking.Request.{Request}
+use Rattle.script_run.specs.Prelude.{TICKS, SESSION_LINES, Request, RequestFault}
 use Rattle.line_protocol.specs.declared.asking.Request.TheVariants.{Quit}
-use Rattle.line_protocol.specs.declared.asking.RequestFault.{RequestFault}
 use Rattle.script_run.specs.declared.fault.ScriptReason.{ScriptReason}
 use Rattle.script_run.specs.declared.fault.ScriptReason.TheVariants.{Ended, TooMany}
 use Rattle.script_run.specs.declared.game.lines.GameLine.{GameLine}

@@ -1,25 +1,10 @@
 -- A game that one thread plays, step by step.
 use Rattle.std.specs.Prelude.{ℕ, ◌+◌, ◌==◌, Bool, false, nat_le, if◌then◌else◌, List, [], ◌∷◌, ◌++◌, length, replicate, count_by, slice_index_or, slice_set, Result, Ok, Err}
-use Rattle.tac_base.specs.declared.limits.TheConstants.{AGENT_CALLS, CASH_READINGS, GOODS, TICKS}
-use Rattle.tac_base.specs.declared.calls.Call.{Call}
+use Rattle.script_run.specs.Prelude.{AGENT_CALLS, CASH_READINGS, GOODS, TICKS, Call, GameFile, clock, Entry, board, entry_of, entries_of, CashCall, CashEntry, cash_total, due_post, setup_of, calls_at, Request, RequestFault, Said}
 use Rattle.tac_base.specs.declared.calls.Call.TheVariants as calls
-use Rattle.game_text.specs.Games.{GameFile}
-use Rattle.tac_base.specs.Goods.{clock}
-use Rattle.auction_rules.specs.History.{Entry}
-use Rattle.auction_rules.specs.Board.{board}
-use Rattle.auction_rules.specs.Legal.{entry_of, entries_of}
-use Rattle.trade_ledger.specs.declared.cash_calls.CashCall.{CashCall}
 use Rattle.trade_ledger.specs.declared.cash_calls.CashCall.TheVariants as cash_calls
 use Rattle.trade_ledger.specs.declared.cash_calls.CashReply.TheVariants as cash_replies
-use Rattle.trade_ledger.specs.declared.cash_calls.CashEntry.{CashEntry}
-use Rattle.trade_ledger.specs.CashHistory.{cash_total}
-use Rattle.trade_ledger.specs.Posts.{due_post}
-use Rattle.auction_core.specs.Setups.{setup_of}
-use Rattle.game_text.specs.Schedule.{calls_at}
-use Rattle.line_protocol.specs.declared.asking.Request.{Request}
 use Rattle.line_protocol.specs.declared.asking.Request.TheVariants as requests
-use Rattle.line_protocol.specs.declared.asking.RequestFault.{RequestFault}
-use Rattle.line_protocol.specs.declared.saying.Said.{Said}
 use Rattle.line_protocol.specs.declared.saying.Said.TheVariants as said
 
 -- the progress of a game: the past of each good, the newest entry first; the cash history, the oldest entry first; and how many

@@ -1,9 +1,6 @@
 -- Where the reading of a script stops, why, and that the lines that came before a read are answered.
 use Rattle.std.specs.Prelude.{◌≡◌, ℕ, ◌≤◌, ⊤, List, ◌++◌, length, Option}
-use Rattle.tac_io.specs.Counts.{Rose}
-use Rattle.tac_io.specs.States.{SinkState}
-use Rattle.tac_io.specs.Known.{IsAtEnd, known_then}
-use Rattle.game_text.specs.Games.{GameFile}
+use Rattle.script_run.specs.Prelude.{Rose, SinkState, IsAtEnd, known_then, GameFile}
 use Rattle.script_run.specs.declared.game.stepping.TheConstants.{PIECE_BYTES}
 use Rattle.script_run.specs.HeardScripts.{heard_lines, Reading, AtEnd, Standing, BrokenOff}
 use Rattle.script_run.specs.OneThreadRun.{replies}

@@ -1,7 +1,6 @@
 -- What is heard of a game script that is read piece by piece, and how it stands then.
 use Rattle.std.specs.Prelude.{ℕ, ◌+◌, nat_lt, Bool, true, false, List, [], ◌∷◌, length, take, Result, Ok, Err}
-use Rattle.text_forms.specs.Words.{parts_of}
-use Rattle.tac_base.specs.declared.limits.TheConstants.{TEXT_BYTES}
+use Rattle.script_run.specs.Prelude.{parts_of, TEXT_BYTES}
 use Rattle.script_run.specs.declared.game.lines.GameLine.{GameLine}
 use Rattle.script_run.specs.declared.fault.ScriptReason.{ScriptReason}
 use Rattle.script_run.specs.declared.fault.ScriptReason.TheVariants.{NoLineEnd}
@@ -58,5 +57,5 @@ standing_after lines (Ok []) false AtEnd = Whole
 standing_after lines (Ok (byte ∷ rest)) false AtEnd = BadAt (length lines + 1) (script_reason_number NoLineEnd)
 
 -- how a script stands that gave these bytes, where its reading stopped so
-abbrev pub standing : List ℕ → Reading → Standing
-standing given reading = standing_after (heard given).0 (heard given).1 (nat_lt TEXT_BYTES (length given)) reading
+abbrev pub script_standing : List ℕ → Reading → Standing
+script_standing given reading = standing_after (heard given).0 (heard given).1 (nat_lt TEXT_BYTES (length given)) reading

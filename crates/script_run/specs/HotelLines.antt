@@ -1,14 +1,9 @@
 -- What a line of a hotel script asks.
-use Rattle.std.specs.Prelude.{ℕ, ◌-◌, ◌&&◌, nat_le, if◌then◌else◌, List, [], ◌∷◌, Option, Some, None, Result, Ok, Err, codes}
+use Rattle.std.specs.Prelude.{ℕ, ◌-◌, ◌&&◌, nat_le, if◌then◌else◌, List, [], ◌∷◌, Option, Some, None, Result, Ok, Err, codes, bytes_eq}
 use Rattle.std.specs.List.{join_with_byte}
-use Rattle.std.specs.Str.{bytes_eq}
-use Rattle.tac_base.specs.declared.bids.Point.{Point}
+use Rattle.script_run.specs.Prelude.{Point, Call, words_of, points_of, judged, clock}
 use Rattle.tac_base.specs.declared.bids.BidFault.{BidFault}
-use Rattle.tac_base.specs.declared.calls.Call.{Call}
 use Rattle.tac_base.specs.declared.calls.Call.TheVariants as calls
-use Rattle.text_forms.specs.Words.{words_of}
-use Rattle.bid_strings.specs.BidForm.{points_of, judged}
-use Rattle.tac_base.specs.Goods.{clock}
 use Rattle.script_run.specs.declared.fault.ScriptReason.{ScriptReason}
 use Rattle.script_run.specs.declared.fault.ScriptReason.TheVariants.{Form, Points}
 use Rattle.script_run.specs.declared.hotel.lines.HotelLine.{HotelLine}

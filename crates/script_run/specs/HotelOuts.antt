@@ -1,18 +1,12 @@
 -- What running a hotel script does to a sink.
 use Rattle.std.specs.Prelude.{◌≡◌, ℕ, ◌<◌, ◌≤◌, ⊤, List, [], length, Result, Ok, Err}
-use Rattle.tac_io.specs.States.{SinkState}
-use Rattle.tac_base.specs.declared.limits.TheConstants.{TEXT_BYTES}
+use Rattle.script_run.specs.Prelude.{SinkState, TEXT_BYTES, TookWhole, TookPart}
 use Rattle.script_run.specs.declared.hotel.lines.HotelLine.{HotelLine}
 use Rattle.script_run.specs.declared.fault.ScriptFault.{ScriptFault}
 use Rattle.script_run.specs.declared.fault.ScriptFault.TheVariants.{Line, TooLong, Failed, Memory}
 use Rattle.script_run.specs.declared.hotel.run.HotelRun.{HotelRun}
-use Rattle.tac_io.specs.Taken.{TookWhole, TookPart}
 use Rattle.script_run.specs.HotelScripts.{script_of, hotel_out}
 use Rattle.script_run.specs.HotelRuns.{HasRunHotel}
-
--- the limit of a script's bytes, by another name
-abbrev pub longest_script : ℕ
-longest_script = TEXT_BYTES
 
 -- the text is that of a script with good lines
 pub record IsHotelOut (script text : List ℕ) : Type 0 where

@@ -1,8 +1,6 @@
 -- A hotel that is run by the lines of a script.
 use Rattle.std.specs.Prelude.{◌≡◌, ℕ, ◌+◌, ⊤, List, [], ◌∷◌, ◌++◌, length, reverse, Result, Ok, Err}
-use Rattle.tac_base.specs.declared.calls.Call.{Call}
-use Rattle.auction_rules.specs.Legal.{entry_of}
-use Rattle.auction_core.specs.Auctions.{AuctionHistory}
+use Rattle.script_run.specs.Prelude.{Call, entry_of, AuctionHistory}
 use Rattle.script_run.specs.declared.hotel.lines.HotelLine.{HotelLine}
 use Rattle.script_run.specs.declared.hotel.run.HotelRun.{HotelRun}
 use Rattle.script_run.specs.declared.fault.ScriptFault.{ScriptFault}

@@ -1,17 +1,12 @@
 -- Which hotel scripts are run, and what is written of their run.
-use Rattle.std.specs.Prelude.{ℕ, ◌==◌, nat_le, if◌then◌else◌, List, [], ◌∷◌, ◌++◌, length, map, count_by, replicate, pos, Result, Ok, Err, false}
-use Rattle.std.specs.List.{flat_map}
-use Rattle.tac_base.specs.declared.limits.TheConstants.{AGENTS, AUCTION_ENTRIES}
-use Rattle.auction_rules.specs.Setup.{Setup}
+use Rattle.std.specs.Prelude.{ℕ, ◌==◌, nat_le, if◌then◌else◌, List, [], ◌∷◌, ◌++◌, length, map, count_by, replicate, pos, Result, Ok, Err, false, flat_map}
+use Rattle.script_run.specs.Prelude.{AGENTS, AUCTION_ENTRIES, Setup, Entry, past_of, cap, trade_line}
 use Rattle.auction_rules.specs.declared.rules.Rules.TheVariants.{Hotel as HotelRules}
-use Rattle.auction_rules.specs.History.{Entry}
-use Rattle.auction_rules.specs.Legal.{past_of, cap}
 use Rattle.script_run.specs.declared.fault.ScriptReason.{ScriptReason}
 use Rattle.script_run.specs.declared.fault.ScriptReason.TheVariants.{TooMany, TooManyOfCaller}
 use Rattle.script_run.specs.declared.hotel.lines.HotelLine.{HotelLine}
 use Rattle.script_run.specs.ScriptLines.{BadLine, lines_of_text}
 use Rattle.script_run.specs.HotelLines.{hotel_line_of, asked}
-use Rattle.game_log.specs.LogText.{trade_line}
 use Rattle.script_run.specs.Replies.{positioned_reply_line}
 
 -- how many of the lines are the caller's

@@ -1,21 +1,7 @@
 -- What holds of every game that is played by a script.
 use Rattle.std.specs.Prelude.{◌≡◌, ℕ, ◌<◌, ◌≤◌, ⊤, List, [], map, slice_index_or, Result, Ok, Err}
-use Rattle.tac_base.specs.declared.calls.Call.{Call}
-use Rattle.tac_base.specs.Goods.{clock}
-use Rattle.tac_base.specs.declared.limits.TheConstants.{GOODS}
-use Rattle.game_text.specs.Games.{GameFile}
-use Rattle.game_text.specs.Schedule.{clock_calls}
-use Rattle.auction_rules.specs.History.{Entry}
-use Rattle.auction_rules.specs.Legal.{Legal}
-use Rattle.turn_lock.specs.Part.{part}
-use Rattle.trade_ledger.specs.CashHistory.{IsLegalCash}
-use Rattle.trade_ledger.specs.Posts.{Matched}
-use Rattle.auction_core.specs.ClosedGame.{ClosedGame, all_goods}
-use Rattle.auction_core.specs.Setups.{setup_of}
-use Rattle.line_protocol.specs.declared.asking.Request.{Request}
-use Rattle.line_protocol.specs.declared.asking.RequestFault.{RequestFault}
+use Rattle.script_run.specs.Prelude.{Call, clock, GOODS, GameFile, clock_calls, Entry, Legal, part, IsLegalCash, Matched, ClosedGame, all_goods, setup_of, Request, RequestFault, histories_of}
 use Rattle.line_protocol.specs.RequestForms.{IsRequest}
-use Rattle.game_log.specs.LogText.{histories_of}
 use Rattle.script_run.specs.declared.game.lines.GameLine.{GameLine}
 use Rattle.script_run.specs.declared.game.lines.GameLine.TheVariants.{Tick, Asks}
 

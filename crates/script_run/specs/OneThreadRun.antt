@@ -1,15 +1,7 @@
 -- A game that one thread plays by the lines of a script, and what is written of it.
 use Rattle.std.specs.Prelude.{ℕ, zero, suc, ◌-◌, List, [], ◌∷◌, ◌++◌, length, map, reverse, sum_by, decimal, codes}
 use Rattle.std.specs.List.{enumerate_from}
-use Rattle.tac_base.specs.declared.limits.TheConstants.{TICKS}
-use Rattle.game_text.specs.Games.{GameFile}
-use Rattle.auction_rules.specs.History.{Entry}
-use Rattle.auction_rules.specs.Effects.{all_trades}
-use Rattle.auction_core.specs.Setups.{setup_of}
-use Rattle.auction_core.specs.Auctions.{AuctionHistory}
-use Rattle.auction_core.specs.ClosedGame.{ClosedGame}
-use Rattle.line_protocol.specs.declared.saying.Said.{Said}
-use Rattle.line_protocol.specs.Replies.{said_text}
+use Rattle.script_run.specs.Prelude.{TICKS, GameFile, Entry, all_trades, setup_of, AuctionHistory, ClosedGame, Said, said_text}
 use Rattle.script_run.specs.declared.game.lines.GameLine.{GameLine}
 use Rattle.script_run.specs.declared.game.lines.GameLine.TheVariants.{Tick, Asks}
 use Rattle.script_run.specs.declared.game.play_count.PlayCount.{PlayCount}

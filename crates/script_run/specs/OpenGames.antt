@@ -1,13 +1,6 @@
 -- What a contract sees of a game that is being played, and the invariant of every such game.
 use Rattle.std.specs.Prelude.{◌≡◌, ℕ, ◌≤◌, List, map, reverse}
-use Rattle.tac_base.specs.declared.limits.TheConstants.{TICKS}
-use Rattle.game_text.specs.Games.{GameFile}
-use Rattle.trade_ledger.specs.declared.cash_calls.CashEntry.{CashEntry}
-use Rattle.auction_rules.specs.Setup.{Setup}
-use Rattle.auction_rules.specs.History.{Entry}
-use Rattle.auction_core.specs.Setups.{setup_of}
-use Rattle.auction_core.specs.Auctions.{AuctionHistory}
-use Rattle.auction_core.specs.ClosedGame.{all_goods}
+use Rattle.script_run.specs.Prelude.{TICKS, GameFile, CashEntry, Setup, Entry, setup_of, AuctionHistory, all_goods}
 use Rattle.script_run.specs.GameStates.{GameState}
 
 -- a game, and its progress

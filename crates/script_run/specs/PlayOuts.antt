@@ -1,13 +1,6 @@
 -- The effect of playing a game script on a sink, and what is known of the game.
 use Rattle.std.specs.Prelude.{◌≡◌, ℕ, ◌<◌, ◌≤◌, ◌⊎◌, List, length, Result, Ok, Err}
-use Rattle.tac_io.specs.States.{SinkState}
-use Rattle.game_text.specs.Games.{GameFile}
-use Rattle.tac_base.specs.declared.limits.TheConstants.{TEXT_BYTES}
-use Rattle.score_sheet.specs.Sheets.{Scored}
-use Rattle.game_log.specs.ScoredGames.{IsSheetOf}
-use Rattle.game_log.specs.ShownGames.{IsShowable}
-use Rattle.tac_io.specs.Taken.{TookWhole, TookPart}
-use Rattle.line_protocol.specs.Heads.{Play}
+use Rattle.script_run.specs.Prelude.{SinkState, GameFile, TEXT_BYTES, Scored, IsSheetOf, IsShowable, TookWhole, TookPart, Play}
 use Rattle.script_run.specs.declared.game.lines.GameLine.{GameLine}
 use Rattle.script_run.specs.declared.fault.ScriptFault.{ScriptFault}
 use Rattle.script_run.specs.declared.fault.ScriptFault.TheVariants.{Line, TooLong, Failed, Memory}

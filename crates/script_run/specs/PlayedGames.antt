@@ -1,15 +1,6 @@
 -- A game that was played to its end, and the effect on a sink of writing it and its sheet.
 use Rattle.std.specs.Prelude.{◌≡◌, ℕ, ◌<◌, ◌⊎◌, ⊤, List, [], ◌++◌, length, Result, Ok, Err}
-use Rattle.tac_io.specs.States.{SinkState}
-use Rattle.game_text.specs.Games.{GameFile}
-use Rattle.tac_base.specs.declared.limits.TheConstants.{TEXT_BYTES}
-use Rattle.score_sheet.specs.Sheets.{Scored}
-use Rattle.game_log.specs.LogText.{play_part}
-use Rattle.game_log.specs.SheetText.{sheet_part}
-use Rattle.game_log.specs.ScoredGames.{IsSheetOf}
-use Rattle.game_log.specs.ShownGames.{IsShowable}
-use Rattle.tac_io.specs.Taken.{TookWhole, TookPart}
-use Rattle.line_protocol.specs.Heads.{Play}
+use Rattle.script_run.specs.Prelude.{SinkState, GameFile, TEXT_BYTES, Scored, play_part, sheet_part, IsSheetOf, IsShowable, TookWhole, TookPart, Play}
 use Rattle.script_run.specs.declared.game.lines.GameLine.{GameLine}
 use Rattle.script_run.specs.declared.fault.ScriptFault.{ScriptFault}
 use Rattle.script_run.specs.declared.fault.ScriptFault.TheVariants.{Line, TooLong, Failed, Memory}
@@ -19,14 +10,14 @@ use Rattle.script_run.specs.GameOuts.{closed_game, IsGoodScript}
 use Rattle.script_run.specs.PlayOuts.{IsBadScript}
 
 -- the game by these lines was played to its end, a first part of its replies was written, and a log can show the game
-pub record IsEnd (game : GameFile) (lines : List GameLine) (written : List ℕ) (played : FinishedGame) : Type 0 where
+pub record IsPlayedToEnd (game : GameFile) (lines : List GameLine) (written : List ℕ) (played : FinishedGame) : Type 0 where
   pub replies : written ++ played.replies.items ≡ replies game lines
   pub closed : played.closed ≡ closed_game game lines
   pub shown : IsShowable game Play played.closed
 
 -- the same if nothing was written yet
 abbrev pub HasPlayed : GameFile → List GameLine → FinishedGame → Type 0
-HasPlayed game lines played = IsEnd game lines [] played
+HasPlayed game lines played = IsPlayedToEnd game lines [] played
 
 -- the game of a script was played to its end, or the script is refused
 abbrev pub PlaysToEnd : GameFile → List ℕ → Result FinishedGame ScriptFault → Type 0

@@ -1,8 +1,6 @@
 -- The summary of a game by a script.
 use Rattle.std.specs.Prelude.{◌≡◌, ℕ, List}
-use Rattle.game_text.specs.Games.{GameFile}
-use Rattle.score_sheet.specs.Sheets.{Scored}
-use Rattle.game_log.specs.ScoredGames.{IsSheetOf}
+use Rattle.script_run.specs.Prelude.{GameFile, Scored, IsSheetOf}
 use Rattle.script_run.specs.declared.game.lines.GameLine.{GameLine}
 use Rattle.script_run.specs.declared.game.play_count.PlayCount.{PlayCount}
 use Rattle.script_run.specs.OneThreadRun.{whole_game, count_in}

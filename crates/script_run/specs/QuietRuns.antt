@@ -1,8 +1,6 @@
 -- What playing a game script without writing answers.
 use Rattle.std.specs.Prelude.{ℕ, ◌<◌, ⊤, List, length, Result, Ok, Err}
-use Rattle.game_text.specs.Games.{GameFile}
-use Rattle.tac_base.specs.declared.limits.TheConstants.{TEXT_BYTES}
-use Rattle.score_sheet.specs.Sheets.{Scored}
+use Rattle.script_run.specs.Prelude.{GameFile, TEXT_BYTES, Scored}
 use Rattle.script_run.specs.declared.fault.QuietFault.{QuietFault}
 use Rattle.script_run.specs.declared.fault.QuietFault.TheVariants.{Line, TooLong, Memory}
 use Rattle.script_run.specs.declared.fault.ScriptFault.{ScriptFault}

@@ -1,8 +1,6 @@
 -- The line that reports what an auction answered.
 use Rattle.std.specs.Prelude.{ℕ, List, ◌++◌, codes}
-use Rattle.tac_base.specs.declared.calls.Reply.{Reply}
-use Rattle.line_protocol.specs.declared.saying.Said.TheVariants.{At}
-use Rattle.line_protocol.specs.Replies.{said_text}
+use Rattle.script_run.specs.Prelude.{Reply, At, said_text}
 
 -- the line of the reply to the call at a position, as an agent is sent it
 abbrev pub positioned_reply_line : ℕ → Reply → List ℕ

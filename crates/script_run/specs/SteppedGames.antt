@@ -1,12 +1,9 @@
 -- The effect of playing a game line by line, as its script is read, and what is known of the game.
 use Rattle.std.specs.Prelude.{◌≡◌, ℕ, ◌⊎◌, List, Result, Ok, Err}
-use Rattle.tac_io.specs.States.{FilesState, SinkState}
-use Rattle.tac_io.specs.Known.{then_known}
-use Rattle.game_text.specs.Games.{GameFile}
-use Rattle.tac_io.specs.Taken.{TookWhole, TookPart}
+use Rattle.script_run.specs.Prelude.{FilesState, SinkState, then_known, GameFile, TookWhole, TookPart}
 use Rattle.script_run.specs.declared.fault.StepFault.{StepFault}
 use Rattle.script_run.specs.declared.fault.StepFault.TheVariants.{Line, TooLong, Unread, Unwritten, Memory}
-use Rattle.script_run.specs.HeardScripts.{heard_lines, Reading, Standing, Whole, BadAt, Overlong, BrokenOff, Open, standing}
+use Rattle.script_run.specs.HeardScripts.{heard_lines, Reading, Standing, Whole, BadAt, Overlong, BrokenOff, Open, script_standing}
 use Rattle.script_run.specs.HeardReads.{StopsThere, HasReadCause, IsPrompt}
 use Rattle.script_run.specs.OneThreadRun.{replies}
 use Rattle.script_run.specs.PlayOuts.{IsPlayOut, IsFirstOut}
@@ -16,7 +13,7 @@ use Rattle.script_run.specs.PlayOuts.{IsPlayOut, IsFirstOut}
 -- the selected file gave these bytes, the first that it had left, and its reading stopped so
 abbrev pub Gave : List ℕ → Reading → FilesState → FilesState → Type 0
 Gave given reading files files' =
-    (files.left ≡ then_known given files'.left) × StopsThere reading files'.left × HasReadCause (standing given reading) files.faults files'.faults
+    (files.left ≡ then_known given files'.left) × StopsThere reading files'.left × HasReadCause (script_standing given reading) files.faults files'.faults
 
 -- ---- the sink
 
@@ -54,5 +51,5 @@ Tells game given Open sink sink' result = IsUnwritten (replies game (heard_lines
 abbrev pub StepsGame : GameFile → FilesState → FilesState → SinkState → SinkState → Result (Unit {0}) StepFault → Type 0
 StepsGame game files files' sink sink' result =
     ((result ≡ Err Memory) × (files' ≡ files) × (sink' ≡ sink))
-    ⊎ ((given : List ℕ) × (reading : Reading) × Gave given reading files files' × Tells game given (standing given reading) sink sink' result
+    ⊎ ((given : List ℕ) × (reading : Reading) × Gave given reading files files' × Tells game given (script_standing given reading) sink sink' result
     × IsPrompt game given sink sink')

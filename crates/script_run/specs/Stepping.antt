@@ -1,11 +1,6 @@
 -- What the inner calls of a game that is played line by line keep and return.
 use Rattle.std.specs.Prelude.{◌≡◌, ℕ, ◌+◌, false, List, [], ◌++◌, length, Result, Ok, Err}
-use Rattle.text_forms.specs.Words.{parts_of}
-use Rattle.tac_io.specs.LineText.{has_end}
-use Rattle.tac_io.specs.States.{FilesState, SinkState}
-use Rattle.tac_io.specs.Known.{known_then}
-use Rattle.game_text.specs.Games.{GameFile}
-use Rattle.tac_io.specs.Taken.{TookWhole, TookPart}
+use Rattle.script_run.specs.Prelude.{parts_of, has_end, FilesState, SinkState, known_then, GameFile, TookWhole, TookPart}
 use Rattle.script_run.specs.declared.game.lines.GameLine.{GameLine}
 use Rattle.script_run.specs.declared.game.run.GameRun.{GameRun}
 use Rattle.script_run.specs.declared.game.stepping.Stepper.{Stepper}
@@ -14,7 +9,7 @@ use Rattle.script_run.specs.declared.fault.ScriptFault.TheVariants as scripts
 use Rattle.script_run.specs.declared.fault.StepFault.{StepFault}
 use Rattle.script_run.specs.declared.fault.StepFault.TheVariants.{Line, TooLong, Unwritten, Memory}
 use Rattle.script_run.specs.GameRuns.{HasRunGame}
-use Rattle.script_run.specs.HeardScripts.{heard_from, heard_lines, AtEnd, BadAt, Whole, standing, standing_after}
+use Rattle.script_run.specs.HeardScripts.{heard_from, heard_lines, AtEnd, BadAt, Whole, script_standing, standing_after}
 use Rattle.script_run.specs.HeldLines.{IsHeld}
 use Rattle.script_run.specs.OneThreadRun.{replies}
 use Rattle.script_run.specs.SteppedGames.{Gave, StepsGame}
@@ -31,11 +26,11 @@ pub record IsStepping (game : GameFile) (given written : List ℕ) (stepper : St
   pub heard : (more : List ℕ) → heard_from [] (parts_of 10 (given ++ more)) ≡ heard_from lines (parts_of 10 (rest ++ more))
 
 -- a line of these bytes is bad, whatever more comes, and the replies to the lines before it are written or still to be written
-abbrev pub StopsAt : GameFile → List ℕ → List ℕ → Stepper → ScriptFault → Type 0
-StopsAt game given written stepper (scripts.Line line reason) =
+abbrev pub StopsAtLine : GameFile → List ℕ → List ℕ → Stepper → ScriptFault → Type 0
+StopsAtLine game given written stepper (scripts.Line line reason) =
     (lines : List GameLine) × ((more : List ℕ) → heard_from [] (parts_of 10 (given ++ more)) ≡ (lines, Err (line, reason)))
     × (written ++ stepper.run.text.items ≡ replies game lines)
-StopsAt game given written stepper fault = ⊥
+StopsAtLine game given written stepper fault = ⊥
 
 -- the same fault of a line, and what the others would be
 abbrev pub stopped_by : ScriptFault → StepFault
@@ -64,14 +59,14 @@ abbrev pub TookMore : SinkState → SinkState → Type 0
 TookMore sink sink' = (more : List ℕ) × (sink'.taken ≡ known_then sink.taken more)
 
 -- the run after these lines, if nothing stands behind the last one, or that the last line has no end
-abbrev pub Ends : GameFile → List GameLine → List ℕ → List ℕ → Result GameRun StepFault → Type 0
-Ends game lines rest written (Ok run) = (rest ≡ []) × HasRunGame game lines written run
-Ends game lines rest written (Err (Line line reason)) = standing_after lines (Ok rest) false AtEnd ≡ BadAt line reason
-Ends game lines rest written (Err fault) = ⊥
+abbrev pub EndsScript : GameFile → List GameLine → List ℕ → List ℕ → Result GameRun StepFault → Type 0
+EndsScript game lines rest written (Ok run) = (rest ≡ []) × HasRunGame game lines written run
+EndsScript game lines rest written (Err (Line line reason)) = standing_after lines (Ok rest) false AtEnd ≡ BadAt line reason
+EndsScript game lines rest written (Err fault) = ⊥
 
 -- the run after all lines of a whole script, whose replies were written; or what ended the game before
 abbrev pub HearsLines : GameFile → FilesState → FilesState → SinkState → SinkState → Result GameRun StepFault → Type 0
 HearsLines game files files' sink sink' (Ok run) =
-    (given : List ℕ) × Gave given AtEnd files files' × (standing given AtEnd ≡ Whole)
+    (given : List ℕ) × Gave given AtEnd files files' × (script_standing given AtEnd ≡ Whole)
     × HasRunGame game (heard_lines given) (replies game (heard_lines given)) run × TookWhole sink sink' (replies game (heard_lines given))
 HearsLines game files files' sink sink' (Err fault) = StepsGame game files files' sink sink' (Err fault)

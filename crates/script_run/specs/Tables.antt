@@ -1,12 +1,6 @@
 -- The counts that are kept beside a game that is being played.
 use Rattle.std.specs.Prelude.{◌≡◌, ℕ, ◌+◌, ◌≤◌, ◌==◌, List, length, sum_by, count_by, take, slice_index}
-use Rattle.tac_base.specs.declared.limits.TheConstants.{AGENT_CALLS, CASH_READINGS, GOODS, TICKS}
-use Rattle.tac_base.specs.declared.calls.Call.{Call}
-use Rattle.game_text.specs.Games.{GameFile}
-use Rattle.tac_base.specs.Goods.{clock}
-use Rattle.auction_rules.specs.History.{Entry}
-use Rattle.auction_rules.specs.Legal.{entries_of}
-use Rattle.turn_lock.specs.Part.{part}
+use Rattle.script_run.specs.Prelude.{AGENT_CALLS, CASH_READINGS, GOODS, TICKS, Call, GameFile, clock, Entry, entries_of, part}
 use Rattle.game_text.specs.Schedule as schedule
 use Rattle.script_run.specs.declared.game.call_counts.CallCounts.{CallCounts}
 use Rattle.script_run.specs.CallCounts.{count_at}

@@ -1,41 +1,17 @@
 -- What trades give a party, trade by trade and entry by entry.
-use Rattle.std.proofs.Common.{◌≡◌, ℕ, ◌+◌, ◌*◌, ◌<◌, ◌≤◌, List, [], ◌∷◌, ◌++◌, length, map, take, get_or, fold, sum_by, refl, sym, ap, ◌∙◌, arith, ℤ, pos, ◌+ℤ◌, ◌-ℤ◌, Option, Some, None, to_z, of_z, w64}
-use Rattle.std.specs.Prelude.{◌==◌, reverse, slice_get}
-use Rattle.std.specs.Option.{option_map}
+use Rattle.std.proofs.Common.{◌≡◌, ℕ, ◌+◌, ◌<◌, ◌≤◌, List, [], ◌∷◌, ◌++◌, length, map, take, get_or, fold, refl, sym, ap, ◌∙◌, arith, ℤ, pos, ◌+ℤ◌, Option, Some, None, to_z, of_z, w64, reverse, slice_get, option_map}
 use Rattle.std.proofs.lemmas.Int.{ints}
 use Rattle.std.proofs.lemmas.List.{length-map, take_more, map_more, reverse-append}
 use Rattle.std.proofs.lemmas.List.Concat.{flat_map-cons}
-use Rattle.std.proofs.lemmas.List.Elements.{filter-append}
-use Rattle.std.proofs.lemmas.List.Sums.{sum_by-append, fold_push}
+use Rattle.std.proofs.lemmas.List.Sums.{fold_push}
 use Rattle.std.proofs.lemmas.Option.{slice_get-map, slice_get_within, get_or_from_slice_get}
 use Rattle.tac_base.specs.declared.calls.Trade.{Trade}
 use Rattle.auction_rules.specs.History.{Entry}
-use Rattle.auction_rules.specs.Effects.{all_trades, buys_by, sales_by, dollars}
-use Rattle.trade_ledger.specs.CashKeeping.{IsWithin}
+use Rattle.settlement.specs.{all_trades, dollars, IsWithin, AuctionHistory, cash_gained}
+use Rattle.trade_ledger.proofs.Matching.{dollars-append}
 use Rattle.tac_base.specs.declared.calls.Entry.{Entry as StoredEntry}
-use Rattle.auction_core.specs.Auctions.{AuctionHistory}
 use Rattle.auction_core.specs.ClosedGame.{all_goods}
 use Rattle.auction_core.specs.Stored.{IsShown}
-use Rattle.settlement.specs.Settlement.{cash_gained}
-
-abbrev cost_of : Trade → ℕ
-cost_of t = t.units * t.price
-
-sales-append : (xs ys : List Trade) (party : ℕ) → sum_by cost_of (sales_by (xs ++ ys) party) ≡ sum_by cost_of (sales_by xs party) + sum_by cost_of (sales_by ys party)
-sales-append xs ys party =
-    ap (sum_by cost_of) (filter-append (λ t. t.seller == party) xs ys) ∙ sum_by-append cost_of (sales_by xs party) (sales_by ys party)
-
-buys-append : (xs ys : List Trade) (party : ℕ) → sum_by cost_of (buys_by (xs ++ ys) party) ≡ sum_by cost_of (buys_by xs party) + sum_by cost_of (buys_by ys party)
-buys-append xs ys party =
-    ap (sum_by cost_of) (filter-append (λ t. t.buyer == party) xs ys) ∙ sum_by-append cost_of (buys_by xs party) (buys_by ys party)
-
-pub dollars-append : (xs ys : List Trade) (party : ℕ) → dollars (xs ++ ys) party ≡ dollars xs party +ℤ dollars ys party
-dollars-append xs ys party =
-    (λ i. pos (sales-append xs ys party i) -ℤ pos (buys-append xs ys party i))
-    ∙ parts (sum_by cost_of (sales_by xs party)) (sum_by cost_of (sales_by ys party)) (sum_by cost_of (buys_by xs party)) (sum_by cost_of (buys_by ys party))
-  where
-    parts : (a b c d : ℕ) → pos (a + b) -ℤ pos (c + d) ≡ (pos a -ℤ pos c) +ℤ (pos b -ℤ pos d)
-    parts a b c d = omega (arith, ints)
 
 -- one trade more
 pub dollars_more : (trades : List Trade) (i : ℕ) (t : Trade) (party : ℕ) → i < length trades → t ≡ get_or trades i t →

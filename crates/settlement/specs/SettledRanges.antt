@@ -1,9 +1,6 @@
 -- The ranges of what a game leaves to each agent.
-use Rattle.std.specs.Prelude.{◌≡◌, List, ℤ, length}
-use Rattle.std.specs.List.{All}
-use Rattle.tac_base.specs.declared.limits.TheConstants.{AGENTS, GOODS}
-use Rattle.trade_ledger.specs.CashKeeping.{IsWithin}
-use Rattle.game_text.specs.Accounts.{IsHolding}
+use Rattle.std.specs.Prelude.{◌≡◌, List, ℤ, length, All}
+use Rattle.settlement.specs.Prelude.{AGENTS, GOODS, IsWithin, IsHolding}
 use Rattle.settlement.specs.Settlement.{Settlement}
 
 -- a holding of each good, in its range

@@ -1,8 +1,6 @@
 -- What a game leaves to each agent.
 use Rattle.std.specs.Prelude.{ℕ, List, ℤ, pos, ◌+ℤ◌, map, fold, reverse}
-use Rattle.tac_base.specs.Goods.{agents}
-use Rattle.auction_rules.specs.Effects.{all_trades, dollars, holding}
-use Rattle.auction_core.specs.Auctions.{AuctionHistory}
+use Rattle.settlement.specs.Prelude.{agents, all_trades, dollars, holding, AuctionHistory}
 
 -- by agent: the holdings of the goods in order, and the cash in dollars
 pub record Settlement : Type 0 where

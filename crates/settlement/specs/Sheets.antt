@@ -1,7 +1,6 @@
 -- The sheet of a game: what each agent's score is, and why.
 use Rattle.std.specs.Prelude.{◌≡◌, ℕ, List, [], ℤ, pos, Some, length, slice_get, slice_index_or}
-use Rattle.tac_base.specs.declared.limits.TheConstants.{AGENTS}
-use Rattle.game_text.specs.Accounts.{AccountFile}
+use Rattle.settlement.specs.Prelude.{AGENTS, AccountFile}
 use Rattle.game_text.specs.Games.{GameFile}
 use Rattle.packages.specs.declared.travel_packages.Package.{Package}
 use Rattle.bound_cert.specs.Trees.{Tree}

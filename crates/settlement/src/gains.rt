@@ -1,8 +1,6 @@
 // What a party gains in the trades of a game, in dollars.
 ghost use Rattle.std.specs.Prelude.{◌≡◌, ◌+◌, ◌*◌, ◌<◌, ◌≤◌, [], ◌∷◌, pos, Some, length, map, reverse, slice_get};
-ghost use Rattle.auction_rules.specs.Effects.{all_trades, dollars};
-ghost use Rattle.trade_ledger.specs.CashKeeping.{IsWithin};
-ghost use Rattle.settlement.specs.Settlement.{cash_gained};
+ghost use Rattle.settlement.specs.{all_trades, dollars, IsWithin, cash_gained};
 
 use auction_core::Auction;
 use tac_base::limits::GOODS;

@@ -1,10 +1,7 @@
 // The score of an agent, and the sheet of all scores.
-ghost use Rattle.std.specs.Prelude.{◌≡◌, ◌≤◌, ◌*◌, unsigned_abs, length, sum_by};
-ghost use Rattle.std.specs.List.{All};
-ghost use Rattle.tac_base.specs.declared.limits.TheConstants.{HOLDING};
-ghost use Rattle.game_text.specs.Accounts.{IsHolding};
+ghost use Rattle.std.specs.Prelude.{◌≡◌, ◌≤◌, ◌*◌, unsigned_abs, length, sum_by, All};
+ghost use Rattle.settlement.specs.{HOLDING, IsHolding, AreHoldings};
 ghost use Rattle.settlement.specs.Score as rules;
-ghost use Rattle.settlement.specs.SettledRanges.{AreHoldings};
 
 use bound_cert::Solved;
 use std::marker::Model;

@@ -1,10 +1,6 @@
 // What a game leaves to each agent.
-ghost use Rattle.std.specs.Prelude.{◌≡◌, length, map};
-ghost use Rattle.std.specs.List.{All};
-ghost use Rattle.trade_ledger.specs.CashKeeping.{IsWithin};
-ghost use Rattle.tac_base.specs.Goods.{agents};
-ghost use Rattle.settlement.specs.Settlement.{holdings_of, cash_gained, settlement_of};
-ghost use Rattle.settlement.specs.SettledRanges.{AreHoldings};
+ghost use Rattle.std.specs.Prelude.{◌≡◌, length, map, All};
+ghost use Rattle.settlement.specs.{IsWithin, agents, holdings_of, cash_gained, settlement_of, AreHoldings};
 
 use crate::gains::gain_of_game;
 use auction_core::{Auction, Closed};

@@ -1,6 +1,5 @@
 -- `==` of two points says whether they are equal.
-use Rattle.std.proofs.Common.{◌≡◌, arith}
-use Rattle.std.specs.Bool.{Decides}
+use Rattle.std.proofs.Common.{◌≡◌, arith, Decides}
 use Rattle.std.proofs.lemmas.Bool.Decides.{Decides-int_eq, Decides-eqb}
 use Rattle.tac_base.specs.contracts.bids.PointPartialEq.TheImpl.{ghosts}
 use Rattle.tac_base.specs.declared.bids.Point.{Point}

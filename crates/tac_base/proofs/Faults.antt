@@ -1,11 +1,10 @@
 -- What a list without a fault has.
-use Rattle.std.proofs.Common.{◌≡◌, ℕ, ◌+◌, ◌<◌, ◌≤◌, ◌≢◌, List, [], ◌∷◌, ◌++◌, Option, Some, None, length, get_or, take, drop, refl, sym, ap, ◌∙◌, add-zero, arith, ℤ, pos}
+use Rattle.std.proofs.Common.{◌≡◌, ℕ, ◌+◌, ◌<◌, ◌≤◌, ◌≢◌, List, [], ◌∷◌, ◌++◌, Option, Some, None, length, get_or, take, drop, refl, sym, ap, ◌∙◌, add-zero, arith, ℤ, pos, All, unsigned_abs, take-append-drop}
 use Rattle.std.proofs.lemmas.Bool.Decides.{nat_tests}
 use Rattle.std.proofs.lemmas.List.Sums.{sum_by-cons}
-use Rattle.std.specs.List.{All, AllByRecursion}
+use Rattle.std.specs.List.{AllByRecursion}
 use Rattle.std.proofs.lemmas.List.Elements.{All-from_recursion}
-use Rattle.std.specs.Prelude.{unsigned_abs}
-use Rattle.std.proofs.lemmas.List.{take_more, take-append-drop}
+use Rattle.std.proofs.lemmas.List.{take_more}
 use Rattle.std.specs.Option.{option_or}
 use Rattle.tac_base.specs.declared.bids.Point.{Point}
 use Rattle.tac_base.specs.declared.bids.BidFault.{BidFault}
@@ -68,6 +67,11 @@ pub fault_is : (points : List Point) → 0 < length points → fault_of points �
 fault_is [] h = absurd (omega arith)
 fault_is (point ∷ points) h = refl
 
+-- a bid without a fault may stand
+pub bid_left : (points : List Point) → fault_of points ≡ None → left_fault points ≡ None
+bid_left [] h = absurd cc
+bid_left (point ∷ points) h = h
+
 -- what a list with no first fault has
 pub list_points : (points : List Point) → first_fault 0 0 points ≡ None → length points ≤ 16
 list_points points h = let le : 0 + length points ≤ 16 = few_points 0 0 points h (omega arith) in omega (arith, le)
@@ -83,7 +87,7 @@ pub bid_prices : (points : List Point) → fault_of points ≡ None → All (λ 
 bid_prices [] h = cc
 bid_prices (point ∷ points) h = All-from_recursion _ (point ∷ points) (cheap_points 0 0 (point ∷ points) h)
 
-full_points : (count used : ℕ) (points : List Point) → first_fault count used points ≡ None → AllByRecursion (λ (p : Point). size_of p ≢ 0) points
+pub full_points : (count used : ℕ) (points : List Point) → first_fault count used points ≡ None → AllByRecursion (λ (p : Point). size_of p ≢ 0) points
 full_points count used [] h = tt
 full_points count used (point ∷ points) h =
     let parts = both_none (point_fault count used point) (first_fault (count + 1) (used + size_of point) points) h in

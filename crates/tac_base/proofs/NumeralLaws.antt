@@ -1,14 +1,11 @@
 -- The numerals among words, and the text of a number.
-use Rattle.std.proofs.Common.{◌≡◌, ℕ, zero, suc, ◌+◌, ◌-◌, ◌*◌, ◌^◌, ◌<◌, ◌≤◌, Bool, true, false, cond, not, ◌&&◌, eqb, ltb, leb, List, [], ◌∷◌, Option, Some, None, length, get_or, drop, add-one, refl, sym, ap, subst, ◌∙◌, arith, rules, ℤ, pos, decimal, inl, inr}
+use Rattle.std.proofs.Common.{◌≡◌, ℕ, zero, suc, ◌+◌, ◌-◌, ◌*◌, ◌^◌, ◌<◌, ◌≤◌, Bool, true, false, cond, not, ◌&&◌, eqb, ltb, leb, List, [], ◌∷◌, Option, Some, None, length, get_or, drop, add-one, refl, sym, ap, subst, ◌∙◌, arith, rules, ℤ, pos, decimal, inl, inr, drop-cons, drop_of_length-le, option_and_then, option_map, IfSome, leb-true, le-leb}
 use Rattle.std.proofs.lemmas.Bool.Decides.{nat_tests}
 use Rattle.std.proofs.lemmas.Option.{cond_some}
 use Rattle.std.proofs.lemmas.Str.Parse.{IsNumeralModel, numerals_by_fold, digits_value_short}
 use Rattle.std.proofs.lemmas.Fmt.{digits_decimal, digits_value-decimal, decimal-digits_value, decimal_nonempty, first_decimal, decimal_digit}
 use Rattle.std.specs.Str.{all_ascii_digits}
-use Rattle.std.proofs.Math.Seq.{drop-cons}
-use Rattle.std.proofs.Math.ListN.{drop_of_length-le}
-use Rattle.std.specs.Prelude.{option_and_then, option_map, IfSome}
-use Rattle.std.proofs.lemmas.Bool.{cases_lt, leb-true, le-leb}
+use Rattle.std.proofs.lemmas.Bool.{cases_lt}
 use Rattle.tac_base.specs.Numerals.{is_numeral, value_from, numeral, signed_numeral, opposite, below, within_i64}
 
 pub value_from-ge : (n : ℕ) (digits : List ℕ) → n ≤ value_from n digits
@@ -68,21 +65,6 @@ pub at_end : (limit n i : ℕ) (digits : List ℕ) (total : ℕ) → length digi
 at_end limit n i digits total le e lt =
     let same : n ≡ total = ap (value_from n) (sym (drop_of_length-le digits le)) ∙ e in
     sym (below-some limit n lt) ∙ ap (λ (t : ℕ). below limit (Some t)) same
-
--- a number below the limit is the number itself
-pub is_below : (limit : ℕ) (o : Option ℕ) (n : ℕ) → Some n ≡ below limit o → o ≡ Some n
-is_below limit None n h = absurd cc
-is_below limit (Some m) n h = elim (cases_lt m limit) [ inl lt ↦ sym (h ∙ below-some limit m lt) | inr le ↦ absurd (let e = h ∙ below-none limit m le in cc) ]
-
--- no number of 64 bits is no number of 64 bits with a sign
-pub opposite_none : (o : Option ℕ) → None ≡ below (2 ^ 64) o → None ≡ within_i64 (option_and_then opposite o)
-opposite_none None h = refl
-opposite_none (Some zero) h = refl
-opposite_none (Some (suc n)) h = let past : 2 ^ 64 ≤ suc n = is_past (2 ^ 64) (suc n) (sym h) in grind (arith, nat_tests, past)
-
-pub positive_none : (o : Option ℕ) → None ≡ below (2 ^ 64) o → None ≡ within_i64 (option_map pos o)
-positive_none None h = refl
-positive_none (Some n) h = let past : 2 ^ 64 ≤ n = is_past (2 ^ 64) n (sym h) in grind (arith, nat_tests, past)
 
 -- ---- what is read is what is printed
 

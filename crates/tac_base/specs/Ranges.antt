@@ -1,6 +1,5 @@
 -- The ranges of calls, replies, trades, posts and cash readings: those in which a log shows them.
-use Rattle.std.specs.Prelude.{◌≡◌, ℕ, ◌^◌, ◌<◌, ◌≤◌, ⊤, List, ℤ, negsuc, pos, ◌≤ℤ◌, None, length, unsigned_abs}
-use Rattle.std.specs.List.{All}
+use Rattle.std.specs.Prelude.{◌≡◌, ℕ, ◌^◌, ◌<◌, ◌≤◌, ⊤, List, ℤ, negsuc, pos, ◌≤ℤ◌, None, length, unsigned_abs, All}
 use Rattle.tac_base.specs.Bids.{fault_of, left_fault}
 use Rattle.tac_base.specs.Goods.{clock, house}
 use Rattle.tac_base.specs.declared.calls.Call.{Call}

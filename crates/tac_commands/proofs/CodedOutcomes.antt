@@ -1,14 +1,8 @@
 -- The code of an outcome.
-use Rattle.std.proofs.Common.{◌≡◌, ℕ, Bool, true, false, refl, sym, ◌∙◌, inl, inr}
-use Rattle.std.specs.Prelude.{◌==◌, ◌⊎◌, MatchBool}
-use Rattle.std.proofs.lemmas.Bool.{eqb-true}
-use Rattle.tac_io.specs.Counts.{Rose}
-use Rattle.tac_io.specs.States.{SinkState}
-use Rattle.tac_io.specs.Taken.{TookPart}
+use Rattle.std.proofs.Common.{◌≡◌, ℕ, Bool, true, false, refl, sym, ◌∙◌, inl, inr, ◌==◌, ◌⊎◌, MatchBool, eqb-true}
+use Rattle.tac_commands.specs.{Rose, SinkState, TookPart, Outcome, Done, Lapsed, Unsound, Stopped, Unwritten, Unread, Refused, code_of, refusal_end, IsCutShort, Reports, exit_text}
 use Rattle.game_log.proofs.Writing.{then_some}
 use Rattle.tac_commands.specs.declared.refusals.Refusal.TheVariants.{ReadFault}
-use Rattle.tac_commands.specs.{Outcome, Done, Lapsed, Unsound, Stopped, Unwritten, Unread, Refused, code_of, refusal_end, IsCutShort, Reports}
-use Rattle.tac_commands.specs.Codes.{exit_text}
 
 -- only the first bytes of the text that is due were written, whatever the outcome
 pub cut_part : (outcome : Outcome) (sink sink' : SinkState) → IsCutShort outcome sink sink' → TookPart sink sink' (exit_text outcome)

@@ -1,10 +1,7 @@
 -- When each code of a command comes.
-use Rattle.std.proofs.Common.{◌≡◌, ◌≢◌, ◌<◌, ℕ, refl, sym, ◌∙◌, ap, inl, inr, arith, Option, Some, None}
-use Rattle.std.specs.Prelude.{◌⊎◌, IfSome}
-use Rattle.tac_io.specs.Counts.{Rose}
-use Rattle.tac_io.specs.States.{FilesState, SinkState, LinksState, TickerState}
+use Rattle.std.proofs.Common.{◌≡◌, ◌≢◌, ◌<◌, ℕ, refl, sym, ◌∙◌, ap, inl, inr, arith, Option, Some, None, ◌⊎◌, IfSome}
+use Rattle.tac_commands.specs.{Rose, FilesState, SinkState, LinksState, TickerState, BatchCommand, Command, Batch, Serve, service_or_batch, Outcome, Refused, code_of, outside_of, Allows, steps_of, Reports, Selects, IsQuiet, UsageExactly, ReadFaultExactly, GameRefusedExactly, TextRefusedExactly, HasRefusedGame, HasRefusedText, HasGoodFiles, HasUnsoundLog, UnsoundExactly, IsGoodEnd, IsFaultless, IsComplete, LinkFaultExactly, ClockFaultExactly}
 use Rattle.tac_commands.specs.declared.refusals.Refusal.TheVariants.{Usage}
-use Rattle.tac_commands.specs.{BatchCommand, Command, Batch, Serve, service_or_batch, Outcome, Refused, code_of, outside_of, Allows, steps_of, Reports, Selects, IsQuiet, UsageExactly, ReadFaultExactly, GameRefusedExactly, TextRefusedExactly, HasRefusedGame, HasRefusedText, HasGoodFiles, HasUnsoundLog, UnsoundExactly, IsGoodEnd, IsFaultless, IsComplete, LinkFaultExactly, ClockFaultExactly}
 use Rattle.tac_commands.proofs.CodedOutcomes.{IsCoded, coded, explained_only, explained_always, told_four}
 use Rattle.tac_commands.proofs.OwnCodes.{OwnCode, own_code, last_code}
 use Rattle.tac_commands.proofs.FileCauses as causes

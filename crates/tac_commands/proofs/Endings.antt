@@ -1,14 +1,11 @@
 -- The outcome of a command that ended, and then was finished.
-use Rattle.std.proofs.Common.{◌≡◌, ℕ, Bool, true, false, List, ◌++◌, refl, sym, subst, inl, inr}
-use Rattle.std.specs.Prelude.{◌==◌, ◌⊎◌, MatchBool}
-use Rattle.tac_io.specs.States.{SinkState}
+use Rattle.std.proofs.Common.{◌≡◌, ℕ, Bool, true, false, List, ◌++◌, refl, sym, subst, inl, inr, ◌==◌, ◌⊎◌, MatchBool}
+use Rattle.tac_commands.specs.{SinkState, TookWhole, TookPart, Outcome, Done, Unsound, Stopped, Unread, Unwritten, Refused, refusal_end, Reports}
 use Rattle.game_log.proofs.Writing.{fails_both, then_whole, then_some}
-use Rattle.tac_io.specs.Taken.{TookWhole, TookPart}
 use Rattle.tac_commands.specs.declared.refusals.Refusal.{Refusal}
 use Rattle.tac_commands.specs.declared.refusals.Refusal.TheVariants.{ReadFault}
 use Rattle.tac_commands.specs.declared.ends.End.{End}
 use Rattle.tac_commands.specs.declared.ends.End.TheVariants as ends
-use Rattle.tac_commands.specs.{Outcome, Done, Unsound, Stopped, Unread, Unwritten, Refused, refusal_end, Reports}
 use Rattle.tac_commands.specs.Ends.{Ends, EndsOrStops, Stops, Finishes}
 
 -- a write of a text failed

@@ -1,16 +1,11 @@
 -- What a run says of the code: each cause by one recursion over the steps.
-use Rattle.std.proofs.Common.{◌≡◌, ◌≢◌, ℕ, List, refl, sym, ap, ◌∙◌, subst, inl, inr, arith, Option, Some, None}
-use Rattle.std.specs.Prelude.{◌⊎◌, Ok, Err, IfSome}
-use Rattle.tac_io.specs.Counts.{Rose}
-use Rattle.tac_io.specs.States.{FilesState}
-use Rattle.game_text.specs.declared.fault.GameFault.{GameFault}
+use Rattle.std.proofs.Common.{◌≡◌, ◌≢◌, ℕ, List, refl, sym, ap, ◌∙◌, subst, inl, inr, arith, Option, Some, None, ◌⊎◌, Ok, Err, IfSome}
+use Rattle.tac_commands.specs.{Rose, FilesState, GameFault, GameLine as ScriptLine, Value, read_as, refusal_of, refused_code, Content, IsFileRead, IsNotRead, HasFault, Outcome, Unsound, Refused, refusal_end, code_of, IsQuiet, Holds, HasBad, HasRefused, AreGood, HasUnsound, EndsAt, EndsAtAudit, SelectsFiles}
 use Rattle.game_text.specs.declared.fault.GameFault.TheVariants.{Line, TooLong}
-use Rattle.script_run.specs.declared.game.lines.GameLine.{GameLine as ScriptLine}
 use Rattle.tac_commands.specs.declared.file_kinds.FileKind.{FileKind}
 use Rattle.tac_commands.specs.declared.file_kinds.FileKind.TheVariants.{Game, HotelScript, GameScript, Account, Log, Bytes}
 use Rattle.tac_commands.specs.declared.refusals.Refusal.{Refusal}
 use Rattle.tac_commands.specs.declared.refusals.Refusal.TheVariants.{Memory}
-use Rattle.tac_commands.specs.{Value, read_as, refusal_of, refused_code, Content, IsFileRead, IsNotRead, HasFault, Outcome, Unsound, Refused, refusal_end, code_of, IsQuiet, Holds, HasBad, HasRefused, AreGood, HasUnsound, EndsAt, EndsAtAudit, SelectsFiles}
 use Rattle.tac_commands.specs.Runs.{Runs, StopsAt, with_name}
 use Rattle.tac_commands.specs.Steps.{NamedFile, Steps, Reads, Judges, Hears, EndsWith, file as named}
 use Rattle.tac_commands.proofs.HeardFiles.{HeardSo, StopsSo, heard_so}

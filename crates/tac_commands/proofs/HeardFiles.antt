@@ -1,20 +1,12 @@
 -- A script that was heard, or not, and why the run ended so.
-use Rattle.std.proofs.Common.{◌≡◌, ℕ, ◌≤◌, Bool, true, false, List, [], ◌++◌, length, length-append, refl, ap, ◌∙◌, subst, inl, inr, arith, append-nil, Option, Some, None}
-use Rattle.std.specs.Prelude.{◌⊎◌, nat_lt, Err}
+use Rattle.std.proofs.Common.{◌≡◌, ℕ, ◌≤◌, Bool, true, false, List, [], ◌++◌, length, length-append, refl, ap, ◌∙◌, subst, inl, inr, arith, append-nil, Option, Some, None, ◌⊎◌, nat_lt, Err}
 use Rattle.std.proofs.lemmas.Bool.Decides.{nat_tests}
-use Rattle.tac_io.specs.Counts.{Rose}
-use Rattle.tac_io.specs.Reading.{IsFile}
-use Rattle.tac_io.specs.States.{FilesState}
-use Rattle.tac_io.specs.Known.{IsAtEnd}
-use Rattle.game_text.specs.declared.fault.GameFault.{GameFault}
+use Rattle.tac_commands.specs.{Rose, IsFile, FilesState, IsAtEnd, GameFault, GameLine as ScriptLine, HasReadCause, StopsThere, read_as, refused_code, Content, HasFault, IsFileRead, IsScriptOutcome, IsGiven, IsScriptHeard, IsUnheard, Outcome, code_of}
 use Rattle.game_text.specs.declared.fault.GameFault.TheVariants.{Line, TooLong}
-use Rattle.script_run.specs.declared.game.lines.GameLine.{GameLine as ScriptLine}
-use Rattle.script_run.specs.HeardScripts.{heard_lines, Reading, AtEnd, Standing, Whole, BadAt, Overlong, BrokenOff, Open, standing}
-use Rattle.script_run.specs.HeardReads.{HasReadCause, StopsThere}
+use Rattle.script_run.specs.HeardScripts.{heard_lines, Reading, AtEnd, Standing, Whole, BadAt, Overlong, BrokenOff, Open, script_standing}
 use Rattle.script_run.proofs.StoodScripts.{bad_is, overlong_is, whole_is}
 use Rattle.tac_commands.specs.declared.file_kinds.FileKind.{FileKind}
 use Rattle.tac_commands.specs.declared.file_kinds.FileKind.TheVariants.{GameScript}
-use Rattle.tac_commands.specs.{read_as, refused_code, Content, HasFault, IsFileRead, IsScriptOutcome, IsGiven, IsHeard, IsUnheard, Outcome, code_of}
 use Rattle.tac_commands.proofs.LongFiles.{bad_script, good_script, long_file}
 
 -- why the run stopped at a file, with its code
@@ -53,7 +45,7 @@ given_file : (content : Content) (name given : List ℕ) (reading : Reading) (le
 given_file None name given reading left is stops = ([], tt, λ read. refl)
 given_file (Some files) name given reading left is stops = (is.0, is.1, λ read. subst IsAtEnd is.2 (subst (λ (r : Reading). StopsThere r left) read stops))
 
-bad_bytes : (given rest : List ℕ) (reading : Reading) (line reason : ℕ) → standing given reading ≡ BadAt line reason → (reading ≡ AtEnd → rest ≡ []) → (fault : GameFault) × (read_as GameScript (given ++ rest) ≡ Err fault)
+bad_bytes : (given rest : List ℕ) (reading : Reading) (line reason : ℕ) → script_standing given reading ≡ BadAt line reason → (reading ≡ AtEnd → rest ≡ []) → (fault : GameFault) × (read_as GameScript (given ++ rest) ≡ Err fault)
 bad_bytes given rest reading line reason is all = by_test (nat_lt 67108864 (length (given ++ rest))) refl
   where
     by_test : (b : Bool) → nat_lt 67108864 (length (given ++ rest)) ≡ b → (fault : GameFault) × (read_as GameScript (given ++ rest) ≡ Err fault)
@@ -62,7 +54,7 @@ bad_bytes given rest reading line reason is all = by_test (nat_lt 67108864 (leng
         let short : length (given ++ rest) ≤ 67108864 = grind (arith, nat_tests) in
         (Line line reason, bad_script (given ++ rest) line reason short (bad_is given rest reading line reason is all short))
 
-long_bytes : (given rest : List ℕ) (reading : Reading) → standing given reading ≡ Overlong → read_as GameScript (given ++ rest) ≡ Err TooLong
+long_bytes : (given rest : List ℕ) (reading : Reading) → script_standing given reading ≡ Overlong → read_as GameScript (given ++ rest) ≡ Err TooLong
 long_bytes given rest reading is = let long = overlong_is given reading is in long_file GameScript (given ++ rest) (omega (arith, long, length-append given rest))
 
 -- ---- why the run ended
@@ -73,7 +65,7 @@ module _ (replies : List ScriptLine → List ℕ) (allows : List ScriptLine → 
   unheard_so (inr memory) = inl (inr (inl (ap code_of memory.0, memory.2)))
 
   module _ (given : List ℕ) (reading : Reading) (is : IsGiven files.content name given files'.left) (stops : StopsThere reading files'.left) where
-    by_standing : (stands : Standing) → standing given reading ≡ stands → HasReadCause stands files.faults files'.faults → IsScriptOutcome replies allows (heard_lines given) stands outcome →
+    by_standing : (stands : Standing) → script_standing given reading ≡ stands → HasReadCause stands files.faults files'.faults → IsScriptOutcome replies allows (heard_lines given) stands outcome →
         HeardSo files files' allows name outcome
     by_standing Whole so cause answer =
         let whole = whole_is given reading so in
@@ -89,6 +81,6 @@ module _ (replies : List ScriptLine → List ℕ) (allows : List ScriptLine → 
     by_standing BrokenOff so cause answer = inl (inl (ap code_of answer, cause))
     by_standing Open so cause answer = inr (inl (ap code_of answer, cause))
 
-  pub heard_so : IsUnheard files files' name outcome ⊎ IsHeard replies allows files files' name outcome → HeardSo files files' allows name outcome
+  pub heard_so : IsUnheard files files' name outcome ⊎ IsScriptHeard replies allows files files' name outcome → HeardSo files files' allows name outcome
   heard_so (inl unheard) = unheard_so unheard
-  heard_so (inr heard) = by_standing heard.0 heard.1 heard.2 heard.3 (standing heard.0 heard.1) refl heard.4 heard.5
+  heard_so (inr heard) = by_standing heard.0 heard.1 heard.2 heard.3 (script_standing heard.0 heard.1) refl heard.4 heard.5

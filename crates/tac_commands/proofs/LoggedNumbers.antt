@@ -3,27 +3,14 @@ use Rattle.std.proofs.Common.{◌≡◌, ℕ, ◌+◌, ◌≤◌, List, [], ◌�
 use Rattle.std.specs.List.{AllByRecursion, enumerate_from, range_with_len}
 use Rattle.std.proofs.lemmas.List.Elements.{recursion_from_All, All-weaker}
 use Rattle.tac_base.specs.Ranges.{IsNet}
-use Rattle.game_text.specs.Games.{GameFile}
+use Rattle.tac_commands.specs.Prelude.{GameFile, CashCall, CashReply, CashEntry, AuctionHistory, ClosedGame, setup_of, Verdict, Cause, histories_of, IsNumber, IsSigned, IsAuction, AreCashNumbers, IsShownCashReply, FitsCall, IsCashEntry, IsVerdict, IsHead, LoggedGame, IsLoggedVerdict, IsLoggedEnd, IsLoggedHead, IsLoggedCash, IsLoggedCashEntry, AreHistories, auctions_in, IsRanged}
 use Rattle.auction_rules.specs.History.{Entry}
-use Rattle.trade_ledger.specs.declared.cash_calls.CashCall.{CashCall}
 use Rattle.trade_ledger.specs.declared.cash_calls.CashCall.TheVariants.{Post, Read}
-use Rattle.trade_ledger.specs.declared.cash_calls.CashReply.{CashReply}
 use Rattle.trade_ledger.specs.declared.cash_calls.CashReply.TheVariants.{Done, Cash}
-use Rattle.trade_ledger.specs.declared.cash_calls.CashEntry.{CashEntry}
-use Rattle.auction_core.specs.Auctions.{AuctionHistory}
-use Rattle.auction_core.specs.ClosedGame.{ClosedGame}
-use Rattle.auction_core.specs.Setups.{setup_of}
-use Rattle.line_protocol.specs.declared.admission.Verdict.{Verdict}
 use Rattle.line_protocol.specs.declared.admission.Verdict.TheVariants as verdicts
-use Rattle.line_protocol.specs.declared.admission.Cause.{Cause}
 use Rattle.line_protocol.specs.Heads.{Head, Play, Serve}
-use Rattle.log_text.specs.LogText.{histories_of}
 use Rattle.log_text.specs.Logged as logged
-use Rattle.log_text.specs.Logged.{IsNumber, IsSigned, IsAuction, AreCashNumbers, IsShownCashReply, FitsCall, IsCashEntry, IsVerdict, IsHead}
-use Rattle.log_text.specs.LoggedGames.{LoggedGame, IsLoggedVerdict, IsLoggedEnd, IsLoggedHead, IsLoggedCash, IsLoggedCashEntry, AreHistories}
 use Rattle.log_text.proofs.ShownNumbers.{number_is, auction_is, net_is}
-use Rattle.log_text.specs.SoundLog.{auctions_in}
-use Rattle.game_log.specs.LogRanges.{IsRanged}
 
 -- ---- the head
 

@@ -1,22 +1,12 @@
 -- How a file that is too long is read, and a script, a log or bytes that are not.
-use Rattle.std.proofs.Common.{◌≡◌, ℕ, suc, ◌<◌, ◌≤◌, List, length, true, false, ap, ◌∙◌, arith}
-use Rattle.std.specs.Prelude.{nat_lt, replicate, Result, Ok, Err, Some, None}
+use Rattle.std.proofs.Common.{◌≡◌, ℕ, suc, ◌<◌, ◌≤◌, List, length, true, false, ap, ◌∙◌, arith, nat_lt, replicate, Result, Ok, Err, Some, None}
 use Rattle.std.proofs.lemmas.Bool.Decides.{nat_tests}
 use Rattle.std.proofs.lemmas.List.{length-replicate}
-use Rattle.tac_io.specs.Reading.{IsTooLong}
+use Rattle.tac_commands.specs.{IsTooLong, account_of, game_of, log_of, HotelLine, GameLine as ScriptLine, BadLine, script_of, game_script, bytes_in, most_bytes, lines_or_fault, script_in, read_as, logged_or_fault, Content, HasFault}
 use Rattle.game_text.specs.declared.fault.GameFault.TheVariants.{Line, TooLong}
-use Rattle.game_text.specs.Accounts.{account_of}
-use Rattle.game_text.specs.Games.{game_of}
 use Rattle.log_reader.specs.declared.fault.LogFault.TheVariants as logs
-use Rattle.log_reader.specs.Logs.{log_of}
-use Rattle.script_run.specs.declared.hotel.lines.HotelLine.{HotelLine}
-use Rattle.script_run.specs.declared.game.lines.GameLine.{GameLine as ScriptLine}
-use Rattle.script_run.specs.ScriptLines.{BadLine}
-use Rattle.script_run.specs.HotelScripts.{script_of}
-use Rattle.script_run.specs.GameScripts.{game_script}
 use Rattle.tac_commands.specs.declared.file_kinds.FileKind.{FileKind}
 use Rattle.tac_commands.specs.declared.file_kinds.FileKind.TheVariants.{Game, HotelScript, GameScript, Account, Log, Bytes}
-use Rattle.tac_commands.specs.{bytes_in, most_bytes, lines_or_fault, script_in, read_as, logged_or_fault, Content, HasFault}
 
 long_game : (bytes : List ℕ) → 1048576 < length bytes → game_of bytes ≡ Err TooLong
 unfolding game_of

@@ -1,43 +1,29 @@
 -- A made script is good: it has few ticks and few lines of an agent, and nobody ends its session.
-use Rattle.std.proofs.Common.{◌≡◌, ◌≢◌, ℕ, suc, ◌+◌, ◌-◌, ◌*◌, ◌<◌, ◌≤◌, Bool, true, false, not, cond, List, [], ◌∷◌, ◌++◌, length, None, Some, Result, Ok, Err, refl, sym, ap, subst, ◌∙◌, inl, inr, ◌⊎◌, lit<, arith, decimal, append_assoc}
-use Rattle.std.specs.Prelude.{◌==◌, ◌&&◌, nat_le, nat_lt, codes, count_by, unsigned_abs, ℤ, pos, negsuc, Option}
+use Rattle.std.proofs.Common.{◌≡◌, ◌≢◌, ℕ, suc, ◌+◌, ◌-◌, ◌*◌, ◌<◌, ◌≤◌, Bool, true, false, not, cond, List, [], ◌∷◌, ◌++◌, length, None, Some, Result, Ok, Err, refl, sym, ap, subst, ◌∙◌, inl, inr, ◌⊎◌, lit<, arith, decimal, append_assoc, ◌==◌, ◌&&◌, nat_le, nat_lt, codes, count_by, unsigned_abs, ℤ, pos, negsuc, Option, flat_map, bytes_eq, length-append}
 use Rattle.std.specs.Fmt.{signed_decimal}
-use Rattle.std.specs.List.{AllByRecursion, flat_map, join_with_byte}
-use Rattle.std.specs.Str.{bytes_eq}
+use Rattle.std.specs.List.{AllByRecursion, join_with_byte}
 use Rattle.std.proofs.lemmas.Bool.Decides.{nat_tests}
 use Rattle.std.proofs.lemmas.Fmt.{decimal_digit, length-decimal-le}
-use Rattle.std.proofs.lemmas.List.{length-append}
 use Rattle.std.proofs.lemmas.List.Concat.{flat_map-cons}
 use Rattle.std.proofs.lemmas.List.Elements.{recursion_from_All}
 use Rattle.std.proofs.lemmas.List.Sums.{sum_by-cons, count_by-le-length}
+use Rattle.std.proofs.lemmas.Bool.{and_right}
 use Rattle.tac_base.specs.declared.bids.Point.{Point}
 use Rattle.tac_base.specs.declared.bids.BidFault.{BidFault}
 use Rattle.tac_base.specs.Bids.{fault_of}
-use Rattle.tac_base.specs.Numerals.{numeral}
+use Rattle.tac_commands.specs.Prelude.{numeral, text_of, RequestFault, ◌>>=◌, read_good, with_points, request_of_words, request_of, bid_line, is_tick, IsBidLine, IsBidScript, GameLine, Tick, Asks, is_tick_line, is_line_of, is_quit, quits, ticks_of, count_of_agent, has_quit, judged_game_line, judge_game_line, game_script, IsGoodScript, IsBadScript, then_lines, script_lines_from, TEXT_BYTES}
 use Rattle.tac_base.proofs.Signed.{Lacks, decimal_lacks}
-use Rattle.text_forms.specs.Lines.{text_of}
 use Rattle.text_forms.specs.Words.{parts_of, words_of}
 use Rattle.text_forms.proofs.Joins.{parts_more}
 use Rattle.text_forms.proofs.PrintedLines.{lacks_from, join_lacks}
 use Rattle.bid_strings.specs.BidForm.{points_of, judged as judged_points}
-use Rattle.bid_strings.specs.Spelling.{left_word, right_word, point_words, spelling, HasFiveDigits}
+use Rattle.bid_strings.specs.Spelling.{point_words, spelling, HasFiveDigits}
+use Rattle.bid_strings.proofs.PointWords.{left_word, right_word}
 use Rattle.bid_strings.proofs.Laws.{points_lack, lawful_points}
 use Rattle.log_text.proofs.Cuts.{lacks_append}
-use Rattle.line_protocol.specs.declared.asking.RequestFault.{RequestFault}
-use Rattle.text_forms.specs.Steps.{◌>>=◌}
-use Rattle.line_protocol.specs.Requests.{read_good, with_points, request_of_words, request_of}
-use Rattle.draw_maker.specs.Scripts.{bid_line}
-use Rattle.draw_maker.specs.BidScripts.{is_tick, IsBidLine, IsBidScript}
 use Rattle.script_run.specs.declared.fault.ScriptReason.{ScriptReason}
-use Rattle.script_run.specs.declared.game.lines.GameLine.{GameLine}
-use Rattle.script_run.specs.declared.game.lines.GameLine.TheVariants.{Tick, Asks}
 use Rattle.script_run.specs.HotelLines.{agent_of}
 use Rattle.script_run.specs.GameLines.{asks_of, request_line, game_line_of}
-use Rattle.script_run.specs.GameScripts.{is_tick_line, is_line_of, is_quit, quits, ticks_of, count_of_agent, has_quit, judged_game_line, judge_game_line, game_script}
-use Rattle.script_run.specs.GameOuts.{IsGoodScript}
-use Rattle.script_run.specs.PlayOuts.{IsBadScript}
-use Rattle.script_run.specs.ScriptLines.{then_lines, script_lines_from}
-use Rattle.tac_base.specs.declared.limits.TheConstants.{TEXT_BYTES}
 use Rattle.script_run.proofs.ScriptReading.{line_first}
 use Rattle.tac_commands.proofs.Unambiguous.{not_both}
 
@@ -159,12 +145,8 @@ text_short (line ∷ lines) all =
 
 -- ---- all lines
 
-and_no : (b : Bool) → (b && false) ≡ false
-and_no true = refl
-and_no false = refl
-
 quits_not : (agent asking good : ℕ) (point : Point) → quits agent (Asks asking (request_of (request good point))) ≡ false
-quits_not agent asking good point = ap (λ (b : Bool). (asking == agent) && b) (no_quit good point) ∙ and_no (asking == agent)
+quits_not agent asking good point = ap (λ (b : Bool). (asking == agent) && b) (no_quit good point) ∙ and_right (asking == agent) false refl
 
 has_quit_more : (line : GameLine) (before : List GameLine) (agent : ℕ) → quits agent line ≡ false → has_quit before agent ≡ false → has_quit (line ∷ before) agent ≡ false
 has_quit_more line before agent here there = rw (here, there) refl

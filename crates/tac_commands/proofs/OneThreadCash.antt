@@ -1,49 +1,32 @@
 -- The cash of the sheet of a game that one thread plays is what its posts add up to.
-use Rattle.std.proofs.Common.{◌≡◌, ℕ, zero, suc, ◌+◌, ◌-◌, ◌≤◌, ◌<◌, Bool, true, false, cond, List, [], ◌∷◌, ◌++◌, length, map, fold, reverse, get_or, set, refl, sym, ap, ◌∙◌, arith, ℤ, pos, ◌+ℤ◌, Option, Some, None}
-use Rattle.std.specs.Prelude.{nat_le, nat_lt, replicate, Result, Ok, Err}
+use Rattle.std.proofs.Common.{◌≡◌, ℕ, zero, suc, ◌+◌, ◌-◌, ◌≤◌, ◌<◌, Bool, true, false, cond, List, [], ◌∷◌, ◌++◌, length, map, fold, reverse, get_or, set, refl, sym, ap, ◌∙◌, arith, ℤ, pos, ◌+ℤ◌, Option, Some, None, nat_le, nat_lt, replicate, Result, Ok, Err, append-nil, length-set}
 use Rattle.std.specs.List.{enumerate_from}
 use Rattle.std.proofs.lemmas.Int.{ints}
 use Rattle.std.proofs.lemmas.Bool.Decides.{nat_tests}
-use Rattle.std.proofs.lemmas.List.{append-nil, reverse-reverse, length-set}
+use Rattle.std.proofs.lemmas.List.{reverse-reverse, get_or_past}
 use mathlib.Core.Logic.{dite}
 use native.Mathlib.Decide.{dec_le}
-use Rattle.tac_base.specs.declared.calls.Call.{Call}
+use Rattle.tac_commands.specs.Prelude.{Call, Trade, GameFile, clock, all_trades, dollars, nets, Done, CashEntry, cash_total, post_for, due_post, setup_of, rules_by, AuctionHistory, cash_gained, RequestFault, GameLine, Tick, Asks, auction_with, played, ticked_often, whole_game, closed_game}
 use Rattle.tac_base.specs.declared.calls.Call.TheVariants as calls
 use Rattle.tac_base.specs.declared.calls.Reply.{Reply}
-use Rattle.tac_base.specs.declared.calls.Trade.{Trade}
 use Rattle.tac_base.specs.declared.numbers.Kind.{Kind}
 use Rattle.tac_base.specs.declared.numbers.Kind.TheVariants.{Ticket}
 use Rattle.tac_base.specs.Kinds.{kind_of}
-use Rattle.game_text.specs.Games.{GameFile}
 use Rattle.auction_rules.specs.declared.units.BidUnit.{BidUnit}
-use Rattle.tac_base.specs.Goods.{clock}
 use Rattle.auction_rules.specs.History.{Entry}
-use Rattle.auction_rules.specs.Effects.{all_trades, dollars, nets}
 use Rattle.auction_rules.specs.Legal.{entry_of, entry_by, entries_of, trades_by}
 use Rattle.auction_rules.specs.Refusals.{refusal}
-use Rattle.auction_rules.specs.TicketMatch.{arriving, pairs, trades_of_pairs}
+use Rattle.auction_rules.specs.TicketMatch.{arriving, pairs, pair_trade}
 use Rattle.trade_ledger.specs.declared.cash_calls.CashCall.TheVariants.{Post}
-use Rattle.trade_ledger.specs.declared.cash_calls.CashReply.TheVariants.{Done}
-use Rattle.trade_ledger.specs.declared.cash_calls.CashEntry.{CashEntry}
-use Rattle.trade_ledger.specs.CashHistory.{cash_total}
-use Rattle.trade_ledger.specs.Posts.{post_for, due_post}
 use Rattle.trade_ledger.proofs.CashSteps.{cash_total-snoc}
 use Rattle.trade_ledger.proofs.Matching.{dollars-append}
 use Rattle.trade_ledger.proofs.Trading.{get_or-nine}
-use Rattle.auction_core.specs.Setups.{setup_of, rules_by}
-use Rattle.auction_core.specs.Auctions.{AuctionHistory}
-use Rattle.score_sheet.specs.Settlement.{cash_gained}
 use Rattle.line_protocol.specs.declared.asking.Request.{Request}
 use Rattle.line_protocol.specs.declared.asking.Request.TheVariants as requests
-use Rattle.line_protocol.specs.declared.asking.RequestFault.{RequestFault}
 use Rattle.line_protocol.specs.declared.saying.Said.{Said}
 use Rattle.line_protocol.specs.declared.saying.Said.TheVariants as said
 use Rattle.game_text.specs.Schedule.{calls_at}
-use Rattle.script_run.specs.declared.game.lines.GameLine.{GameLine}
-use Rattle.script_run.specs.declared.game.lines.GameLine.TheVariants.{Tick, Asks}
 use Rattle.script_run.specs.GameStates.{GameState, past_at, entry_at, called, reading_of, readings_of, call_turn, cash_turn, turn, clocked, ticked}
-use Rattle.script_run.specs.OneThreadRun.{auction_with, played, ticked_often, whole_game}
-use Rattle.script_run.specs.GameOuts.{closed_game}
 use Rattle.tac_commands.specs.Cash.{IsCashOfPosts}
 
 -- ---- what a party gains
@@ -70,11 +53,6 @@ set_past [] good past far = refl
 set_past (first ∷ pasts) zero past far = absurd (omega arith)
 set_past (first ∷ pasts) (suc good) past far = ap (λ (ps : List (List Entry)). first ∷ ps) (set_past pasts good past (omega arith))
 
-get_past : (pasts : List (List Entry)) (good : ℕ) → length pasts ≤ good → get_or pasts good [] ≡ []
-get_past [] good far = refl
-get_past (first ∷ pasts) zero far = absurd (omega arith)
-get_past (first ∷ pasts) (suc good) far = get_past pasts good (omega arith)
-
 -- ---- there are no trades of a good past the last
 
 none_match : (units : List BidUnit) → pairs [] units ≡ []
@@ -94,7 +72,7 @@ no_trades game good caller call far = by_refusal (refusal (setup_of good game).r
     by_refusal (Some reply) = refl
     by_refusal None =
         ap (λ (k : Kind). trades_by (rules_by game good k) good [] caller call) (ticket_past good far)
-        ∙ ap (trades_of_pairs good) (none_match (arriving 0 caller call))
+        ∙ ap (map (pair_trade good)) (none_match (arriving 0 caller call))
 
 -- ---- what a post gives a party
 
@@ -123,7 +101,7 @@ gained_called game caller good call pasts party count = dite (dec_le 28 good) pa
         gained (set pasts good (entry_at game pasts caller good call ∷ past_at pasts good)) party ≡ gained pasts party +ℤ dollars (entry_at game pasts caller good call).trades party
     past_last far =
         let beyond : length pasts ≤ good = omega (arith, count, far) in
-        let none : (entry_at game pasts caller good call).trades ≡ [] = ap (λ (h : List Entry). (entry_of (setup_of good game) h caller call).trades) (get_past pasts good beyond) ∙ no_trades game good caller call far in
+        let none : (entry_at game pasts caller good call).trades ≡ [] = ap (λ (h : List Entry). (entry_of (setup_of good game) h caller call).trades) (get_or_past pasts good [] beyond) ∙ no_trades game good caller call far in
         let nothing : gained pasts party ≡ gained pasts party +ℤ dollars [] party = omega (arith, ints) in
         let same : gained pasts party +ℤ dollars [] party ≡ gained pasts party +ℤ dollars (entry_at game pasts caller good call).trades party =
         ap (λ (ts : List Trade). gained pasts party +ℤ dollars ts party) (sym none) in

@@ -1,11 +1,7 @@
 -- The codes with which a command ends at its last step. Each command has a line here that lists its codes; every cause follows.
-use Rattle.std.proofs.Common.{◌≡◌, ℕ, List, [], ◌∷◌, ◌++◌, refl, inl, inr, arith}
-use Rattle.std.specs.Prelude.{◌⊎◌}
-use Rattle.game_text.specs.Games.{GameFile}
-use Rattle.log_text.specs.LoggedGames.{LoggedGame}
-use Rattle.script_run.specs.declared.game.lines.GameLine.{GameLine as ScriptLine}
+use Rattle.std.proofs.Common.{◌≡◌, ℕ, List, [], ◌∷◌, ◌++◌, refl, inl, inr, arith, ◌⊎◌}
+use Rattle.tac_commands.specs.{GameFile, LoggedGame, GameLine as ScriptLine, WritesDue, WritesInParts, WritesOrStops, IsServiceEnd, table_steps, batch_steps, steps_of, BatchCommand, Hotel, Show, Upgrade, Make, Solve, Worth, Play, Step, Trial, Audit, Vouch, Table, Command, Batch, Serve, Value, Outcome, Done, Lapsed, Stopped, Refused, code_of}
 use Rattle.tac_commands.specs.declared.refusals.Refusal.TheVariants.{LinkFault, Memory}
-use Rattle.tac_commands.specs.{WritesDue, WritesInParts, WritesOrStops, IsServiceEnd, table_steps, batch_steps, steps_of, BatchCommand, Hotel, Show, Upgrade, Make, Solve, Worth, Play, Step, Trial, Audit, Vouch, Table, Command, Batch, Serve, Value, Outcome, Done, Lapsed, Stopped, Refused, code_of}
 use Rattle.tac_commands.specs.Steps.{Steps, Reads, Judges, Hears, EndsWith}
 
 -- the codes of what the last step allows, whatever the files hold

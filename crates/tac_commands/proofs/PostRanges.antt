@@ -1,20 +1,13 @@
 -- The posts of a game have positions in the ranges of logs, since they are those that are due to its histories.
-use Rattle.std.proofs.Common.{◌≡◌, ℕ, ◌+◌, ◌<◌, ◌≤◌, Bool, true, false, cond, List, [], ◌∷◌, length, map, get_or, sum_by, refl, ap, arith}
-use Rattle.std.specs.Prelude.{⊤, nat_le}
-use Rattle.std.specs.List.{AllByRecursion, enumerate_from, flat_map}
-use Rattle.std.proofs.lemmas.Bool.{leb-true, le-leb}
+use Rattle.std.proofs.Common.{◌≡◌, ℕ, ◌+◌, ◌<◌, ◌≤◌, Bool, true, false, cond, List, [], ◌∷◌, length, map, get_or, sum_by, refl, ap, arith, nat_le, flat_map, leb-true, le-leb}
+use Rattle.std.specs.Prelude.{⊤}
+use Rattle.std.specs.List.{AllByRecursion, enumerate_from}
 use Rattle.std.proofs.lemmas.List.Elements.{All-from_recursion}
 use Rattle.std.proofs.lemmas.List.Sums.{sum_by-cons, sum_by-append}
-use Rattle.tac_base.specs.declared.calls.Trade.{Trade}
+use Rattle.tac_commands.specs.Prelude.{Trade, nets, CashCall, Done, CashEntry, is_post, posts_of, post_for, due_post, due_to, Matched, AreHistories}
 use Rattle.auction_rules.specs.History.{Entry}
 use Rattle.auction_rules.proofs.Lists.{all-weaker}
-use Rattle.auction_rules.specs.Effects.{nets}
-use Rattle.trade_ledger.specs.declared.cash_calls.CashCall.{CashCall}
 use Rattle.trade_ledger.specs.declared.cash_calls.CashCall.TheVariants.{Post, Read}
-use Rattle.trade_ledger.specs.declared.cash_calls.CashReply.TheVariants.{Done}
-use Rattle.trade_ledger.specs.declared.cash_calls.CashEntry.{CashEntry}
-use Rattle.trade_ledger.specs.Posts.{is_post, posts_of, post_for, due_post, due_to, Matched}
-use Rattle.log_text.specs.LoggedGames.{AreHistories}
 
 -- a post is of one of the 8,256 positions of a history
 abbrev pub IsLow : CashCall → Type 0

@@ -1,31 +1,21 @@
 -- A game that was played line by line was answered at once.
-use Rattle.std.proofs.Common.{◌≡◌, ℕ, Bool, true, false, List, [], ◌∷◌, ◌++◌, ◌≤◌, length, take, sym, ap, ◌∙◌, subst, inl, inr, Option, Some, None}
-use Rattle.std.specs.Prelude.{◌==◌, IfSome, IsSome, MatchBool, Result, Ok}
+use Rattle.std.proofs.Common.{◌≡◌, ℕ, Bool, true, false, List, [], ◌∷◌, ◌++◌, ◌≤◌, length, take, sym, ap, ◌∙◌, subst, inl, inr, Option, Some, None, ◌==◌, IfSome, IsSome, MatchBool, Result, Ok}
 use Rattle.std.proofs.lemmas.List.{append_cancel_right}
-use Rattle.tac_io.specs.States.{FilesState, SinkState}
-use Rattle.tac_io.specs.Known.{known_then, then_known}
-use Rattle.game_text.specs.Games.{GameFile, game_of}
-use Rattle.tac_io.specs.Taken.{TookWhole, TookPart}
-use Rattle.script_run.specs.declared.fault.StepFault.{StepFault}
-use Rattle.script_run.specs.HeardReads.{IsPrompt}
-use Rattle.script_run.specs.SteppedGames.{StepsGame}
+use Rattle.std.proofs.lemmas.Option.{same_Some}
+use Rattle.tac_commands.specs.{FilesState, SinkState, known_then, then_known, GameFile, game_of, TookWhole, TookPart, StepFault, IsPrompt, StepsGame, IsQuiet, BatchCommand, Step, Finishes, Content, IsFileRead, HearsPromptly, StepsPromptly, IsPromptBatch}
 use Rattle.script_run.specs.Stepping.{TookMore}
 use Rattle.script_run.proofs.SteppedGames.{prompt_kept, prompt_nothing, took_none}
 use Rattle.tac_commands.specs.declared.ends.End.{End}
 use Rattle.tac_commands.specs.declared.ends.End.TheVariants as ends
 use Rattle.tac_commands.specs.declared.file_kinds.FileKind.TheVariants.{Game}
-use Rattle.tac_commands.specs.{IsQuiet, BatchCommand, Step, Finishes, Content, IsFileRead, HearsPromptly, StepsPromptly, IsPromptBatch}
 use Rattle.tac_commands.proofs.Unambiguous.{same_file, same_value}
 
 -- ---- a script
 
-some_same : (a b : List ℕ) → Some a ≡ Some b → a ≡ b
-some_same a b is = cc
-
 -- the same bytes were given if the same are left
 same_given : (given other rest : List ℕ) (left : Option (List ℕ)) → left ≡ Some rest → Some (given ++ rest) ≡ then_known other left → given ≡ other
 same_given given other rest left is same =
-    append_cancel_right given other rest (some_same (given ++ rest) (other ++ rest) (same ∙ ap (then_known other) is))
+    append_cancel_right given other rest (same_Some (given ++ rest) (other ++ rest) (same ∙ ap (then_known other) is))
 
 module _ (game : GameFile) (files between files' : FilesState) (name : List ℕ) (sink sink' : SinkState) where
   pub hears_promptly : (result : Result (Unit {0}) StepFault) (content : Content) → IfSome content (λ told. IsSome (told name) × (between.left ≡ told name)) → StepsGame game between files' sink sink' result →

@@ -1,27 +1,13 @@
 -- How a command ends that ran a script.
-use Rattle.std.proofs.Common.{◌≡◌, ℕ, List, [], ◌∷◌, refl, inl, inr}
-use Rattle.std.specs.Prelude.{◌⊎◌, Result, Ok, Err}
-use Rattle.tac_io.specs.Reading.{IsFile}
-use Rattle.tac_io.specs.States.{FilesState, SinkState}
-use Rattle.tac_io.specs.Known.{known_then}
+use Rattle.std.proofs.Common.{◌≡◌, ℕ, List, [], ◌∷◌, refl, inl, inr, ◌⊎◌, Result, Ok, Err}
+use Rattle.tac_commands.specs.{IsFile, FilesState, SinkState, known_then, GameFile, ScriptFault, PlayCount, TookWhole, TookPart, GameLine, closed_game, IsFirstOut, IsPlayOut, PlaysScript, game_script, IsLawfulGame, replies, batch_steps, play_steps, Hotel, Done, Stopped, log_of_game, EndsInSoundLog, EndsBatch, EndsSteps, script_end}
 use Rattle.game_text.specs.declared.fault.GameFault.TheVariants as faults
-use Rattle.game_text.specs.Games.{GameFile}
-use Rattle.script_run.specs.declared.fault.ScriptFault.{ScriptFault}
 use Rattle.script_run.specs.declared.fault.ScriptFault.TheVariants.{Line, TooLong, Failed, Memory}
 use Rattle.line_protocol.specs.Heads.{Play}
-use Rattle.script_run.specs.declared.game.play_count.PlayCount.{PlayCount}
-use Rattle.tac_io.specs.Taken.{TookWhole, TookPart}
 use Rattle.script_run.specs.HotelOuts.{IsHotelOut, RunsScript}
-use Rattle.script_run.specs.declared.game.lines.GameLine.{GameLine}
-use Rattle.script_run.specs.GameOuts.{closed_game}
-use Rattle.script_run.specs.PlayOuts.{IsFirstOut, IsPlayOut, PlaysScript}
-use Rattle.script_run.specs.GameScripts.{game_script}
-use Rattle.script_run.specs.LawfulGames.{IsLawfulGame}
-use Rattle.script_run.specs.OneThreadRun.{replies}
 use Rattle.tac_commands.specs.declared.file_kinds.FileKind.TheVariants.{HotelScript, GameScript}
 use Rattle.tac_commands.specs.declared.refusals.Refusal.TheVariants as refusals
 use Rattle.tac_commands.specs.declared.ends.End.TheVariants as ends
-use Rattle.tac_commands.specs.{batch_steps, play_steps, Hotel, Done, Stopped, log_of_game, EndsInSoundLog, EndsBatch, EndsSteps, script_end}
 use Rattle.tac_commands.specs.Runs.{Runs}
 use Rattle.tac_commands.proofs.LongFiles.{long_file, good_hotel, bad_hotel, good_script, bad_script}
 use Rattle.tac_commands.proofs.OneThreadCash.{cash_of_script}

@@ -1,38 +1,17 @@
 -- The log of a legal game is in the ranges of logs, except for the lines of its certificates.
-use Rattle.std.proofs.Common.{◌≡◌, ℕ, ◌+◌, ◌<◌, ◌≤◌, ◌^◌, Bool, List, [], ◌∷◌, length, map, get_or, drop, sym, ap, ◌∙◌, subst, arith, ℤ, unsigned_abs, Some, slice_get}
-use Rattle.std.specs.Prelude.{nat_lt}
+use Rattle.std.proofs.Common.{◌≡◌, ℕ, ◌+◌, ◌<◌, ◌≤◌, ◌^◌, Bool, List, [], ◌∷◌, length, map, get_or, drop, sym, ap, ◌∙◌, subst, arith, ℤ, unsigned_abs, Some, slice_get, nat_lt}
 use Rattle.std.specs.List.{AllByRecursion, range_with_len}
 use Rattle.std.proofs.lemmas.Int.{ints}
 use Rattle.std.proofs.lemmas.List.{length-map}
 use Rattle.std.proofs.lemmas.List.Elements.{All-from_recursion, All-filter, recursion_from_All}
 use Rattle.std.proofs.lemmas.List.Sums.{length-filter, count_by-le-length}
 use Rattle.std.proofs.lemmas.Option.{slice_get-get_or}
-use Rattle.tac_base.specs.Goods.{agents}
+use Rattle.tac_commands.specs.{agents, GameFile, Setup, CashCall, CashReply, CashEntry, IsFitCash, reply_by, AuctionHistory, ClosedGame, setup_of, Scored, Verdict, Cause, histories_of, LoggedGame, IsLoggedEnd, IsLoggedHead, AreHistories, IsLoggedCash, IsLoggedCashEntry, logged_seats, seatings, IsSoundHead, IsRanged, HasSeats, IsShowable, IsSheetOf, IsLawfulGame, log_of_game}
 use Rattle.auction_core.specs.Ranges.{IsHistory}
-use Rattle.game_text.specs.Games.{GameFile}
-use Rattle.auction_rules.specs.Setup.{Setup}
-use Rattle.trade_ledger.specs.declared.cash_calls.CashCall.{CashCall}
 use Rattle.trade_ledger.specs.declared.cash_calls.CashCall.TheVariants.{Post, Read}
-use Rattle.trade_ledger.specs.declared.cash_calls.CashReply.{CashReply}
 use Rattle.trade_ledger.specs.declared.cash_calls.CashReply.TheVariants.{Done, Cash}
-use Rattle.trade_ledger.specs.declared.cash_calls.CashEntry.{CashEntry}
-use Rattle.trade_ledger.specs.CashHistory.{IsFitCash, reply_by}
 use Rattle.trade_ledger.specs.CashKeeping.{IsWithin, IsLoggableCash}
-use Rattle.auction_core.specs.Auctions.{AuctionHistory}
-use Rattle.auction_core.specs.ClosedGame.{ClosedGame}
-use Rattle.auction_core.specs.Setups.{setup_of}
-use Rattle.score_sheet.specs.Sheets.{Scored}
-use Rattle.line_protocol.specs.declared.admission.Verdict.{Verdict}
-use Rattle.line_protocol.specs.declared.admission.Cause.{Cause}
 use Rattle.line_protocol.specs.Heads.{Head, Play, Serve}
-use Rattle.log_text.specs.LogText.{histories_of}
-use Rattle.log_text.specs.LoggedGames.{LoggedGame, IsLoggedEnd, IsLoggedHead, AreHistories, IsLoggedCash, IsLoggedCashEntry}
-use Rattle.log_text.specs.SoundLog.{logged_seats, seatings, IsSoundHead}
-use Rattle.game_log.specs.LogRanges.{IsRanged}
-use Rattle.game_log.specs.ShownGames.{HasSeats, IsShowable}
-use Rattle.game_log.specs.ScoredGames.{IsSheetOf}
-use Rattle.script_run.specs.LawfulGames.{IsLawfulGame}
-use Rattle.tac_commands.specs.SoundTexts.{log_of_game}
 use Rattle.tac_commands.proofs.PostRanges.{IsLow, post_low}
 
 -- ---- the head

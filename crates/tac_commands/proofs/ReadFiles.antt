@@ -1,15 +1,10 @@
 -- How a command ends whose files were read, or not.
-use Rattle.std.proofs.Common.{◌≡◌, ℕ, List, [], ◌∷◌, refl, ap, ◌∙◌, subst, inl, inr}
-use Rattle.std.specs.Prelude.{◌⊎◌}
-use Rattle.tac_io.specs.Counts.{Rose}
-use Rattle.tac_io.specs.States.{FilesState, SinkState}
-use Rattle.tac_io.specs.Known.{known_then}
-use Rattle.script_run.specs.HeardScripts.{standing}
-use Rattle.script_run.specs.HeardReads.{HasReadCause}
+use Rattle.std.proofs.Common.{◌≡◌, ℕ, List, [], ◌∷◌, refl, ap, ◌∙◌, subst, inl, inr, ◌⊎◌}
+use Rattle.tac_commands.specs.{Rose, FilesState, SinkState, known_then, HasReadCause, Value, Content, IsFileRead, IsNotRead, HasFault, IsGiven, IsScriptHeard, IsUnheard, Outcome}
+use Rattle.script_run.specs.HeardScripts.{script_standing}
 use Rattle.tac_commands.specs.declared.ends.End.{End}
 use Rattle.tac_commands.specs.declared.file_kinds.FileKind.{FileKind}
 use Rattle.tac_commands.specs.declared.refusals.Refusal.{Refusal}
-use Rattle.tac_commands.specs.{Value, Content, IsFileRead, IsNotRead, HasFault, IsGiven, IsHeard, IsUnheard, Outcome}
 use Rattle.tac_commands.specs.Runs.{Runs, with_name}
 use Rattle.tac_commands.specs.Steps.{NamedFile, Steps, Reads, Judges, Hears, EndsWith}
 use Rattle.tac_commands.specs.Ends.{Ends, EndsSteps}
@@ -42,7 +37,7 @@ module _ (last : FilesState) (outcome : Outcome) where
   runs_from (Hears name replies allows) files files' same selected quiet run =
       (still_heard run.0, run.1 ∙ ap (λ names. known_then names (name ∷ [])) selected)
     where
-      still_heard : IsUnheard files' last name outcome ⊎ IsHeard replies allows files' last name outcome → IsUnheard files last name outcome ⊎ IsHeard replies allows files last name outcome
+      still_heard : IsUnheard files' last name outcome ⊎ IsScriptHeard replies allows files' last name outcome → IsUnheard files last name outcome ⊎ IsScriptHeard replies allows files last name outcome
       still_heard (inl (inl fault)) = inl (inl (fault.0, fault.1, subst (λ (n : ℕ). Rose n last.faults) quiet fault.2))
       still_heard (inl (inr memory)) = inl (inr (memory.0, subst (λ (c : Content). IsGiven c name [] last.left) same memory.1, memory.2 ∙ quiet))
       still_heard (inr heard) = inr (
@@ -50,7 +45,7 @@ module _ (last : FilesState) (outcome : Outcome) where
         heard.1,
         subst (λ (c : Content). IsGiven c name heard.0 last.left) same heard.2,
         heard.3,
-        subst (λ (n : ℕ). HasReadCause (standing heard.0 heard.1) n last.faults) quiet heard.4,
+        subst (λ (n : ℕ). HasReadCause (script_standing heard.0 heard.1) n last.faults) quiet heard.4,
         heard.5,
       )
   runs_from (EndsWith allows) files files' same selected quiet run = (run.0, (run.1.0 ∙ selected, run.1.1 ∙ quiet))

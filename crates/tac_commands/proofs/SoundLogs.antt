@@ -1,32 +1,12 @@
 -- The log of a legal game is sound.
-use Rattle.std.proofs.Common.{◌≡◌, ℕ, ◌+◌, Bool, true, false, cond, List, [], ◌∷◌, ◌++◌, length, map, get_or, drop, refl, sym, ap, ◌∙◌, subst, append_assoc}
-use Rattle.std.specs.Prelude.{◌==◌, filter}
+use Rattle.std.proofs.Common.{◌≡◌, ℕ, ◌+◌, Bool, true, false, cond, List, [], ◌∷◌, ◌++◌, length, map, get_or, drop, refl, sym, ap, ◌∙◌, subst, append_assoc, ◌==◌, filter}
 use Rattle.std.specs.List.{enumerate_from, range_with_len}
 use Rattle.std.proofs.lemmas.List.{length-map}
-use Rattle.tac_base.specs.declared.calls.Call.{Call}
-use Rattle.tac_base.specs.Goods.{clock}
-use Rattle.game_text.specs.Games.{GameFile}
-use Rattle.auction_rules.specs.Setup.{Setup}
+use Rattle.tac_commands.specs.{Call, clock, GameFile, Setup, AuctionHistory, ClosedGame, all_goods, setup_of, settlement_of, Scored, IsSheet, first_lines, histories_of, histories_text, play_part, sheet_part, logged_text, auctions_in, IsSoundHead, IsSound, IsShowable, IsSheetOf, GameLine, closed_game, play_out, IsLawfulGame, replies, log_of_game, EndsInSoundLog}
 use Rattle.auction_rules.specs.History.{Entry}
 use Rattle.turn_lock.specs.Part.{part_from}
-use Rattle.auction_core.specs.Auctions.{AuctionHistory}
-use Rattle.auction_core.specs.ClosedGame.{ClosedGame, all_goods}
-use Rattle.auction_core.specs.Setups.{setup_of}
-use Rattle.score_sheet.specs.Settlement.{settlement_of}
-use Rattle.score_sheet.specs.Sheets.{Scored, IsSheet}
 use Rattle.line_protocol.specs.Heads.{Head, Play}
-use Rattle.log_text.specs.LogText.{first_lines, histories_of, histories_text, play_part}
-use Rattle.log_text.specs.SheetText.{sheet_part}
-use Rattle.log_text.specs.LoggedGames.{logged_text}
-use Rattle.log_text.specs.SoundLog.{auctions_in, IsSoundHead, IsSound}
-use Rattle.game_log.specs.ShownGames.{IsShowable}
 use Rattle.game_log.proofs.ShortLogs.{short_log}
-use Rattle.game_log.specs.ScoredGames.{IsSheetOf}
-use Rattle.script_run.specs.declared.game.lines.GameLine.{GameLine}
-use Rattle.script_run.specs.GameOuts.{closed_game, play_out}
-use Rattle.script_run.specs.LawfulGames.{IsLawfulGame}
-use Rattle.script_run.specs.OneThreadRun.{replies}
-use Rattle.tac_commands.specs.SoundTexts.{log_of_game, EndsInSoundLog}
 use Rattle.tac_commands.proofs.RangedLogs.{ranged_log}
 
 -- its text is that of the two parts

@@ -1,26 +1,12 @@
 -- How a command ends that played a game line by line.
-use Rattle.std.proofs.Common.{◌≡◌, ℕ, true, false, List, [], ◌∷◌, ◌++◌, refl, sym, ap, ◌∙◌, subst, inl, inr, Option, Some, None}
-use Rattle.std.specs.Prelude.{◌⊎◌, IfSome, IsSome, Result, Ok, Err}
-use Rattle.tac_io.specs.States.{FilesState, SinkState}
-use Rattle.tac_io.specs.Known.{known_then, then_known}
+use Rattle.std.proofs.Common.{◌≡◌, ℕ, true, false, List, [], ◌∷◌, ◌++◌, refl, sym, ap, ◌∙◌, subst, inl, inr, Option, Some, None, ◌⊎◌, IfSome, IsSome, Result, Ok, Err}
+use Rattle.tac_commands.specs.{FilesState, SinkState, known_then, then_known, GameFile, TookPart, TookWhole, StepFault, GameLine, closed_game, first_out, game_script, IsLawfulGame, replies, IsFirstOut, IsPlayOut, HasReadCause, Gave, StepsGame, Tells, TellsFault, TellsGame, IsUnwritten, IsPlayText, StepAllows, step_steps, EndsSteps, step_end, Content, IsScriptOutcome, IsGiven, Outcome, Done, Stopped}
 use Rattle.tac_io.proofs.KnownPieces.{then_known-nothing}
-use Rattle.game_text.specs.Games.{GameFile}
-use Rattle.tac_io.specs.Taken.{TookPart, TookWhole}
-use Rattle.script_run.specs.declared.fault.StepFault.{StepFault}
 use Rattle.script_run.specs.declared.fault.StepFault.TheVariants.{Line, TooLong, Unread, Unwritten, Memory}
-use Rattle.script_run.specs.declared.game.lines.GameLine.{GameLine}
-use Rattle.script_run.specs.GameOuts.{closed_game, first_out}
-use Rattle.script_run.specs.GameScripts.{game_script}
-use Rattle.script_run.specs.HeardScripts.{heard_lines, Reading, Standing, Whole, BadAt, Overlong, BrokenOff, Open, standing}
-use Rattle.script_run.specs.LawfulGames.{IsLawfulGame}
-use Rattle.script_run.specs.OneThreadRun.{replies}
-use Rattle.script_run.specs.PlayOuts.{IsFirstOut, IsPlayOut}
-use Rattle.script_run.specs.HeardReads.{HasReadCause}
-use Rattle.script_run.specs.SteppedGames.{Gave, StepsGame, Tells, TellsFault, TellsGame, IsUnwritten}
+use Rattle.script_run.specs.HeardScripts.{heard_lines, Reading, Standing, Whole, BadAt, Overlong, BrokenOff, Open, script_standing}
 use Rattle.script_run.proofs.StoodScripts.{whole_is}
 use Rattle.tac_commands.specs.declared.refusals.Refusal.{Refusal}
 use Rattle.tac_commands.specs.declared.refusals.Refusal.TheVariants as refusals
-use Rattle.tac_commands.specs.{IsPlayText, StepAllows, step_steps, EndsSteps, step_end, Content, IsScriptOutcome, IsGiven, Outcome, Done, Stopped}
 use Rattle.tac_commands.specs.Outcomes as outcomes
 use Rattle.tac_commands.specs.Runs.{Runs}
 use Rattle.tac_commands.proofs.OneThreadCash.{cash_of_script}
@@ -53,14 +39,14 @@ module _ (game : GameFile) (law : (script : List ℕ) (lines : List GameLine) �
 
   module _ (given : List ℕ) (reading : Reading) (gave : Gave given reading between files') where
     -- the script was heard, and this outcome answers it
-    heard : (outcome : Outcome) (stands : Standing) → standing given reading ≡ stands → IsScriptOutcome (replies game) (StepAllows game) (heard_lines given) stands outcome → Runs (step_steps game name) files files' outcome
+    heard : (outcome : Outcome) (stands : Standing) → script_standing given reading ≡ stands → IsScriptOutcome (replies game) (StepAllows game) (heard_lines given) stands outcome → Runs (step_steps game name) files files' outcome
     heard outcome stands is answer = (
       inr (
         given,
         reading,
         given_is files.content name given between.left files'.left found gave.0,
         gave.1,
-        subst (λ (n : ℕ). HasReadCause (standing given reading) n files'.faults) quiet gave.2,
+        subst (λ (n : ℕ). HasReadCause (script_standing given reading) n files'.faults) quiet gave.2,
         subst (λ (s : Standing). IsScriptOutcome (replies game) (StepAllows game) (heard_lines given) s outcome) (sym is) answer,
       ),
       kept ∙ selected,
@@ -68,7 +54,7 @@ module _ (game : GameFile) (law : (script : List ℕ) (lines : List GameLine) �
 
     -- ---- a script that was heard whole
 
-    module _ (whole : standing given reading ≡ Whole) where
+    module _ (whole : script_standing given reading ≡ Whole) where
       lines_are : (lines : List GameLine) → game_script given ≡ Ok lines → lines ≡ heard_lines given
       lines_are lines good = same_value (game_script given) lines (heard_lines given) good (whole_is given reading whole).good
 
@@ -118,7 +104,7 @@ module _ (game : GameFile) (law : (script : List ℕ) (lines : List GameLine) �
     open_end text (Err Unwritten) run reports = inl (text, inr (inr run), reports)
     open_end text (Err Memory) run reports = absurd reports
 
-    by_standing : (stands : Standing) → standing given reading ≡ stands → (result : Result (Unit {0}) StepFault) → Tells game given stands sink sink' result → IsEnd result
+    by_standing : (stands : Standing) → script_standing given reading ≡ stands → (result : Result (Unit {0}) StepFault) → Tells game given stands sink sink' result → IsEnd result
     by_standing Whole is result reports = whole_end is result reports
     by_standing (BadAt line reason) is result reports =
         fault_end (Line line reason) (replies game (heard_lines given)) result (heard (Stopped (replies game (heard_lines given)) (refusals.TextLine line reason)) (BadAt line reason) is refl) reports
@@ -137,4 +123,4 @@ module _ (game : GameFile) (law : (script : List ℕ) (lines : List GameLine) �
 
   pub stepped : (result : Result (Unit {0}) StepFault) → StepsGame game between files' sink sink' result → IsEnd result
   stepped result (inl memory) = unheard result memory.0 memory.1 memory.2
-  stepped result (inr steps) = by_standing steps.0 steps.1 steps.2 (standing steps.0 steps.1) refl result steps.3
+  stepped result (inr steps) = by_standing steps.0 steps.1 steps.2 (script_standing steps.0 steps.1) refl result steps.3

@@ -1,21 +1,12 @@
 -- How a table goes on from a pair to the next, and how it ends at one.
-use Rattle.std.proofs.Common.{◌≡◌, ℕ, ◌+◌, ◌*◌, ◌<◌, ◌≤◌, map, drop, get_or, List, [], ◌∷◌, ◌++◌, length, refl, sym, ap, ◌∙◌, subst, inl, inr, arith, Option, Some, None, Ok, Err}
-use Rattle.std.specs.Prelude.{Result, All, IsErrAnd, IfErr, IfSome}
-use Rattle.std.proofs.lemmas.List.{length-append}
+use Rattle.std.proofs.Common.{◌≡◌, ℕ, ◌+◌, ◌*◌, ◌<◌, ◌≤◌, map, drop, get_or, List, [], ◌∷◌, ◌++◌, length, refl, sym, ap, ◌∙◌, subst, inl, inr, arith, Option, Some, None, Ok, Err, Result, All, IsErrAnd, IfErr, IfSome, length-append}
 use Rattle.std.proofs.lemmas.List.Elements.{All-get_or}
-use Rattle.tac_io.specs.States.{FilesState, SinkState}
-use Rattle.tac_io.specs.Known.{known_then}
-use Rattle.game_text.specs.Games.{GameFile}
-use Rattle.log_text.specs.LoggedGames.{LoggedGame}
-use Rattle.log_text.specs.SoundLog.{IsSound}
-use Rattle.tourney.specs.StandingsTexts.{IsPrinted}
-use Rattle.tourney.specs.Tallies.{Kept, AreStandingsOf}
+use Rattle.tac_commands.specs.{FilesState, SinkState, known_then, GameFile, LoggedGame, IsSound, IsPrinted, Kept, AreStandingsOf, WritesDue, table_steps, in_pairs, IsFileRead, IsNotRead, unsound_text, Outcome, Unsound, Refused, EndsAtPair, TableGoesOn, IsAdded, outcome_of}
 use Rattle.tac_commands.specs.declared.file_kinds.FileKind.TheVariants.{Game, Log}
 use Rattle.tac_commands.specs.declared.refusals.Refusal.{Refusal}
 use Rattle.tac_commands.specs.declared.table_command.TableFault.{TableFault}
 use Rattle.tac_commands.specs.declared.table_command.TableFault.TheVariants as faults
 use Rattle.tac_commands.specs.declared.ends.End.{End}
-use Rattle.tac_commands.specs.{WritesDue, table_steps, in_pairs, IsFileRead, IsNotRead, unsound_text, Outcome, Unsound, Refused, EndsAtPair, TableGoesOn, IsAdded, outcome_of}
 use Rattle.tac_commands.specs.Ends.{Ends, EndsSteps}
 use Rattle.tac_commands.specs.Runs.{Runs, StopsAt, with_name}
 use Rattle.tac_commands.specs.Steps.{Steps, Reads, Judges, file}
@@ -98,10 +89,6 @@ module _ {A : Type 0} (f : A → List ℕ) (words : List A) (i : ℕ) (first sec
       TableGoesOn (in_pairs (map f words)) (drop (i + 1) (in_pairs (map f words))) (i + 1) files files'' after
   goes_all after added same selected quiet =
       one_more (in_pairs (map f words)) (drop (i + 1) (in_pairs (map f words))) game log i files files' files'' standings here after added same selected quiet
-
--- before the first pair
-pub none_yet : (all : List (List ℕ × List ℕ)) (files : FilesState) (standings : Kept) → AreStandingsOf standings [] → TableGoesOn all all 0 files files standings
-none_yet all files standings stands = record { played = []; count_is = refl; stands = stands; goes_on = λ last outcome run. run }
 
 -- after the last pair
 pub all_done : {A : Type 0} (f : A → List ℕ) (words : List A) (i half : ℕ) (files files' : FilesState) (standings : Kept) → i ≡ half → length words ≤ 2 * half + 1 →

@@ -1,6 +1,5 @@
 -- A name has at most one file, and reading it one answer.
-use Rattle.std.proofs.Common.{◌≡◌, List, ℕ, Option, Some}
-use Rattle.std.specs.Prelude.{Result, Ok, Err}
+use Rattle.std.proofs.Common.{◌≡◌, List, ℕ, Option, Some, Result, Ok, Err}
 
 pub same_file : (file : Option (List ℕ)) (a b : List ℕ) → file ≡ Some a → file ≡ Some b → a ≡ b
 same_file file a b e f = cc

@@ -1,21 +1,10 @@
 -- How a command ends that judged a log by a link.
-use Rattle.std.proofs.Common.{◌≡◌, ℕ, List, refl, sym, subst, inl, inr}
-use Rattle.std.specs.Prelude.{◌↔◌}
-use Rattle.tac_io.specs.States.{FilesState, SinkState}
-use Rattle.game_text.specs.Games.{GameFile}
-use Rattle.log_text.specs.LoggedGames.{LoggedGame}
-use Rattle.log_text.specs.SoundLog.{IsSound}
-use Rattle.log_audit.specs.declared.findings.Flaw.{Flaw}
+use Rattle.std.proofs.Common.{◌≡◌, ℕ, List, refl, sym, subst, inl, inr, ◌↔◌}
+use Rattle.tac_commands.specs.{FilesState, SinkState, GameFile, LoggedGame, IsSound, Flaw, IsFound, Dialect, Vouching, IsJudged, IsFlawText, Outcome, Unsound, EndsSteps, link_steps, flaw_text}
 use Rattle.log_audit.specs.declared.findings.Finding.TheVariants as findings
-use Rattle.log_audit.specs.Flaws.{IsFound}
-use Rattle.agent_gate.specs.Dialects.{Dialect}
-use Rattle.link_audit.specs.declared.vouching.Vouching.{Vouching}
 use Rattle.link_audit.specs.declared.vouching.Vouching.TheVariants.{Whole, Cut, Not}
-use Rattle.link_audit.specs.Vouchings.{IsJudged}
 use Rattle.tac_commands.specs.declared.ends.End.{End}
-use Rattle.tac_commands.specs.{IsFlawText, Outcome, Unsound, EndsSteps, link_steps}
 use Rattle.tac_commands.specs.Ends.{Ends}
-use Rattle.tac_commands.specs.FlawTexts.{flaw_text}
 use Rattle.tac_commands.specs.Runs.{Runs}
 use Rattle.tac_commands.specs.Steps.{Steps, Judges}
 use Rattle.tac_commands.specs.VouchingTexts.{vouching_outcome}

@@ -1,21 +1,12 @@
 -- Reading a written log again, and auditing it.
-use Rattle.std.proofs.Common.{◌≡◌, ℕ, ◌≤◌, List, ◌++◌, length, refl, sym, ap, ◌∙◌, subst, inl, inr, append_assoc}
-use Rattle.std.specs.Prelude.{◌⊎◌, codes, Ok}
+use Rattle.std.proofs.Common.{◌≡◌, ℕ, ◌≤◌, List, ◌++◌, length, refl, sym, ap, ◌∙◌, subst, inl, inr, append_assoc, ◌⊎◌, codes, Ok}
 use Rattle.std.proofs.lemmas.List.{append_cancel_left}
-use Rattle.tac_io.specs.States.{FilesState}
-use Rattle.game_text.specs.Games.{GameFile}
+use Rattle.tac_commands.specs.{FilesState, GameFile, ClosedGame, first_lines, histories_text, play_part, sheet_part, IsHead, IsPlayed, HaveOneHistory, LoggedGame, logged_text, IsSound, WritesDue, IsFlawText, audit_steps, read_as, logged_or_fault, Outcome, Done, Lapsed, Unsound, Stopped, Unread, Unwritten, Refused, EndsInSoundLog}
 use Rattle.auction_rules.specs.History.{Entry}
-use Rattle.auction_core.specs.ClosedGame.{ClosedGame}
 use Rattle.line_protocol.specs.Heads.{Head}
-use Rattle.log_text.specs.LogText.{first_lines, histories_text, play_part}
-use Rattle.log_text.specs.SheetText.{sheet_part}
-use Rattle.log_text.specs.Logged.{IsHead, IsPlayed, HaveOneHistory}
-use Rattle.log_text.specs.LoggedGames.{LoggedGame, logged_text}
-use Rattle.log_text.specs.SoundLog.{IsSound}
 use Rattle.log_reader.proofs.LogTexts.{only_log}
 use Rattle.tac_commands.specs.declared.file_kinds.FileKind.TheVariants.{Log}
 use Rattle.tac_commands.specs.declared.refusals.Refusal.TheVariants.{Memory}
-use Rattle.tac_commands.specs.{WritesDue, IsFlawText, audit_steps, read_as, logged_or_fault, Outcome, Done, Lapsed, Unsound, Stopped, Unread, Unwritten, Refused, EndsInSoundLog}
 use Rattle.tac_commands.specs.Runs.{StopsAt, Runs}
 use Rattle.tac_commands.proofs.LoggedNumbers.{head_is, game_in, game_is, same_histories}
 

@@ -1,34 +1,11 @@
 -- What each command does with its files and makes of their values, and so which outcomes the words and the files allow.
 use Rattle.std.specs.Prelude.{◌≡◌, ℕ, ◌<◌, ⊤, codes, List, [], ◌∷◌, ◌++◌, length, Option, Some, None, ◌≤ℤ◌, ◌<ℤ◌, pos}
-use Rattle.tac_base.specs.declared.limits.TheConstants.{GOODS}
-use Rattle.tac_io.specs.States.{FilesState}
-use Rattle.game_text.specs.Games.{GameFile, canonical_text, upgraded}
-use Rattle.game_text.specs.Accounts.{AccountFile}
+use Rattle.tac_commands.specs.Prelude.{GOODS, FilesState, GameFile, canonical_text, upgraded, AccountFile, IsSolvedText, made_game, made_script, Scored, GameLine as ScriptLine, PlayCount, hotel_out, IsSheetOf, closed_game, first_out, play_out, replies, IsSummary, LoggedGame, IsSound, Flaw, IsFirstFlaw, Dialect, Difference, Vouching, IsFirstDifference, IsJudged, IsYes, IsPrinted}
 use Rattle.good_worth.specs.Worth.{IsUp, IsDown, held}
 use Rattle.good_worth.specs.Worths.{Valuation, AreWorths, up_at, down_at}
 use Rattle.good_worth.specs.WorthTexts.{worth_text as worth_spelling}
-use Rattle.allocator.specs.Solutions.{IsSolvedText}
-use Rattle.draw_maker.specs.Games.{made_game}
-use Rattle.draw_maker.specs.Scripts.{made_script}
-use Rattle.score_sheet.specs.Sheets.{Scored}
-use Rattle.script_run.specs.declared.game.lines.GameLine.{GameLine as ScriptLine}
-use Rattle.script_run.specs.declared.game.play_count.PlayCount.{PlayCount}
-use Rattle.script_run.specs.HotelScripts.{hotel_out}
-use Rattle.game_log.specs.ScoredGames.{IsSheetOf}
-use Rattle.script_run.specs.GameOuts.{closed_game, first_out, play_out}
-use Rattle.script_run.specs.OneThreadRun.{replies}
-use Rattle.script_run.specs.QuietGames.{IsSummary}
 use Rattle.line_protocol.specs.Heads as heads
-use Rattle.log_text.specs.LoggedGames.{LoggedGame}
-use Rattle.log_text.specs.SoundLog.{IsSound}
-use Rattle.log_audit.specs.declared.findings.Flaw.{Flaw}
-use Rattle.log_audit.specs.Flaws.{IsFirstFlaw}
-use Rattle.agent_gate.specs.Dialects.{Dialect}
-use Rattle.link_audit.specs.declared.vouching.Difference.{Difference}
-use Rattle.link_audit.specs.declared.vouching.Vouching.{Vouching}
 use Rattle.link_audit.specs.Links.{IsVouched}
-use Rattle.link_audit.specs.Vouchings.{IsFirstDifference, IsJudged, IsYes}
-use Rattle.tourney.specs.StandingsTexts.{IsPrinted}
 use Rattle.tac_commands.specs.declared.file_kinds.FileKind.TheVariants.{Game, HotelScript, GameScript, Account, Log, Bytes}
 use Rattle.tac_commands.specs.declared.refusals.Refusal.TheVariants.{Usage, LinkFault, Memory}
 use Rattle.tac_commands.specs.Cash.{IsCashOfPosts}

@@ -1,10 +1,7 @@
 -- When each code comes. A failed write takes precedence over every other cause, so code 4 may replace each other code;
 -- if memory is refused the code is 7.
 use Rattle.std.specs.Prelude.{◌≡◌, ℕ, ◌-◌, ◌^◌, ◌<◌, ◌⊎◌, ⊤, List, Option, Some, None, Ok, Err, IfSome}
-use Rattle.tac_io.specs.Counts.{Rose}
-use Rattle.tac_io.specs.States.{FilesState, SinkState, LinksState, TickerState}
-use Rattle.game_text.specs.declared.fault.GameFault.{GameFault}
-use Rattle.script_run.specs.declared.game.lines.GameLine.{GameLine as ScriptLine}
+use Rattle.tac_commands.specs.Prelude.{Rose, FilesState, SinkState, LinksState, TickerState, GameFault, GameLine as ScriptLine}
 use Rattle.tac_commands.specs.declared.file_kinds.FileKind.TheVariants.{GameScript}
 use Rattle.tac_commands.specs.Allowed.{steps_of}
 use Rattle.tac_commands.specs.Commands.{Command}

@@ -1,10 +1,7 @@
 -- What commands write and how they end, before and after they are finished.
 use Rattle.std.specs.Prelude.{◌≡◌, ℕ, ◌⊎◌, List, Result, Ok, Err}
-use Rattle.tac_io.specs.States.{FilesState, SinkState}
-use Rattle.tac_io.specs.Taken.{TookWhole, TookPart}
-use Rattle.script_run.specs.declared.fault.ScriptFault.{ScriptFault}
+use Rattle.tac_commands.specs.Prelude.{FilesState, SinkState, TookWhole, TookPart, ScriptFault, StepFault}
 use Rattle.script_run.specs.declared.fault.ScriptFault.TheVariants as faults
-use Rattle.script_run.specs.declared.fault.StepFault.{StepFault}
 use Rattle.script_run.specs.declared.fault.StepFault.TheVariants as steps
 use Rattle.tac_commands.specs.declared.refusals.Refusal.{Refusal}
 use Rattle.tac_commands.specs.declared.refusals.Refusal.TheVariants.{Memory, ReadFault, TextLine, TextTooLong}

@@ -1,19 +1,9 @@
 -- The kinds of files that commands read: how long such a file may be, what it holds, and what is written if it is refused.
 use Rattle.std.specs.Prelude.{ℕ, ◌-◌, List, length, nat_lt, if◌then◌else◌, Result, Ok, Err}
-use Rattle.tac_base.specs.declared.limits.TheConstants.{GAME_BYTES, LINK_BYTES, TEXT_BYTES}
-use Rattle.game_text.specs.declared.fault.GameFault.{GameFault}
+use Rattle.tac_commands.specs.Prelude.{GAME_BYTES, LINK_BYTES, TEXT_BYTES, GameFault, GameFile, game_of, AccountFile, account_of, LoggedGame, log_of, HotelLine, GameLine as ScriptLine, BadLine, script_of, game_script}
 use Rattle.game_text.specs.declared.fault.GameFault.TheVariants.{Line, TooLong}
-use Rattle.game_text.specs.Games.{GameFile, game_of}
-use Rattle.game_text.specs.Accounts.{AccountFile, account_of}
-use Rattle.log_text.specs.LoggedGames.{LoggedGame}
 use Rattle.log_reader.specs.declared.fault.LogFault.{LogFault}
 use Rattle.log_reader.specs.declared.fault.LogFault.TheVariants as logs
-use Rattle.log_reader.specs.Logs.{log_of}
-use Rattle.script_run.specs.declared.hotel.lines.HotelLine.{HotelLine}
-use Rattle.script_run.specs.declared.game.lines.GameLine.{GameLine as ScriptLine}
-use Rattle.script_run.specs.ScriptLines.{BadLine}
-use Rattle.script_run.specs.HotelScripts.{script_of}
-use Rattle.script_run.specs.GameScripts.{game_script}
 use Rattle.tac_commands.specs.declared.refusals.Refusal.{Refusal}
 use Rattle.tac_commands.specs.declared.refusals.Refusal.TheVariants.{GameLine, GameTooLong, TextLine, TextTooLong}
 use Rattle.tac_commands.specs.declared.file_kinds.FileKind.{FileKind}

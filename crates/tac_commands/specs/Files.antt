@@ -1,9 +1,6 @@
 -- Reading a file of a command. A read fault comes exactly if the count of faults of the files rose. Memory may be refused at any time.
 use Rattle.std.specs.Prelude.{◌≡◌, ℕ, ◌⊎◌, List, Option, Ok, Err}
-use Rattle.tac_io.specs.Counts.{Rose}
-use Rattle.tac_io.specs.Reading.{IsFile}
-use Rattle.tac_io.specs.States.{FilesState}
-use Rattle.game_text.specs.declared.fault.GameFault.{GameFault}
+use Rattle.tac_commands.specs.Prelude.{Rose, IsFile, FilesState, GameFault}
 use Rattle.tac_commands.specs.declared.file_kinds.FileKind.{FileKind}
 use Rattle.tac_commands.specs.declared.refusals.Refusal.{Refusal}
 use Rattle.tac_commands.specs.declared.refusals.Refusal.TheVariants.{ReadFault, Memory}

@@ -1,11 +1,7 @@
 -- Hearing the script of a command, line by line.
 use Rattle.std.specs.Prelude.{◌≡◌, ℕ, ◌⊎◌, List, [], ◌++◌, Option, Some, IfSome}
-use Rattle.tac_io.specs.Counts.{Rose}
-use Rattle.tac_io.specs.States.{FilesState}
-use Rattle.tac_io.specs.Known.{IsAtEnd}
-use Rattle.script_run.specs.declared.game.lines.GameLine.{GameLine as ScriptLine}
-use Rattle.script_run.specs.HeardScripts.{heard_lines, Reading, Standing, Whole, BadAt, Overlong, BrokenOff, Open, standing}
-use Rattle.script_run.specs.HeardReads.{HasReadCause, StopsThere}
+use Rattle.tac_commands.specs.Prelude.{Rose, FilesState, IsAtEnd, GameLine as ScriptLine, HasReadCause, StopsThere}
+use Rattle.script_run.specs.HeardScripts.{heard_lines, Reading, Standing, Whole, BadAt, Overlong, BrokenOff, Open, script_standing}
 use Rattle.tac_commands.specs.declared.refusals.Refusal.TheVariants.{ReadFault, Memory, TextLine, TextTooLong}
 use Rattle.tac_commands.specs.Files.{Content}
 use Rattle.tac_commands.specs.Outcomes.{Outcome, Stopped, Unwritten, Unread, Refused}
@@ -30,7 +26,7 @@ IsScriptOutcome replies allows lines BrokenOff outcome = outcome ≡ Unread (rep
 IsScriptOutcome replies allows lines Open outcome = outcome ≡ Unwritten (replies lines)
 
 -- the script of that name was heard, as far as it gave its bytes, and this is the outcome
-abbrev pub IsHeard : (List ScriptLine → List ℕ) → (List ScriptLine → Outcome → Type 0) → FilesState → FilesState → List ℕ → Outcome → Type 0
-IsHeard replies allows files files' name outcome =
+abbrev pub IsScriptHeard : (List ScriptLine → List ℕ) → (List ScriptLine → Outcome → Type 0) → FilesState → FilesState → List ℕ → Outcome → Type 0
+IsScriptHeard replies allows files files' name outcome =
     (given : List ℕ) × (reading : Reading) × IsGiven files.content name given files'.left × StopsThere reading files'.left
-    × HasReadCause (standing given reading) files.faults files'.faults × IsScriptOutcome replies allows (heard_lines given) (standing given reading) outcome
+    × HasReadCause (script_standing given reading) files.faults files'.faults × IsScriptOutcome replies allows (heard_lines given) (script_standing given reading) outcome

@@ -1,8 +1,6 @@
 -- That a game which is played line by line is answered at once.
 use Rattle.std.specs.Prelude.{◌≡◌, ℕ, ⊤, List, [], ◌∷◌, ◌++◌, Option, Some, Ok, IfSome}
-use Rattle.tac_io.specs.States.{FilesState, SinkState}
-use Rattle.game_text.specs.Games.{GameFile, game_of}
-use Rattle.script_run.specs.HeardReads.{IsPrompt}
+use Rattle.tac_commands.specs.Prelude.{FilesState, SinkState, GameFile, game_of, IsPrompt}
 use Rattle.tac_commands.specs.Causes.{IsQuiet}
 use Rattle.tac_commands.specs.Commands.{BatchCommand, Step, Command, Batch}
 

@@ -1,7 +1,6 @@
 -- What is written of an outcome, and the code that is answered.
 use Rattle.std.specs.Prelude.{◌≡◌, ℕ, ◌==◌, MatchBool}
-use Rattle.tac_io.specs.States.{SinkState}
-use Rattle.tac_io.specs.Taken.{TookWhole, TookPart}
+use Rattle.tac_commands.specs.Prelude.{SinkState, TookWhole, TookPart}
 use Rattle.tac_commands.specs.declared.refusals.Refusal.TheVariants.{ReadFault}
 use Rattle.tac_commands.specs.Outcomes.{Outcome, Unread, exit_of, refusal_end}
 

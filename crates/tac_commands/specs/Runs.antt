@@ -2,13 +2,12 @@
 -- outcome is then the refusal of that file, or a text that reports the log, and no later file was selected. A run that reaches
 -- its last step ends with an outcome that the values of the files allow.
 use Rattle.std.specs.Prelude.{◌≡◌, ℕ, ◌⊎◌, ⊤, List, [], ◌∷◌}
-use Rattle.tac_io.specs.States.{FilesState}
-use Rattle.tac_io.specs.Known.{known_then}
+use Rattle.tac_commands.specs.Prelude.{FilesState, known_then}
 use Rattle.tac_commands.specs.declared.refusals.Refusal.{Refusal}
 use Rattle.tac_commands.specs.declared.refusals.Refusal.TheVariants.{Memory}
 use Rattle.tac_commands.specs.FileKinds.{Value}
 use Rattle.tac_commands.specs.Files.{IsFileRead, IsNotRead}
-use Rattle.tac_commands.specs.HeardFiles.{IsUnheard, IsHeard}
+use Rattle.tac_commands.specs.HeardFiles.{IsUnheard, IsScriptHeard}
 use Rattle.tac_commands.specs.Outcomes.{Outcome, Unsound, Refused}
 use Rattle.tac_commands.specs.Steps.{Steps, Reads, Judges, Hears, EndsWith}
 
@@ -34,5 +33,5 @@ Runs (Judges IsRight IsDue next) files files' outcome =
     (IsRight × Runs next files files' outcome)
     ⊎ (StopsAt IsRight IsDue outcome × AreUnasked files files')
 Runs (Hears name replies allows) files files' outcome =
-    (IsUnheard files files' name outcome ⊎ IsHeard replies allows files files' name outcome) × (files'.names ≡ known_then files.names (name ∷ []))
+    (IsUnheard files files' name outcome ⊎ IsScriptHeard replies allows files files' name outcome) × (files'.names ≡ known_then files.names (name ∷ []))
 Runs (EndsWith allows) files files' outcome = allows outcome × AreUnasked files files'

@@ -1,7 +1,6 @@
 -- Which files a command selects, by its code.
 use Rattle.std.specs.Prelude.{◌≡◌, ◌≢◌, ℕ, ◌⊎◌, [], ◌∷◌, Option, Some, None}
-use Rattle.tac_io.specs.States.{FilesState}
-use Rattle.tac_io.specs.Known.{known_then}
+use Rattle.tac_commands.specs.Prelude.{FilesState, known_then}
 use Rattle.tac_commands.specs.declared.file_kinds.FileKind.{FileKind}
 use Rattle.tac_commands.specs.Allowed.{steps_of}
 use Rattle.tac_commands.specs.Commands.{Command}

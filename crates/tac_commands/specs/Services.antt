@@ -1,13 +1,9 @@
 -- Which words of a command line ask for the service of a game, and the forms of lines.
-use Rattle.std.specs.Prelude.{◌≡◌, ℕ, ◌⊎◌, ◌&&◌, nat_le, List, [], ◌∷◌, Option, Some, None, Err, String, if◌then◌else◌, codes, map, string_bytes}
-use Rattle.std.specs.Str.{bytes_eq}
+use Rattle.std.specs.Prelude.{◌≡◌, ℕ, ◌⊎◌, ◌&&◌, nat_le, List, [], ◌∷◌, Option, Some, None, Err, String, if◌then◌else◌, codes, map, string_bytes, bytes_eq}
 use Rattle.std.specs.declared.alloc.Global.{Global}
-use Rattle.tac_base.specs.declared.limits.TheConstants.{PACE, PORT}
-use Rattle.tac_base.specs.Numerals.{numeral}
+use Rattle.tac_commands.specs.Prelude.{PACE, PORT, numeral, request_of, Dialect}
 use Rattle.line_protocol.specs.declared.asking.RequestFault.TheVariants.{Memory}
-use Rattle.line_protocol.specs.Requests.{request_of}
 use Rattle.line_protocol.specs.Replies.{said_text}
-use Rattle.agent_gate.specs.Dialects.{Dialect}
 use Rattle.json_dialect.specs.JsonRequests.{asks_json}
 use Rattle.json_dialect.specs.JsonReplies.{json_text}
 use Rattle.tac_commands.specs.declared.services.Form.{Form}

@@ -1,14 +1,7 @@
 -- Texts that end in the log of a game.
 use Rattle.std.specs.Prelude.{◌≡◌, ℕ, ◌≤◌, List, ◌++◌, length}
-use Rattle.tac_base.specs.declared.limits.TheConstants.{TEXT_BYTES}
-use Rattle.game_text.specs.Games.{GameFile}
-use Rattle.auction_core.specs.ClosedGame.{ClosedGame}
-use Rattle.score_sheet.specs.Sheets.{Scored}
+use Rattle.tac_commands.specs.Prelude.{TEXT_BYTES, GameFile, ClosedGame, Scored, histories_of, LoggedGame, IsLogged, logged_text, IsSound, IsRanged}
 use Rattle.line_protocol.specs.Heads.{Head}
-use Rattle.log_text.specs.LogText.{histories_of}
-use Rattle.log_text.specs.LoggedGames.{LoggedGame, IsLogged, logged_text}
-use Rattle.log_text.specs.SoundLog.{IsSound}
-use Rattle.game_log.specs.LogRanges.{IsRanged}
 
 -- what the log of a game holds: how it was played, its histories, its cash history, and a sheet of it
 abbrev pub log_of_game : Head → ClosedGame → List Scored → LoggedGame

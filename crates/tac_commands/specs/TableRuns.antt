@@ -1,10 +1,6 @@
 -- What the calls that make a table promise about the pairs that they read.
 use Rattle.std.specs.Prelude.{◌≡◌, ℕ, List, [], ◌∷◌, ◌++◌, length}
-use Rattle.tac_io.specs.States.{FilesState}
-use Rattle.game_text.specs.Games.{GameFile}
-use Rattle.log_text.specs.LoggedGames.{LoggedGame}
-use Rattle.log_text.specs.SoundLog.{IsSound}
-use Rattle.tourney.specs.Tallies.{Kept, AreStandingsOf}
+use Rattle.tac_commands.specs.Prelude.{FilesState, GameFile, LoggedGame, IsSound, Kept, AreStandingsOf}
 use Rattle.tac_commands.specs.declared.file_kinds.FileKind.TheVariants.{Game, Log}
 use Rattle.tac_commands.specs.declared.table_command.TableFault.{TableFault}
 use Rattle.tac_commands.specs.declared.table_command.TableFault.TheVariants as faults

@@ -1,10 +1,7 @@
 -- The summary of a made game that was played by a made script.
 use Rattle.std.specs.Prelude.{ℕ, List, ◌++◌, decimal, codes}
-use Rattle.text_forms.specs.Lines.{text_of}
-use Rattle.text_forms.specs.Steps.{lines_of_parts, one_line}
-use Rattle.score_sheet.specs.Sheets.{Scored}
+use Rattle.tac_commands.specs.Prelude.{text_of, lines_of_parts, one_line, Scored, PlayCount}
 use Rattle.game_log.specs.SheetText.{score_line}
-use Rattle.script_run.specs.declared.game.play_count.PlayCount.{PlayCount}
 use Rattle.tac_commands.specs.NumberedLines.{counted}
 
 -- trial SEED COUNT

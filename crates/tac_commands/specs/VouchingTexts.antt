@@ -1,8 +1,7 @@
 -- What is written of a link that a log was judged by.
 use Rattle.std.specs.Prelude.{ℕ, List, ◌++◌, codes, decimal}
-use Rattle.link_audit.specs.declared.vouching.Difference.{Difference}
+use Rattle.tac_commands.specs.Prelude.{Difference, Vouching}
 use Rattle.link_audit.specs.declared.vouching.Difference.TheVariants as differences
-use Rattle.link_audit.specs.declared.vouching.Vouching.{Vouching}
 use Rattle.link_audit.specs.declared.vouching.Vouching.TheVariants.{Whole, Cut, Not}
 use Rattle.tac_commands.specs.NumberedLines.{counted, numbered}
 use Rattle.tac_commands.specs.Outcomes.{Outcome, Done, Unsound}

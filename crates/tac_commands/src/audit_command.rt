@@ -1,13 +1,11 @@
 // The command that judges the log of a game by the game.
 ghost use Rattle.std.specs.Prelude.{◌≡◌, ◌≤◌, [], ◌∷◌, length, IfSome};
-ghost use Rattle.tac_base.specs.declared.limits.TheConstants.{NAME_BYTES};
-ghost use Rattle.tac_commands.specs.{audit_steps, EndsBatch, EndsSteps, EndsUnasked, Reads, file};
+ghost use Rattle.tac_commands.specs.{NAME_BYTES, MaySelect, audit_steps, EndsBatch, EndsSteps, EndsUnasked, Reads, file};
 ghost use Rattle.tac_commands.specs.Commands as commands;
 ghost use Rattle.tac_commands.specs.declared.file_kinds.FileKind.TheVariants.{Log as LogKind};
 ghost use Rattle.tac_commands.specs.Ends.{Ends};
 ghost use Rattle.tac_commands.specs.FlawTexts as texts;
 ghost use Rattle.tac_commands.specs.Outcomes as outcomes;
-ghost use Rattle.tac_io.specs.States.{MaySelect};
 
 use crate::ends::End;
 use crate::numbered_lines::{counted, numbered, plain};

@@ -1,12 +1,8 @@
 // The commands that need no links.
 ghost use Rattle.std.specs.Prelude.{◌≡◌, [], IfSome};
-ghost use Rattle.game_text.specs.Games.{canonical_text, upgraded};
-ghost use Rattle.draw_maker.specs.Games.{made_game};
-ghost use Rattle.allocator.specs.Solutions.{IsSolvedText};
-ghost use Rattle.tac_commands.specs.{WritesDue, seen_batch, IsPromptBatch, IsShortBatch, IsWithinBatch};
+ghost use Rattle.tac_commands.specs.{canonical_text, upgraded, made_game, IsSolvedText, MaySelect, WritesDue, seen_batch, IsPromptBatch, IsShortBatch, IsWithinBatch};
 ghost use Rattle.tac_commands.specs.Commands as commands;
 ghost use Rattle.tac_commands.specs.Ends.{Ends, EndsBatch};
-ghost use Rattle.tac_io.specs.States.{MaySelect};
 
 use crate::audit_command::audit_files;
 use crate::ends::End;

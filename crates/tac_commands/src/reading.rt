@@ -1,13 +1,8 @@
 // The files that commands read.
 ghost use Rattle.std.specs.Prelude.{◌≡◌, ◌<◌, ◌≤◌, ◌⊎◌, [], ◌∷◌, length, Ok, Err, IfOk, IfErr, OnOk};
-ghost use Rattle.tac_base.specs.declared.limits.TheConstants.{LINK_BYTES};
-ghost use Rattle.tac_io.specs.Reading.{IsFile};
-ghost use Rattle.tac_io.specs.States.{MaySelect};
-ghost use Rattle.tac_io.specs.Known.{IsAtEnd, known_then};
-ghost use Rattle.game_text.specs.declared.fault.GameFault.{GameFault};
+ghost use Rattle.tac_commands.specs.{LINK_BYTES, IsFile, MaySelect, IsAtEnd, known_then, GameFault, most_bytes, read_as, refusal_of, IsNotRead, IsFileRead};
 ghost use Rattle.tac_commands.specs.declared.file_kinds.FileKind.TheVariants.{Bytes};
 ghost use Rattle.tac_commands.specs.declared.refusals.Refusal.TheVariants.{Memory};
-ghost use Rattle.tac_commands.specs.{most_bytes, read_as, refusal_of, IsNotRead, IsFileRead};
 
 use crate::file_kinds::FileKind;
 use crate::refusals::Refusal;

@@ -1,8 +1,7 @@
 // Running the words of a command that needs no links.
 ghost use Rattle.std.specs.Prelude.{◌≡◌, ◌≤◌, [], string_len, None, All, IfSome};
 ghost use Rattle.tac_base.specs.declared.limits.TheConstants.{NAME_BYTES};
-ghost use Rattle.tac_commands.specs.Services.{bytes_of_words};
-ghost use Rattle.tac_commands.specs.{Allows, code_number, batch_of, service_or_batch, Outcome, IsPromptCommand, Reports};
+ghost use Rattle.tac_commands.specs.{bytes_of_words, Allows, code_number, batch_of, service_or_batch, Outcome, IsPromptCommand, Reports};
 
 use crate::batch::run_batch;
 use crate::code::Code;

@@ -1,10 +1,8 @@
 // The commands that run a script: of one hotel, and of a game.
 ghost use Rattle.std.specs.Prelude.{◌≡◌, ◌≤◌, [], ◌∷◌, length, IfSome};
-ghost use Rattle.tac_base.specs.declared.limits.TheConstants.{NAME_BYTES};
+ghost use Rattle.tac_commands.specs.{NAME_BYTES, MaySelect, play_steps, EndsBatch, EndsSteps};
 ghost use Rattle.tac_commands.specs.Commands as commands;
-ghost use Rattle.tac_commands.specs.{play_steps, EndsBatch, EndsSteps};
 ghost use Rattle.tac_commands.specs.Ends as ends;
-ghost use Rattle.tac_io.specs.States.{MaySelect};
 
 use crate::ends::End;
 use crate::file_kinds::FileKind;

@@ -1,10 +1,9 @@
 // The service of a game that the words of a command line ask for.
 ghost use Rattle.std.specs.Prelude.{◌≡◌, ◌≤◌, [], ◌∷◌, length, string_len, MatchOption, Some, None, All, IfSome};
-ghost use Rattle.tac_base.specs.declared.limits.TheConstants.{NAME_BYTES};
-ghost use Rattle.tac_base.specs.Numerals.{numeral};
 ghost use Rattle.tac_commands.specs.{seen_service, service_of};
-ghost use Rattle.tac_commands.specs.Services as services;
+ghost use Rattle.tac_commands.specs.Prelude.{NAME_BYTES, numeral};
 ghost use Rattle.tac_commands.specs.Services.{bytes_of_words};
+ghost use Rattle.tac_commands.specs.Services as services;
 
 use tac_base::limits::{PACE, PORT};
 use tac_base::read_numeral;

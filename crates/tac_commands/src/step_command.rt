@@ -1,11 +1,8 @@
 // The command that plays a game line by line.
 ghost use Rattle.std.specs.Prelude.{◌≡◌, ◌≤◌, [], length, IfSome};
-ghost use Rattle.tac_base.specs.declared.limits.TheConstants.{NAME_BYTES};
-ghost use Rattle.tac_commands.specs.{step_steps, EndsBatch, EndsSteps, HearsPromptly, StepsPromptly};
+ghost use Rattle.tac_commands.specs.{NAME_BYTES, IsAtEnd, MaySelect, step_steps, EndsBatch, EndsSteps, HearsPromptly, StepsPromptly};
 ghost use Rattle.tac_commands.specs.Commands as commands;
 ghost use Rattle.tac_commands.specs.Ends as ends;
-ghost use Rattle.tac_io.specs.Known.{IsAtEnd};
-ghost use Rattle.tac_io.specs.States.{MaySelect};
 
 use crate::ends::End;
 use crate::reading::read_value;

@@ -1,19 +1,13 @@
 // The command that shows the standings of the teams of several games.
 ghost use Rattle.std.specs.Prelude.{◌≡◌, ◌+◌, ◌*◌, ◌/◌, ◌≤◌, ◌<◌, ℕ, List, [], ◌∷◌, length, string_len, All, IfErr, IfOk, IfSome, OnOk};
-ghost use Rattle.tac_base.specs.declared.limits.TheConstants.{FILE_NAMES, NAME_BYTES};
-ghost use Rattle.tac_io.specs.Known.{known_then};
-ghost use Rattle.game_text.specs.Games.{GameFile};
-ghost use Rattle.log_text.specs.LoggedGames.{LoggedGame};
-ghost use Rattle.log_text.specs.SoundLog.{IsSound};
-ghost use Rattle.tourney.specs.StandingsTexts.{IsPrinted};
-ghost use Rattle.tourney.specs.Tallies.{AreStandingsOf};
 ghost use Rattle.tac_commands.specs.{WritesDue, table_steps, in_pairs, EndsAtPair, TableGoesOn, HasAdded, IsAdded, outcome_of};
+ghost use Rattle.tac_commands.specs.Prelude.{FILE_NAMES, NAME_BYTES, known_then, GameFile, LoggedGame, IsSound, IsPrinted, AreStandingsOf};
+ghost use Rattle.tac_commands.specs.Services.{bytes_of_words};
 ghost use Rattle.tac_commands.specs.Commands as commands;
 ghost use Rattle.tac_commands.specs.Ends.{Ends, EndsBatch};
 ghost use Rattle.tac_commands.specs.FlawTexts as texts;
 ghost use Rattle.tac_commands.specs.Outcomes as outcomes;
 ghost use Rattle.tac_commands.specs.Runs.{Runs, StopsAt};
-ghost use Rattle.tac_commands.specs.Services.{bytes_of_words};
 
 use crate::ends::End;
 use crate::numbered_lines::counted;

@@ -1,9 +1,6 @@
 // The command that plays a made game by a made script.
 ghost use Rattle.std.specs.Prelude.{◌≡◌, ◌+◌, ◌≤◌, ◌++◌, IfOk};
-ghost use Rattle.tac_base.specs.declared.limits.TheConstants.{MADE_REQUESTS};
-ghost use Rattle.draw_maker.specs.BidScripts.{IsBidScript};
-ghost use Rattle.script_run.specs.QuietGames.{IsSummary};
-ghost use Rattle.tac_commands.specs.Allowed.{IsTrial, WritesDue};
+ghost use Rattle.tac_commands.specs.{MADE_REQUESTS, IsBidScript, IsSummary, IsTrial, WritesDue};
 ghost use Rattle.tac_commands.specs.Ends.{Ends, WritesWhole};
 ghost use Rattle.tac_commands.specs.Trials as trials;
 

@@ -1,9 +1,6 @@
 // The command that judges the log of a game by the game, and then by one link.
 ghost use Rattle.std.specs.Prelude.{◌≡◌, ◌+◌, ◌<◌, ◌≤◌, [], ◌∷◌, length, IfSome};
-ghost use Rattle.tac_base.specs.declared.limits.TheConstants.{FILE_NAMES, LINK_BYTES, NAME_BYTES};
-ghost use Rattle.tac_io.specs.States.{MaySelect};
-ghost use Rattle.log_text.specs.SoundLog.{IsSound};
-ghost use Rattle.tac_commands.specs.{dialect_in, link_file_steps, link_steps, vouch_steps, EndsBatch, EndsSteps, EndsUnasked, Reads, file};
+ghost use Rattle.tac_commands.specs.{FILE_NAMES, LINK_BYTES, NAME_BYTES, MaySelect, IsSound, dialect_in, link_file_steps, link_steps, vouch_steps, EndsBatch, EndsSteps, EndsUnasked, Reads, file};
 ghost use Rattle.tac_commands.specs.Commands as commands;
 ghost use Rattle.tac_commands.specs.declared.file_kinds.FileKind.TheVariants.{Bytes, Log as LogKind};
 ghost use Rattle.tac_commands.specs.Ends.{Ends};

@@ -1,10 +1,9 @@
 // The words of a command that needs no links.
 ghost use Rattle.std.specs.Prelude.{◌≡◌, ◌+◌, ◌≤◌, ◌^◌, length, string_len, MatchOption, Some, None, All, IfSome};
-ghost use Rattle.tac_base.specs.declared.limits.TheConstants.{MADE_REQUESTS, NAME_BYTES};
-ghost use Rattle.tac_base.specs.Numerals.{below, numeral};
+ghost use Rattle.tac_commands.specs.Prelude.{MADE_REQUESTS, NAME_BYTES, below, numeral};
 ghost use Rattle.tac_commands.specs.Commands as commands;
-ghost use Rattle.tac_commands.specs.Services.{bytes_of_words};
 ghost use Rattle.tac_commands.specs.{batch_of, seen_batch, IsShortBatch, IsWithinBatch};
+ghost use Rattle.tac_commands.specs.Services.{bytes_of_words};
 
 use crate::services::Form;
 use tac_base::limits::{FILE_NAMES, MADE_REQUESTS};

@@ -1,10 +1,6 @@
 // The law of the logs that commands write.
 ghost use Rattle.std.specs.Prelude.{◌≡◌, ◌≤◌, ◌⊎◌, ◌++◌, ℕ, List, codes, length, Ok};
-ghost use Rattle.tac_base.specs.declared.limits.TheConstants.{TEXT_BYTES};
-ghost use Rattle.tac_io.specs.States.{FilesState};
-ghost use Rattle.game_text.specs.Games.{GameFile};
-ghost use Rattle.log_text.specs.LoggedGames.{LoggedGame};
-ghost use Rattle.tac_commands.specs.{audit_steps, read_as, Outcome, Done, Refused, EndsInSoundLog};
+ghost use Rattle.tac_commands.specs.{TEXT_BYTES, FilesState, GameFile, LoggedGame, audit_steps, read_as, Outcome, Done, Refused, EndsInSoundLog};
 ghost use Rattle.tac_commands.specs.declared.file_kinds.FileKind.TheVariants.{Log};
 ghost use Rattle.tac_commands.specs.declared.refusals.Refusal.TheVariants.{Memory};
 ghost use Rattle.tac_commands.specs.Runs.{Runs};

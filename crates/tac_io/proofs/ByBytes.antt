@@ -1,15 +1,11 @@
 -- The answers of a link's lines are those of its bytes, however its reads cut them.
-use Rattle.std.proofs.Common.{zero, suc, ◌≡◌, ℕ, ◌+◌, ◌-◌, ◌<◌, ◌≤◌, List, [], ◌∷◌, ◌++◌, length, refl, ap, sym, ◌∙◌, true, false, Bool, arith, length-append, append_assoc, append-nil, subst}
-use Rattle.std.specs.Prelude.{◌==◌, ◌^◌, None, Some, IfSome, if◌then◌else◌}
-use Rattle.std.specs.declared.option.Option.{Option}
+use Rattle.std.proofs.Common.{zero, suc, ◌≡◌, ℕ, ◌+◌, ◌-◌, ◌<◌, ◌≤◌, List, [], ◌∷◌, ◌++◌, length, refl, ap, sym, ◌∙◌, true, false, Bool, arith, length-append, append_assoc, append-nil, subst, ◌==◌, ◌^◌, None, Some, IfSome, if◌then◌else◌, Option}
 use Rattle.std.proofs.lemmas.Bool.Decides.{nat_tests}
+use Rattle.std.proofs.lemmas.Option.{same_Some}
+use Rattle.std.proofs.lemmas.Bool.{or_parts}
 use Rattle.tac_io.specs.AllAnswers.{all_answers, ended_line}
 use Rattle.tac_io.specs.AnswersInTurn.{answers_left, IsFirst, IsInTurn}
-use Rattle.tac_io.specs.HeldBytes.{Held, LinkPlace}
-use Rattle.tac_io.specs.LineAnswers.{Answers, IsNext}
-use Rattle.tac_io.specs.LineText.{has_end, BeginsWithLine}
-use Rattle.tac_io.specs.Known.{then_known, IsAtEnd}
-use Rattle.tac_io.proofs.LineEnds.{neither}
+use Rattle.tac_io.specs.{Held, LinkPlace, Answers, IsNext, has_end, BeginsWithLine, then_known, IsAtEnd}
 use Rattle.tac_io.specs.declared.line_got.LineGot.{LineGot}
 use Rattle.tac_io.specs.declared.line_got.LineGot.TheVariants.{Line, TooLong, End, Failed, Budget}
 
@@ -23,7 +19,7 @@ all_answers-line before [] rest room after none is =
     let e : room ≡ suc after = omega (arith, is) in
     ap (λ n. all_answers before n (10 ∷ rest)) e ∙ ap (λ l. ended_line l ∷ all_answers [] after rest) (sym (append-nil before))
 all_answers-line before (byte ∷ line) rest room after none is =
-    let both = neither (byte == 10) (has_end line) none in
+    let both = or_parts (byte == 10) (has_end line) none in
     let e : room ≡ suc (length line + suc after) = omega (arith, is) in
     ap (λ n. all_answers before n (byte ∷ line ++ 10 ∷ rest)) e
     ∙ pick (byte == 10) _ _ both.0
@@ -34,7 +30,7 @@ pub all_answers-end : (before bytes : List ℕ) (room : ℕ) → has_end bytes �
 all_answers-end before bytes zero none lt = absurd (omega (arith, lt))
 all_answers-end before [] (suc room) none lt = refl
 all_answers-end before (byte ∷ bytes) (suc room) none lt =
-    let both = neither (byte == 10) (has_end bytes) none in
+    let both = or_parts (byte == 10) (has_end bytes) none in
     pick (byte == 10) _ _ both.0 ∙ all_answers-end (before ++ byte ∷ []) bytes room both.1 (omega (arith, lt))
 
 pub all_answers-budget : (before bytes rest : List ℕ) (room : ℕ) → has_end bytes ≡ false → length bytes ≡ room → all_answers before room (bytes ++ rest) ≡ (Budget, []) ∷ []
@@ -42,7 +38,7 @@ all_answers-budget before [] rest zero none is = refl
 all_answers-budget before [] rest (suc room) none is = absurd (omega (arith, is))
 all_answers-budget before (byte ∷ bytes) rest zero none is = absurd (omega (arith, is))
 all_answers-budget before (byte ∷ bytes) rest (suc room) none is =
-    let both = neither (byte == 10) (has_end bytes) none in
+    let both = or_parts (byte == 10) (has_end bytes) none in
     pick (byte == 10) _ _ both.0 ∙ all_answers-budget (before ++ byte ∷ []) bytes rest room both.1 (omega (arith, is))
 
 short_line : (line : List ℕ) → length line ≤ 512 → ended_line line ≡ (Line, line)
@@ -50,9 +46,6 @@ short_line line le = grind (arith, nat_tests)
 
 long_line : (line : List ℕ) → 512 < length line → ended_line line ≡ (TooLong, [])
 long_line line lt = grind (arith, nat_tests)
-
-some_inj : (xs ys : List ℕ) → Some xs ≡ Some ys → xs ≡ ys
-some_inj xs ys h = cc
 
 -- after a line, what is to come are the answers of what is held and left then
 line_first : (held new : Held) (left left' more line : List ℕ) (count : ℕ) → left ≡ more ++ left' → count + length more ≤ 2 ^ 26 → BeginsWithLine (held.unread ++ more) line new.unread
@@ -71,7 +64,7 @@ next_is_first old new left left' got had has answers le =
     first got (subst (λ l. IsNext got (old.held.unread ++ answers.more) new.held (IsAtEnd l) new.count) has answers.next)
   where
     gave : left ≡ answers.more ++ left'
-    gave = some_inj left (answers.more ++ left') (sym had ∙ answers.gave.1 ∙ ap (then_known answers.more) has)
+    gave = same_Some left (answers.more ++ left') (sym had ∙ answers.gave.1 ∙ ap (then_known answers.more) has)
 
     within : old.count + length answers.more ≤ 2 ^ 26
     within = omega (arith, answers.counted, le)

@@ -1,11 +1,9 @@
 -- Files in memory: which is found, and what is left of it.
-use Rattle.std.proofs.Common.{◌≡◌, ℕ, ◌<◌, ◌≤◌, ◌+◌, ◌++◌, List, [], ◌∷◌, Bool, length, drop, min, get_or, ap, sym, ◌∙◌, refl, true, false, cond}
-use Rattle.std.specs.Prelude.{None, Some, position, slice_get, nat_lt}
+use Rattle.std.proofs.Common.{◌≡◌, ℕ, ◌<◌, ◌≤◌, ◌+◌, ◌++◌, List, [], ◌∷◌, Bool, length, drop, min, get_or, ap, sym, ◌∙◌, refl, true, false, cond, None, Some, position, slice_get, nat_lt, option_map, ltb-false, drop-drop}
 use Rattle.std.specs.List.{position_or_len}
-use Rattle.std.specs.Option.{option_map, option_map_or}
-use Rattle.std.proofs.lemmas.Bool.{ltb-false}
+use Rattle.std.specs.Option.{option_map_or}
 use Rattle.std.proofs.lemmas.Option.{slice_get_read, slice_get_past, slice_get-get_or}
-use Rattle.std.proofs.lemmas.List.{drop_min, drop-drop}
+use Rattle.std.proofs.lemmas.List.{drop_min}
 use Rattle.std.proofs.lemmas.List.Folds.{find_at}
 use Rattle.std.proofs.lemmas.List.Quantifiers.{position-Some}
 use Rattle.tac_io.specs.declared.memory.files.MemFile.{MemFile}

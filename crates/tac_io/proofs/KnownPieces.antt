@@ -1,12 +1,6 @@
 -- What is known, piece by piece.
-use Rattle.std.proofs.Common.{subst, ◌≡◌, ℕ, ◌+◌, List, ◌++◌, take, drop, [], refl, ap, sym, ◌∙◌, append_assoc, append-nil}
-use Rattle.std.proofs.Math.Seq.{take-add}
-use Rattle.std.specs.Prelude.{None, Some}
-use Rattle.std.specs.declared.option.Option.{Option}
-use Rattle.tac_io.specs.LinkCalls.{GaveBytes, LastReadFails, LastWriteFails, NoReadFails, NoWriteFails, ReadsNothing, SendsNothing}
-use Rattle.tac_io.specs.States.{LinkState}
-use Rattle.tac_io.specs.Counts.{Rose}
-use Rattle.tac_io.specs.Known.{failed_at, known_then, then_known}
+use Rattle.std.proofs.Common.{subst, ◌≡◌, ℕ, ◌+◌, List, ◌++◌, take, drop, [], refl, ap, sym, ◌∙◌, append_assoc, append-nil, take-add, None, Some, Option}
+use Rattle.tac_io.specs.{GaveBytes, LastReadFails, LastWriteFails, NoReadFails, NoWriteFails, ReadsNothing, SendsNothing, LinkState, Rose, failed_at, known_then, then_known}
 
 pub known_then-nothing : {A : Type 0} (known : Option (List A)) → known_then known [] ≡ known
 known_then-nothing None = refl

@@ -1,9 +1,8 @@
 -- Line ends in bytes.
-use Rattle.std.proofs.Common.{◌≡◌, ℕ, ◌+◌, ◌<◌, ◌≤◌, ◌-◌, List, [], ◌∷◌, ◌++◌, length, take, drop, get_or, refl, ap, sym, ◌∙◌, true, false, Bool, arith, length-take, length-drop, subst}
-use Rattle.std.specs.Prelude.{◌||◌, ◌==◌}
-use Rattle.std.specs.List.{slice_range}
-use Rattle.std.proofs.lemmas.List.{take-take, take_more, drop-take, drop-drop}
+use Rattle.std.proofs.Common.{◌≡◌, ℕ, ◌+◌, ◌<◌, ◌≤◌, ◌-◌, List, [], ◌∷◌, ◌++◌, length, take, drop, get_or, refl, ap, sym, ◌∙◌, true, false, Bool, arith, length-take, length-drop, subst, ◌||◌, ◌==◌, slice_range, take-take, drop-drop}
+use Rattle.std.proofs.lemmas.List.{take_more, drop-take}
 use Rattle.std.proofs.lemmas.Bool.Decides.{nat_tests}
+use Rattle.std.proofs.lemmas.Bool.{or_parts}
 use Rattle.tac_io.specs.LineText.{has_end, BeginsWithLine}
 
 pub has_end-append : (xs ys : List ℕ) → has_end (xs ++ ys) ≡ (has_end xs || has_end ys)
@@ -17,13 +16,8 @@ has_end-append (x ∷ xs) ys = or_cases (x == 10) (has_end (xs ++ ys)) (has_end 
 pub no_end-append : (xs ys : List ℕ) → has_end xs ≡ false → has_end ys ≡ false → has_end (xs ++ ys) ≡ false
 no_end-append xs ys p q = has_end-append xs ys ∙ ap (λ b. b || has_end ys) p ∙ q
 
--- where neither of two tests holds
-pub neither : (a b : Bool) → (a || b) ≡ false → (a ≡ false) × (b ≡ false)
-neither true b h = absurd (cc)
-neither false b h = (refl, h)
-
 pub no_end-front : (xs ys : List ℕ) → has_end (xs ++ ys) ≡ false → has_end xs ≡ false
-no_end-front xs ys h = (neither (has_end xs) (has_end ys) (sym (has_end-append xs ys) ∙ h)).0
+no_end-front xs ys h = (or_parts (has_end xs) (has_end ys) (sym (has_end-append xs ys) ∙ h)).0
 
 not_end : (b : ℕ) → (b ≡ 10 → ⊥) → has_end (b ∷ []) ≡ false
 not_end b ne = grind (arith, nat_tests)

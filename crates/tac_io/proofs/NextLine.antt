@@ -1,15 +1,9 @@
 -- On the way to the next line.
-use Rattle.std.proofs.Common.{◌≡◌, ℕ, ◌+◌, ◌<◌, List, [], ◌∷◌, ◌++◌, length, refl, ap, sym, ◌∙◌, true, false, Bool, arith, length-append, append_assoc, append-nil, subst, inl, inr}
-use Rattle.std.specs.Prelude.{◌^◌, MatchBool}
+use Rattle.std.proofs.Common.{◌≡◌, ℕ, ◌+◌, ◌<◌, List, [], ◌∷◌, ◌++◌, length, refl, ap, sym, ◌∙◌, true, false, Bool, arith, length-append, append_assoc, append-nil, subst, inl, inr, ◌^◌, MatchBool}
 use Rattle.std.proofs.lemmas.List.{nil_from_length}
-use Rattle.tac_io.specs.HeldBytes.{Gives, Held, LinkPlace}
-use Rattle.tac_io.specs.LineText.{has_end, BeginsWithLine}
-use Rattle.tac_io.specs.LineAnswers.{Answers, IsDecided, IsKind, IsNext}
+use Rattle.tac_io.specs.{Gives, Held, LinkPlace, has_end, BeginsWithLine, Answers, IsDecided, IsKind, IsNext, GaveBytes, LinkState, known_then, then_known, IsAtEnd}
 use Rattle.tac_io.specs.declared.line_got.LineGot.{LineGot}
 use Rattle.tac_io.specs.declared.line_got.LineGot.TheVariants.{Line, TooLong, End, Failed, Budget}
-use Rattle.tac_io.specs.LinkCalls.{GaveBytes}
-use Rattle.tac_io.specs.States.{LinkState}
-use Rattle.tac_io.specs.Known.{known_then, then_known, IsAtEnd}
 use Rattle.tac_io.proofs.KnownPieces.{known_then-nothing, then_known-nothing, gave_twice}
 use Rattle.tac_io.proofs.LineEnds.{no_end-append, no_end-front}
 

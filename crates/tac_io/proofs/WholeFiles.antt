@@ -1,8 +1,5 @@
 -- A known file, read piece by piece.
-use Rattle.std.proofs.Common.{◌≡◌, ℕ, ◌+◌, List, ◌++◌, take, drop, ap, sym, subst, ◌∙◌}
-use Rattle.std.proofs.Math.Seq.{take-add}
-use Rattle.std.specs.Prelude.{None, Some, IfSome, IsSome}
-use Rattle.std.specs.declared.option.Option.{Option}
+use Rattle.std.proofs.Common.{◌≡◌, ℕ, ◌+◌, List, ◌++◌, take, drop, ap, sym, subst, ◌∙◌, take-add, None, Some, IfSome, IsSome, Option}
 use Rattle.tac_io.specs.Known.{IsAtEnd, then_known}
 use Rattle.tac_io.proofs.KnownPieces.{then_known-nothing, then_known-twice}
 

@@ -1,10 +1,7 @@
 -- Files in memory as a list, and the texts that keep their selected names.
-use Rattle.std.specs.Prelude.{◌≡◌, ℕ, ◌≤◌, List, [], Bool, None, Some, String, find, drop, string_bytes, string_len, slice_get}
-use Rattle.std.specs.Option.{option_map, option_map_or}
+use Rattle.std.specs.Prelude.{◌≡◌, ℕ, ◌≤◌, List, [], Bool, None, Some, String, find, drop, string_bytes, string_len, slice_get, option_map, string_capacity, Option, bytes_eq}
+use Rattle.std.specs.Option.{option_map_or}
 use Rattle.std.specs.Global.{Global}
-use Rattle.std.specs.String.{string_capacity}
-use Rattle.std.specs.declared.option.Option.{Option}
-use Rattle.std.specs.Str.{bytes_eq}
 use Rattle.tac_base.specs.declared.limits.TheConstants.{NAME_BYTES}
 use Rattle.tac_io.specs.declared.memory.files.MemFile.{MemFile}
 

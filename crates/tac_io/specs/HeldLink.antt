@@ -1,7 +1,5 @@
 -- A link in memory that gives line by line, as its clauses show it.
-use Rattle.std.specs.Prelude.{◌≡◌, ℕ, Bool, MatchBool, Some, max, min}
-use Rattle.std.specs.Option.{option_map}
-use Rattle.std.specs.declared.option.Option.{Option}
+use Rattle.std.specs.Prelude.{◌≡◌, ℕ, Bool, MatchBool, Some, max, min, option_map, Option}
 use Rattle.tac_io.specs.Calls.{one_call_more}
 use Rattle.tac_io.specs.LineText.{line_length}
 use Rattle.tac_io.specs.Looks.{SawEnough, SawFewer}

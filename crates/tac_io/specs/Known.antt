@@ -1,7 +1,5 @@
 -- What is known of the content of an object of the outside: None, before and after each call, if it does not show it.
-use Rattle.std.specs.Prelude.{◌≡◌, ℕ, ◌<◌, ◌≤◌, List, [], ◌∷◌, ◌++◌, length, take, None, Some, IfSome, Result, MatchResult}
-use Rattle.std.specs.Option.{option_map}
-use Rattle.std.specs.declared.option.Option.{Option}
+use Rattle.std.specs.Prelude.{◌≡◌, ℕ, ◌<◌, ◌≤◌, List, [], ◌∷◌, ◌++◌, length, take, None, Some, IfSome, Result, MatchResult, option_map, Option}
 
 -- what is known, with more at its end
 abbrev pub known_then : {A : Type 0} → Option (List A) → List A → Option (List A)

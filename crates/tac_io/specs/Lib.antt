@@ -20,3 +20,10 @@ pub mod LineAnswers
 pub mod AllAnswers
 pub mod AnswersInTurn
 pub mod Lines
+pub use Rattle.tac_io.specs.Counts.{HasCause, Rose}
+pub use Rattle.tac_io.specs.HeldBytes.{Fills, Gives, Held, LinkPlace}
+pub use Rattle.tac_io.specs.Known.{IsAtEnd, NotesFailure, Reads, Takes, failed_at, known_then, then_known}
+pub use Rattle.tac_io.specs.LineAnswers.{Answers, HasLineCause, IsDecided, IsKind, IsNext}
+pub use Rattle.tac_io.specs.LineText.{BeginsWithLine, has_end, line_length}
+pub use Rattle.tac_io.specs.LinkCalls.{GaveBytes, LastReadFails, LastWriteFails, NoReadFails, NoWriteFails, OnlySends, ReadsNothing, SendsNothing}
+pub use Rattle.tac_io.specs.States.{FilesState, LinkState, LinksState, MaySelect, SinkState, TickerState}

@@ -1,6 +1,5 @@
 -- A link's lines, as their clauses show them.
-use Rattle.std.specs.Prelude.{◌≡◌, ℕ}
-use Rattle.std.specs.declared.option.Option.{Option}
+use Rattle.std.specs.Prelude.{◌≡◌, ℕ, Option}
 use Rattle.tac_io.specs.HeldBytes.{Held, LinkPlace}
 use Rattle.tac_io.specs.States.{LinkState}
 use Rattle.tac_io.specs.declared.line_got.LineGot.{LineGot}

@@ -1,6 +1,5 @@
 -- Files in memory, as their clauses show them.
-use Rattle.std.specs.Prelude.{ℕ, List, Bool, map, min, max, length, string_bytes, is_some}
-use Rattle.std.specs.declared.option.Option.{Option}
+use Rattle.std.specs.Prelude.{ℕ, List, Bool, map, min, max, length, string_bytes, is_some, Option}
 use Rattle.tac_io.specs.Calls.{Calls}
 use Rattle.tac_io.specs.FileList.{content_of, selected_left}
 use Rattle.tac_io.specs.declared.memory.files.MemFiles.{MemFiles}

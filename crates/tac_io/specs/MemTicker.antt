@@ -1,6 +1,5 @@
 -- A ticker in memory, as its clauses show it.
-use Rattle.std.specs.Prelude.{ℕ, List}
-use Rattle.std.specs.declared.option.Option.{Option}
+use Rattle.std.specs.Prelude.{ℕ, List, Option}
 use Rattle.tac_io.specs.Calls.{Calls}
 use Rattle.tac_io.specs.States.{TickWait}
 use Rattle.tac_io.specs.declared.memory.ticker.MemTicker.{MemTicker}

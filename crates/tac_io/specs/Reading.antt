@@ -1,6 +1,5 @@
 -- What reading a whole file answers.
-use Rattle.std.specs.Prelude.{◌≡◌, ℕ, ◌<◌, List, length, Some, IfSome, Result, Ok, Err}
-use Rattle.std.specs.declared.option.Option.{Option}
+use Rattle.std.specs.Prelude.{◌≡◌, ℕ, ◌<◌, List, length, Some, IfSome, Result, Ok, Err, Option}
 use Rattle.tac_io.specs.Counts.{Rose}
 use Rattle.tac_io.specs.declared.reading.FileFault.{FileFault}
 use Rattle.tac_io.specs.declared.reading.FileFault.TheVariants.{Failed, TooLong, Memory}

@@ -1,10 +1,6 @@
 // A buffer with the last line, and the bytes that no line has yet.
 ghost use Rattle.std.specs.Prelude.{◌≡◌, [], ◌+◌, ◌<◌, ◌≤◌, IfSome, IfNone, IfOk, length, take, drop, false, MatchResult};
-ghost use Rattle.tac_io.specs.Counts.{HasCause};
-ghost use Rattle.tac_io.specs.HeldBytes.{Fills};
-ghost use Rattle.tac_io.specs.LineText.{has_end, BeginsWithLine};
-ghost use Rattle.tac_io.specs.LinkCalls.{SendsNothing};
-ghost use Rattle.tac_io.specs.Known.{known_then, then_known, IsAtEnd, NotesFailure};
+ghost use Rattle.tac_io.specs.{HasCause, Fills, has_end, BeginsWithLine, SendsNothing, known_then, then_known, IsAtEnd, NotesFailure};
 
 use crate::{Failed, Link};
 use std::marker::Model;

@@ -1,8 +1,6 @@
 // Files of the outside.
 ghost use Rattle.std.specs.Prelude.{◌≡◌, ◌∷◌, [], ◌<◌, ◌≤◌, length, IsTrue, IfSome, OnOk, OnErr, IsSome, MatchResult};
-ghost use Rattle.tac_io.specs.Counts.{HasCause};
-ghost use Rattle.tac_io.specs.States.{FilesState, MaySelect};
-ghost use Rattle.tac_io.specs.Known.{Reads, known_then};
+ghost use Rattle.tac_io.specs.{HasCause, FilesState, MaySelect, Reads, known_then};
 
 use crate::Failed;
 

@@ -1,8 +1,7 @@
 // A link, line by line.
 ghost use Rattle.std.specs.Prelude.{◌≡◌, [], ◌<◌, ◌≤◌, length, true, false, MatchBool, Some, None};
 ghost use Rattle.tac_base.specs.declared.limits.TheConstants.{LINK_BYTES};
-ghost use Rattle.tac_io.specs.LineAnswers.{Answers, HasLineCause, IsDecided, IsKind};
-ghost use Rattle.tac_io.specs.LinkCalls.{OnlySends, SendsNothing};
+ghost use Rattle.tac_io.specs.{Answers, HasLineCause, IsDecided, IsKind, OnlySends, SendsNothing};
 
 use crate::buffer::Buffer;
 use crate::line_got::LineGot;

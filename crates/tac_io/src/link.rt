@@ -1,9 +1,6 @@
 // A link of the outside.
 ghost use Rattle.std.specs.Prelude.{◌≡◌, ◌<◌, length, take, MatchResult};
-ghost use Rattle.tac_io.specs.Counts.{HasCause};
-ghost use Rattle.tac_io.specs.LinkCalls.{ReadsNothing, SendsNothing};
-ghost use Rattle.tac_io.specs.States.{LinkState};
-ghost use Rattle.tac_io.specs.Known.{NotesFailure, Reads, Takes, known_then};
+ghost use Rattle.tac_io.specs.{HasCause, ReadsNothing, SendsNothing, LinkState, NotesFailure, Reads, Takes, known_then};
 
 use crate::Failed;
 

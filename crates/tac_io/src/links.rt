@@ -1,8 +1,6 @@
 // The links of the outside.
 ghost use Rattle.std.specs.Prelude.{◌≡◌, ◌∷◌, [], IsTrue, IfSome, MatchOption, MatchResult};
-ghost use Rattle.tac_io.specs.Counts.{HasCause};
-ghost use Rattle.tac_io.specs.States.{LinksState};
-ghost use Rattle.tac_io.specs.Known.{IsAtEnd, known_then, then_known};
+ghost use Rattle.tac_io.specs.{HasCause, LinksState, IsAtEnd, known_then, then_known};
 
 use crate::{Failed, Link};
 

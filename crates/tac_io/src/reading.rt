@@ -1,9 +1,7 @@
 // Whole files.
 ghost use Rattle.std.specs.Prelude.{◌≡◌, ◌<◌, ◌≤◌, ◌+◌, [], ◌∷◌, ℕ, length, take, drop, vec_len, IsTrue, IfSome, IfOk, OnOk, OnErr, IsErrOf, MatchResult};
-ghost use Rattle.tac_io.specs.Counts.{HasCause};
+ghost use Rattle.tac_io.specs.{HasCause, MaySelect, IsAtEnd, known_then, then_known};
 ghost use Rattle.tac_io.specs.Reading.{HasFileCause, IsFile, IsTooLong};
-ghost use Rattle.tac_io.specs.States.{MaySelect};
-ghost use Rattle.tac_io.specs.Known.{IsAtEnd, known_then, then_known};
 
 use crate::{Failed, Files};
 use std::alloc::{AllocError, Global};

@@ -1,8 +1,6 @@
 // A sink of the outside.
 ghost use Rattle.std.specs.Prelude.{◌≡◌, ◌<◌, length};
-ghost use Rattle.tac_io.specs.Counts.{HasCause};
-ghost use Rattle.tac_io.specs.States.{SinkState};
-ghost use Rattle.tac_io.specs.Known.{NotesFailure, Takes};
+ghost use Rattle.tac_io.specs.{HasCause, SinkState, NotesFailure, Takes};
 
 use crate::Failed;
 

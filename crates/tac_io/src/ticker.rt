@@ -1,11 +1,7 @@
 // A ticker of the outside.
-ghost use Rattle.std.specs.Prelude.{◌≡◌, ◌∷◌, [], ◌<◌, ℕ, length, IfSome, MatchResult, is_err};
-ghost use Rattle.std.specs.Option.{option_map};
-ghost use Rattle.std.specs.declared.option.Option.TheVariants.{Some};
+ghost use Rattle.std.specs.Prelude.{◌≡◌, ◌∷◌, [], ◌<◌, ℕ, length, IfSome, MatchResult, is_err, option_map, Some};
 ghost use Rattle.tac_base.specs.declared.limits.TheConstants.{TICKS};
-ghost use Rattle.tac_io.specs.Counts.{HasCause};
-ghost use Rattle.tac_io.specs.States.{TickerState};
-ghost use Rattle.tac_io.specs.Known.{known_then};
+ghost use Rattle.tac_io.specs.{HasCause, TickerState, known_then};
 
 use std::rt::Clock;
 use std::sync::Wait;

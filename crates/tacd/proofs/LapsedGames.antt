@@ -1,20 +1,8 @@
 -- The code of a game whose log was written.
-use Rattle.std.proofs.Common.{◌≡◌, ℕ, ◌<◌, Bool, true, false, List, zero, suc, refl, sym, subst, arith}
-use Rattle.std.specs.Prelude.{◌==◌, MatchBool, nat_lt}
+use Rattle.std.proofs.Common.{◌≡◌, ℕ, ◌<◌, Bool, true, false, List, zero, suc, refl, sym, subst, arith, ◌==◌, MatchBool, nat_lt}
 use Rattle.std.proofs.lemmas.Bool.Decides.{nat_tests}
-use Rattle.tac_io.specs.States.{SinkState}
-use Rattle.tac_io.specs.Taken.{TookWhole, TookPart}
-use Rattle.game_text.specs.Games.{GameFile}
-use Rattle.line_protocol.specs.Heads.{head_of}
+use Rattle.tacd.specs.{SinkState, TookWhole, TookPart, GameFile, head_of, Code, Success, code_number, Memory, Outcome, Done, Lapsed, Unsound, Stopped, Unread, Unwritten, Refused, Reports, missed_of, IsTextOfPlayed, LogAllows, WritesLog, lapsed_code}
 use Rattle.tacd.specs.declared.answer.Played.{Played}
-use Rattle.tac_commands.specs.declared.code.Code.{Code}
-use Rattle.tac_commands.specs.declared.code.Code.TheVariants.{Success}
-use Rattle.tac_commands.specs.Codes.{code_number}
-use Rattle.tac_commands.specs.declared.refusals.Refusal.TheVariants.{Memory}
-use Rattle.tac_commands.specs.Outcomes.{Outcome, Done, Lapsed, Unsound, Stopped, Unread, Unwritten, Refused}
-use Rattle.tac_commands.specs.Reporting.{Reports}
-use Rattle.game_run.specs.Outcomes.{missed_of}
-use Rattle.tacd.specs.Finishing.{IsTextOfPlayed, LogAllows, WritesLog, lapsed_code}
 
 abbrev missed : Played → ℕ
 missed played = missed_of (head_of played.head)

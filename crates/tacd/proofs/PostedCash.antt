@@ -1,31 +1,20 @@
 -- The cash in a sheet is what the posts add up to, in each game that was played over links.
-use Rattle.std.proofs.Common.{◌≡◌, ℕ, ◌≤◌, List, [], ◌∷◌, ◌++◌, map, fold, refl, sym, ap, ◌∙◌, subst, inl, inr, arith, ℤ, pos, ◌+ℤ◌, Option, Some, None}
-use Rattle.std.specs.Prelude.{reverse, IfSome}
+use Rattle.std.proofs.Common.{◌≡◌, ℕ, ◌≤◌, List, [], ◌∷◌, ◌++◌, map, fold, refl, sym, ap, ◌∙◌, subst, inl, inr, arith, ℤ, pos, ◌+ℤ◌, Option, Some, None, reverse, IfSome}
 use Rattle.std.specs.Global.{Vec}
 use Rattle.std.proofs.lemmas.Int.{ints}
 use Rattle.std.proofs.lemmas.List.{reverse-append}
 use Rattle.std.proofs.lemmas.List.Concat.{flat_map-append}
 use Rattle.tac_base.specs.declared.calls.Trade.{Trade}
-use Rattle.game_text.specs.Games.{GameFile}
-use Rattle.auction_rules.specs.History.{Entry}
+use Rattle.tacd.specs.Prelude.{GameFile, Entry, AuctionHistory, LinkState, HostedGame, IsLegalGame, Outcome, Outside, Service, IsCashOfPosts}
 use Rattle.auction_rules.specs.Effects.{all_trades, dollars}
 use Rattle.trade_ledger.specs.CashHistory.{cash_total}
 use Rattle.trade_ledger.specs.Posts.{trades_of_all}
 use Rattle.trade_ledger.proofs.Matching.{dollars-append, matched_totals}
-use Rattle.auction_core.specs.Auctions.{AuctionHistory}
 use Rattle.auction_core.specs.ClosedGame.{ClosedGame}
 use Rattle.score_sheet.specs.Settlement.{cash_gained}
-use Rattle.tac_io.specs.States.{LinkState}
-use Rattle.game_run.specs.Hosted.{HostedGame}
-use Rattle.game_run.specs.PlayedGame.{IsLegalGame}
 use Rattle.tacd.specs.declared.answer.Answer.{Answer}
 use Rattle.tacd.specs.declared.answer.Played.{Played}
-use Rattle.tac_commands.specs.Outcomes.{Outcome}
-use Rattle.tac_commands.specs.Outsides.{Outside}
-use Rattle.tac_commands.specs.Services.{Service}
-use Rattle.tac_commands.specs.Cash.{IsCashOfPosts}
-use Rattle.tacd.specs.Service.{ServeAllows, at_pace}
-use Rattle.tacd.specs.Finishing.{hosted_by}
+use Rattle.tacd.specs.{ServeAllows, at_pace, hosted_by}
 use Rattle.tacd.proofs.ServiceCauses.{IsServedOr}
 
 -- the order of the entries does not matter

@@ -1,17 +1,15 @@
 -- Each seat is given once, and a seat is taken exactly if it was given.
-use Rattle.std.proofs.Common.{◌≡◌, ℕ, ◌+◌, ◌<◌, ◌≤◌, Bool, true, false, cond, List, [], ◌∷◌, length, get_or, set, refl, sym, ap, ◌∙◌, subst, arith, eq-eqb, ne_eqb, length-set, filter}
-use Rattle.std.specs.Prelude.{◌||◌, nat_lt}
-use Rattle.std.specs.List.{AllByRecursion, fold}
+use Rattle.std.proofs.Common.{◌≡◌, ℕ, ◌+◌, ◌<◌, ◌≤◌, Bool, true, false, cond, List, [], ◌∷◌, length, get_or, set, refl, sym, ap, ◌∙◌, subst, arith, eq-eqb, ne_eqb, filter, ◌||◌, nat_lt, fold, get_or-set_same, get_or-set_other}
+use Rattle.std.specs.List.{AllByRecursion}
 use Rattle.std.proofs.lemmas.Bool.Decides.{nat_tests}
-use Rattle.std.proofs.lemmas.List.{get_or-set_same, get_or-set_other}
 use Rattle.std.proofs.lemmas.List.Sums.{sum_by-cons}
+use Rattle.std.proofs.lemmas.Bool.{or_right}
 use mathlib.Core.Logic.{dite}
 use native.Mathlib.Decide.{ℕ_discrete}
-use Rattle.line_protocol.specs.declared.admission.Verdict.{Verdict}
-use Rattle.line_protocol.specs.declared.admission.Verdict.TheVariants.{Seated, Syntax, WrongWord, Taken, Lost}
+use Rattle.tacd.specs.Prelude.{Verdict, Seated, Syntax, WrongWord, Taken, Lost, gives_seat, seatings}
 use Rattle.agent_gate.specs.Gates.{Seats, seats_after}
 use Rattle.game_run.specs.Arriving.{HoldsInTurn}
-use Rattle.log_text.specs.SoundLog.{gives_seat, seatings}
+use Rattle.game_run.proofs.KeptSeats.{as_many_seats}
 
 -- an agent's seat is taken
 abbrev pub is_taken : Seats → ℕ → Bool
@@ -23,10 +21,6 @@ seatings_more verdict verdicts agent = sum_by-cons (λ (v : Verdict). cond (give
 
 -- ---- a seat is taken if it was taken before, or given
 
-or_true : (b : Bool) → (b || true) ≡ true
-or_true true = refl
-or_true false = refl
-
 or_false : (b : Bool) → b ≡ (b || false)
 or_false true = refl
 or_false false = refl
@@ -34,24 +28,17 @@ or_false false = refl
 taken_next : (seats : Seats) (verdict : Verdict) (agent : ℕ) → agent < length seats.taken → is_taken (seats_after seats verdict) agent ≡ (is_taken seats agent || gives_seat agent verdict)
 taken_next seats (Seated seat) agent inside = dite (ℕ_discrete seat agent)
     (λ is. let there : get_or (set seats.taken seat true) agent false ≡ true = ap (λ (n : ℕ). get_or (set seats.taken n true) agent false) is ∙ get_or-set_same seats.taken agent true false inside in
-    there ∙ (sym (or_true (is_taken seats agent)) ∙ ap (λ (b : Bool). is_taken seats agent || b) (sym (eq-eqb seat agent is))))
+    there ∙ (sym (or_right (is_taken seats agent) true refl) ∙ ap (λ (b : Bool). is_taken seats agent || b) (sym (eq-eqb seat agent is))))
     (λ ne. get_or-set_other seats.taken seat agent true false (λ is. ne (sym is)) ∙ (or_false (is_taken seats agent) ∙ ap (λ (b : Bool). is_taken seats agent || b) (sym (ne_eqb seat agent ne))))
 taken_next seats Syntax agent inside = or_false (is_taken seats agent)
 taken_next seats WrongWord agent inside = or_false (is_taken seats agent)
 taken_next seats Taken agent inside = or_false (is_taken seats agent)
 taken_next seats Lost agent inside = or_false (is_taken seats agent)
 
-length_next : (seats : Seats) (verdict : Verdict) → length (seats_after seats verdict).taken ≡ length seats.taken
-length_next seats (Seated seat) = length-set seats.taken seat true
-length_next seats Syntax = refl
-length_next seats WrongWord = refl
-length_next seats Taken = refl
-length_next seats Lost = refl
-
 pub taken_after : (seats : Seats) (verdicts : List Verdict) (agent : ℕ) → agent < length seats.taken → is_taken (fold seats_after seats verdicts) agent ≡ (is_taken seats agent || nat_lt 0 (seatings verdicts agent))
 taken_after seats [] agent inside = or_false (is_taken seats agent)
 taken_after seats (verdict ∷ verdicts) agent inside =
-    taken_after (seats_after seats verdict) verdicts agent (subst (λ (n : ℕ). agent < n) (sym (length_next seats verdict)) inside)
+    taken_after (seats_after seats verdict) verdicts agent (subst (λ (n : ℕ). agent < n) (sym (as_many_seats seats verdict)) inside)
     ∙ (ap (λ (b : Bool). b || nat_lt 0 (seatings verdicts agent)) (taken_next seats verdict agent inside)
     ∙ (regroup (is_taken seats agent) (gives_seat agent verdict) (seatings verdicts agent)
     ∙ ap (λ (n : ℕ). is_taken seats agent || nat_lt 0 n) (sym (seatings_more verdict verdicts agent))))
@@ -76,7 +63,7 @@ module _ {A B : Type 0} (Holds : Seats → Verdict → A → B → Type 0) (free
   given_once seats (before ∷ befores) [] afters agent inside admitted = absurd admitted
   given_once seats (before ∷ befores) (verdict ∷ verdicts) [] agent inside admitted = absurd admitted
   given_once seats (before ∷ befores) (verdict ∷ verdicts) (after ∷ afters) agent inside admitted =
-      let later = given_once (seats_after seats verdict) befores verdicts afters agent (subst (λ (n : ℕ). agent < n) (sym (length_next seats verdict)) inside) admitted.1 in
+      let later = given_once (seats_after seats verdict) befores verdicts afters agent (subst (λ (n : ℕ). agent < n) (sym (as_many_seats seats verdict)) inside) admitted.1 in
       let here = one_next (is_taken seats agent) (gives_seat agent verdict) (is_taken (seats_after seats verdict) agent) (taken_next seats verdict agent inside) (free_there verdict admitted.0) in
       let more = seatings_more verdict verdicts agent in
       omega (arith, later, here, more)

@@ -1,44 +1,20 @@
 -- The links of a served game are links of its log, which is vouched for by them.
-use Rattle.std.proofs.Common.{◌≡◌, ℕ, ◌<◌, List, [], take, None, Some, refl, sym, ap, ◌∙◌, subst, arith, inl, inr}
-use Rattle.std.specs.Prelude.{◌⊎◌, ◌==◌, Bool, false, MatchBool, Option}
-use Rattle.game_text.specs.Games.{GameFile}
-use Rattle.auction_core.specs.Auctions.{AuctionHistory}
-use Rattle.score_sheet.specs.Sheets.{Scored}
-use Rattle.tac_io.specs.States.{FilesState, LinkState, LinksState}
-use Rattle.tac_io.specs.Taken.{TookWhole}
-use Rattle.line_protocol.specs.declared.admission.Verdict.TheVariants.{Seated}
+use Rattle.std.proofs.Common.{◌≡◌, ℕ, ◌<◌, List, [], take, None, Some, refl, sym, ap, ◌∙◌, subst, arith, inl, inr, ◌⊎◌, ◌==◌, Bool, false, MatchBool, Option}
+use Rattle.tacd.specs.Prelude.{GameFile, AuctionHistory, Scored, FilesState, LinkState, LinksState, TookWhole, Seated, LoggedGame, Dialect, GameEnd, seats_given, HostedGame, IsSeated, IsGameEnd, PlayedGame, HasWelcome, IsLinkOfLog, IsVouched, fresh_link, Refusal, IsVouchedText, code_of, exit_text, Outcome, Done, Lapsed, Unsound, Stopped, Unread, Unwritten, Refused, refusal_end, Outside, IsCutShort, Reports, Runs, StopsAt, Service}
 use Rattle.line_protocol.specs.declared.saying.Said.{Said}
 use Rattle.line_protocol.specs.Heads.{Head, Serve, head_of}
-use Rattle.log_text.specs.LoggedGames.{LoggedGame}
-use Rattle.agent_gate.specs.Dialects.{Dialect}
-use Rattle.game_run.specs.declared.run.GameEnd.{GameEnd}
-use Rattle.game_run.specs.Admission.{seats_given}
-use Rattle.game_run.specs.Hosted.{HostedGame}
-use Rattle.game_run.specs.LinkRuns.{IsSeated}
-use Rattle.game_run.specs.Outcomes.{IsGameEnd}
-use Rattle.game_run.specs.PlayedGame.{PlayedGame}
-use Rattle.link_audit.specs.Links.{HasWelcome, IsLinkOfLog, IsVouched, fresh_link}
 use Rattle.link_audit.proofs.FarEnds.{vouched_from}
 use Rattle.link_audit.proofs.FreshLinks.{fresh}
 use Rattle.link_audit.proofs.OneLines.{HasNoEnd, json_line, said_line}
-use Rattle.tac_commands.specs.declared.refusals.Refusal.{Refusal}
 use Rattle.tac_commands.specs.declared.refusals.Refusal.TheVariants as refusals
 use Rattle.tac_commands.specs.declared.services.Form.{Form}
 use Rattle.tac_commands.specs.declared.services.Form.TheVariants.{Lines, Json}
 use Rattle.tac_commands.specs.{WritesDue, dialect_in, log_of_game, link_steps}
-use Rattle.tac_commands.specs.Allowed.{IsVouchedText}
-use Rattle.tac_commands.specs.Codes.{code_of, exit_text}
-use Rattle.tac_commands.specs.Outcomes.{Outcome, Done, Lapsed, Unsound, Stopped, Unread, Unwritten, Refused, refusal_end}
-use Rattle.tac_commands.specs.Outsides.{Outside}
-use Rattle.tac_commands.specs.Reporting.{IsCutShort, Reports}
-use Rattle.tac_commands.specs.Runs.{Runs, StopsAt}
-use Rattle.tac_commands.specs.Services.{Service}
 use Rattle.tac_commands.proofs.SoundLogs.{auctions_again}
 use Rattle.tac_commands.proofs.WrittenLogs.{read_again}
 use Rattle.tacd.specs.declared.answer.Answer.{Answer}
 use Rattle.tacd.specs.declared.answer.Played.{Played}
-use Rattle.tacd.specs.Service.{IsGameFile, IsLogOf, Serves, at_pace}
-use Rattle.tacd.specs.Finishing.{hosted_by}
+use Rattle.tacd.specs.{IsGameFile, IsLogOf, Serves, at_pace, hosted_by}
 use Rattle.tacd.specs.ServedLinks.{IsSeatedWith, IsVouchedBy, IsVouchedService, SaysYes, links_of, played_log}
 use Rattle.tacd.proofs.ServiceCauses.{IsServedOr}
 

@@ -1,27 +1,11 @@
 -- What the service of a game says of the codes.
-use Rattle.std.proofs.Common.{◌≡◌, ◌≢◌, ℕ, ◌<◌, [], ◌∷◌, refl, sym, ap, ◌∙◌, inl, inr, arith, Option, Some, None}
-use Rattle.std.specs.Prelude.{◌⊎◌, MatchOption}
+use Rattle.std.proofs.Common.{◌≡◌, ◌≢◌, ℕ, ◌<◌, [], ◌∷◌, refl, sym, ap, ◌∙◌, inl, inr, arith, Option, Some, None, ◌⊎◌, MatchOption}
 use Rattle.std.specs.Global.{Vec}
-use Rattle.tac_io.specs.Counts.{Rose}
-use Rattle.tac_io.specs.Known.{known_then}
-use Rattle.tac_io.specs.States.{LinkState, SinkState, LinksState, TickerState}
+use Rattle.tacd.specs.Prelude.{Rose, known_then, LinkState, SinkState, LinksState, TickerState, Game, LinkFault, Memory, Outcome, Done, Lapsed, Unsound, Stopped, Unread, Unwritten, Refused, code_of, Service, Allows, IsServiceEnd, LinkFaultExactly, ClockFaultExactly, Outside, WaitsForAll, HostedGame, IsGameEnd}
 use Rattle.tacd.specs.declared.answer.Answer.{Answer}
 use Rattle.tacd.specs.declared.answer.Played.{Played}
-use Rattle.tac_commands.specs.declared.file_kinds.FileKind.TheVariants.{Game}
-use Rattle.tac_commands.specs.declared.refusals.Refusal.TheVariants.{LinkFault, Memory}
-use Rattle.tac_commands.specs.Outcomes.{Outcome, Done, Lapsed, Unsound, Stopped, Unread, Unwritten, Refused}
-use Rattle.tac_commands.specs.Codes.{code_of}
 use Rattle.tac_commands.specs.Commands.{Serve}
-use Rattle.tac_commands.specs.Services.{Service}
-use Rattle.tac_commands.specs.Allowed.{Allows, IsServiceEnd}
-use Rattle.tac_commands.specs.Causes.{LinkFaultExactly, ClockFaultExactly}
-use Rattle.tac_commands.specs.Outsides.{Outside}
-use Rattle.clock_events.specs.Clocking.{WaitsForAll}
-use Rattle.line_protocol.specs.Heads.{head_of}
-use Rattle.game_run.specs.Hosted.{HostedGame}
-use Rattle.game_run.specs.Outcomes.{IsGameEnd}
-use Rattle.tacd.specs.Service.{HasNoGame, PlayedAllows, Serves, ServeAllows, at_pace}
-use Rattle.tacd.specs.Finishing.{hosted_by}
+use Rattle.tacd.specs.{HasNoGame, PlayedAllows, Serves, ServeAllows, at_pace, hosted_by}
 use Rattle.tac_commands.proofs.CodedOutcomes.{IsCoded, coded, explained_only}
 use Rattle.tac_commands.proofs.FileCauses.{no_link_refusal}
 

@@ -1,9 +1,8 @@
 -- The log of a game that was played over links is sound.
-use Rattle.std.proofs.Common.{◌≡◌, ℕ, suc, ◌+◌, ◌<◌, ◌≤◌, Bool, true, false, cond, List, [], ◌∷◌, length, map, take, get_or, replicate, refl, sym, ap, ◌∙◌, subst, arith, Option}
-use Rattle.std.specs.Prelude.{◌==◌, ◌||◌, nat_lt}
+use Rattle.std.proofs.Common.{◌≡◌, ℕ, suc, ◌+◌, ◌<◌, ◌≤◌, Bool, true, false, cond, List, [], ◌∷◌, length, map, take, get_or, replicate, refl, sym, ap, ◌∙◌, subst, arith, Option, ◌==◌, ◌||◌, nat_lt, length-take-le}
 use Rattle.std.specs.List.{list_any}
 use Rattle.std.specs.Global.{Vec}
-use Rattle.std.proofs.lemmas.List.{get_or-map, get_or-replicate, length-map, length-take-le}
+use Rattle.std.proofs.lemmas.List.{get_or-map, get_or-replicate, length-map}
 use Rattle.std.proofs.lemmas.List.Elements.{All-get_or}
 use Rattle.std.proofs.lemmas.List.FromFn.{get_or-map-range_with_len}
 use Rattle.std.proofs.lemmas.List.Sums.{count_by-le-length}
@@ -11,46 +10,27 @@ use mathlib.Core.Logic.{dite}
 use native.Mathlib.Decide.{dec_le}
 use Rattle.tac_base.specs.declared.calls.Call.{Call}
 use Rattle.tac_base.specs.Goods.{agents, clock}
-use Rattle.game_text.specs.Games.{GameFile}
+use Rattle.tacd.specs.{GameFile, Entry, AuctionHistory, Scored, Verdict, logged_text, seatings, IsService, IsSoundHead, WaitsForAll, IsSheetOf, free_seats, seats_given, CameTo, IsSeated, LinkState, LinksState, TickWait, TickerState, HostedGame, IsPlayedOver, IsGameEnd, missed_of, PlayedGame, IsPlayedBy, GameEnd, Outcome, Done, Lapsed, Unsound, Stopped, Unread, Unwritten, Refused, Memory, IsTextOfPlayed, WritesLog, IsLogOf, PlayedAllows}
 use Rattle.game_text.specs.Schedule.{clock_calls}
 use Rattle.auction_rules.specs.Setup.{Setup}
-use Rattle.auction_rules.specs.History.{Entry}
 use Rattle.auction_rules.specs.Legal.{Legal}
 use Rattle.turn_lock.specs.Part.{part_from, part}
 use Rattle.trade_ledger.specs.declared.cash_calls.CashEntry.{CashEntry}
-use Rattle.auction_core.specs.Auctions.{AuctionHistory}
 use Rattle.auction_core.specs.Setups.{setup_of}
-use Rattle.score_sheet.specs.Sheets.{Scored}
 use Rattle.line_protocol.specs.declared.admission.Cause.{Cause}
-use Rattle.line_protocol.specs.declared.admission.Verdict.{Verdict}
 use Rattle.line_protocol.specs.Heads.{Head, Serve, head_of}
-use Rattle.log_text.specs.LoggedGames.{logged_text}
 use Rattle.log_text.specs.SoundLog as sound
-use Rattle.log_text.specs.SoundLog.{seatings, IsService, IsSoundHead}
-use Rattle.clock_events.specs.Clocking.{WaitsForAll}
 use Rattle.game_log.specs.ShownGames.{IsShowable}
-use Rattle.game_log.specs.ScoredGames.{IsSheetOf}
 use Rattle.agent_gate.specs.Transcript.{IsTranscript}
 use Rattle.agent_gate.specs.Turns.{made_at}
-use Rattle.game_run.specs.Admission.{free_seats, seats_given, CameTo}
-use Rattle.game_run.specs.LinkRuns.{IsSeated}
-use Rattle.tac_io.specs.States.{LinkState, LinksState, TickWait, TickerState}
-use Rattle.game_run.specs.Hosted.{HostedGame}
-use Rattle.game_run.specs.Outcomes.{IsPlayedOver, IsGameEnd, missed_of}
-use Rattle.game_run.specs.PlayedGame.{PlayedGame, IsPlayedBy}
 use Rattle.game_run.specs.GameSessions.{caller_parts}
 use Rattle.game_run.proofs.ByIndex.{taken_in_turn}
 use Rattle.game_run.proofs.KeptSeats.{seat_was_free}
 use Rattle.game_run.proofs.Transcripts.{scheduled_in}
-use Rattle.game_run.specs.declared.run.GameEnd.{GameEnd}
 use Rattle.script_run.specs.LawfulGames.{closed_history, calls_by, IsLawfulGame}
-use Rattle.tac_commands.specs.Outcomes.{Outcome, Done, Lapsed, Unsound, Stopped, Unread, Unwritten, Refused}
 use Rattle.tac_commands.specs.SoundTexts.{log_of_game, EndsInSoundLog}
 use Rattle.tac_commands.proofs.SoundLogs.{text_is, ends_soundly}
 use Rattle.tacd.specs.declared.answer.Played.{Played}
-use Rattle.tac_commands.specs.declared.refusals.Refusal.TheVariants.{Memory}
-use Rattle.tacd.specs.Finishing.{IsTextOfPlayed, WritesLog}
-use Rattle.tacd.specs.Service.{IsLogOf, PlayedAllows}
 use Rattle.tacd.proofs.SeatedOnce.{is_taken, taken_after, given_once, same_kept}
 
 -- ---- a caller without a part has no entry

@@ -1,17 +1,11 @@
 -- The log of a game is written in two parts.
 use Rattle.std.proofs.Common.{◌++◌, refl, sym, subst, inl, inr, Ok, Err}
-use Rattle.tac_io.specs.States.{SinkState}
-use Rattle.game_text.specs.Games.{GameFile}
-use Rattle.game_log.specs.SheetText.{sheet_part}
+use Rattle.tacd.specs.{SinkState, GameFile, sheet_part, TookPart, TookWhole, Memory, EndsOrStops, LogAllows, first_part}
 use Rattle.game_log.specs.declared.fault.LogWriteFault.TheVariants as log
 use Rattle.game_log.proofs.Writing.{then_whole, then_some}
 use Rattle.game_log.specs.SheetWritten.{WritesSheet}
-use Rattle.tac_io.specs.Taken.{TookPart, TookWhole}
 use Rattle.tacd.specs.declared.answer.Played.{Played}
 use Rattle.tac_commands.specs.declared.ends.End.TheVariants as ends
-use Rattle.tac_commands.specs.declared.refusals.Refusal.TheVariants.{Memory}
-use Rattle.tac_commands.specs.Ends.{EndsOrStops}
-use Rattle.tacd.specs.Finishing.{LogAllows, first_part}
 
 -- a write of the first part failed
 pub cut_in_first : (game : GameFile) (played : Played) (s0 s1 : SinkState) → TookPart s0 s1 (first_part played) → EndsOrStops (LogAllows game played) s0 s1 ends.WriteFault

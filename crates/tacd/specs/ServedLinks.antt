@@ -1,28 +1,9 @@
 -- The links of a served game, and what its log says of them.
 use Rattle.std.specs.Prelude.{◌≡◌, ℕ, ◌≤◌, ◌⊎◌, List, Ok, Some, length, slice_get}
-use Rattle.tac_base.specs.declared.limits.TheConstants.{TEXT_BYTES}
-use Rattle.tac_io.specs.States.{FilesState, LinkState, LinksState}
-use Rattle.tac_io.specs.Taken.{TookWhole}
-use Rattle.game_text.specs.Games.{GameFile}
-use Rattle.score_sheet.specs.Sheets.{Scored}
-use Rattle.line_protocol.specs.declared.admission.Verdict.{Verdict}
-use Rattle.line_protocol.specs.declared.admission.Verdict.TheVariants.{Seated}
-use Rattle.line_protocol.specs.Heads.{head_of}
-use Rattle.log_text.specs.LoggedGames.{LoggedGame}
-use Rattle.agent_gate.specs.Dialects.{Dialect}
-use Rattle.game_run.specs.declared.run.GameEnd.{GameEnd}
-use Rattle.game_run.specs.Hosted.{HostedGame}
-use Rattle.game_run.specs.Outcomes.{IsGameEnd}
+use Rattle.tacd.specs.Prelude.{TEXT_BYTES, FilesState, LinkState, LinksState, TookWhole, GameFile, Scored, Verdict, Seated, head_of, LoggedGame, Dialect, GameEnd, HostedGame, IsGameEnd, HasBytes, HasWelcome, IsVouched, Log, Memory, read_as, Outcome, Done, Refused, Outside, Runs}
 use Rattle.link_audit.specs.declared.vouching.Vouching.{Vouching}
-use Rattle.link_audit.specs.Links.{HasBytes, HasWelcome, IsVouched}
 use Rattle.link_audit.specs.Vouchings.{IsYes}
-use Rattle.tac_commands.specs.declared.file_kinds.FileKind.TheVariants.{Log}
-use Rattle.tac_commands.specs.declared.refusals.Refusal.TheVariants.{Memory}
 use Rattle.tac_commands.specs.Allowed.{link_steps}
-use Rattle.tac_commands.specs.FileKinds.{read_as}
-use Rattle.tac_commands.specs.Outcomes.{Outcome, Done, Refused}
-use Rattle.tac_commands.specs.Outsides.{Outside}
-use Rattle.tac_commands.specs.Runs.{Runs}
 use Rattle.tac_commands.specs.Services.{Service, dialect_in}
 use Rattle.tac_commands.specs.SoundTexts.{log_of_game}
 use Rattle.tac_commands.specs.VouchingTexts.{vouching_text}

@@ -1,29 +1,12 @@
 -- What `serve` leaves: the game that was played, its log, the links and the ticker.
-use Rattle.std.specs.Prelude.{◌≡◌, ℕ, ◌<◌, ◌⊎◌, List, [], Ok, Err, Some, None, MatchOption}
+use Rattle.std.specs.Prelude.{◌≡◌, ℕ, ◌<◌, ◌⊎◌, List, [], Ok, Err, Some, None, MatchOption, option_map}
 use Rattle.std.specs.Global.{Vec}
-use Rattle.std.specs.Option.{option_map}
-use Rattle.tac_io.specs.Counts.{Rose}
+use Rattle.tacd.specs.Prelude.{Rose, LinkState, FilesState, GameFile, game_of, head_of, WaitsForAll, Scored, play_part, log_text, IsSheetOf, HostedGame, IsGameEnd, IsNotPlayed, Refusal, ReadFault, LinkFault, Memory, game_refusal, Outcome, Done, Lapsed, Stopped, Refused, Outside, Reports}
 use Rattle.tac_io.specs.Reading.{IsFile}
-use Rattle.tac_io.specs.States.{LinkState, FilesState}
 use Rattle.game_text.specs.declared.fault.GameFault.{GameFault}
-use Rattle.game_text.specs.Games.{GameFile, game_of}
-use Rattle.line_protocol.specs.Heads.{head_of}
-use Rattle.clock_events.specs.Clocking.{WaitsForAll}
-use Rattle.score_sheet.specs.Sheets.{Scored}
-use Rattle.game_log.specs.LogText.{play_part}
-use Rattle.game_log.specs.SheetText.{log_text}
-use Rattle.game_log.specs.ScoredGames.{IsSheetOf}
-use Rattle.game_run.specs.Hosted.{HostedGame}
-use Rattle.game_run.specs.Outcomes.{IsGameEnd, IsNotPlayed}
 use Rattle.tacd.specs.declared.answer.Answer.{Answer}
 use Rattle.tacd.specs.declared.answer.Played.{Played}
-use Rattle.tac_commands.specs.declared.refusals.Refusal.{Refusal}
-use Rattle.tac_commands.specs.declared.refusals.Refusal.TheVariants.{ReadFault, LinkFault, Memory}
-use Rattle.tac_commands.specs.FileKinds.{game_refusal}
-use Rattle.tac_commands.specs.Outcomes.{Outcome, Done, Lapsed, Stopped, Refused}
-use Rattle.tac_commands.specs.Outsides.{Outside}
 use Rattle.tac_commands.specs.Services.{Service, dialect_in}
-use Rattle.tac_commands.specs.Reporting.{Reports}
 use Rattle.tacd.specs.SoundLogs.{IsSoundLog}
 
 -- ---- the game file

@@ -1,8 +1,6 @@
 -- The log that a service writes is sound.
 use Rattle.std.specs.Prelude.{ℕ, List, []}
-use Rattle.game_text.specs.Games.{GameFile}
-use Rattle.score_sheet.specs.Sheets.{Scored}
-use Rattle.line_protocol.specs.Heads.{head_of}
+use Rattle.tacd.specs.Prelude.{GameFile, Scored, head_of}
 use Rattle.tac_commands.specs.SoundTexts.{log_of_game, EndsInSoundLog}
 use Rattle.tacd.specs.declared.answer.Played.{Played}
 

@@ -1,18 +1,9 @@
 // Laws of served games and their links.
 ghost use Rattle.std.specs.Prelude.{◌≡◌, ◌⊎◌, ℕ, List};
-ghost use Rattle.tac_io.specs.States.{LinksState};
-ghost use Rattle.game_text.specs.Games.{GameFile};
-ghost use Rattle.score_sheet.specs.Sheets.{Scored};
-ghost use Rattle.line_protocol.specs.Heads.{head_of};
-ghost use Rattle.game_run.specs.declared.run.GameEnd.{GameEnd};
-ghost use Rattle.game_run.specs.Outcomes.{IsGameEnd};
-ghost use Rattle.link_audit.specs.Links.{IsLinkOfLog};
-ghost use Rattle.tac_commands.specs.Outsides.{Outside};
-ghost use Rattle.tac_commands.specs.Services.{Service};
+ghost use Rattle.tacd.specs.Prelude.{LinksState, GameFile, Scored, head_of, GameEnd, IsGameEnd, IsLinkOfLog, Outside, Service};
 ghost use Rattle.tac_commands.specs.SoundTexts.{log_of_game};
 ghost use Rattle.tacd.specs.declared.answer.Answer.{Answer};
-ghost use Rattle.tacd.specs.Service.{Serves};
-ghost use Rattle.tacd.specs.Finishing.{hosted_by};
+ghost use Rattle.tacd.specs.{Serves, hosted_by};
 ghost use Rattle.tacd.specs.ServedLinks.{IsSeatedWith, IsVouchedService, links_of};
 
 use tac_io::Link;

@@ -1,18 +1,7 @@
 // The command that serves a game over links.
 ghost use Rattle.std.specs.Prelude.{◌≡◌, ◌∷◌, [], IfSome};
-ghost use Rattle.tac_io.specs.Known.{known_then};
-ghost use Rattle.tac_commands.specs.Codes.{code_number};
-ghost use Rattle.tac_commands.specs.Commands.{seen_service};
-ghost use Rattle.tac_commands.specs.Ends.{EndsOrStops};
-ghost use Rattle.tac_commands.specs.Reporting.{Reports};
-ghost use Rattle.tac_commands.specs.Outcomes.{Outcome};
+ghost use Rattle.tacd.specs.{known_then, code_number, seen_service, EndsOrStops, Reports, Outcome, outside_of, hosted_game, missed_of, FilesState, MaySelect, head_of, at_pace, Serves, ServesGame};
 ghost use Rattle.tacd.specs.Finishing as finishing;
-ghost use Rattle.tac_commands.specs.Outsides.{outside_of};
-ghost use Rattle.game_run.specs.Hosted.{hosted_game};
-ghost use Rattle.game_run.specs.Outcomes.{missed_of};
-ghost use Rattle.tac_io.specs.States.{FilesState, MaySelect};
-ghost use Rattle.tacd.specs.Service.{at_pace, Serves, ServesGame};
-ghost use Rattle.line_protocol.specs.Heads.{head_of};
 ghost use Rattle.tac_io.specs.Written.{WritesPiece};
 
 use crate::answer::{Answer, Played, coded};
@@ -126,6 +115,7 @@ fn serve_game<
                 links: ended,
             },
         ) => {
+            // The law that what was played keeps to the ranges of logs.
             log_ranges(game, &head, &closed);
             let played = Played { head, closed };
             let code = finish_played(rt, alloc, game, &played, out);

@@ -1,8 +1,7 @@
 // The standard output of the system.
 ghost use Rattle.std.specs.Prelude.{◌≡◌, ◌<◌, None, length};
 ghost use Rattle.std.specs.Io.KnownBytes.{WriteAppends};
-ghost use Rattle.tac_io.specs.Counts.{HasCause};
-ghost use Rattle.tac_io.specs.Known.{NotesFailure, Takes};
+ghost use Rattle.tacd.specs.Prelude.{HasCause, NotesFailure, Takes};
 
 use std::io::Write;
 use tac_io::{Failed, Sink};

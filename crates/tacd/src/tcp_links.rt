@@ -1,8 +1,7 @@
 // The links of the system: TCP connections.
 ghost use Rattle.std.specs.Prelude.{◌≡◌, None, IfOk, IsOk, IsSome};
 ghost use Rattle.std.specs.Io.KnownBytes.{ReadConsumes, WriteAppends};
-ghost use Rattle.tac_io.specs.Counts.{HasCause};
-ghost use Rattle.tac_io.specs.Known.{NotesFailure, Reads, Takes};
+ghost use Rattle.tacd.specs.Prelude.{HasCause, NotesFailure, Reads, Takes};
 
 use std::io::{ErrorKind, Read, Write};
 use std::net::{Net, TcpListener, TcpStream};

@@ -1,17 +1,8 @@
 // The top call.
 ghost use Rattle.std.specs.Prelude.{◌≡◌, ◌≤◌, [], None, string_len, All, IfSome};
-ghost use Rattle.tac_base.specs.declared.limits.TheConstants.{NAME_BYTES};
-ghost use Rattle.tac_commands.specs.Causes.{ClockFaultExactly, GameRefusedExactly, IsComplete, LinkFaultExactly, ReadFaultExactly, TextRefusedExactly, UnsoundExactly, UsageExactly, WriteFaultExactly};
-ghost use Rattle.tac_commands.specs.Cash.{IsCashOfPosts};
-ghost use Rattle.tac_commands.specs.Commands.{command_of};
-ghost use Rattle.tac_commands.specs.Services.{bytes_of_words, service_of};
-ghost use Rattle.tac_commands.specs.Allowed.{Allows};
-ghost use Rattle.tac_commands.specs.Reporting.{Reports};
-ghost use Rattle.tac_commands.specs.Outcomes.{Outcome};
+ghost use Rattle.tacd.specs.{NAME_BYTES, ClockFaultExactly, GameRefusedExactly, IsComplete, LinkFaultExactly, ReadFaultExactly, TextRefusedExactly, UnsoundExactly, UsageExactly, WriteFaultExactly, IsCashOfPosts, command_of, bytes_of_words, service_of, Allows, Reports, Outcome, outside_of, Serves};
 ghost use Rattle.tac_commands.specs.Prompt.{IsPromptCommand};
 ghost use Rattle.tac_commands.specs.Selected.{Selects};
-ghost use Rattle.tac_commands.specs.Outsides.{outside_of};
-ghost use Rattle.tacd.specs.Service.{Serves};
 
 use crate::answer::{Answer, coded};
 use crate::serve_command::serve;

@@ -1,13 +1,9 @@
 -- Taking line after line off a text.
-use Rattle.std.proofs.Common.{◌≡◌, ℕ, zero, suc, ◌+◌, ◌-◌, ◌<◌, ◌≤◌, Bool, true, false, eqb, List, [], ◌∷◌, ◌++◌, Option, Some, None, length, take, refl, sym, ap, ◌∙◌, append_assoc, arith}
-use Rattle.std.specs.Prelude.{◌&&◌, option_map}
+use Rattle.std.proofs.Common.{◌≡◌, ℕ, zero, suc, ◌+◌, ◌-◌, ◌<◌, ◌≤◌, Bool, true, false, eqb, List, [], ◌∷◌, ◌++◌, Option, Some, None, length, take, refl, sym, ap, ◌∙◌, append_assoc, arith, ◌&&◌, option_map, eq-eqb, eqb-true, length-append, append-nil}
 use Rattle.std.specs.List.{join_with_byte}
 use Rattle.std.proofs.Math.Seq.{take-append_seam}
-use Rattle.std.proofs.lemmas.Bool.{eq-eqb, eqb-true}
-use Rattle.std.proofs.lemmas.List.{length-append, append-nil}
 use Rattle.std.proofs.lemmas.List.Splits.{join_with_byte-slice_split}
-use Rattle.text_forms.specs.Words.{parts_of}
-use Rattle.text_forms.specs.Lines.{NumberedLine, Remaining, is_comment, lines_from, with_line, block_in}
+use Rattle.text_forms.specs.{parts_of, NumberedLine, Remaining, is_comment, lines_from, with_line, block_in}
 use Rattle.text_forms.specs.Blocks.{block_at}
 use Rattle.text_forms.proofs.Stepping.{has_part, chosen, one_line}
 
@@ -104,7 +100,7 @@ none_taken skips text count = record {
   same = λ number. let e : number + (count - count) ≡ number = omega arith in rw e (behind_nothing (block_at skips number count text));
 }
 
-cut_whole : (rest line after : List ℕ) → parts_of 10 rest ≡ line ∷ parts_of 10 after → rest ≡ line ++ 10 ∷ after
+pub cut_whole : (rest line after : List ℕ) → parts_of 10 rest ≡ line ∷ parts_of 10 after → rest ≡ line ++ 10 ∷ after
 cut_whole rest line after cut =
     let h = has_part 10 after in
     let joined : join_with_byte 10 (line ∷ parts_of 10 after) ≡ line ++ 10 ∷ join_with_byte 10 (parts_of 10 after) = rw h.2 refl in

@@ -1,8 +1,6 @@
 -- Cutting a list at its first separator.
-use Rattle.std.proofs.Common.{◌≡◌, ℕ, suc, ◌+◌, ◌≤◌, ◌-◌, Bool, true, false, cond, not, ltb, List, [], ◌∷◌, Some, None, length, take, drop, refl, subst, arith}
-use Rattle.std.specs.Prelude.{◌==◌, codes}
-use Rattle.std.specs.List.{slice_split, position_or_len, position}
-use Rattle.std.proofs.lemmas.Bool.{ltb-true, ltb-false}
+use Rattle.std.proofs.Common.{◌≡◌, ℕ, suc, ◌+◌, ◌≤◌, ◌-◌, Bool, true, false, cond, not, ltb, List, [], ◌∷◌, Some, None, length, take, drop, refl, subst, arith, ◌==◌, codes, position, ltb-true, ltb-false}
+use Rattle.std.specs.List.{slice_split, position_or_len}
 use Rattle.std.proofs.lemmas.Option.{cond_some}
 use Rattle.std.proofs.lemmas.List.{take_rest}
 use Rattle.std.proofs.lemmas.List.Splits.{slice_split_first}

@@ -1,10 +1,7 @@
 -- Printing parts one after the other.
-use Rattle.std.proofs.Common.{◌≡◌, ℕ, ◌+◌, ◌<◌, List, [], ◌∷◌, ◌++◌, length, take, get_or, sym, ap, ◌∙◌, append_assoc, arith, add-one}
-use Rattle.std.proofs.Math.Seq.{take-suc}
-use Rattle.std.proofs.lemmas.List.{append-nil, length-take-le}
+use Rattle.std.proofs.Common.{◌≡◌, ℕ, ◌+◌, ◌<◌, List, [], ◌∷◌, ◌++◌, length, take, get_or, sym, ap, ◌∙◌, append_assoc, arith, add-one, take-suc, append-nil, length-take-le}
 use Rattle.std.proofs.lemmas.Grind.{flat_map-append}
-use Rattle.text_forms.specs.Lines.{text_of}
-use Rattle.text_forms.specs.Steps.{lines_of_parts}
+use Rattle.text_forms.specs.{text_of, lines_of_parts}
 
 -- a part more
 lines_then : {A : Type 0} (lines : ℕ → A → List (List ℕ)) (from : ℕ) (xs : List A) (x : A) → lines_of_parts lines from (xs ++ x ∷ []) ≡ lines_of_parts lines from xs ++ lines (from + length xs) x

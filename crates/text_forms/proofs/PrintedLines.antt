@@ -1,19 +1,15 @@
 -- Printed lines are cut again, and none of them is taken for a comment.
-use Rattle.std.proofs.Common.{◌≡◌, ◌≢◌, ℕ, suc, ◌+◌, ◌*◌, ◌^◌, ◌<◌, ◌≤◌, Bool, true, false, not, ◌&&◌, eqb, List, [], ◌∷◌, ◌++◌, length, map, drop, refl, ap, ◌∙◌, append_assoc, arith, ℤ, pos, negsuc, lit<, subst}
-use Rattle.std.specs.Prelude.{slice_index, unsigned_abs}
+use Rattle.std.proofs.Common.{◌≡◌, ◌≢◌, ℕ, suc, ◌+◌, ◌*◌, ◌^◌, ◌<◌, ◌≤◌, Bool, true, false, not, ◌&&◌, eqb, List, [], ◌∷◌, ◌++◌, length, map, drop, refl, ap, ◌∙◌, append_assoc, arith, ℤ, pos, negsuc, lit<, subst, slice_index, unsigned_abs, All, eq-eqb, eqb-true, length-append}
 use Rattle.std.specs.Fmt.{signed_decimal}
-use Rattle.std.specs.List.{list_all, join_with_byte, All, AllByRecursion}
-use Rattle.std.proofs.lemmas.Bool.{eq-eqb, eqb-true}
+use Rattle.std.specs.List.{list_all, join_with_byte, AllByRecursion}
 use Rattle.std.proofs.lemmas.Fmt.{length-decimal-le}
-use Rattle.std.proofs.lemmas.List.{length-map, length-append}
+use Rattle.std.proofs.lemmas.List.{length-map}
 use Rattle.std.proofs.lemmas.List.Concat.{flat_map-cons}
 use Rattle.std.proofs.lemmas.List.Elements.{All-from_recursion, All-head, All-tail}
 use Rattle.tac_base.proofs.NumeralLaws.{both_true}
 use Rattle.tac_base.proofs.Signed.{Lacks}
 use Rattle.text_forms.specs.declared.rows.Column.{Column}
-use Rattle.text_forms.specs.Words.{parts_of}
-use Rattle.text_forms.specs.Lines.{NumberedLine, Remaining, is_comment, lines_from, text_of, AreLinesLeft}
-use Rattle.text_forms.specs.Steps.{lines_of_parts}
+use Rattle.text_forms.specs.{parts_of, NumberedLine, Remaining, is_comment, lines_from, text_of, AreLinesLeft, lines_of_parts}
 use Rattle.text_forms.specs.Rows.{most_digits, is_in, all_in, row_text}
 use Rattle.text_forms.proofs.Joins.{parts_more}
 use Rattle.text_forms.proofs.RowLaws.{is_column, number_tiny, numbers_lack}

@@ -1,11 +1,9 @@
 -- Printed lines are read again, with whatever numbers.
-use Rattle.std.proofs.Common.{◌≡◌, ℕ, suc, ◌+◌, ◌≤◌, ◌<◌, List, [], ◌∷◌, ◌++◌, Result, Ok, length, drop, refl, sym, ap, ◌∙◌, append_assoc, arith}
-use Rattle.std.specs.List.{All}
+use Rattle.std.proofs.Common.{◌≡◌, ℕ, suc, ◌+◌, ◌≤◌, ◌<◌, List, [], ◌∷◌, ◌++◌, Result, Ok, length, drop, refl, sym, ap, ◌∙◌, append_assoc, arith, All}
 use Rattle.std.proofs.lemmas.List.Elements.{All-head, All-tail}
 use Rattle.text_forms.specs.declared.lines.Reason.{Reason}
 use Rattle.text_forms.specs.declared.lines.BadLine.{BadLine}
-use Rattle.text_forms.specs.Lines.{Remaining}
-use Rattle.text_forms.specs.Steps.{read_by, repeat, lines_of_parts}
+use Rattle.text_forms.specs.{Remaining, read_by, repeat, lines_of_parts}
 use Rattle.text_forms.proofs.PrintedLines.{ahead}
 
 pub line_again : {A : Type 0} (form : List ℕ → Result A Reason) (numbers : List ℕ) (line : List ℕ) (lines : List (List ℕ)) (after : Remaining) (x : A) → form line ≡ Ok x → read_by form (ahead numbers (line ∷ lines) after) ≡ Ok (x, ahead (drop 1 numbers) lines after)

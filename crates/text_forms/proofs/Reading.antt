@@ -1,13 +1,10 @@
 -- What reading takes from the lines that are left.
-use Rattle.std.proofs.Common.{◌≡◌, ℕ, zero, suc, ◌+◌, Bool, true, false, cond, List, [], ◌∷◌, ◌++◌, Result, Ok, Err, length, map, refl, ap, ◌∙◌, sym, subst, append_assoc}
-use Rattle.std.specs.List.{All}
-use Rattle.std.proofs.lemmas.List.{append-nil}
+use Rattle.std.proofs.Common.{◌≡◌, ℕ, zero, suc, ◌+◌, Bool, true, false, cond, List, [], ◌∷◌, ◌++◌, Result, Ok, Err, length, map, refl, ap, ◌∙◌, sym, subst, append_assoc, All, append-nil}
 use Rattle.std.proofs.lemmas.List.Elements.{All-nil, All-cons}
 use Rattle.text_forms.specs.declared.lines.Reason.{Reason}
 use Rattle.text_forms.specs.declared.lines.Reason.TheVariants.{TextEnd}
 use Rattle.text_forms.specs.declared.lines.BadLine.{BadLine}
-use Rattle.text_forms.specs.Lines.{NumberedLine, Remaining, AreLinesLeft, due_in, due_of, nothing_in, nothing_left, at_line}
-use Rattle.text_forms.specs.Steps.{◌>>=◌, read_by, repeat, lines_of_parts}
+use Rattle.text_forms.specs.{NumberedLine, Remaining, AreLinesLeft, due_in, due_of, nothing_in, nothing_left, at_line, ◌>>=◌, read_by, repeat, lines_of_parts}
 
 -- these lines were taken, and those after them are left
 pub record Took (left : Remaining) (lines : List (List ℕ)) (after : Remaining) : Type 0 where

@@ -1,9 +1,6 @@
 -- Reading the words of a row one after the other.
-use Rattle.std.proofs.Common.{◌≡◌, ℕ, ◌<◌, ◌≤◌, List, [], ◌∷◌, ◌++◌, ℤ, Option, None, length, map, take, drop, refl, ap, ◌∙◌, append_assoc}
-use Rattle.std.specs.Prelude.{option_map}
-use Rattle.std.specs.List.{flat_map, join_with_byte}
-use Rattle.std.proofs.Math.Seq.{drop-cons, take_all}
-use Rattle.std.proofs.lemmas.List.{append-nil}
+use Rattle.std.proofs.Common.{◌≡◌, ℕ, ◌<◌, ◌≤◌, List, [], ◌∷◌, ◌++◌, ℤ, Option, None, length, map, take, drop, refl, ap, ◌∙◌, append_assoc, option_map, flat_map, drop-cons, take_all, append-nil}
+use Rattle.std.specs.List.{join_with_byte}
 use Rattle.std.proofs.lemmas.List.Concat.{flat_map-cons}
 use Rattle.text_forms.specs.declared.rows.Column.{Column}
 use Rattle.text_forms.specs.Rows.{numbers_of}

@@ -1,10 +1,8 @@
 -- Going from line to line.
-use Rattle.std.proofs.Common.{◌≡◌, ℕ, ◌+◌, Bool, true, false, cond, List, [], ◌∷◌, Ok, refl, sym, ap, subst, ◌∙◌}
-use Rattle.std.specs.Prelude.{◌==◌, ◌&&◌}
+use Rattle.std.proofs.Common.{◌≡◌, ℕ, ◌+◌, Bool, true, false, cond, List, [], ◌∷◌, Ok, refl, sym, ap, subst, ◌∙◌, ◌==◌, ◌&&◌}
 use Rattle.std.specs.List.{onto_first}
-use Rattle.text_forms.specs.Words.{parts_of}
+use Rattle.text_forms.specs.{parts_of, Remaining, is_comment, before, lines_from, next_of}
 use Rattle.text_forms.specs.Blocks.{IsFirstKept}
-use Rattle.text_forms.specs.Lines.{Remaining, is_comment, before, lines_from, next_of}
 
 -- a list of parts is never empty
 abbrev pub HasPart : List (List ℕ) → Type 0

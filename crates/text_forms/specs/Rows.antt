@@ -1,8 +1,7 @@
 -- A line of a keyword and numbers.
-use Rattle.std.specs.Prelude.{ℕ, ◌≤◌, ◌==◌, ◌&&◌, not, if◌then◌else◌, List, [], ◌∷◌, Bool, false, ℤ, pos, int_le, Result, Ok, Err, Option, Some, None, length, map, option_map}
+use Rattle.std.specs.Prelude.{ℕ, ◌≤◌, ◌==◌, ◌&&◌, not, if◌then◌else◌, List, [], ◌∷◌, Bool, false, ℤ, pos, int_le, Result, Ok, Err, Option, Some, None, length, map, option_map, zip, All, bytes_eq}
 use Rattle.std.specs.Fmt.{signed_decimal}
-use Rattle.std.specs.List.{list_all, zip, join_with_byte, All}
-use Rattle.std.specs.Str.{bytes_eq}
+use Rattle.std.specs.List.{list_all, join_with_byte}
 use Rattle.tac_base.specs.Numerals.{numeral, signed_numeral}
 use Rattle.text_forms.specs.declared.lines.Reason.{Reason}
 use Rattle.text_forms.specs.declared.lines.Reason.TheVariants.{Keyword, WordCount, Spelling, OutOfRange}

@@ -1,6 +1,5 @@
 ghost use Rattle.std.specs.Prelude.{◌≡◌, ◌<◌, ◌++◌, length, OnOk};
-ghost use Rattle.text_forms.specs.Lines.{text_of};
-ghost use Rattle.text_forms.specs.Steps.{lines_of_parts};
+ghost use Rattle.text_forms.specs.{text_of, lines_of_parts};
 
 use std::alloc::AllocError;
 

@@ -1,8 +1,7 @@
 ghost use Rattle.std.specs.Prelude.{◌≡◌, ◌+◌, ◌<◌, ◌≤◌, [], ◌∷◌, ◌++◌, length, IfOk, IfSome, IsTrue, OnOk, OnErr};
 ghost use Rattle.std.specs.Fmt.{signed_decimal};
-ghost use Rattle.text_forms.specs.Lines.{GoesOn};
+ghost use Rattle.text_forms.specs.{GoesOn, words_of};
 ghost use Rattle.text_forms.specs.Rows as rows;
-ghost use Rattle.text_forms.specs.Words.{words_of};
 
 use crate::{Reason, Words};
 use std::alloc::AllocError;

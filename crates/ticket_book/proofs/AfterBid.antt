@@ -1,23 +1,13 @@
 -- What stands, by the rules, after an agent's bid and after its withdrawal.
-use Rattle.std.proofs.Common.{◌≡◌, ℕ, ◌≤◌, Bool, true, false, cond, List, [], ◌∷◌, ◌++◌, length, append-nil, refl, sym, ap, ◌∙◌, subst, arith, Option, None}
-use Rattle.std.specs.Prelude.{not, ◌&&◌, ◌==◌, filter}
+use Rattle.std.proofs.Common.{◌≡◌, ℕ, ◌≤◌, Bool, true, false, cond, List, [], ◌∷◌, ◌++◌, length, append-nil, refl, sym, ap, ◌∙◌, subst, arith, Option, None, not, ◌&&◌, ◌==◌, filter}
 use Rattle.std.proofs.lemmas.List.Filters.{sum_by-filter_both}
 use Rattle.std.proofs.lemmas.List.Sums.{sum_by-append}
-use Rattle.tac_base.specs.declared.bids.Point.{Point}
-use Rattle.tac_base.specs.declared.calls.Call.TheVariants.{Bid, Withdraw}
-use Rattle.tac_base.specs.Goods.{agents}
-use Rattle.auction_rules.specs.declared.units.Placed.{Placed}
-use Rattle.auction_rules.specs.declared.units.BidUnit.{BidUnit}
-use Rattle.auction_rules.specs.declared.rules.Rules.TheVariants.{Tickets as TicketRules}
-use Rattle.auction_rules.specs.Units.{units_of, among, without}
-use Rattle.auction_rules.specs.History.{Entry, is_admission, is_closed, last_bid, units_of_last}
-use Rattle.auction_rules.specs.Standing.{gone, stand}
-use Rattle.auction_rules.specs.TicketMatch.{ticket_gone}
+use Rattle.std.proofs.lemmas.Bool.{and_right}
+use Rattle.ticket_book.specs.{Point, Bid, Withdraw, agents, Placed, BidUnit, Tickets as TicketRules, units_of, among, without, Entry, is_admission, is_closed, last_bid, units_of_last, gone, stand, ticket_gone, HaveSame, others, after_bid}
 use Rattle.auction_rules.proofs.Agents.{number_same, agents_joined}
 use Rattle.auction_rules.proofs.AgentUnits.{own_units, units_joined, gone_now, own_by_other, own_by_bid, without_nothing}
 use Rattle.auction_rules.proofs.Lists.{filter-filter, filter-flat_map}
 use Rattle.auction_rules.proofs.Standing.{number_is}
-use Rattle.ticket_book.specs.Sides.{HaveSame, others, after_bid}
 
 -- the units of an agent
 abbrev pub own : ℕ → List BidUnit → List BidUnit
@@ -52,11 +42,7 @@ module _ (past : List Entry) (e : Entry) (agent : ℕ) (still_open : is_closed p
   away = gone_now TicketRules past e
 
   another : (a : ℕ) → (agent == a) ≡ false → (is_admission e.reply && (e.caller == a)) ≡ false
-  another a differ = rw (caller, differ) (no (is_admission e.reply))
-    where
-      no : (b : Bool) → (b && false) ≡ false
-      no true = refl
-      no false = refl
+  another a differ = rw (caller, differ) (and_right (is_admission e.reply) false refl)
 
   -- the others have what they had, but for what the entry trades away
   pub others_keep : others agent (stand TicketRules (e ∷ past)) ≡ others agent (without (stand TicketRules past) (gone_now TicketRules past e))

@@ -1,34 +1,16 @@
 -- The calls of a ticket auction follow the rules.
-use Rattle.std.proofs.Common.{◌≡◌, ℕ, ◌<◌, ◌≤◌, Bool, true, false, List, [], ◌∷◌, length, set, get_or, refl, sym, ap, ◌∙◌, subst, Option, Some, None}
-use Rattle.std.specs.Prelude.{not, ◌||◌, ◌==◌, if◌then◌else◌, ◌&&◌, sum_by}
+use Rattle.std.proofs.Common.{◌≡◌, ℕ, ◌<◌, ◌≤◌, Bool, true, false, List, [], ◌∷◌, length, map, set, get_or, refl, sym, ap, ◌∙◌, subst, Option, Some, None, not, ◌||◌, ◌==◌, if◌then◌else◌, ◌&&◌, sum_by}
 use Rattle.std.specs.List.{list_any}
-use Rattle.tac_base.specs.declared.bids.Point.{Point}
-use Rattle.tac_base.specs.declared.calls.Trade.{Trade}
+use Rattle.ticket_book.specs.{Point, Trade, Bid, Withdraw, Close, Placed, clock, units_of, bought, sold, Setup, Tickets as TicketRules, Entry, is_closed, last_bid, last_bids, is_own, pair_trade, ticket_trades, stand, left, left_of, refusal, crosses_itself, has_standing, is_wrong_caller, is_wrong_place, entry_of, admitted_trades, IsLawful, highest_buy, lowest_sell, board, Follows, SortedSides, both, HaveSame, others, after_bid, TicketBook, TicketsStandFor}
 use Rattle.tac_base.specs.declared.calls.Board.{Board}
 use Rattle.tac_base.specs.declared.calls.Call.{Call}
-use Rattle.tac_base.specs.declared.calls.Call.TheVariants.{Bid, Withdraw, Close}
 use Rattle.tac_base.specs.declared.calls.Reply.{Reply}
 use Rattle.tac_base.specs.declared.calls.Reply.TheVariants.{Taken, Done, Closed, WrongCall, NoBid, SelfCross}
-use Rattle.auction_rules.specs.declared.units.Placed.{Placed}
-use Rattle.tac_base.specs.Goods.{clock}
-use Rattle.auction_rules.specs.Units.{units_of}
-use Rattle.auction_rules.specs.Effects.{bought, sold}
-use Rattle.auction_rules.specs.Setup.{Setup}
 use Rattle.auction_rules.specs.declared.rules.Rules.{Rules}
-use Rattle.auction_rules.specs.declared.rules.Rules.TheVariants.{Tickets as TicketRules}
-use Rattle.auction_rules.specs.History.{Entry, is_closed, last_bid, last_bids, is_own}
-use Rattle.auction_rules.specs.TicketMatch.{trades_of_pairs, ticket_trades}
-use Rattle.auction_rules.specs.Standing.{stand, left, left_of}
-use Rattle.auction_rules.specs.Refusals.{refusal, crosses_itself, has_standing, is_wrong_caller, is_wrong_place}
-use Rattle.auction_rules.specs.Legal.{entry_of, admitted_trades, IsLawful}
-use Rattle.auction_rules.specs.Board.{highest_buy, lowest_sell, board}
-use Rattle.auction_rules.specs.Follows.{Follows}
 use Rattle.auction_rules.proofs.Steps.{refused_entry, entry_refused, entry_admitted, follows}
 use Rattle.auction_rules.proofs.Agents.{not_clock, agents_get, agents_set}
 use Rattle.auction_rules.proofs.Uncrossed.{stand_apart, quotes_apart}
 use Rattle.auction_rules.proofs.Idle.{IsIdle, idle_bids, idle_stand, idle_closed, wrong_follows}
-use Rattle.ticket_book.specs.Sides.{SortedSides, both, HaveSame, others, after_bid}
-use Rattle.ticket_book.specs.Book.{TicketBook, StandsFor}
 use Rattle.ticket_book.proofs.Weights.{same_filter, same_through, any_alike, left_of_alike, highest_alike, lowest_alike}
 use Rattle.ticket_book.proofs.Untied.{stand_untied, pairs_alike, after_alike}
 use Rattle.ticket_book.proofs.AfterBid.{after_bid_stands, after_withdrawal_stands}
@@ -50,12 +32,12 @@ abbrev pub close_entry : Entry
 close_entry = record { caller = clock; call = Close; reply = Done; trades = [] }
 
 -- a book that stands for a past
-module _ (setup : Setup) (past : List Entry) (book : TicketBook) (stood : StandsFor book setup past) where
+module _ (setup : Setup) (past : List Entry) (book : TicketBook) (stood : TicketsStandFor book setup past) where
   still_open : book.closed ≡ false → is_closed past ≡ false
   still_open h = sym stood.closed ∙ h
 
   -- an entry that is refused or of `Own` changes nothing that a ticket auction keeps
-  pub idle_keeps : (e : Entry) → IsIdle e → StandsFor book setup (e ∷ past)
+  pub idle_keeps : (e : Entry) → IsIdle e → TicketsStandFor book setup (e ∷ past)
   idle_keeps e idle = record {
     rules = stood.rules;
     good = stood.good;
@@ -66,9 +48,9 @@ module _ (setup : Setup) (past : List Entry) (book : TicketBook) (stood : Stands
 
   -- a call that ticket auctions do not have, or that its caller may not make
   pub follows_wrong : (caller : ℕ) (call : Call) (reply : Reply) → (is_wrong_caller caller call || is_wrong_place TicketRules call) ≡ true →
-      reply ≡ (if not (is_own call) && book.closed then Closed else WrongCall) → Follows setup past caller call reply [] (StandsFor book setup)
+      reply ≡ (if not (is_own call) && book.closed then Closed else WrongCall) → Follows setup past caller call reply [] (TicketsStandFor book setup)
   follows_wrong caller call reply wrong replied =
-      wrong_follows setup past caller call TicketRules book.closed reply (StandsFor book setup) (rw stood.rules tt) wrong stood.closed replied idle_keeps
+      wrong_follows setup past caller call TicketRules book.closed reply (TicketsStandFor book setup) (rw stood.rules tt) wrong stood.closed replied idle_keeps
 
   -- ---- a bid
 
@@ -76,10 +58,10 @@ module _ (setup : Setup) (past : List Entry) (book : TicketBook) (stood : Stands
   refusal_of_bid agent points le open_now = let h = still_open open_now in let agents_call = not_clock agent le in rw (stood.rules, h, agents_call) refl
 
   pub follows_crossing : (agent : ℕ) (points : List Point) (trades : List Trade) → agent ≤ 7 → book.closed ≡ false → crosses_itself points ≡ true → trades ≡ [] →
-      Follows setup past agent (Bid points) SelfCross trades (StandsFor book setup)
+      Follows setup past agent (Bid points) SelfCross trades (TicketsStandFor book setup)
   follows_crossing agent points trades le open_now crossed emptied =
-      subst (λ (ts : List Trade). Follows setup past agent (Bid points) SelfCross ts (StandsFor book setup)) (sym emptied)
-      (follows setup past agent (Bid points) (refused_entry agent (Bid points) SelfCross) SelfCross [] (StandsFor book setup)
+      subst (λ (ts : List Trade). Follows setup past agent (Bid points) SelfCross ts (TicketsStandFor book setup)) (sym emptied)
+      (follows setup past agent (Bid points) (refused_entry agent (Bid points) SelfCross) SelfCross [] (TicketsStandFor book setup)
       (entry_refused setup past agent (Bid points) SelfCross (refusal_of_bid agent points le open_now ∙ rw crossed refl)) refl refl
       (idle_keeps (refused_entry agent (Bid points) SelfCross) refl))
 
@@ -88,9 +70,9 @@ module _ (setup : Setup) (past : List Entry) (book : TicketBook) (stood : Stands
       let bid : Placed = record { agent = agent; position = length past; points = points } in
       trades ≡ ticket_trades book.good (both book.sides) (units_of bid) → HaveSame (both sides) (after_bid (both book.sides) agent (units_of bid)) →
       bids ≡ set book.bids agent (Some bid) → buys ≡ bought trades agent → sells ≡ sold trades agent →
-      Follows setup past agent (Bid points) (Taken buys sells) trades (StandsFor (record book { bids = bids; sides = sides }) setup)
+      Follows setup past agent (Bid points) (Taken buys sells) trades (TicketsStandFor (record book { bids = bids; sides = sides }) setup)
   follows_taken agent points bids sides trades buys sells le open_now apart traded are placed buys_are sells_are =
-      follows setup past agent (Bid points) e (Taken buys sells) trades (StandsFor (record book { bids = bids; sides = sides }) setup)
+      follows setup past agent (Bid points) e (Taken buys sells) trades (TicketsStandFor (record book { bids = bids; sides = sides }) setup)
       entry refl refl
       (record { rules = stood.rules; good = stood.good; bids = bids_now; units = units_now; closed = stood.closed })
     where
@@ -102,7 +84,7 @@ module _ (setup : Setup) (past : List Entry) (book : TicketBook) (stood : Stands
 
       by_rules : trades ≡ admitted_trades setup past agent (Bid points)
       by_rules =
-          traded ∙ ap (trades_of_pairs book.good) (pairs_alike (units_of bid) (both book.sides) (stand TicketRules past) stood.units (stand_untied past (both book.sides) stood.units))
+          traded ∙ ap (map (pair_trade book.good)) (pairs_alike (units_of bid) (both book.sides) (stand TicketRules past) stood.units (stand_untied past (both book.sides) stood.units))
           ∙ rw (stood.good, stood.rules) refl
 
       entry : entry_of setup past agent (Bid points) ≡ e
@@ -134,17 +116,17 @@ module _ (setup : Setup) (past : List Entry) (book : TicketBook) (stood : Stands
       by_tests closed clocks stands h k = rw (h, k) refl
 
   pub follows_without_bid : (agent : ℕ) (has : Bool) → agent ≤ 7 → book.closed ≡ false → has ≡ list_any (λ u. u.agent == agent) (both book.sides) → has ≡ false →
-      Follows setup past agent Withdraw NoBid [] (StandsFor book setup)
+      Follows setup past agent Withdraw NoBid [] (TicketsStandFor book setup)
   follows_without_bid agent has le open_now is nothing =
-      follows setup past agent Withdraw (refused_entry agent Withdraw NoBid) NoBid [] (StandsFor book setup)
+      follows setup past agent Withdraw (refused_entry agent Withdraw NoBid) NoBid [] (TicketsStandFor book setup)
       (entry_refused setup past agent Withdraw NoBid (refusal_of_withdrawal agent has le open_now is ∙ rw nothing refl)) refl refl
       (idle_keeps (refused_entry agent Withdraw NoBid) refl)
 
   pub follows_withdrawn : (agent : ℕ) (has : Bool) (bids : List (Option Placed)) (sides : SortedSides) → agent ≤ 7 → book.closed ≡ false → has ≡ list_any (λ u. u.agent == agent) (both book.sides) →
       has ≡ true → bids ≡ set book.bids agent None → both sides ≡ others agent (both book.sides) →
-      Follows setup past agent Withdraw Done [] (StandsFor (record book { bids = bids; sides = sides }) setup)
+      Follows setup past agent Withdraw Done [] (TicketsStandFor (record book { bids = bids; sides = sides }) setup)
   follows_withdrawn agent has bids sides le open_now is something cleared left_are =
-      follows setup past agent Withdraw (withdraw_entry agent) Done [] (StandsFor (record book { bids = bids; sides = sides }) setup)
+      follows setup past agent Withdraw (withdraw_entry agent) Done [] (TicketsStandFor (record book { bids = bids; sides = sides }) setup)
       (entry_admitted setup past agent Withdraw (refusal_of_withdrawal agent has le open_now is ∙ rw something refl) ∙ rw stood.rules refl) refl refl
       (record { rules = stood.rules; good = stood.good; bids = bids_now; units = units_now; closed = stood.closed })
     where
@@ -158,12 +140,6 @@ module _ (setup : Setup) (past : List Entry) (book : TicketBook) (stood : Stands
           ∙ after_withdrawal_stands past (withdraw_entry agent) agent le (still_open open_now) (still_open open_now) refl refl refl weight
 
   -- ---- a closing
-
-  pub follows_closed : (sides : SortedSides) → book.closed ≡ false → both sides ≡ [] → Follows setup past clock Close Done [] (StandsFor (record book { sides = sides; closed = true }) setup)
-  follows_closed sides open_now emptied =
-      follows setup past clock Close close_entry Done [] (StandsFor (record book { sides = sides; closed = true }) setup)
-      (let h = still_open open_now in rw (stood.rules, h) refl) refl refl
-      (record { rules = stood.rules; good = stood.good; bids = stood.bids; units = λ weight. ap (sum_by weight) emptied; closed = refl })
 
   -- ---- what an agent has
 

@@ -1,15 +1,10 @@
 -- What stands after arriving units have taken their partners, one after the other.
-use Rattle.std.proofs.Common.{◌≡◌, ℕ, Bool, true, false, cond, List, [], ◌∷◌, ◌++◌, refl, sym, ap, ◌∙◌, arith, Option, Some, None}
-use Rattle.std.specs.Prelude.{not, ◌||◌, ◌==◌, filter, count_by}
-use Rattle.auction_rules.specs.declared.units.BidUnit.{BidUnit}
-use Rattle.auction_rules.specs.declared.units.Placed.{Placed}
-use Rattle.auction_rules.specs.Units.{units_of, same_unit, among, without}
-use Rattle.auction_rules.specs.TicketMatch.{partner, pair_with, not_taken, pairs, units_of_pairs, ticket_gone}
+use Rattle.std.proofs.Common.{◌≡◌, ℕ, Bool, true, false, cond, List, [], ◌∷◌, ◌++◌, refl, sym, ap, ◌∙◌, arith, Option, Some, None, not, ◌||◌, ◌==◌, filter, count_by}
+use Rattle.ticket_book.specs.{BidUnit, same_unit, among, without, partner, pair_with, not_taken, pairs, units_of_pairs, ticket_gone, others}
 use Rattle.auction_rules.proofs.Agents.{number_same}
 use Rattle.auction_rules.proofs.AgentUnits.{without_nothing}
 use Rattle.auction_rules.proofs.Ranks.{count-cons}
-use Rattle.auction_rules.proofs.Standing.{Each, each-weaker, IsPlaced, each-placed, same_is}
-use Rattle.ticket_book.specs.Sides.{others}
+use Rattle.auction_rules.proofs.Standing.{Each, same_is}
 
 -- the units that stand after all have arrived
 abbrev pub untaken : List BidUnit → List BidUnit → List BidUnit
@@ -49,9 +44,6 @@ untaken_others agent standing (u ∷ arriving) h = by_partner (partner standing 
     by_partner (Some v) more = let left = not_taken (Some v) standing in more left ∙ take_pair agent u v (ticket_gone left arriving) standing h.0
 
 -- ---- the units of a bid
-
-pub bid_owned : (bid : Placed) → Each (λ u. u.agent ≡ bid.agent) (units_of bid)
-bid_owned bid = each-weaker (IsPlaced bid.agent bid.position) (λ u. u.agent ≡ bid.agent) (units_of bid) (λ u k. k.0) (each-placed bid.agent bid.position 0 bid.points)
 
 -- the others have none of the agent's
 pub none_among_others : (agent : ℕ) (units : List BidUnit) → count_by (λ u. u.agent == agent) (others agent units) ≡ 0

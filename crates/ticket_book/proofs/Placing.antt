@@ -1,22 +1,16 @@
 -- Two sides stay as a book keeps them when a unit is inserted or some are removed.
-use Rattle.std.proofs.Common.{◌≡◌, ℕ, zero, suc, ◌+◌, ◌<◌, ◌≤◌, Bool, true, false, cond, List, [], ◌∷◌, ◌++◌, length, map, get_or, refl, sym, ap, subst, ◌∙◌, arith, length-append}
-use Rattle.std.specs.Prelude.{not, ◌==◌, sum_by, count_by, filter}
-use Rattle.std.specs.List.{All, AllByRecursion, insert, position_or_len}
+use Rattle.std.proofs.Common.{◌≡◌, ℕ, zero, suc, ◌+◌, ◌<◌, ◌≤◌, Bool, true, false, cond, List, [], ◌∷◌, ◌++◌, length, map, get_or, refl, sym, ap, subst, ◌∙◌, arith, length-append, not, ◌==◌, sum_by, count_by, filter, All, insert, IsPermutation}
+use Rattle.std.specs.List.{AllByRecursion, position_or_len}
 use Rattle.std.proofs.lemmas.List.Elements.{recursion_from_All}
 use Rattle.std.proofs.lemmas.List.{length-map}
 use Rattle.std.proofs.lemmas.List.Filters.{sum_by-filter_both}
 use Rattle.std.proofs.lemmas.List.Sums.{sum_by-cons, sum_by-append}
-use Rattle.std.specs.List.Sorted.{IsPermutation}
-use Rattle.tac_base.specs.declared.units.Unit.{Unit as ShownUnit}
-use Rattle.tac_base.specs.declared.limits.TheConstants.{BID_PRICE}
-use Rattle.auction_rules.specs.declared.units.BidUnit.{BidUnit}
-use Rattle.auction_rules.specs.Shown.{shown_unit, on_side}
-use Rattle.auction_rules.proofs.Shown.{permuted}
+use Rattle.ticket_book.specs.{Unit as ShownUnit, BID_PRICE, BidUnit, shown_unit, on_side, goes_first, IsSideSorted, SortedSides, both, HaveSame, AreSides}
+use Rattle.auction_rules.proofs.Shown.{permuted, sum_by-map}
 use Rattle.auction_rules.proofs.Standing.{Each, each-append, each-filter, number_is}
-use Rattle.ticket_book.specs.Sides.{goes_first, IsSideSorted, SortedSides, both, HaveSame, AreSides}
 use Rattle.ticket_book.proofs.Sorting.{sorted_put}
 use Rattle.ticket_book.proofs.Weights.{same_filter, each_alike}
-use Rattle.ticket_book.proofs.Sided.{sides_of, sum_by-map, buy_put, sell_put, buying, selling}
+use Rattle.ticket_book.proofs.Sided.{sides_of, buy_put, sell_put, buying, selling}
 
 -- ---- room for one unit more
 

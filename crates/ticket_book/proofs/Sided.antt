@@ -1,31 +1,18 @@
 -- What the two sides of a ticket auction show of all their units.
-use Rattle.std.proofs.Common.{◌≡◌, ℕ, zero, suc, ◌+◌, ◌≤◌, Bool, true, false, cond, not, List, [], ◌∷◌, ◌++◌, map, get_or, refl, sym, ap, ◌∙◌, arith, Option, Some, None, append-nil}
-use Rattle.std.specs.Prelude.{◌&&◌, ◌||◌, ◌==◌, max, min, filter, find, fold, sum_by}
-use Rattle.std.specs.List.{AllByRecursion, list_all, list_any, insert}
+use Rattle.std.proofs.Common.{◌≡◌, ℕ, ◌+◌, ◌≤◌, Bool, true, false, cond, not, List, [], ◌∷◌, ◌++◌, map, get_or, refl, sym, ap, ◌∙◌, arith, Option, Some, None, append-nil, ◌||◌, ◌==◌, max, min, filter, find, fold, sum_by, insert}
+use Rattle.std.specs.List.{AllByRecursion, list_all, list_any}
 use Rattle.std.proofs.lemmas.List.Elements.{filter-append}
 use Rattle.std.proofs.lemmas.List.Folds.{list_any-append}
-use Rattle.std.proofs.lemmas.List.Sums.{sum_by-cons, sum_by-append}
+use Rattle.std.proofs.lemmas.List.Sums.{sum_by-cons, sum_by-append, sum_by-insert}
 use Rattle.std.proofs.lemmas.Bool.Decides.{nat_tests}
-use Rattle.tac_base.specs.declared.units.Unit.{Unit as ShownUnit}
-use Rattle.auction_rules.specs.declared.units.BidUnit.{BidUnit}
-use Rattle.auction_rules.specs.Shown.{shown_unit, on_side}
-use Rattle.auction_rules.specs.Units.{same_unit, among}
-use Rattle.auction_rules.specs.TicketMatch.{faces, goes_before, best, not_taken}
-use Rattle.auction_rules.specs.Board.{lowest, highest_buy, lowest_sell}
-use Rattle.auction_rules.proofs.Lists.{filter-map, filter_same, filter_all, all_alike}
-use Rattle.ticket_book.specs.Sides.{goes_first, IsSideSorted, is_same, SortedSides, both, of_side, others}
+use Rattle.std.proofs.lemmas.Bool.{and_right}
+use Rattle.ticket_book.specs.{Unit as ShownUnit, BidUnit, shown_unit, on_side, same_unit, among, faces, goes_before, best, not_taken, lowest, highest_buy, lowest_sell, goes_first, IsSideSorted, is_same, SortedSides, both, of_side, others}
+use Rattle.auction_rules.proofs.Lists.{filter-map, filter_same, filter_all, all_alike, and-true, all-weaker}
+use Rattle.auction_rules.proofs.Shown.{sum_by-map}
 use Rattle.ticket_book.proofs.Sorting.{not_self, sorted_filter}
 
 abbrev pub sides_of : List ShownUnit → List ShownUnit → SortedSides
 sides_of buys sells = record { buys = buys; sells = sells }
-
-and_no : (b : Bool) → (b && false) ≡ false
-and_no true = refl
-and_no false = refl
-
-and_yes : (b : Bool) → (b && true) ≡ b
-and_yes true = refl
-and_yes false = refl
 
 none_pass : {A : Type 0} (test : A → Bool) (xs : List A) → ((x : A) → test x ≡ false) → filter test xs ≡ []
 none_pass test [] h = refl
@@ -65,12 +52,12 @@ best_is_first buys (u ∷ units) h = rw (not_self buys u, none_before buys u uni
 
 -- the units of the two sides that a unit faces
 faces_own : (buys : Bool) (u : BidUnit) (v : ShownUnit) → u.buys ≡ buys → faces u (on_side buys v) ≡ false
-faces_own true u v is = rw is (and_no (not (u.agent == v.agent)))
-faces_own false u v is = rw is (and_no (not (u.agent == v.agent)))
+faces_own true u v is = rw is (and_right (not (u.agent == v.agent)) false refl)
+faces_own false u v is = rw is (and_right (not (u.agent == v.agent)) false refl)
 
 faces_other : (buys : Bool) (u : BidUnit) (v : ShownUnit) → u.buys ≡ not buys → faces u (on_side buys v) ≡ not (u.agent == v.agent)
-faces_other true u v is = rw is (and_yes (not (u.agent == v.agent)))
-faces_other false u v is = rw is (and_yes (not (u.agent == v.agent)))
+faces_other true u v is = rw is (and-true (not (u.agent == v.agent)))
+faces_other false u v is = rw is (and-true (not (u.agent == v.agent)))
 
 faced_own : (buys : Bool) (u : BidUnit) (units : List ShownUnit) → u.buys ≡ buys → filter (faces u) (map (on_side buys) units) ≡ []
 faced_own buys u units is = filter-map (faces u) (on_side buys) units ∙ ap (map (on_side buys)) (none_pass (λ v. faces u (on_side buys v)) units (λ v. faces_own buys u v is))
@@ -132,8 +119,8 @@ same_own true u v is = rw is refl
 same_own false u v is = rw is refl
 
 same_other : (buys : Bool) (u : BidUnit) (v : ShownUnit) → u.buys ≡ not buys → same_unit u (on_side buys v) ≡ false
-same_other true u v is = rw is (and_no (u.agent == v.agent))
-same_other false u v is = rw is (and_no (u.agent == v.agent))
+same_other true u v is = rw is (and_right (u.agent == v.agent) false refl)
+same_other false u v is = rw is (and_right (u.agent == v.agent) false refl)
 
 among_own : (buys : Bool) (u : BidUnit) (units : List ShownUnit) → u.buys ≡ buys → among u (map (on_side buys) units) ≡ list_any (is_same (shown_unit u)) units
 among_own buys u units is = any-map (same_unit u) (on_side buys) units ∙ any_same (λ v. same_unit u (on_side buys v)) (is_same (shown_unit u)) units (λ v. same_own buys u v is)
@@ -172,8 +159,8 @@ taken_other buys u units is =
     ∙ ap (map (on_side buys)) (all_pass (λ v. not (same_unit (on_side buys v) u)) units (λ v. one buys v is))
   where
     one : (b : Bool) (v : ShownUnit) → u.buys ≡ not b → not (same_unit (on_side b v) u) ≡ true
-    one true v is = rw is (ap not (and_no (v.agent == u.agent)))
-    one false v is = rw is (ap not (and_no (v.agent == u.agent)))
+    one true v is = rw is (ap not (and_right (v.agent == u.agent) false refl))
+    one false v is = rw is (ap not (and_right (v.agent == u.agent) false refl))
 
 pub buy_taken : (u : BidUnit) (buys sells : List ShownUnit) → u.buys ≡ true → both (sides_of (filter (λ v. not (is_same v (shown_unit u))) buys) sells) ≡ not_taken (Some u) (both (sides_of buys sells))
 buy_taken u buys sells is =
@@ -190,20 +177,10 @@ others_taken agent buys sells =
 
 -- ---- a unit that is put in
 
-pub sum_by-map : {A B : Type 0} (f : A → B) (weight : B → ℕ) (xs : List A) → sum_by weight (map f xs) ≡ sum_by (λ x. weight (f x)) xs
-sum_by-map f weight [] = refl
-sum_by-map f weight (x ∷ xs) = sum_by-cons weight (f x) (map f xs) ∙ ap (λ n. weight (f x) + n) (sum_by-map f weight xs) ∙ sym (sum_by-cons (λ y. weight (f y)) x xs)
-
-sum_by-put : {A : Type 0} (weight : A → ℕ) (i : ℕ) (x : A) (xs : List A) → sum_by weight (insert xs i x) ≡ weight x + sum_by weight xs
-sum_by-put weight zero x xs = sum_by-cons weight x xs
-sum_by-put weight (suc i) x [] = sum_by-cons weight x []
-sum_by-put weight (suc i) x (y ∷ xs) = omega (arith, sum_by-cons weight y (insert xs i x), sum_by-put weight i x xs, sum_by-cons weight y xs)
-
 side_put : (buys : Bool) (weight : BidUnit → ℕ) (i : ℕ) (u : BidUnit) (units : List ShownUnit) → u.buys ≡ buys → sum_by weight (map (on_side buys) (insert units i (shown_unit u))) ≡ weight u + sum_by weight (map (on_side buys) units)
 side_put buys weight i u units is =
-    sum_by-map (on_side buys) weight (insert units i (shown_unit u))
-    ∙ sum_by-put (λ v. weight (on_side buys v)) i (shown_unit u) units
-    ∙ (λ j. weight (itself j) + sym (sum_by-map (on_side buys) weight units) j)
+    let all = sum_by-map (on_side buys) weight (insert units i (shown_unit u)) in let old = sum_by-map (on_side buys) weight units in
+    omega (arith, all, sum_by-insert (λ v. weight (on_side buys v)) units i (shown_unit u), ap weight itself, old)
   where
     itself : on_side buys (shown_unit u) ≡ u
     itself = λ j. record { agent = u.agent; buys = sym is j; price = u.price; position = u.position; index = u.index }
@@ -260,10 +237,6 @@ least_first : (n : ℕ) (units : List ShownUnit) → AllByRecursion (λ v. n ≤
 least_first n [] h = refl
 least_first n (u ∷ units) h = let same : min n u.price ≡ n = omega (arith, h.0) in ap (λ m. fold min m (map (λ v. v.price) units)) same ∙ least_first n units h.1
 
-all_weaker : (P Q : ShownUnit → Type 0) (units : List ShownUnit) → ((u : ShownUnit) → P u → Q u) → AllByRecursion P units → AllByRecursion Q units
-all_weaker P Q [] f h = tt
-all_weaker P Q (u ∷ units) f h = (f u h.0, all_weaker P Q units f h.1)
-
 pub highest_is : (buys sells : List ShownUnit) → IsSideSorted true buys → get_or (map (λ u. u.price) buys) 0 0 ≡ highest_buy (both (sides_of buys sells))
 highest_is buys sells sorted =
     first_price buys sorted ∙ ap (fold max 0) (sym (priced_alike true buys)) ∙ ap (λ (us : List BidUnit). fold max 0 (map (λ u. u.price) us)) (sym (buying (sides_of buys sells)))
@@ -273,7 +246,7 @@ highest_is buys sells sorted =
 
     first_price : (units : List ShownUnit) → IsSideSorted true units → get_or (map (λ u. u.price) units) 0 0 ≡ fold max 0 (map (λ u. u.price) units)
     first_price [] h = refl
-    first_price (u ∷ units) h = sym (ap (λ n. fold max n (map (λ v. v.price) units)) (from_none u.price) ∙ greatest_first u.price units (all_weaker _ _ units (λ v k. no_higher u v k) h.0))
+    first_price (u ∷ units) h = sym (ap (λ n. fold max n (map (λ v. v.price) units)) (from_none u.price) ∙ greatest_first u.price units (all-weaker _ _ units (λ v k. no_higher u v k) h.0))
 
 pub lowest_is : (buys sells : List ShownUnit) → IsSideSorted false sells → get_or (map (λ u. u.price) sells) 0 0 ≡ lowest_sell (both (sides_of buys sells))
 lowest_is buys sells sorted =
@@ -281,4 +254,4 @@ lowest_is buys sells sorted =
   where
     first_price : (units : List ShownUnit) → IsSideSorted false units → get_or (map (λ u. u.price) units) 0 0 ≡ lowest (map (λ u. u.price) units)
     first_price [] h = refl
-    first_price (u ∷ units) h = sym (least_first u.price units (all_weaker _ _ units (λ v k. no_lower u v k) h.0))
+    first_price (u ∷ units) h = sym (least_first u.price units (all-weaker _ _ units (λ v k. no_lower u v k) h.0))

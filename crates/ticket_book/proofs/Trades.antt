@@ -1,19 +1,14 @@
 -- How many units an agent trades by one bid.
-use Rattle.std.proofs.Common.{◌≡◌, ℕ, suc, ◌≤◌, Bool, true, false, cond, List, [], ◌∷◌, length, refl, sym, subst, arith}
-use Rattle.std.specs.Prelude.{◌≢◌, ◌==◌, filter, sum_by}
-use Rattle.std.specs.List.{All, AllByRecursion}
+use Rattle.std.proofs.Common.{◌≡◌, ℕ, suc, ◌≤◌, Bool, true, false, cond, List, [], ◌∷◌, length, map, refl, sym, subst, arith, ◌≢◌, ◌==◌, filter, sum_by, All}
+use Rattle.std.specs.List.{AllByRecursion}
 use Rattle.auction_rules.proofs.Lists.{all-weaker}
 use Rattle.std.proofs.lemmas.List.Elements.{All-from_recursion, recursion_from_All}
 use Rattle.std.proofs.lemmas.List.Sums.{sum_by-cons}
-use Rattle.tac_base.specs.declared.calls.Trade.{Trade}
-use Rattle.auction_rules.specs.declared.units.BidUnit.{BidUnit}
-use Rattle.auction_rules.specs.Effects.{bought, sold}
-use Rattle.auction_rules.specs.Traded.{traded, Spends}
-use Rattle.auction_rules.specs.TicketMatch.{trades_of_pairs, pairs, ticket_trades}
+use Rattle.ticket_book.specs.Prelude.{Trade, BidUnit, bought, sold, traded, Spends, pair_trade, pairs, ticket_trades}
 use Rattle.auction_rules.proofs.Matching.{IsFair, trades_fair}
 
 -- each trade has one unit
-one_unit : (good : ℕ) (matched : List (BidUnit × BidUnit)) → AllByRecursion (λ (t : Trade). t.units ≡ 1) (trades_of_pairs good matched)
+one_unit : (good : ℕ) (matched : List (BidUnit × BidUnit)) → AllByRecursion (λ (t : Trade). t.units ≡ 1) (map (pair_trade good) matched)
 one_unit good [] = tt
 one_unit good (pair ∷ matched) = (one pair.0.buys, one_unit good matched)
   where

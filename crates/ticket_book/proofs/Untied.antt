@@ -1,28 +1,19 @@
 -- No two standing units have the same place, so the standing units trade alike in whatever order they are looked at.
-use Rattle.std.proofs.Common.{◌≡◌, ℕ, ◌+◌, ◌≤◌, Bool, true, false, cond, List, [], ◌∷◌, ◌++◌, map, refl, sym, ap, ◌∙◌, subst, arith, Option, Some, None, inl, inr}
-use Rattle.std.specs.Prelude.{not, ◌&&◌, ◌||◌, ◌==◌, filter, find, count_by}
+use Rattle.std.proofs.Common.{◌≡◌, ℕ, ◌+◌, ◌≤◌, Bool, true, false, cond, List, [], ◌∷◌, ◌++◌, map, refl, sym, ap, ◌∙◌, subst, arith, Option, Some, None, inl, inr, not, ◌&&◌, ◌||◌, ◌==◌, filter, find, count_by}
 use Rattle.std.specs.List.{AllByRecursion, list_all}
-use Rattle.std.proofs.lemmas.Bool.{and_parts, or_right, not-true}
+use Rattle.std.proofs.lemmas.Bool.{and_parts, or_right, not-true, or_left}
 use Rattle.std.proofs.lemmas.Bool.Decides.{nat_tests}
 use Rattle.std.proofs.lemmas.List.Sums.{sum_by-append}
-use Rattle.tac_base.specs.declared.units.Unit.{Unit as ShownUnit}
-use Rattle.auction_rules.specs.declared.units.BidUnit.{BidUnit}
-use Rattle.auction_rules.specs.declared.rules.Rules.TheVariants.{Tickets as TicketRules}
-use Rattle.auction_rules.specs.History.{Entry, is_closed, bid_units}
-use Rattle.auction_rules.specs.Shown.{on_side}
-use Rattle.auction_rules.specs.Units.{same_side, same_unit, among, without}
+use Rattle.ticket_book.specs.{Unit as ShownUnit, BidUnit, Tickets as TicketRules, Entry, is_closed, bid_units, on_side, same_unit, among, without, faces, goes_before, best, if_crossing, partner, pair_with, not_taken, pairs, units_of_pairs, ticket_gone, gone, stand, HaveSame, others, after_bid, goes_first, IsSideSorted, IsSideInOrder, SortedSides, both}
 use Rattle.auction_rules.specs.Precedence.{precedes}
-use Rattle.auction_rules.specs.TicketMatch.{faces, goes_before, best, if_crossing, partner, pair_with, not_taken, pairs, units_of_pairs, ticket_gone}
-use Rattle.auction_rules.specs.Standing.{gone, stand}
-use Rattle.auction_rules.proofs.Ranks.{In, count-cons}
+use Rattle.auction_rules.proofs.Ranks.{In, count-cons, at_most_one, yes_is_one, no_is_none}
 use Rattle.auction_rules.proofs.Counts.{none_pass}
 use Rattle.auction_rules.proofs.Lists.{all_passing}
 use Rattle.auction_rules.proofs.HotelUnits.{InOrder, bids_ordered}
 use Rattle.auction_rules.proofs.Standing.{Each, same_is, same_self, among-filter, number_is}
-use Rattle.auction_rules.proofs.Matching.{each_among}
-use Rattle.ticket_book.specs.Sides.{HaveSame, others, after_bid, goes_first, IsSideSorted, IsSideInOrder, SortedSides, both}
+use Rattle.auction_rules.proofs.Matching.{each_among, faces_side, each_passes, all_pass}
+use Rattle.auction_rules.proofs.Shown.{sum_by-map}
 use Rattle.ticket_book.proofs.Weights.{same_filter, same_append, same_back, among_alike, each_alike}
-use Rattle.ticket_book.proofs.Sided.{sum_by-map}
 
 -- ---- ties
 
@@ -84,16 +75,6 @@ untied_order (x ∷ us) h u v is_u is_v tied = by_tests (same_unit u x) (same_un
     by_tests true false s t in_u in_v later = absurd (no_tie x v (subst (λ (w : BidUnit). tie w v ≡ true) (same_is u x s) tied) (h.0 v (in_among v us in_v)))
     by_tests false true s t in_u in_v later = absurd (no_tie x u (subst (λ (w : BidUnit). tie w u ≡ true) (same_is v x t) (tie_back u v tied)) (h.0 u (in_among u us in_u)))
     by_tests false false s t in_u in_v later = later in_u in_v
-
-at_most_one : (b : Bool) → cond b 1 0 ≤ 1
-at_most_one true = omega arith
-at_most_one false = omega arith
-
-no_is_none : (b : Bool) → b ≡ false → ◌≡◌ {A = ℕ} (cond b 1 0) 0
-no_is_none b h = rw h refl
-
-yes_is_one : (b : Bool) → b ≡ true → ◌≡◌ {A = ℕ} (cond b 1 0) 1
-yes_is_one b h = rw h refl
 
 one_tied : (u : BidUnit) (us : List BidUnit) → InOrder us → count_by (tie u) us ≤ 1
 one_tied u [] h = omega arith
@@ -198,16 +179,9 @@ found_among : (test : BidUnit → Bool) (w : BidUnit) (us : List BidUnit) → fi
 found_among test w [] is = absurd cc
 found_among test w (u ∷ us) is = by_test (test u) is (found_among test w us)
   where
-    or_yes : (b c : Bool) → c ≡ true → (b || c) ≡ true
-    or_yes true c h = refl
-    or_yes false c h = h
-
-    first_is : (b c : Bool) → b ≡ true → (b || c) ≡ true
-    first_is b c h = rw h refl
-
     by_test : (b : Bool) → cond b (Some u) (find test us) ≡ Some w → (find test us ≡ Some w → among w us ≡ true) → among w (u ∷ us) ≡ true
-    by_test true found later = let same : u ≡ w = cc in first_is (same_unit w u) (among w us) (subst (λ (v : BidUnit). same_unit v u ≡ true) same (same_self u))
-    by_test false found later = or_yes (same_unit w u) (among w us) (later found)
+    by_test true found later = let same : u ≡ w = cc in or_left (same_unit w u) (among w us) (subst (λ (v : BidUnit). same_unit v u ≡ true) same (same_self u))
+    by_test false found later = or_right (same_unit w u) (among w us) (later found)
 
 find_passes : (test : BidUnit → Bool) (w : BidUnit) (us : List BidUnit) → find test us ≡ Some w → test w ≡ true
 find_passes test w [] is = absurd cc
@@ -231,19 +205,8 @@ find_only test w (u ∷ us) is passes only = by_test (test u) refl (find_only te
 
     by_test : (b : Bool) → test u ≡ b → (among w us ≡ true → test w ≡ true → ((v : BidUnit) → among v us ≡ true → test v ≡ true → v ≡ w) → find test us ≡ Some w) →
         cond b (Some u) (find test us) ≡ Some w
-    by_test true passing more = ap (λ (v : BidUnit). Some v) (only u (or_first (same_unit u u) (among u us) (same_self u)) passing)
-      where
-        or_first : (b c : Bool) → b ≡ true → (b || c) ≡ true
-        or_first b c h = rw h refl
+    by_test true passing more = ap (λ (v : BidUnit). Some v) (only u (or_left (same_unit u u) (among u us) (same_self u)) passing)
     by_test false failing more = more (here (same_unit w u) refl failing is) passes (λ v h. only v (later v h))
-
-each_passes : (test : BidUnit → Bool) (us : List BidUnit) → list_all test us ≡ true → Each (λ u. test u ≡ true) us
-each_passes test [] h = tt
-each_passes test (u ∷ us) h = let both = and_parts (test u) (list_all test us) h in (both.0, each_passes test us both.1)
-
-all_pass : (test : BidUnit → Bool) (us : List BidUnit) → Each (λ u. test u ≡ true) us → list_all test us ≡ true
-all_pass test [] h = refl
-all_pass test (u ∷ us) h = rw (h.0, all_pass test us h.1) refl
 
 -- the best of some units is the best of the same units in another order
 best_carries : (b : Bool) (w : BidUnit) (xs ys : List BidUnit) → HaveSame xs ys → AreUntied xs → Each (λ u. u.buys ≡ b) xs → best ys ≡ Some w → best xs ≡ Some w
@@ -291,14 +254,7 @@ partner_alike u xs ys same untied =
     (all_passing (λ v. v.buys ≡ not u.buys) (faces u) xs (λ v h. side v h)))
   where
     side : (v : BidUnit) → faces u v ≡ true → v.buys ≡ not u.buys
-    side v h = by_sides (not (u.agent == v.agent)) u.buys v.buys h
-      where
-        by_sides : (a b c : Bool) → (a && not (same_side b c)) ≡ true → c ≡ not b
-        by_sides true true true g = cc
-        by_sides true true false g = refl
-        by_sides true false true g = refl
-        by_sides true false false g = cc
-        by_sides false b c g = absurd cc
+    side v h = faces_side u v h
 
 taken_same : (taken : Option BidUnit) (xs ys : List BidUnit) → HaveSame xs ys → HaveSame (not_taken taken xs) (not_taken taken ys)
 taken_same None xs ys same = same

@@ -1,21 +1,13 @@
 -- Lists of the same units, each equally often, agree on everything that does not depend on order.
-use Rattle.std.proofs.Common.{◌≡◌, ℕ, ◌+◌, ◌≤◌, Bool, true, false, cond, List, [], ◌∷◌, ◌++◌, map, refl, sym, ap, ◌∙◌, subst, arith, Option, Some, None}
-use Rattle.std.specs.Prelude.{◌||◌, not, nat_lt, max, min, sum_by, count_by, filter, fold}
+use Rattle.std.proofs.Common.{◌≡◌, ℕ, ◌+◌, ◌≤◌, Bool, true, false, cond, List, [], ◌∷◌, ◌++◌, map, refl, sym, ap, ◌∙◌, subst, arith, Option, Some, None, ◌||◌, not, nat_lt, max, min, sum_by, count_by, filter, fold}
 use Rattle.std.specs.List.{AllByRecursion, list_any}
 use Rattle.std.proofs.lemmas.List.Sums.{sum_by-cons, sum_by-append}
 use Rattle.std.proofs.lemmas.Bool.Decides.{nat_tests}
-use Rattle.tac_base.specs.declared.bids.Point.{Point}
-use Rattle.tac_base.specs.Bids.{size_of}
-use Rattle.auction_rules.specs.declared.units.Placed.{Placed}
-use Rattle.auction_rules.specs.declared.units.BidUnit.{BidUnit}
-use Rattle.auction_rules.specs.Units.{point_units, same_unit, among, common_units}
-use Rattle.auction_rules.specs.Standing.{left_points, left_of}
-use Rattle.auction_rules.specs.Board.{lowest, highest_buy, lowest_sell}
+use Rattle.ticket_book.specs.{Point, size_of, Placed, BidUnit, point_units, same_unit, among, common_units, left_points, left_of, lowest, highest_buy, lowest_sell, HaveSame}
 use Rattle.auction_rules.proofs.Ranks.{count-cons, count_same}
 use Rattle.auction_rules.proofs.Quotes.{fold_keeps, max_keeps, max_reaches, prices_of}
 use Rattle.auction_rules.proofs.Standing.{Each, each-weaker, all_among_self}
 use Rattle.auction_rules.proofs.Matching.{each_among}
-use Rattle.ticket_book.specs.Sides.{HaveSame}
 
 -- ---- parts of such lists
 

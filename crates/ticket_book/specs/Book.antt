@@ -1,10 +1,6 @@
 -- What a contract sees of a ticket auction, and the pasts that it stands for.
 use Rattle.std.specs.Prelude.{◌≡◌, ℕ, Bool, List, Option}
-use Rattle.auction_rules.specs.declared.units.Placed.{Placed}
-use Rattle.auction_rules.specs.Setup.{Setup}
-use Rattle.auction_rules.specs.declared.rules.Rules.TheVariants.{Tickets as TicketRules}
-use Rattle.auction_rules.specs.History.{Entry, last_bids, is_closed}
-use Rattle.auction_rules.specs.Standing.{stand}
+use Rattle.ticket_book.specs.Prelude.{Placed, Setup, Tickets as TicketRules, Entry, last_bids, is_closed, stand}
 use Rattle.ticket_book.specs.Sides.{SortedSides, both, HaveSame}
 
 -- a ticket auction's good, the last bid of each agent in order, the units that stand, and whether it is closed
@@ -15,7 +11,7 @@ pub record TicketBook : Type 0 where
   pub closed : Bool
 
 -- the book stands for this past of an auction with this setup
-pub record StandsFor (book : TicketBook) (setup : Setup) (past : List Entry) : Type 0 where
+pub record TicketsStandFor (book : TicketBook) (setup : Setup) (past : List Entry) : Type 0 where
   pub rules : setup.rules ≡ TicketRules
   pub good : book.good ≡ setup.good
   pub bids : book.bids ≡ last_bids past

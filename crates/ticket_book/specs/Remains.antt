@@ -1,7 +1,6 @@
 -- What is left of one point of a bid.
 use Rattle.std.specs.Prelude.{ℕ, ◌==◌, if◌then◌else◌, List, [], ◌∷◌}
-use Rattle.tac_base.specs.declared.bids.Point.{Point}
-use Rattle.auction_rules.specs.Standing.{signed_as}
+use Rattle.ticket_book.specs.Prelude.{Point, signed_as}
 
 -- this many units, bought or sold as by the point, at its price
 abbrev pub with_units : Point → ℕ → Point

@@ -1,12 +1,7 @@
 -- The standing units of a ticket auction, those of each side in the order in which they trade.
-use Rattle.std.specs.Prelude.{◌≡◌, ℕ, ◌≤◌, ◌==◌, ⊤, Bool, true, false, not, List, [], ◌∷◌, ◌++◌, map, filter, count_by, sum_by}
+use Rattle.std.specs.Prelude.{◌≡◌, ℕ, ◌≤◌, ◌==◌, Bool, true, false, not, List, ◌++◌, map, filter, count_by, sum_by}
 use Rattle.std.specs.List.{AllByRecursion}
-use Rattle.tac_base.specs.declared.units.Unit.{Unit as ShownUnit}
-use Rattle.tac_base.specs.declared.limits.TheConstants.{BID_PRICE, BID_UNITS}
-use Rattle.auction_rules.specs.declared.units.BidUnit.{BidUnit}
-use Rattle.auction_rules.specs.Units.{same_unit, without}
-use Rattle.auction_rules.specs.Shown.{on_side}
-use Rattle.auction_rules.specs.TicketMatch.{goes_before, ticket_gone}
+use Rattle.ticket_book.specs.Prelude.{Unit as ShownUnit, BID_PRICE, BID_UNITS, BidUnit, same_unit, without, on_side, IsRankedBy, IsSortedBy, goes_before, ticket_gone}
 
 -- of two units of a side, whether the first goes before the second
 abbrev pub goes_first : Bool → ShownUnit → ShownUnit → Bool
@@ -14,13 +9,11 @@ goes_first buys u v = goes_before (on_side buys u) (on_side buys v)
 
 -- each unit of a side goes before those after it
 abbrev pub IsSideInOrder : Bool → List ShownUnit → Type 0
-IsSideInOrder buys [] = ⊤
-IsSideInOrder buys (u ∷ units) = AllByRecursion (λ v. goes_first buys u v ≡ true) units × IsSideInOrder buys units
+IsSideInOrder buys units = IsRankedBy (goes_first buys) units
 
 -- no unit of a side goes before one ahead of it
 abbrev pub IsSideSorted : Bool → List ShownUnit → Type 0
-IsSideSorted buys [] = ⊤
-IsSideSorted buys (u ∷ units) = AllByRecursion (λ v. goes_first buys v u ≡ false) units × IsSideSorted buys units
+IsSideSorted buys units = IsSortedBy (goes_first buys) units
 
 -- whether two units of one side are one
 abbrev pub is_same : ShownUnit → ShownUnit → Bool

@@ -1,18 +1,6 @@
-ghost use Rattle.std.specs.Prelude.{◌≡◌, ◌≤◌, ◌||◌, [], ◌∷◌, length, List, IsTrue, ◌<◌, ◌≢◌, All, true, false, not, map, filter};
-ghost use Rattle.std.specs.List.Sorted.{IsPermutation};
+ghost use Rattle.std.specs.Prelude.{◌≡◌, ◌≤◌, ◌||◌, [], ◌∷◌, length, List, IsTrue, ◌<◌, ◌≢◌, All, true, false, not, map, filter, IsPermutation};
 ghost use Rattle.tac_base.specs.Kinds.{kind_of};
-ghost use Rattle.tac_base.specs.Goods.{clock};
-ghost use Rattle.auction_rules.specs.Setup.{Setup};
-ghost use Rattle.auction_rules.specs.History.{Entry};
-ghost use Rattle.auction_rules.specs.Standing.{left, stand};
-ghost use Rattle.auction_rules.specs.Shown.{shown_unit};
-ghost use Rattle.auction_rules.specs.Legal.{IsLawful, entry_of};
-ghost use Rattle.auction_rules.specs.Board.{board};
-ghost use Rattle.auction_rules.specs.Refusals.{is_wrong_caller, is_wrong_place};
-ghost use Rattle.auction_rules.specs.Follows.{Follows};
-ghost use Rattle.auction_rules.specs.Traded.{Spends};
-ghost use Rattle.ticket_book.specs.Sides.{IsSideInOrder};
-ghost use Rattle.ticket_book.specs.Book.{StandsFor};
+ghost use Rattle.ticket_book.specs.{clock, Setup, Entry, left, stand, shown_unit, IsLawful, entry_of, board, is_wrong_caller, is_wrong_place, Follows, Spends, IsSideInOrder, TicketsStandFor};
 
 use crate::refusals::crosses_itself;
 use crate::remains::left_of;
@@ -45,7 +33,7 @@ impl Tickets {
     /// An open ticket auction in which nobody has bid.
     pub fn new(good: Good) -> Self
         requires { kind_of good ≡ Kind.Ticket }
-        ensures { (setup : Setup) → setup.good ≡ good → setup.rules ≡ Rules.Tickets → StandsFor result setup [] }
+        ensures { (setup : Setup) → setup.good ≡ good → setup.rules ≡ Rules.Tickets → TicketsStandFor result setup [] }
     {
         Tickets {
             good,
@@ -60,8 +48,8 @@ impl Tickets {
     /// in a closed auction or for a buying point that reaches one of its own selling points, it changes
     /// nothing and has no trades. An agent may sell what it does not have.
     pub fn bid(&mut self, at: u32, agent: Agent, points: &Points, fills: &mut Fills) -> Reply
-        ensures follows { (setup : Setup) (past : List Entry) → StandsFor self.old setup past → at ≡ length past →
-            Follows setup past agent (Call.Bid points.now) result fills.new (StandsFor self.new setup) }
+        ensures follows { (setup : Setup) (past : List Entry) → TicketsStandFor self.old setup past → at ≡ length past →
+            Follows setup past agent (Call.Bid points.now) result fills.new (TicketsStandFor self.new setup) }
         ensures with_others { All (λ trade. trade.buyer ≢ trade.seller) fills.new }
         ensures priced { All (λ trade. trade.price ≤ 10000) fills.new }
         ensures units { Spends 16 0 fills.new }
@@ -90,8 +78,8 @@ impl Tickets {
     /// An agent's withdrawal of what stands of its bid. If nothing stands, even because the
     /// whole bid was traded, or in a closed auction, it is refused and changes nothing.
     pub fn withdraw(&mut self, at: u32, agent: Agent) -> Reply
-        ensures { (setup : Setup) (past : List Entry) → StandsFor self.old setup past → at ≡ length past →
-            Follows setup past agent Call.Withdraw result [] (StandsFor self.new setup) }
+        ensures { (setup : Setup) (past : List Entry) → TicketsStandFor self.old setup past → at ≡ length past →
+            Follows setup past agent Call.Withdraw result [] (TicketsStandFor self.new setup) }
     {
         if self.closed {
             return Reply::Closed;
@@ -106,10 +94,10 @@ impl Tickets {
 
     /// The standing points of an agent, in the order of its bid: none in a closed auction.
     pub fn own(&self, agent: Agent) -> Left
-        ensures left { (setup : Setup) (past : List Entry) → StandsFor self.now setup past → result ≡ left setup.rules past agent }
+        ensures left { (setup : Setup) (past : List Entry) → TicketsStandFor self.now setup past → result ≡ left setup.rules past agent }
         // Reading changes nothing.
-        ensures stands { (setup : Setup) (past : List Entry) → StandsFor self.now setup past →
-            StandsFor self.now setup (entry_of setup past agent Call.Own ∷ past) }
+        ensures stands { (setup : Setup) (past : List Entry) → TicketsStandFor self.now setup past →
+            TicketsStandFor self.now setup (entry_of setup past agent Call.Own ∷ past) }
     {
         match &self.bids[agent.get() as usize] {
             Some(bid) => left_of(bid, &self.sides),
@@ -121,8 +109,8 @@ impl Tickets {
     /// after the closing, except for `Own`, and otherwise `WrongCall`. It changes nothing.
     pub fn refuse(&self, caller: Caller, call: &Call) -> Reply
         requires { IsTrue (is_wrong_caller caller call.now || is_wrong_place Rules.Tickets call.now) }
-        ensures { (setup : Setup) (past : List Entry) → StandsFor self.now setup past →
-            Follows setup past caller call.now result [] (StandsFor self.now setup) }
+        ensures { (setup : Setup) (past : List Entry) → TicketsStandFor self.now setup past →
+            Follows setup past caller call.now result [] (TicketsStandFor self.now setup) }
     {
         wrong_reply(self.closed, call)
     }
@@ -130,8 +118,8 @@ impl Tickets {
     /// The clock's closing, after which nothing stands. `fills` is left empty. In a closed auction it is
     /// refused and changes nothing.
     pub fn close(&mut self, at: u32, fills: &mut Fills) -> Reply
-        ensures follows { (setup : Setup) (past : List Entry) → StandsFor self.old setup past → at ≡ length past →
-            Follows setup past clock Call.Close result fills.new (StandsFor self.new setup) }
+        ensures follows { (setup : Setup) (past : List Entry) → TicketsStandFor self.old setup past → at ≡ length past →
+            Follows setup past clock Call.Close result fills.new (TicketsStandFor self.new setup) }
         ensures none { fills.new ≡ [] }
     {
         fills.clear();
@@ -147,10 +135,10 @@ impl Tickets {
     /// standing ask, in dollars, 0 if there is none. After entries that the rules allow, the bid is
     /// below the ask if both are there.
     pub fn board(&self, count: u32) -> Board
-        ensures board { (setup : Setup) (past : List Entry) → StandsFor self.now setup past → count ≡ length past → result ≡ board setup.rules past }
+        ensures board { (setup : Setup) (past : List Entry) → TicketsStandFor self.now setup past → count ≡ length past → result ≡ board setup.rules past }
         ensures bid_within { result.bid ≤ 10000 }
         ensures ask_within { result.ask ≤ 10000 }
-        ensures uncrossed { (setup : Setup) (past : List Entry) → StandsFor self.now setup past → IsLawful setup past →
+        ensures uncrossed { (setup : Setup) (past : List Entry) → TicketsStandFor self.now setup past → IsLawful setup past →
             0 < result.bid → 0 < result.ask → result.bid < result.ask }
     {
         Board {
@@ -164,9 +152,9 @@ impl Tickets {
     /// The standing units that buy: those of the highest price first, at one price those of the earlier bid first, and in one bid those of the
     /// lower index first. None in a closed auction.
     pub fn buys(&self) -> &[Unit]
-        ensures units { (setup : Setup) (past : List Entry) → StandsFor self.now setup past →
+        ensures units { (setup : Setup) (past : List Entry) → TicketsStandFor self.now setup past →
             IsPermutation (map shown_unit (filter (λ u. u.buys) (stand setup.rules past))) result.now }
-        ensures order { (setup : Setup) (past : List Entry) → StandsFor self.now setup past → IsSideInOrder true result.now }
+        ensures order { (setup : Setup) (past : List Entry) → TicketsStandFor self.now setup past → IsSideInOrder true result.now }
     {
         self.sides.side(true)
     }
@@ -174,9 +162,9 @@ impl Tickets {
     /// The standing units that sell: those of the lowest price first, at one price those of the earlier bid first, and in one bid those of the
     /// lower index first. None in a closed auction.
     pub fn sells(&self) -> &[Unit]
-        ensures units { (setup : Setup) (past : List Entry) → StandsFor self.now setup past →
+        ensures units { (setup : Setup) (past : List Entry) → TicketsStandFor self.now setup past →
             IsPermutation (map shown_unit (filter (λ u. not u.buys) (stand setup.rules past))) result.now }
-        ensures order { (setup : Setup) (past : List Entry) → StandsFor self.now setup past → IsSideInOrder false result.now }
+        ensures order { (setup : Setup) (past : List Entry) → TicketsStandFor self.now setup past → IsSideInOrder false result.now }
     {
         self.sides.side(false)
     }

@@ -1,5 +1,5 @@
 // The units of a new bid trade with those that stand.
-ghost use Rattle.std.specs.Prelude.{All, ◌≡◌, ◌+◌, ◌<◌, ◌≤◌, ◌++◌, ℕ, length, filter};
+ghost use Rattle.std.specs.Prelude.{All, ◌≡◌, ◌+◌, ◌<◌, ◌≤◌, ◌++◌, ℕ, length, map, filter};
 ghost use Rattle.auction_rules.specs.Units as spec;
 ghost use Rattle.auction_rules.specs.Shown.{on_side};
 ghost use Rattle.auction_rules.specs.TicketMatch as rule;
@@ -118,7 +118,7 @@ impl Sides {
     )
         requires fills { length fills.old < ENTRY_TRADES }
         requires gone { length gone.old.items + 2 ≤ 32 }
-        ensures trades { fills.new ≡ fills.old ++ rule.trades_of_pairs good (rule.pair_with unit.now (rule.partner (both self.old) unit.now)) }
+        ensures trades { fills.new ≡ fills.old ++ map (rule.pair_trade good) (rule.pair_with unit.now (rule.partner (both self.old) unit.now)) }
         ensures gone { gone.new.items ≡ gone.old.items ++ rule.units_of_pairs (rule.pair_with unit.now (rule.partner (both self.old) unit.now)) }
         ensures standing { both self.new ≡ rule.not_taken (rule.partner (both self.old) unit.now) (both self.old) }
         ensures fills_len { length fills.new ≤ length fills.old + 1 }

@@ -1,6 +1,6 @@
 // The order of a side's units.
-ghost use Rattle.std.specs.Prelude.{IfSome, ◌≡◌, ◌<◌, ◌≤◌, ◌==◌, not, length, filter, map};
-ghost use Rattle.std.specs.List.{insert, position, position_or_len, find, list_any, slice_index_or};
+ghost use Rattle.std.specs.Prelude.{IfSome, ◌≡◌, ◌<◌, ◌≤◌, ◌==◌, not, length, filter, map, insert, position, find, slice_index_or};
+ghost use Rattle.std.specs.List.{position_or_len, list_any};
 ghost use Rattle.ticket_book.specs.Sides as spec;
 
 use arrayvec::ArrayVec;
@@ -38,7 +38,7 @@ fn first_after(units: &[Unit], buys: bool, unit: &Unit) -> Option<usize>
 }
 
 /// The index of the first unit of a side that the given unit goes before, or the number of units if there is none.
-#[tactic(auto, using(crate::proofs::Sorting::place_at, crate::proofs::Sorting::place_at_end))]
+#[tactic(auto, using(auction_rules::proofs::Sorting::place_at, auction_rules::proofs::Sorting::place_at_end))]
 fn place_of(units: &[Unit], buys: bool, unit: &Unit) -> usize
     ensures place { result ≡ position_or_len (spec.goes_first buys unit.now) units.now }
     ensures within { result ≤ length units.now }

@@ -1,11 +1,13 @@
-ghost use Rattle.std.specs.Prelude.{◌≡◌};
+ghost use Rattle.std.specs.Prelude.{◌≡◌, ◌&&◌, not, nat_le};
+ghost use Rattle.std.specs.List.{list_any};
+ghost use Rattle.tac_base.specs.Bids.{buys_of};
 ghost use Rattle.auction_rules.specs.Refusals as refusals;
 
 use tac_base::Point;
 
 /// Whether the price is at least that of some selling point.
 fn meets_own(points: &[Point], price: u16) -> bool
-    ensures { result ≡ refusals.meets_own points.now price }
+    ensures { result ≡ list_any (λ sell. not (buys_of sell.units) && nat_le sell.price price) points.now }
 {
     points
         .iter()

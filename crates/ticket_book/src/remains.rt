@@ -1,10 +1,8 @@
 ghost use Rattle.std.specs.Prelude.{◌≡◌, ◌+◌, ◌<◌, ◌≤◌, ◌++◌, length, if◌then◌else◌};
-ghost use Rattle.tac_base.specs.declared.bids.Point.{Point};
-ghost use Rattle.tac_base.specs.Bids.{size_of};
+ghost use Rattle.ticket_book.specs.{Point, size_of, both};
 ghost use Rattle.auction_rules.specs.Units as units;
 ghost use Rattle.auction_rules.specs.Standing as spec;
 ghost use Rattle.ticket_book.specs.Remains as remains;
-ghost use Rattle.ticket_book.specs.Sides.{both};
 
 use crate::sides::Sides;
 use arrayvec::ArrayVec;

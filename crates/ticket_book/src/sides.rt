@@ -1,10 +1,8 @@
 // The units that stand, each side in its order.
 ghost use Rattle.std.specs.Prelude.{All, Some, ◌≡◌, ◌+◌, ◌<◌, ◌≤◌, ◌==◌, [], ◌∷◌, ◌++◌, length, count_by};
 ghost use Rattle.std.specs.List.{list_any};
-ghost use Rattle.auction_rules.specs.Units.{among};
-ghost use Rattle.auction_rules.specs.TicketMatch.{not_taken};
+ghost use Rattle.ticket_book.specs.{among, not_taken, IsSideSorted, HaveSame, both, of_side, others};
 ghost use Rattle.auction_rules.specs.Board as boards;
-ghost use Rattle.ticket_book.specs.Sides.{IsSideSorted, HaveSame, both, of_side, others};
 
 use crate::order::{first_price, has_units_of, is_on, put, take_out, take_out_of};
 use arrayvec::ArrayVec;

@@ -1,21 +1,15 @@
 -- Tallies with one result more.
-use Rattle.std.proofs.Common.{◌≡◌, ℕ, zero, suc, arith, ◌+◌, List, [], ◌∷◌, ◌++◌, Bool, true, false, map, filter, cond, refl, sym, ap, ◌∙◌, ℤ, Option, Some, None, subst, append_assoc, ◌<◌, ◌≤◌, length, take, get_or}
-use Rattle.std.specs.List.{list_any, IsDistinct, AllByRecursion, flat_map}
+use Rattle.std.proofs.Common.{◌≡◌, ℕ, ◌+◌, List, [], ◌∷◌, ◌++◌, Bool, true, false, map, filter, cond, refl, sym, ap, ◌∙◌, ℤ, Option, Some, None, subst, append_assoc, ◌<◌, ◌≤◌, length, take, get_or, flat_map, unwrap_or, bytes_eq, append-nil, take_all}
+use Rattle.std.specs.List.{list_any, IsDistinct, AllByRecursion}
 use Rattle.std.specs.Map.{lookup}
-use Rattle.std.specs.Option.{unwrap_or}
-use Rattle.std.specs.Str.{bytes_eq}
 use Rattle.std.proofs.lemmas.Grind.{flat_map-append}
-use Rattle.std.proofs.lemmas.List.{map-append, append-nil, take_more, take_all}
+use Rattle.std.proofs.lemmas.List.{map-append, take_more}
 use Rattle.std.proofs.lemmas.List.Concat.{flat_map-cons}
 use Rattle.std.proofs.lemmas.List.Sums.{fold-append}
 use Rattle.std.proofs.lemmas.Map.Keys.{IsDistinct-head, IsDistinct-tail}
 use Rattle.indexmap.specs.IndexMap.{insert_entry}
-use Rattle.tac_base.specs.Goods.{agents}
-use Rattle.game_text.specs.Games.{GameFile}
-use Rattle.log_text.specs.LoggedGames.{LoggedGame}
+use Rattle.tourney.specs.{agents, GameFile, LoggedGame, counts, result_of, results_of, results, firsts, teams_in, tally_of, tallies_of, tally_at, no_tally, with_score, with_result, with_results, result_if_counts}
 use Rattle.tourney.specs.declared.tallies.Tally.{Tally}
-use Rattle.tourney.specs.Standings.{counts, result_of, results_of, results, firsts, teams_in}
-use Rattle.tourney.specs.Tallies.{tally_of, tallies_of, tally_at, no_tally, with_score, with_result, with_results, result_if_counts}
 use Rattle.tourney.proofs.Words.{same, cases, first_fails, second_fails, second_passes, no_clash}
 use Rattle.tourney.proofs.Firsts.{firsts_any, firsts_new, firsts_known, firsts_distinct}
 use Rattle.tourney.proofs.Tallied.{Results, tally_more, tally_other, tally_none}
@@ -99,17 +93,6 @@ agents_more played all i agent old mid new lt is before after =
     let split : flat_map f (take (i + 1) all) ≡ flat_map f (take i all) ++ f agent =
     ap (flat_map f) (take_more all i agent lt ∙ ap (λ (x : ℕ). take i all ++ x ∷ []) (sym is)) ∙ flat_map-append f (take i all) (agent ∷ []) ∙ ap (λ (rs : Results). flat_map f (take i all) ++ rs) (append-nil (f agent)) in
     after ∙ ap (λ (es : List (List ℕ × Tally)). with_results es (f agent)) before ∙ sym (fold-append with_result old (flat_map f (take i all)) (f agent)) ∙ ap (with_results old) (sym split)
-
-pub agent_at : (i d : ℕ) → i < 8 → get_or agents i d ≡ i
-agent_at zero d lt = refl
-agent_at (suc zero) d lt = refl
-agent_at (suc (suc zero)) d lt = refl
-agent_at (suc (suc (suc zero))) d lt = refl
-agent_at (suc (suc (suc (suc zero)))) d lt = refl
-agent_at (suc (suc (suc (suc (suc zero))))) d lt = refl
-agent_at (suc (suc (suc (suc (suc (suc zero)))))) d lt = refl
-agent_at (suc (suc (suc (suc (suc (suc (suc zero))))))) d lt = refl
-agent_at (suc (suc (suc (suc (suc (suc (suc (suc n)))))))) d lt = absurd (omega (arith, lt))
 
 pub all_agents : (items : List ℕ) (i : ℕ) → items ≡ agents → length items ≤ i → take i items ≡ agents
 all_agents items i is all = take_all i items all ∙ is

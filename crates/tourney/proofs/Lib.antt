@@ -9,4 +9,3 @@ pub mod LowestTerms
 pub mod TeamRows
 pub mod OneAverage
 pub mod OneText
-pub mod Worked

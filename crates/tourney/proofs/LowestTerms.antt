@@ -1,17 +1,17 @@
 -- A total over games, divided by their greatest common divisor.
-use Rattle.std.proofs.Common.{◌≡◌, ℕ, zero, suc, ◌*◌, ◌/◌, ◌<◌, ◌≤◌, ℤ, pos, negsuc, neg_ℤ, ◌<ℤ◌, ◌≤ℤ◌, ◌*ℤ◌, unsigned_abs, refl, sym, ap, ◌∙◌, subst, arith}
+use Rattle.std.proofs.Common.{◌≡◌, ℕ, zero, suc, ◌*◌, ◌/◌, ◌<◌, ◌≤◌, ℤ, pos, negsuc, neg_ℤ, ◌<ℤ◌, ◌≤ℤ◌, ◌*ℤ◌, unsigned_abs, refl, sym, ap, ◌∙◌, subst, arith, mul_comm, mul_assoc}
 use Prim.Native.Nat.{◌∣◌}
 use Rattle.std.specs.Int.{IsGcd}
-use Rattle.std.proofs.Math.Nat.{div-mul_cancel, mul-dvd-mul_right, dvd_of_mul-dvd-mul_right, dvd-mul_right, mul_comm, mul_assoc, pos_of_dvd_of_pos}
+use Rattle.std.proofs.Math.Nat.{div-mul_cancel, mul-dvd-mul_right, dvd_of_mul-dvd-mul_right, dvd-mul_right, pos_of_dvd_of_pos}
 use Rattle.std.proofs.Math.IntN.{pos-*ℤ-pos, negsuc-*ℤ-pos}
 use Rattle.std.proofs.lemmas.Int.{ints}
 use Rattle.tourney.specs.Rows.{IsAverage, signed}
 
+one : (n : ℕ) → 1 * n ≡ n
+one n = omega arith
+
 one_divides : (n : ℕ) → 1 ∣ n
 one_divides n = subst (λ (m : ℕ). 1 ∣ m) (one n) (dvd-mul_right 1 n)
-  where
-    one : (n : ℕ) → 1 * n ≡ n
-    one n = omega arith
 
 above_none : (a g n : ℕ) → a * g ≡ n → 1 ≤ n → (1 ≤ a) × (1 ≤ g)
 above_none zero g n e some = absurd (omega (arith, e, some))
@@ -30,9 +30,6 @@ lowest t n g a b is first second some = (
       let whole : d * g ∣ g = is.2 (d * g) (subst (λ (m : ℕ). d * g ∣ m) first (mul-dvd-mul_right d da g)) (subst (λ (m : ℕ). d * g ∣ m) second (mul-dvd-mul_right d db g)) in
       dvd_of_mul-dvd-mul_right d some (subst (λ (m : ℕ). d * g ∣ m) (sym (one g)) whole),
 )
-  where
-    one : (n : ℕ) → 1 * n ≡ n
-    one n = omega arith
 
 pub signed_low : (total : ℤ) (n : ℕ) → total <ℤ pos 0 → signed total n ≡ neg_ℤ (pos n)
 signed_low (pos t) n lt = absurd (omega (arith, ints, lt))

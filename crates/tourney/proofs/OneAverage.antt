@@ -1,7 +1,7 @@
 -- A total over games is one fraction in lowest terms.
-use Rattle.std.proofs.Common.{◌≡◌, ℕ, zero, suc, ◌*◌, ◌/◌, ◌%◌, ◌+◌, ◌<◌, ◌≤◌, ℤ, pos, negsuc, neg_ℤ, ◌*ℤ◌, unsigned_abs, refl, sym, ap, ◌∙◌, subst, arith}
+use Rattle.std.proofs.Common.{◌≡◌, ℕ, zero, suc, ◌*◌, ◌/◌, ◌%◌, ◌+◌, ◌<◌, ◌≤◌, ℤ, pos, negsuc, neg_ℤ, ◌*ℤ◌, unsigned_abs, refl, sym, ap, ◌∙◌, subst, arith, mul_comm, mul_right_comm, mul-pos, zero-mul, mul-lt-mul_of_pos_right, mod-lt}
 use Rattle.std.specs.Int.{IsGcd}
-use Rattle.std.proofs.Math.Nat.{mul_comm, mul_right_comm, mul-pos, zero-mul, mul-lt-mul_of_pos_right, mod-add-div', mod-lt, eq_of_mul-eq-mul_right, dvd-mod_iff, eq-one_of_dvd-one}
+use Rattle.std.proofs.Math.Nat.{mod-add-div', eq_of_mul-eq-mul_right, dvd-mod_iff, eq-one_of_dvd-one}
 use Rattle.std.proofs.Math.IntN.{pos-*ℤ-pos, negsuc-*ℤ-pos}
 use Rattle.std.proofs.lemmas.Nat.{mod-mul-add}
 use Rattle.std.proofs.lemmas.Nat.Gcd.{dvd_refl, dvd_of_mod-eq-zero}

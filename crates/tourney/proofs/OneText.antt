@@ -1,17 +1,13 @@
 -- The standings of games have one list of rows, and so one text.
-use Rattle.std.proofs.Common.{◌≡◌, ℕ, ◌+◌, ◌<◌, ◌≤◌, List, [], ◌∷◌, ◌++◌, true, map, cond, length, get_or, ℤ, sym, ap, ◌∙◌, subst, arith}
+use Rattle.std.proofs.Common.{◌≡◌, ℕ, ◌+◌, ◌<◌, ◌≤◌, List, [], ◌∷◌, ◌++◌, true, map, cond, length, get_or, ℤ, sym, ap, ◌∙◌, subst, arith, bytes_eq}
 use Rattle.std.specs.List.{list_any}
-use Rattle.std.specs.Str.{bytes_eq}
 use Rattle.std.proofs.lemmas.List.{same_lists}
 use Rattle.std.proofs.lemmas.List.Sums.{sum_by-cons}
 use Rattle.std.proofs.lemmas.List.Folds.{list_any_at}
 use Rattle.std.proofs.lemmas.Option.{slice_get-get_or}
-use Rattle.game_text.specs.Games.{GameFile}
-use Rattle.log_text.specs.LoggedGames.{LoggedGame}
+use Rattle.tourney.specs.{GameFile, LoggedGame, IsAverage, IsRow, AreRows, IsPrinted, standings_text}
 use Rattle.tourney.specs.declared.rows.TeamRow.{TeamRow}
-use Rattle.tourney.specs.Standings.{results, teams, games, total, games_in, teams_in}
-use Rattle.tourney.specs.Rows.{IsAverage, IsRow, AreRows}
-use Rattle.tourney.specs.StandingsTexts.{IsPrinted, standings_text}
+use Rattle.tourney.specs.Standings.{results, teams, game_count, total, games_in, teams_in}
 use Rattle.tourney.proofs.Words.{itself, cases, second_passes}
 use Rattle.tourney.proofs.Firsts.{firsts_any}
 use Rattle.tourney.proofs.Tallied.{Results}
@@ -42,7 +38,7 @@ team_plays rs place inside =
 abbrev made : ℕ → ℕ → ℤ → ℤ → ℕ → ℕ → TeamRow
 made team games total over under rank = record { team = team; games = games; total = total; over = over; under = under; rank = rank }
 
-one_row : (played : List (GameFile × LoggedGame)) (place : ℕ) (word : List ℕ) (row other : TeamRow) → 1 ≤ games played word → IsRow played place word row → IsRow played place word other → row ≡ other
+one_row : (played : List (GameFile × LoggedGame)) (place : ℕ) (word : List ℕ) (row other : TeamRow) → 1 ≤ game_count played word → IsRow played place word row → IsRow played place word other → row ≡ other
 one_row played place word row other some first second =
     let total : row.total ≡ other.total = first.total ∙ sym second.total in
     let games : row.games ≡ other.games = first.games ∙ sym second.games in

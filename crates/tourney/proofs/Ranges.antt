@@ -1,23 +1,17 @@
 -- The ranges of tallies, result by result.
-use Rattle.std.proofs.Common.{◌≡◌, ℕ, zero, suc, ◌+◌, ◌*◌, ◌<◌, ◌≤◌, List, [], ◌∷◌, Bool, true, false, not, ◌&&◌, ◌++◌, cond, count_by, take, slice_get, length, get_or, ℤ, ◌+ℤ◌, unsigned_abs, refl, sym, ap, ◌∙◌, subst, arith, Option, Some, None, IfSome}
-use Rattle.std.specs.List.{All, list_any}
+use Rattle.std.proofs.Common.{◌≡◌, ℕ, zero, suc, ◌+◌, ◌*◌, ◌<◌, ◌≤◌, List, [], ◌∷◌, Bool, true, false, not, ◌&&◌, ◌++◌, cond, count_by, take, slice_get, length, get_or, ℤ, ◌+ℤ◌, unsigned_abs, refl, sym, ap, ◌∙◌, subst, arith, Option, Some, None, IfSome, All, unwrap_or, bytes_eq}
+use Rattle.std.specs.List.{list_any}
 use Rattle.std.specs.Map.{lookup, values_of}
 use Rattle.std.proofs.lemmas.Option.{get_or_from_slice_get, slice_get_within}
 use Rattle.std.proofs.lemmas.List.{take_more}
 use Rattle.std.proofs.lemmas.List.Sums.{sum_by_push}
-use Rattle.std.specs.Option.{unwrap_or}
-use Rattle.std.specs.Str.{bytes_eq}
 use Rattle.std.proofs.lemmas.Int.{ints}
 use Rattle.std.proofs.lemmas.List.Elements.{All-nil, All-cons, All-head, All-tail, All-weaker, All-map}
 use Rattle.std.proofs.lemmas.List.Folds.{list_any_at}
 use Rattle.std.proofs.lemmas.Map.Entries.{All-lookup}
 use Rattle.indexmap.specs.IndexMap.{insert_entry}
-use Rattle.game_text.specs.Games.{GameFile}
-use Rattle.game_text.specs.SeatWords.{are_distinct}
-use Rattle.log_text.specs.LoggedGames.{LoggedGame}
+use Rattle.tourney.specs.{GameFile, are_distinct, LoggedGame, counts, result_of, tally_at, no_tally, with_score, with_result, with_results, result_if_counts, most_score, IsTally, AreTallies}
 use Rattle.tourney.specs.declared.tallies.Tally.{Tally}
-use Rattle.tourney.specs.Standings.{counts, result_of}
-use Rattle.tourney.specs.Tallies.{tally_at, no_tally, with_score, with_result, with_results, result_if_counts, most_score, IsTally, AreTallies}
 use Rattle.tourney.proofs.Words.{same, turned, cases}
 
 abbrev Entries : Type 0
@@ -129,9 +123,6 @@ pub agent_counted : (played : GameFile × LoggedGame) (games agent : ℕ) (es : 
 agent_counted played games agent es eight differ lt least is = cases (counts played.1.head agent)
     (λ e. rw e (agent_scored played games agent es eight differ lt least is))
     (λ n. rw n (record { few = omega (arith, is.few); each = is.each; room = λ next from below. is.room next (omega (arith, from)) below }))
-
-pub all_counted : (played : GameFile × LoggedGame) (games : ℕ) (es : Entries) → IsCounted played games 8 es → AreTallies es (games + 1)
-all_counted played games es is = record { few = omega (arith, is.few); each = is.each }
 
 -- ---- by places
 

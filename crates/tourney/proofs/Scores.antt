@@ -1,6 +1,5 @@
 -- The scores of a sound log are small: no trade moves more than its ranges allow.
-use Rattle.std.proofs.Common.{◌≡◌, ℕ, ◌+◌, ◌*◌, ◌<◌, ◌≤◌, List, [], ◌∷◌, Bool, length, map, fold, filter, sum_by, ℤ, pos, ◌+ℤ◌, ◌-ℤ◌, unsigned_abs, get_or, to_z, of_z, w64, sym, ap, ◌∙◌, subst, arith, suc}
-use Rattle.std.specs.Prelude.{reverse, slice_get, Some, ◌==◌}
+use Rattle.std.proofs.Common.{◌≡◌, ℕ, ◌+◌, ◌*◌, ◌<◌, ◌≤◌, List, [], ◌∷◌, Bool, length, map, fold, filter, sum_by, ℤ, pos, ◌+ℤ◌, ◌-ℤ◌, unsigned_abs, get_or, to_z, of_z, w64, sym, ap, ◌∙◌, subst, arith, suc, reverse, slice_get, Some, ◌==◌, mul-le-mul}
 use Rattle.std.specs.List.{AllByRecursion, enumerate_from}
 use Rattle.std.proofs.lemmas.Int.{ints}
 use Rattle.std.proofs.lemmas.List.{length-reverse, length-map}
@@ -9,12 +8,10 @@ use Rattle.std.proofs.lemmas.List.Elements.{filter-append, All-map, recursion_fr
 use Rattle.std.proofs.lemmas.List.Sorted.{All-permutation, IsPermutation-reverse}
 use Rattle.std.proofs.lemmas.List.Sums.{sum_by-append, sum_by-cons}
 use Rattle.std.proofs.lemmas.Option.{slice_get_within, slice_get-get_or}
-use Rattle.std.proofs.Math.Nat.{mul-le-mul}
 use Rattle.tac_base.specs.declared.calls.Trade.{Trade}
-use Rattle.tac_base.specs.Goods.{agents}
+use Rattle.tourney.specs.{agents, GameFile, LoggedGame, IsLogged, IsLoggedScore, AreHistories, IsSound, auctions_in, most_score, result_of}
 use Rattle.tac_base.specs.Ranges.{IsTrade}
 use Rattle.auction_core.specs.Ranges.{IsEntry, IsHistory}
-use Rattle.game_text.specs.Games.{GameFile}
 use Rattle.auction_rules.specs.History.{Entry}
 use Rattle.auction_rules.specs.Effects.{all_trades, dollars}
 use Rattle.trade_ledger.specs.CashKeeping.{IsWithin}
@@ -22,10 +19,6 @@ use Rattle.auction_core.specs.Auctions.{AuctionHistory}
 use Rattle.auction_core.specs.Setups.{setup_of}
 use Rattle.settlement.specs.Settlement.{cash_gained}
 use Rattle.settlement.specs.Sheets.{Scored}
-use Rattle.log_text.specs.LoggedGames.{LoggedGame, IsLogged, IsLoggedScore, AreHistories}
-use Rattle.log_text.specs.SoundLog.{IsSound, auctions_in}
-use Rattle.tourney.specs.Tallies.{most_score}
-use Rattle.tourney.specs.Standings.{result_of}
 use Rattle.tourney.proofs.Words.{cases}
 
 abbrev cost_of : Trade → ℕ

@@ -1,13 +1,11 @@
 -- The tally of a team with one result more.
-use Rattle.std.proofs.Common.{◌≡◌, ℕ, ◌+◌, List, [], ◌∷◌, ◌++◌, Bool, true, false, map, fold, cond, refl, ap, ◌∙◌, ℤ, pos, ◌+ℤ◌, arith}
+use Rattle.std.proofs.Common.{◌≡◌, ℕ, ◌+◌, List, [], ◌∷◌, ◌++◌, Bool, true, false, map, fold, cond, refl, ap, ◌∙◌, ℤ, pos, ◌+ℤ◌, arith, bytes_eq, append-nil}
 use Rattle.std.specs.List.{list_any}
-use Rattle.std.specs.Str.{bytes_eq}
-use Rattle.std.proofs.lemmas.List.{map-append, append-nil}
+use Rattle.std.proofs.lemmas.List.{map-append}
 use Rattle.std.proofs.lemmas.List.Elements.{filter-append}
 use Rattle.std.proofs.lemmas.List.Sums.{sum_by_push, fold_push}
 use Rattle.tourney.specs.declared.tallies.Tally.{Tally}
-use Rattle.tourney.specs.Standings.{games_in, total_in, results_with}
-use Rattle.tourney.specs.Tallies.{tally_of, with_score, no_tally}
+use Rattle.tourney.specs.{games_in, total_in, results_with, tally_of, with_score, no_tally}
 use Rattle.tourney.proofs.Words.{itself, turned, cases, second_fails, no_clash}
 
 abbrev pub Results : Type 0

@@ -1,20 +1,16 @@
 -- The rows of the teams.
-use Rattle.std.proofs.Common.{◌≡◌, ℕ, ◌+◌, ◌<◌, List, [], ◌∷◌, ◌++◌, Bool, length, map, count_by, get_or, slice_get, Option, Some, None, refl, sym, ap, ◌∙◌, subst, arith, inl, inr, length-append, cond}
+use Rattle.std.proofs.Common.{◌≡◌, ℕ, ◌+◌, ◌<◌, List, [], ◌∷◌, ◌++◌, Bool, length, map, count_by, get_or, slice_get, Option, Some, None, refl, sym, ap, ◌∙◌, subst, arith, inl, inr, length-append, cond, option_map}
 use Rattle.std.specs.Map.{values_of}
-use Rattle.std.specs.Option.{option_map}
 use Rattle.std.proofs.lemmas.Bool.{cases_lt}
 use Rattle.std.proofs.lemmas.List.{length-map}
 use Rattle.std.proofs.lemmas.List.Sums.{sum_by-cons}
 use Rattle.std.proofs.lemmas.Option.{slice_get-map, slice_get_within, get_or_from_slice_get, slice_get-get_or}
 use Rattle.std.proofs.Math.ListN.{get_or-append}
 use Rattle.std.proofs.Math.Seq.{get_or-append_seam}
-use Rattle.game_text.specs.Games.{GameFile}
-use Rattle.log_text.specs.LoggedGames.{LoggedGame}
+use Rattle.tourney.specs.{GameFile, LoggedGame, IsRow, AreRows, Kept, AreStandingsOf, tally_of, tallies_of, is_over, rank_in, IsRowAt, AreRowsBelow}
 use Rattle.tourney.specs.declared.tallies.Tally.{Tally}
 use Rattle.tourney.specs.declared.rows.TeamRow.{TeamRow}
 use Rattle.tourney.specs.Standings.{results, teams, rank}
-use Rattle.tourney.specs.Rows.{IsRow, AreRows}
-use Rattle.tourney.specs.Tallies.{Kept, AreStandingsOf, tally_of, tallies_of, is_over, rank_in, IsRowAt, AreRowsBelow}
 
 abbrev Entries : Type 0
 Entries = List (List ℕ × Tally)

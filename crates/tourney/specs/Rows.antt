@@ -1,10 +1,9 @@
 -- A row of the standings for each team.
 use Rattle.std.specs.Prelude.{◌≡◌, ℕ, ◌≤◌, List, [], ℤ, pos, negsuc, neg_ℤ, ◌*ℤ◌, Some, length, slice_get, slice_index_or, unsigned_abs}
 use Rattle.std.specs.Int.{IsGcd}
-use Rattle.game_text.specs.Games.{GameFile}
-use Rattle.log_text.specs.LoggedGames.{LoggedGame}
+use Rattle.tourney.specs.Prelude.{GameFile, LoggedGame}
 use Rattle.tourney.specs.declared.rows.TeamRow.{TeamRow}
-use Rattle.tourney.specs.Standings.{teams, games, total, rank}
+use Rattle.tourney.specs.Standings.{teams, game_count, total, rank}
 
 -- this many dollars with the sign of a total
 abbrev pub signed : ℤ → ℕ → ℤ
@@ -20,7 +19,7 @@ pub record IsAverage (total : ℤ) (games : ℕ) (over : ℤ) (under : ℕ) : Ty
 -- the row of a team at its place
 pub record IsRow (played : List (GameFile × LoggedGame)) (place : ℕ) (word : List ℕ) (row : TeamRow) : Type 0 where
   pub team : row.team ≡ place
-  pub games : row.games ≡ games played word
+  pub games : row.games ≡ game_count played word
   pub total : row.total ≡ total played word
   pub average : IsAverage row.total row.games row.over row.under
   pub rank : row.rank ≡ rank played word

@@ -1,12 +1,6 @@
 -- The standings of games, each given by its file and its log. A team is a seat's word.
-use Rattle.std.specs.Prelude.{ℕ, ◌+◌, not, nat_lt, List, [], ◌∷◌, Bool, true, ℤ, pos, ◌+ℤ◌, ◌*ℤ◌, int_lt, map, filter, fold, count_by, slice_index_or}
-use Rattle.std.specs.List.{flat_map}
-use Rattle.std.specs.Str.{bytes_eq}
-use Rattle.tac_base.specs.Goods.{agents}
-use Rattle.game_text.specs.Games.{GameFile}
-use Rattle.line_protocol.specs.Heads.{Head, Play, Serve}
-use Rattle.log_text.specs.LoggedGames.{LoggedGame}
-use Rattle.log_text.specs.SoundLog.{seatings}
+use Rattle.std.specs.Prelude.{ℕ, ◌+◌, not, nat_lt, List, [], ◌∷◌, Bool, true, ℤ, pos, ◌+ℤ◌, ◌*ℤ◌, int_lt, map, filter, fold, count_by, slice_index_or, flat_map, bytes_eq}
+use Rattle.tourney.specs.Prelude.{agents, GameFile, Head, Play, Serve, LoggedGame, seatings}
 
 -- whether an agent counts in a game: each does if a script was played, and otherwise those that were given their seat
 abbrev pub counts : Head → ℕ → Bool
@@ -51,8 +45,8 @@ total_in results word = fold ◌+ℤ◌ (pos 0) (map (λ result. result.1) (resu
 abbrev pub teams : List (GameFile × LoggedGame) → List (List ℕ)
 teams played = teams_in (results played)
 
-abbrev pub games : List (GameFile × LoggedGame) → List ℕ → ℕ
-games played word = games_in (results played) word
+abbrev pub game_count : List (GameFile × LoggedGame) → List ℕ → ℕ
+game_count played word = games_in (results played) word
 
 abbrev pub total : List (GameFile × LoggedGame) → List ℕ → ℤ
 total played word = total_in (results played) word
@@ -63,7 +57,7 @@ is_above total games other_total other_games = int_lt (other_total *ℤ pos game
 
 -- whether the first team's average is greater than the second's
 abbrev pub is_ahead : List (GameFile × LoggedGame) → List ℕ → List ℕ → Bool
-is_ahead played word other = is_above (total played word) (games played word) (total played other) (games played other)
+is_ahead played word other = is_above (total played word) (game_count played word) (total played other) (game_count played other)
 
 -- 1 plus the number of teams with a greater average
 abbrev pub rank : List (GameFile × LoggedGame) → List ℕ → ℕ

@@ -2,10 +2,8 @@
 use Rattle.std.specs.Prelude.{◌≡◌, ℕ, List, [], ◌∷◌, ◌++◌, pos, codes, decimal, length, map, slice_index_or}
 use Rattle.std.specs.Fmt.{signed_decimal}
 use Rattle.std.specs.List.{join_with_byte}
-use Rattle.text_forms.specs.Lines.{text_of}
+use Rattle.tourney.specs.Prelude.{text_of, GameFile, LoggedGame}
 use Rattle.text_forms.specs.Rows.{row_text}
-use Rattle.game_text.specs.Games.{GameFile}
-use Rattle.log_text.specs.LoggedGames.{LoggedGame}
 use Rattle.tourney.specs.declared.rows.TeamRow.{TeamRow}
 use Rattle.tourney.specs.Standings.{teams}
 use Rattle.tourney.specs.Rows.{AreRows}

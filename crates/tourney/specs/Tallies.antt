@@ -1,13 +1,9 @@
 -- What the standings keep: for each team its tally, and how many games there were.
-use Rattle.std.specs.Prelude.{◌≡◌, ℕ, ◌+◌, ◌*◌, ◌≤◌, if◌then◌else◌, List, [], ◌∷◌, ℤ, pos, ◌+ℤ◌, length, map, fold, unsigned_abs, Bool, Some, count_by, slice_get}
-use Rattle.std.specs.List.{All}
+use Rattle.std.specs.Prelude.{◌≡◌, ℕ, ◌+◌, ◌*◌, ◌≤◌, if◌then◌else◌, List, [], ◌∷◌, ℤ, pos, ◌+ℤ◌, length, map, fold, unsigned_abs, Bool, Some, count_by, slice_get, All, unwrap_or, bytes_eq}
 use Rattle.std.specs.Map.{lookup, values_of}
-use Rattle.std.specs.Option.{unwrap_or}
-use Rattle.std.specs.Str.{bytes_eq}
 use Rattle.tac_base.specs.declared.limits.TheConstants.{AGENTS}
 use Rattle.indexmap.specs.IndexMap.{insert_entry}
-use Rattle.game_text.specs.Games.{GameFile}
-use Rattle.log_text.specs.LoggedGames.{LoggedGame}
+use Rattle.tourney.specs.Prelude.{GameFile, LoggedGame}
 use Rattle.tourney.specs.declared.tallies.Tally.{Tally}
 use Rattle.tourney.specs.declared.rows.TeamRow.{TeamRow}
 use Rattle.tourney.specs.Standings.{counts, result_of, results, teams_in, games_in, total_in, is_above}

@@ -1,8 +1,7 @@
 // Which agents count in a game.
 ghost use Rattle.std.specs.Prelude.{◌≡◌};
 ghost use Rattle.std.specs.List.{list_any};
-ghost use Rattle.line_protocol.specs.Heads.{head_of};
-ghost use Rattle.log_text.specs.SoundLog.{gives_seat};
+ghost use Rattle.tourney.specs.Prelude.{head_of, gives_seat};
 ghost use Rattle.tourney.specs.Standings as standings;
 
 use line_protocol::{LogHead, Verdict};

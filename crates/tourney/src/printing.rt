@@ -1,13 +1,9 @@
 // The text of the standings.
 ghost use Rattle.std.specs.Prelude.{◌≡◌, ◌++◌, ◌∷◌, [], List, OnOk, OnErr, slice_index_or};
 ghost use Rattle.std.specs.Fmt.{signed_decimal};
-ghost use Rattle.text_forms.specs.Lines.{text_of, GoesOn};
-ghost use Rattle.game_text.specs.Games.{GameFile};
-ghost use Rattle.log_text.specs.LoggedGames.{LoggedGame};
+ghost use Rattle.tourney.specs.{text_of, GoesOn, GameFile, LoggedGame, IsPrinted, AreStandingsOf};
 ghost use Rattle.tourney.specs.Standings as standing;
 ghost use Rattle.tourney.specs.StandingsTexts as texts;
-ghost use Rattle.tourney.specs.StandingsTexts.{IsPrinted};
-ghost use Rattle.tourney.specs.Tallies.{AreStandingsOf};
 
 use crate::{Standings, TeamRow};
 use std::alloc::AllocError;

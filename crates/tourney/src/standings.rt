@@ -1,14 +1,9 @@
 // The standings.
-ghost use Rattle.std.specs.Prelude.{◌≡◌, ◌<◌, ◌≤◌, ◌++◌, ◌∷◌, [], ◌+◌, List, OnOk, IfOk, slice_get, slice_index_or, length, map, pos, unsigned_abs};
-ghost use Rattle.std.specs.Option.{option_copied};
-ghost use Rattle.std.specs.List.{All};
-ghost use Rattle.game_text.specs.Games.{GameFile};
-ghost use Rattle.log_text.specs.LoggedGames.{LoggedGame};
-ghost use Rattle.log_text.specs.SoundLog.{IsSound};
+ghost use Rattle.std.specs.Prelude.{◌≡◌, ◌<◌, ◌≤◌, ◌++◌, ◌∷◌, [], ◌+◌, List, OnOk, IfOk, slice_get, slice_index_or, length, map, pos, unsigned_abs, option_copied, All};
+ghost use Rattle.tourney.specs.{GameFile, LoggedGame, IsSound, AreStandingsOf};
 ghost use Rattle.tourney.specs.Standings as standings;
 ghost use Rattle.tourney.specs.Rows as rows;
 ghost use Rattle.tourney.specs.Tallies as spec;
-ghost use Rattle.tourney.specs.Tallies.{AreStandingsOf};
 
 use crate::TeamRow;
 use crate::averages::{Average, lowest_terms};

@@ -1,7 +1,6 @@
 // What is kept of each team.
-ghost use Rattle.std.specs.Prelude.{◌≡◌, ◌<◌, ◌≤◌, ◌+◌, ◌*◌, ◌*ℤ◌, pos, OnOk, Some, unsigned_abs, count_by, length, slice_get, take};
+ghost use Rattle.std.specs.Prelude.{◌≡◌, ◌<◌, ◌≤◌, ◌+◌, ◌*◌, ◌*ℤ◌, pos, OnOk, Some, unsigned_abs, count_by, length, slice_get, take, All};
 ghost use Rattle.indexmap.specs.IndexMap.{values};
-ghost use Rattle.std.specs.List.{All};
 ghost use Rattle.tourney.specs.Standings as standings;
 ghost use Rattle.tourney.specs.Tallies as spec;
 

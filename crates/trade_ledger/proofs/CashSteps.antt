@@ -1,21 +1,22 @@
 -- A cash history with one entry more.
-use Rattle.std.proofs.Common.{◌≡◌, ℕ, zero, suc, ◌+◌, ◌*◌, ◌<◌, ◌≤◌, List, [], ◌∷◌, ◌++◌, length, map, fold, take, sym, refl, ap, ◌∙◌, subst, arith, length-append, Some, None, ℤ, pos, ◌+ℤ◌, slice_index_or, slice_get}
-use Rattle.std.specs.List.{filter_map, AllByRecursion}
+use Rattle.std.proofs.Common.{◌≡◌, ℕ, zero, suc, ◌+◌, ◌*◌, ◌<◌, ◌≤◌, List, [], ◌∷◌, ◌++◌, length, map, fold, take, sym, refl, ap, ◌∙◌, subst, arith, length-append, Some, None, ℤ, pos, ◌+ℤ◌, slice_index_or, slice_get, filter_map}
+use Rattle.std.specs.List.{AllByRecursion}
 use Rattle.std.proofs.lemmas.Int.{ints}
 use Rattle.std.proofs.lemmas.List.Elements.{filter_map-append}
 use Rattle.std.proofs.lemmas.List.Sums.{fold-append}
 use mathlib.Core.Logic.{dite}
 use native.Mathlib.Decide.{ℕ_discrete}
-use Rattle.tac_base.specs.declared.calls.Nets.{Nets}
-use Rattle.tac_base.specs.Goods.{clock}
-use Rattle.turn_lock.specs.Part.{part}
+use Rattle.trade_ledger.specs.Prelude.{Nets, clock, part}
 use Rattle.turn_lock.proofs.Parts.{nine_parts, part_mine, part_other}
 use Rattle.turn_lock.proofs.Places.{take_all, take_before}
 use Rattle.trade_ledger.specs.declared.cash_calls.CashCall.{CashCall}
 use Rattle.trade_ledger.specs.declared.cash_calls.CashCall.TheVariants.{Post, Read}
 use Rattle.trade_ledger.specs.declared.cash_calls.CashEntry.{CashEntry}
-use Rattle.trade_ledger.specs.CashHistory.{nets_of, posted_nets, cash_total, gain_of, IsFitCash, reply_by, cash_reply_of, IsLegalCash, cash_cap}
-use Rattle.trade_ledger.specs.CashKeeping.{IsWithin, IsCashCall, IsCashReply, IsLoggableCash, IsCashSound}
+use Rattle.trade_ledger.specs.{nets_of, cash_total, gain_of, IsFitCash, reply_by, cash_reply_of, IsLegalCash, cash_cap, IsWithin, IsCashCall, IsCashReply, IsLoggableCash, IsCashSound}
+
+-- the nets of all posts of a history, in order
+abbrev pub posted_nets : List CashEntry → List Nets
+posted_nets history = filter_map (λ e. nets_of e.call) history
 
 abbrev net : ℕ → Nets → ℤ
 net party nets = slice_index_or nets.dollars party (pos 0)
@@ -82,7 +83,7 @@ pub room_for : (history : List CashEntry) (e : CashEntry) → AllByRecursion (λ
 room_for history e called is capped room =
     omega (arith, few_entries (history ++ e ∷ []) (called_snoc history e called is) (capped_snoc history e capped room), length-append history (e ∷ []))
 
-within_more : (n : ℕ) (a d s : ℤ) → IsWithin (n * 2147483648) a → IsWithin 2147483648 d → s ≡ a +ℤ d → IsWithin ((n + 1) * 2147483648) s
+pub within_more : (n : ℕ) (a d s : ℤ) → IsWithin (n * 2147483648) a → IsWithin 2147483648 d → s ≡ a +ℤ d → IsWithin ((n + 1) * 2147483648) s
 within_more n a d s is more sum = (omega (arith, ints, is.0, more.0), omega (arith, ints, is.1, more.1))
 
 -- the totals of a book are small enough for one post more

@@ -1,21 +1,19 @@
 -- A cash history is matched if the posts of each caller are those due to its own entries; then its totals are those of the trades.
-use Rattle.std.proofs.Common.{◌≡◌, ◌≢◌, ℕ, zero, suc, ◌+◌, ◌*◌, ◌≤◌, Bool, true, false, cond, eqb, List, [], ◌∷◌, ◌++◌, map, fold, length, sum_by, sym, refl, ap, ◌∙◌, arith, eq-eqb, ne_eqb, ℤ, pos, negsuc, ◌+ℤ◌, ◌-ℤ◌, slice_index_or}
-use Rattle.std.specs.List.{flat_map, enumerate_from, AllByRecursion}
+use Rattle.std.proofs.Common.{◌≡◌, ◌≢◌, ℕ, zero, suc, ◌+◌, ◌*◌, ◌≤◌, Bool, true, false, cond, eqb, List, [], ◌∷◌, ◌++◌, map, fold, length, sum_by, sym, refl, ap, ◌∙◌, arith, eq-eqb, ne_eqb, ℤ, pos, negsuc, ◌+ℤ◌, ◌-ℤ◌, slice_index_or, flat_map}
+use Rattle.std.specs.List.{enumerate_from, AllByRecursion}
 use Rattle.std.proofs.lemmas.Int.{ints}
 use Rattle.std.proofs.lemmas.List.Sums.{sum_by-append, sum_by-cons}
 use Rattle.std.proofs.lemmas.List.Elements.{filter-append}
 use mathlib.Core.Logic.{dite}
 use native.Mathlib.Decide.{ℕ_discrete, dec_le}
-use Rattle.tac_base.specs.declared.calls.Trade.{Trade}
-use Rattle.auction_rules.specs.History.{Entry}
-use Rattle.auction_rules.specs.Effects.{buys_by, sales_by, dollars, nets}
-use Rattle.turn_lock.specs.Part.{part_from, part}
+use Rattle.trade_ledger.specs.Prelude.{Trade, Entry, buys_by, sales_by, dollars, nets, part_from, part}
 use Rattle.turn_lock.proofs.Parts.{nine}
 use Rattle.trade_ledger.specs.declared.cash_calls.CashCall.{CashCall}
 use Rattle.trade_ledger.specs.declared.cash_calls.CashCall.TheVariants.{Post, Read}
 use Rattle.trade_ledger.specs.declared.cash_calls.CashReply.TheVariants.{Done}
 use Rattle.trade_ledger.specs.declared.cash_calls.CashEntry.{CashEntry}
-use Rattle.trade_ledger.specs.CashHistory.{posted_nets, cash_total}
+use Rattle.trade_ledger.specs.CashHistory.{cash_total}
+use Rattle.trade_ledger.proofs.CashSteps.{posted_nets}
 use Rattle.trade_ledger.specs.Posts.{HoldSame, is_post, posts_of, post_for, due_post, due_to, due_posts, Matched, trades_of_all}
 use Rattle.trade_ledger.proofs.Trading.{get_or-nine}
 
@@ -85,7 +83,7 @@ module _ {E : Type 0} (caller_of : E → ℕ) where
 
 -- ---- posts by parts
 
-filtered : (w : CashEntry → ℕ) (b : Bool) (e : CashEntry) (rest : List CashEntry) → sum_by w (cond b (e ∷ rest) rest) ≡ cond b (w e) 0 + sum_by w rest
+pub filtered : (w : CashEntry → ℕ) (b : Bool) (e : CashEntry) (rest : List CashEntry) → sum_by w (cond b (e ∷ rest) rest) ≡ cond b (w e) 0 + sum_by w rest
 filtered w true e rest = sum_by-cons w e rest
 filtered w false e rest = omega arith
 

@@ -1,12 +1,9 @@
 -- What one trade changes in the holdings.
-use Rattle.std.proofs.Common.{◌≡◌, ℕ, zero, suc, ◌<◌, ◌≤◌, eqb, Bool, true, false, cond, List, [], ◌∷◌, length, map, fold, set, get_or, sum_by, sym, refl, ap, ◌∙◌, subst, arith, lit<, eq-eqb, ne_eqb, length-set, ℤ, pos, ◌+ℤ◌, ◌-ℤ◌, neg_ℤ}
-use Rattle.std.proofs.lemmas.List.{get_or-set_same, get_or-set_other}
+use Rattle.std.proofs.Common.{◌≡◌, ℕ, zero, suc, ◌<◌, ◌≤◌, eqb, Bool, true, false, cond, List, [], ◌∷◌, length, map, fold, set, get_or, sum_by, sym, refl, ap, ◌∙◌, subst, arith, lit<, eq-eqb, ne_eqb, length-set, ℤ, pos, ◌+ℤ◌, ◌-ℤ◌, neg_ℤ, get_or-set_same, get_or-set_other}
 use Rattle.std.proofs.lemmas.Int.{ints}
 use mathlib.Core.Logic.{dite}
 use native.Mathlib.Decide.{ℕ_discrete}
-use Rattle.tac_base.specs.declared.calls.Trade.{Trade}
-use Rattle.tac_base.specs.Goods.{parties}
-use Rattle.auction_rules.specs.Effects.{net_units}
+use Rattle.trade_ledger.specs.Prelude.{Trade, parties, net_units}
 use Rattle.trade_ledger.specs.Holdings.{held_after, sum_held, Stays, NoneLeaves}
 
 -- the units that a party has more by a trade, and those that it has less

@@ -1,10 +1,7 @@
 -- Histories of the cash book, the oldest entry first.
-use Rattle.std.specs.Prelude.{◌≡◌, ℕ, ◌==◌, if◌then◌else◌, ⊤, false, List, ℤ, pos, ◌+ℤ◌, fold, map, take, length, slice_get, slice_index_or, Option, Some, None}
-use Rattle.std.specs.List.{filter_map}
-use Rattle.tac_base.specs.declared.calls.Nets.{Nets}
+use Rattle.std.specs.Prelude.{◌≡◌, ℕ, ◌==◌, if◌then◌else◌, ⊤, false, List, ℤ, pos, ◌+ℤ◌, fold, map, take, length, slice_get, slice_index_or, Option, Some, None, filter_map}
+use Rattle.trade_ledger.specs.Prelude.{Nets, clock, CLOCK_CASH_ENTRIES, AGENT_CASH_ENTRIES}
 use Rattle.tac_base.specs.declared.calls.Board.{Board}
-use Rattle.tac_base.specs.Goods.{clock}
-use Rattle.tac_base.specs.declared.limits.TheConstants.{CLOCK_CASH_ENTRIES, AGENT_CASH_ENTRIES}
 use Rattle.trade_ledger.specs.declared.cash_calls.CashCall.{CashCall}
 use Rattle.trade_ledger.specs.declared.cash_calls.CashCall.TheVariants.{Post, Read}
 use Rattle.trade_ledger.specs.declared.cash_calls.CashReply.{CashReply}
@@ -16,13 +13,9 @@ abbrev pub nets_of : CashCall → Option Nets
 nets_of (Post good position nets) = Some nets
 nets_of (Read agent) = None
 
--- the nets of all posts of a history, in order
-abbrev pub posted_nets : List CashEntry → List Nets
-posted_nets history = filter_map (λ e. nets_of e.call) history
-
 -- the sum of a party's nets in the posts of a history, in dollars
 abbrev pub cash_total : List CashEntry → ℕ → ℤ
-cash_total history party = fold ◌+ℤ◌ (pos 0) (map (λ nets. slice_index_or nets.dollars party (pos 0)) (posted_nets history))
+cash_total history party = fold ◌+ℤ◌ (pos 0) (map (λ nets. slice_index_or nets.dollars party (pos 0)) (filter_map (λ e. nets_of e.call) history))
 
 -- what a call adds to a party's total
 abbrev pub gain_of : CashCall → ℕ → ℤ

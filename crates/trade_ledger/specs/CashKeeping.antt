@@ -1,10 +1,8 @@
 -- The invariant of the cash book.
-use Rattle.tac_base.specs.declared.limits.TheConstants.{CASH_ENTRIES}
-use Rattle.std.specs.Prelude.{◌≡◌, ℕ, ◌*◌, ◌<◌, ◌≤◌, ⊤, List, ℤ, pos, neg_ℤ, ◌≤ℤ◌, length, slice_index_or}
-use Rattle.std.specs.List.{All, AllByRecursion}
-use Rattle.tac_base.specs.Goods.{clock}
+use Rattle.trade_ledger.specs.Prelude.{CASH_ENTRIES, clock, part}
+use Rattle.std.specs.Prelude.{◌≡◌, ℕ, ◌*◌, ◌<◌, ◌≤◌, ⊤, List, ℤ, pos, neg_ℤ, ◌≤ℤ◌, length, slice_index_or, All}
+use Rattle.std.specs.List.{AllByRecursion}
 use Rattle.tac_base.specs.Ranges.{IsNet}
-use Rattle.turn_lock.specs.Part.{part}
 use Rattle.trade_ledger.specs.declared.cash_calls.CashCall.{CashCall}
 use Rattle.trade_ledger.specs.declared.cash_calls.CashCall.TheVariants.{Post, Read}
 use Rattle.trade_ledger.specs.declared.cash_calls.CashReply.{CashReply}

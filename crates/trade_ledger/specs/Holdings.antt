@@ -1,8 +1,6 @@
 -- What the parties hold of one good.
 use Rattle.std.specs.Prelude.{ℕ, ◌≤◌, ◌⊎◌, ℤ, pos, ◌+ℤ◌, unsigned_abs, List, map, fold, slice_index_or}
-use Rattle.tac_base.specs.declared.calls.Trade.{Trade}
-use Rattle.tac_base.specs.Goods.{house, parties}
-use Rattle.auction_rules.specs.Effects.{net_units}
+use Rattle.trade_ledger.specs.Prelude.{Trade, house, parties, net_units}
 
 -- what each party holds after trades: what it held before, and its net units
 abbrev pub held_after : List ℤ → List Trade → List ℤ

@@ -1,9 +1,7 @@
 -- The posts of a cash history, and those that are due to the histories of auctions.
-use Rattle.std.specs.Prelude.{◌≡◌, ℕ, Bool, true, false, List, [], ◌∷◌, map, filter, sum_by}
-use Rattle.std.specs.List.{flat_map, enumerate_from}
-use Rattle.tac_base.specs.declared.calls.Trade.{Trade}
-use Rattle.auction_rules.specs.History.{Entry}
-use Rattle.auction_rules.specs.Effects.{nets}
+use Rattle.std.specs.Prelude.{◌≡◌, ℕ, Bool, true, false, List, [], ◌∷◌, map, filter, sum_by, flat_map}
+use Rattle.std.specs.List.{enumerate_from}
+use Rattle.trade_ledger.specs.Prelude.{Trade, Entry, nets}
 use Rattle.trade_ledger.specs.declared.cash_calls.CashCall.{CashCall}
 use Rattle.trade_ledger.specs.declared.cash_calls.CashCall.TheVariants.{Post, Read}
 use Rattle.trade_ledger.specs.declared.cash_calls.CashReply.TheVariants.{Done}

@@ -1,7 +1,6 @@
 ghost use Rattle.std.specs.Prelude.{All, ◌≡◌, ℕ, ◌<◌, ◌≤ℤ◌, ◌+ℤ◌, pos, length, slice_index_or};
 ghost use Rattle.tac_base.specs.Ranges.{IsNet};
-ghost use Rattle.trade_ledger.specs.CashHistory.{gain_of, reply_by};
-ghost use Rattle.trade_ledger.specs.CashKeeping.{IsWithin, IsCashCall};
+ghost use Rattle.trade_ledger.specs.{gain_of, reply_by, IsWithin, IsCashCall};
 
 use crate::cash_calls::{CashCall, CashEntry, CashReply};
 use std::alloc::Global;

@@ -13,8 +13,7 @@ use Rattle.turn_lock.specs.declared.view.View.{View}
 use Rattle.turn_lock.specs.declared.view.Returned.{Returned}
 use Rattle.turn_lock.specs.Part.{part}
 use Rattle.turn_lock.specs.BoardWord.{IsSmall, packed, unpacked}
-use Rattle.turn_lock.specs.TurnRule.{own_at_first, spent, AreKnown, Knows, IsReturned, IsShelved, Turning}
-use Rattle.turn_lock.specs.Steps.{ticketed, at_turn, turned, noted, with_pass, next_pass, returned_from, with_returned, drew, looked, PublishesBoard, peeked}
+use Rattle.turn_lock.specs.{own_at_first, spent, AreKnown, Knows, IsReturned, IsShelved, Turning, ticketed, at_turn, turned, noted, with_pass, next_pass, returned_from, with_returned, drew, looked, PublishesBoard, peeked}
 use Rattle.turn_lock.proofs.Places.{sum_by-set, sum_by-le_length, le-sum_by, place_below, at_end, at_only, take_all, take_before}
 use Rattle.turn_lock.proofs.Parts.{part_mine, part_other, part_below}
 use Rattle.turn_lock.proofs.Words.{packed_count, unpacked-packed}

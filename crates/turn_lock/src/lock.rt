@@ -1,13 +1,12 @@
 ghost use Rattle.std.specs.Prelude.{◌≡◌, ℕ, ◌+◌, ◌<◌, ◌≤◌, List, [], ◌∷◌, ◌++◌, length, None, Some};
 ghost use Rattle.turn_lock.specs.Part.{part};
-ghost use Rattle.turn_lock.specs.TurnRule.{own_view};
-ghost use Rattle.turn_lock.specs.Steps.{ticketed, at_turn, turned, with_pass, next_pass};
+ghost use Rattle.turn_lock.specs.{own_view, ticketed, at_turn, turned, with_pass, next_pass};
 
 use crate::board_word::{pack, unpack};
 use crate::kept::Kept;
 use crate::own_seat::OwnSeat;
 use crate::pass::Pass;
-use crate::steps::{Draw, JoinPass, Look, Peek, Publish, SplitOff};
+use crate::steps::{Draw, JoinPass, Peek, Publish, SplitOff, TryTurn};
 use crate::view::{TurnRule, View};
 use atomic_table::{Refused, Seat, Table};
 use crossbeam_utils::Backoff;
@@ -60,7 +59,7 @@ impl<S: Kept> TurnLock<S> {
         let backoff = Backoff::new();
         let mut looks = 0;
         for _ in rt.forever() {
-            let found = self.table.shared.load::<Look<S>>(seat, 1);
+            let found = self.table.shared.load::<TryTurn<S>>(seat, 1);
             if found % (1 << 24) == ticket {
                 break;
             }

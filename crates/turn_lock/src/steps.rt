@@ -1,6 +1,5 @@
 //! The steps on the table of a lock, and what the seat that makes it knows by it.
-ghost use Rattle.turn_lock.specs.TurnRule.{spent};
-ghost use Rattle.turn_lock.specs.Steps.{drew, looked, PublishesBoard, peeked, with_pass, next_pass, with_returned};
+ghost use Rattle.turn_lock.specs.{spent, drew, looked, PublishesBoard, peeked, with_pass, next_pass, with_returned};
 
 use crate::kept::Kept;
 use crate::view::View;
@@ -15,11 +14,11 @@ impl<S, G, E> Play<S, View<S, G, E>> for Draw {
 }
 
 /// Reads the board, and takes the state if its turn has come.
-pub(crate) struct Look<S> {
+pub(crate) struct TryTurn<S> {
     state: PhantomData<S>,
 }
 
-impl<S: Kept> Play<S, View<S, S::Setup, S::Entry>> for Look<S> {
+impl<S: Kept> Play<S, View<S, S::Setup, S::Entry>> for TryTurn<S> {
     ghost then = { looked S.setup S.history S.caller_of };
 }
 

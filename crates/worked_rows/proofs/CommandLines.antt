@@ -1,6 +1,5 @@
 -- Which words ask for a service, what the clock of one waited for, and what is written of outcomes.
-use Rattle.std.proofs.Common.{◌≡◌, ℕ, suc, List, [], ◌∷◌, ◌++◌, length, take, Option, Some, None, map, refl, ap, ◌∙◌, arith}
-use Rattle.std.specs.Prelude.{codes, replicate, ◌==◌}
+use Rattle.std.proofs.Common.{◌≡◌, ℕ, suc, List, [], ◌∷◌, ◌++◌, length, take, Option, Some, None, map, refl, ap, ◌∙◌, arith, codes, replicate, ◌==◌}
 use Rattle.std.specs.Fmt.{digits}
 use Rattle.std.proofs.lemmas.List.Elements.{All-map}
 use Rattle.tac_base.specs.Numerals.{numeral}

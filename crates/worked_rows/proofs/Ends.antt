@@ -1,6 +1,5 @@
 -- Why a session ends: what was sent, what the link had left, and the counts of its faults.
-use Rattle.std.proofs.Common.{◌≡◌, ◌<◌, get_or, inl, inr, ℕ, true, false, List, [], ◌∷◌, length, map, Option, Some, None, refl, ap, arith}
-use Rattle.std.specs.Prelude.{◌++◌, codes}
+use Rattle.std.proofs.Common.{◌≡◌, ◌<◌, get_or, inl, inr, ℕ, true, false, List, [], ◌∷◌, length, map, Option, Some, None, refl, ap, arith, ◌++◌, codes}
 use Rattle.std.specs.List.{concat}
 use Rattle.tac_io.specs.States.{LinkState}
 use Rattle.tac_io.specs.declared.line_got.LineGot.{LineGot}

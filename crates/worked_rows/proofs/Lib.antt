@@ -7,3 +7,13 @@ mod Ends
 mod CommandLines
 mod Vouched
 mod LoggedLinks
+mod Auctions
+mod Bids
+mod Ticks
+mod Draws
+mod Games
+mod Worths
+mod Json
+mod LogTexts
+mod Packages
+mod Standings

@@ -1,6 +1,5 @@
 -- What lines ask, the lines of replies, as words and as JSON, and what is heard of a script that is read piece by piece.
-use Rattle.std.proofs.Common.{◌≡◌, false, List, [], ◌∷◌, pos, negsuc, Ok, Err, map, refl}
-use Rattle.std.specs.Prelude.{codes, neg_ℤ, replicate}
+use Rattle.std.proofs.Common.{◌≡◌, false, List, [], ◌∷◌, pos, negsuc, Ok, Err, map, refl, codes, neg_ℤ, replicate}
 use Rattle.std.specs.Fmt.{digits}
 use Rattle.tac_base.specs.Numerals.{numeral, signed_numeral}
 use Rattle.tac_base.specs.declared.bids.BidFault.TheVariants as bid_faults
@@ -15,7 +14,7 @@ use Rattle.line_protocol.specs.Replies.{said_text}
 use Rattle.json_dialect.specs.JsonReplies.{json_text}
 use Rattle.script_run.specs.declared.game.lines.GameLine.TheVariants.{Tick, Asks}
 use Rattle.script_run.specs.GameLines.{game_line_of}
-use Rattle.script_run.specs.HeardScripts.{heard, standing, AtEnd, AtFault, Before, Whole, BadAt, BrokenOff, Open}
+use Rattle.script_run.specs.HeardScripts.{heard, script_standing, AtEnd, AtFault, Before, Whole, BadAt, BrokenOff, Open}
 
 -- ---- requests
 
@@ -72,10 +71,10 @@ unfolding game_line_of request_of
 good_lines_and_a_rest_or_a_bad_line = (refl, refl)
 
 -- the same bytes, where more may come, where no more do, and where a read failed; a bad line comes before a read that failed
-script_is_open_bad_broken_off_or_whole : (standing (codes "tick\n0 ca") Before ≡ Open)
-    × (standing (codes "tick\n0 ca") AtEnd ≡ BadAt 2 3)
-    × (standing (codes "tick\n0 ca") AtFault ≡ BrokenOff)
-    × (standing (codes "tick\n0 cash\n") AtEnd ≡ Whole)
-    × (standing (codes "tock\ntick\n") AtFault ≡ BadAt 1 1)
+script_is_open_bad_broken_off_or_whole : (script_standing (codes "tick\n0 ca") Before ≡ Open)
+    × (script_standing (codes "tick\n0 ca") AtEnd ≡ BadAt 2 3)
+    × (script_standing (codes "tick\n0 ca") AtFault ≡ BrokenOff)
+    × (script_standing (codes "tick\n0 cash\n") AtEnd ≡ Whole)
+    × (script_standing (codes "tock\ntick\n") AtFault ≡ BadAt 1 1)
 unfolding game_line_of request_of
 script_is_open_bad_broken_off_or_whole = (refl, refl, refl, refl, refl)

@@ -1,7 +1,6 @@
 -- Links: the lines of their bytes, what is known of these after a call, counts of faults, what the quiet game says to them, verdicts on their
 -- first lines, and what became of those without a seat.
-use Rattle.std.proofs.Common.{◌≡◌, ℕ, ◌<◌, true, false, List, [], ◌∷◌, pos, Option, Some, None, ap, map, take, length, refl, arith, inl, inr}
-use Rattle.std.specs.Prelude.{◌++◌, ◌-◌, ◌^◌, codes, replicate}
+use Rattle.std.proofs.Common.{◌≡◌, ℕ, ◌<◌, true, false, List, [], ◌∷◌, pos, Option, Some, None, ap, map, take, length, refl, arith, inl, inr, ◌++◌, ◌-◌, ◌^◌, codes, replicate}
 use Rattle.std.specs.Fmt.{digits}
 use Rattle.auction_rules.specs.declared.rules.Rules.TheVariants.{Hotel as HotelRules, Flight as FlightRules, Tickets as TicketRules}
 use Rattle.tac_io.specs.declared.line_got.LineGot.TheVariants.{Line, TooLong, End, Budget}

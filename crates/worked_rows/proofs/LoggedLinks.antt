@@ -1,6 +1,5 @@
 -- Links of agent 2, which bought two seats and read its cash, and the log of that game: each session ended for another cause.
-use Rattle.std.proofs.Common.{◌≡◌, ℕ, zero, suc, List, [], ◌∷◌, ◌++◌, length, refl, arith, inr}
-use Rattle.std.specs.Prelude.{Some, codes, replicate, slice_get}
+use Rattle.std.proofs.Common.{◌≡◌, ℕ, zero, suc, List, [], ◌∷◌, ◌++◌, length, refl, arith, inr, Some, codes, replicate, slice_get}
 use Rattle.std.specs.Fmt.{digits}
 use Rattle.tac_base.specs.Numerals.{numeral, signed_numeral}
 use Rattle.game_text.specs.QuietGames.{quiet_game}

@@ -1,6 +1,5 @@
 -- What a log has: the posts of the cash book, what two auctions leave to three agents, scores, and the lines of all that.
-use Rattle.std.proofs.Common.{◌≡◌, ℕ, List, [], ◌∷◌, ℤ, pos, refl, map, take, arith}
-use Rattle.std.specs.Prelude.{◌++◌, codes, neg_ℤ, replicate, reverse, false}
+use Rattle.std.proofs.Common.{◌≡◌, ℕ, List, [], ◌∷◌, ℤ, pos, refl, map, take, arith, ◌++◌, codes, neg_ℤ, replicate, reverse, false}
 use Rattle.std.specs.Fmt.{digits}
 use Rattle.tac_base.specs.declared.calls.Call.{Call}
 use Rattle.tac_base.specs.declared.calls.Call.TheVariants.{Bid, Publish, Close}

@@ -1,7 +1,6 @@
 -- A session of six lines at a hotel in which agent 1 also bids: its turns, what of them stands in the histories, and what a turn may be
 -- after those before it. And two turns of the clock.
-use Rattle.std.proofs.Common.{◌≡◌, ℕ, ◌<◌, ◌≤◌, true, false, List, [], ◌∷◌, pos, map, refl, arith}
-use Rattle.std.specs.Prelude.{codes, replicate, reverse, take}
+use Rattle.std.proofs.Common.{◌≡◌, ℕ, ◌<◌, ◌≤◌, true, false, List, [], ◌∷◌, pos, map, refl, arith, codes, replicate, reverse, take}
 use Rattle.std.specs.Fmt.{digits}
 use Rattle.std.proofs.lemmas.List.Elements.{recursion_from_All}
 use Rattle.tac_base.specs.Numerals.{numeral, signed_numeral}
@@ -24,7 +23,7 @@ use Rattle.line_protocol.specs.declared.asking.Request.TheVariants as requests
 use Rattle.line_protocol.specs.declared.asking.RequestFault.TheVariants as faults
 use Rattle.line_protocol.specs.Requests.{request_of}
 use Rattle.line_protocol.specs.Replies.{said_text}
-use Rattle.clock_events.specs.ClockTurns.{ClockTurn, call_made, clock_entries, clock_posts}
+use Rattle.clock_events.specs.ClockTurns.{ClockTurn, clock_entries, clock_posts}
 use Rattle.agent_gate.specs.Items.{Asks}
 use Rattle.agent_gate.specs.Turns.{Turn, Called, CallDenied, CashRead, CashDenied, Quoted, Refused, Skipped, Left, item_of, made_at, cash_made, boards_shown, shown_length, has_left, IsLawfulTurn, AreLawful}
 use Rattle.agent_gate.specs.Served.{reply_line}
@@ -81,7 +80,7 @@ abbrev clock_turns : List ClockTurn
 clock_turns = record { good = 0; position = 5; entry = update_entry; posted = 3 } ∷ record { good = 8; position = 2; entry = publish_entry; posted = 0 } ∷ []
 
 -- the update alone has a post
-clock_posts_what_was_traded : (map call_made clock_turns ≡ (0, calls.Update 1 10) ∷ (8, calls.Publish) ∷ [])
+clock_posts_what_was_traded : (map (λ turn. turn.entry.call) clock_turns ≡ calls.Update 1 10 ∷ calls.Publish ∷ [])
     × (map (λ good. clock_entries good clock_turns) (0 ∷ 1 ∷ 8 ∷ []) ≡ ((5, update_entry) ∷ []) ∷ [] ∷ ((2, publish_entry) ∷ []) ∷ [])
     × (clock_posts clock_turns ≡ (3, record { caller = 8; call = cash_calls.Post 0 5 (record { dollars = nets update_entry.trades }); reply = cash_replies.Done }) ∷ [])
 clock_posts_what_was_traded = (refl, refl, refl)

@@ -1,6 +1,5 @@
 -- What trips use and are worth, which lists are no trip, and two allocations over one seat.
-use Rattle.std.proofs.Common.{◌≡◌, ◌<◌, ◌≤◌, ℕ, ℤ, true, false, [], ◌∷◌, List, pos, negsuc, map, refl, arith}
-use Rattle.std.specs.Prelude.{◌++◌, ◌-◌, replicate, filter, nat_lt}
+use Rattle.std.proofs.Common.{◌≡◌, ◌<◌, ◌≤◌, ℕ, ℤ, true, false, [], ◌∷◌, List, pos, negsuc, map, refl, arith, ◌++◌, ◌-◌, replicate, filter, nat_lt}
 use Rattle.std.specs.List.{range_with_len}
 use Rattle.game_text.specs.Accounts.{AccountFile}
 use Rattle.packages.specs.declared.travel_packages.Package.{Package}

@@ -1,6 +1,5 @@
 -- The definitions on small links: each lemma compares what they say with what was worked out by hand.
-use Rattle.std.proofs.Common.{◌≡◌, ℕ, List, [], ◌∷◌, ◌++◌, length, map, Err, refl, sym, ap, ◌∙◌, arith, inr, pos}
-use Rattle.std.specs.Prelude.{codes, neg_ℤ, replicate}
+use Rattle.std.proofs.Common.{◌≡◌, ℕ, List, [], ◌∷◌, ◌++◌, length, map, Err, refl, sym, ap, ◌∙◌, arith, inr, pos, codes, neg_ℤ, replicate}
 use Rattle.std.specs.Fmt.{digits}
 use Rattle.std.specs.List.{AllZip}
 use mathlib.Core.Option.{some, none}

@@ -1,6 +1,5 @@
 // The lines of a log.
-ghost use Rattle.std.specs.Prelude.{◌≡◌, ◌+◌, ◌≤◌, ◌++◌, length, decimal};
-ghost use Rattle.std.specs.List.{flat_map};
+ghost use Rattle.std.specs.Prelude.{◌≡◌, ◌+◌, ◌≤◌, ◌++◌, length, decimal, flat_map};
 ghost use Rattle.tac_base.specs.declared.calls.Call.TheVariants.{Bid};
 ghost use Rattle.log_text.specs.LogText as log;
 
@@ -38,8 +37,8 @@ fn push_caller(caller: Caller, out: &mut Text)
     print_numeral(u64::from(caller.get()), out);
 }
 
-/// Appends the points of a bid.
-fn push_points(points: &Points, out: &mut Text)
+/// Appends the text of a bid.
+fn push_bid(points: &Points, out: &mut Text)
     requires { length out.old + 260 ≤ 640 }
     ensures value { out.new ≡ out.old ++ log.call_text (Bid points.now) }
     ensures len { length out.new ≤ length out.old + 260 }
@@ -55,7 +54,7 @@ fn push_call(call: &Call, out: &mut Text)
     ensures len { length out.new ≤ length out.old + 260 }
 {
     match call {
-        Call::Bid(points) => push_points(points, out),
+        Call::Bid(points) => push_bid(points, out),
         Call::Withdraw => out.push_bytes(b"withdraw"),
         Call::Own => out.push_bytes(b"own"),
         Call::Update { tick, draw } => {

@@ -1,8 +1,7 @@
 // The text of a sheet.
 ghost use Rattle.std.specs.Prelude.{◌≡◌, ◌++◌, ◌∷◌, [], ◌≤◌, length, OnOk, IfOk};
-ghost use Rattle.text_forms.specs.Lines.{text_of};
+ghost use Rattle.log_text.specs.Prelude.{text_of, tree_lines};
 ghost use Rattle.packages.specs.declared.travel_packages.Package.TheVariants as Package;
-ghost use Rattle.bound_cert.specs.Texts.{tree_lines};
 ghost use Rattle.bound_cert.specs.Views.{tree_of};
 ghost use Rattle.log_text.specs.SheetText as texts;
 
@@ -15,7 +14,7 @@ use tac_base::{Memory, Text};
 use text_forms::{PrintedPart, count_parts, print_parts, print_row};
 
 /// The line of a client that stays at home, without its line end.
-pub(crate) fn none_line(agent: u8, client: u8) -> Text
+pub fn none_line(agent: u8, client: u8) -> Text
     ensures value { result ≡ texts.package_line agent client Package.None }
     ensures len { length result ≤ 60 }
 {

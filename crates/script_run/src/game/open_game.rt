@@ -1,16 +1,7 @@
 // A game that is being played.
 ghost use Rattle.std.specs.Prelude.{◌≡◌, ℕ, ◌+◌, ◌<◌, ◌≤◌, [], ◌∷◌, ◌++◌, List, length, map, IfOk, IfSome, MatchOption};
-ghost use Rattle.auction_rules.specs.Board.{board};
-ghost use Rattle.auction_rules.specs.History.{Entry};
-ghost use Rattle.auction_rules.specs.Legal.{cap, entries_of};
-ghost use Rattle.turn_lock.specs.Part.{part};
-ghost use Rattle.trade_ledger.specs.CashHistory.{cash_cap, cash_total};
-ghost use Rattle.trade_ledger.specs.Posts.{due_post};
-ghost use Rattle.auction_core.specs.Calls.{IsFit};
-ghost use Rattle.auction_core.specs.ClosedGame.{all_goods};
-ghost use Rattle.auction_core.specs.Setups.{setup_of};
+ghost use Rattle.script_run.specs.{board, Entry, cap, entries_of, part, cash_cap, cash_total, due_post, IsFit, all_goods, setup_of, opening, past_at, entry_at, called, reading_of, closed_of};
 ghost use Rattle.auction_core.specs.Struck.{struck_of};
-ghost use Rattle.script_run.specs.{opening, past_at, entry_at, called, reading_of, closed_of};
 
 use auction_core::{Auction, Closed, Struck};
 use game_text::Game;

@@ -1,7 +1,6 @@
 // How much happened in a game.
 ghost use Rattle.std.specs.Prelude.{◌≡◌, ◌<◌, ◌≤◌, List, length, sum_by, slice_get, Some};
-ghost use Rattle.auction_rules.specs.Effects.{all_trades};
-ghost use Rattle.auction_rules.specs.History.{Entry};
+ghost use Rattle.script_run.specs.Prelude.{all_trades, Entry};
 
 use auction_core::{Auction, Closed};
 

@@ -25,11 +25,12 @@ pub(crate) struct FinishedGame {
 }
 
 impl FinishedGame {
-    ghost use Rattle.script_run.specs.{HasRunGame, IsEnd};
+    ghost use Rattle.script_run.specs.{HasRunGame};
+    ghost use Rattle.script_run.specs.PlayedGames.{IsPlayedToEnd};
 
     /// The game after its last line, once the ticks that are left are made.
     pub(crate) fn end(game: &Game, run: GameRun<'_>) -> FinishedGame
-        ensures { (lines : List GameLine) (written : List ℕ) → HasRunGame game.now lines written run.entry → IsEnd game.now lines written result }
+        ensures { (lines : List GameLine) (written : List ℕ) → HasRunGame game.now lines written run.entry → IsPlayedToEnd game.now lines written result }
     {
         let (replies, closed) = run.close();
         log_ranges(game, &LogHead::Play, &closed);

@@ -1,12 +1,9 @@
 // A game that is played line by line, as its script is read.
 ghost use Rattle.std.specs.Prelude.{◌≡◌, ◌+◌, ◌*◌, ◌-◌, ◌^◌, ◌<◌, ◌≤◌, ◌++◌, ◌∷◌, ℕ, [], List, length, take, IsTrue, IfOk, MatchResult, vec_capacity, vec_len};
-ghost use Rattle.tac_base.specs.declared.limits.TheConstants.{REPLY_TEXT, TEXT_BYTES};
-ghost use Rattle.tac_io.specs.Counts.{HasCause};
-ghost use Rattle.tac_io.specs.States.{SinkState};
-ghost use Rattle.tac_io.specs.Known.{IsAtEnd, then_known};
+ghost use Rattle.script_run.specs.{StepsGame, Answered, HasAnswered, HearsLines, IsStepping, TookMore, stopped_by};
+ghost use Rattle.script_run.specs.Prelude.{REPLY_TEXT, TEXT_BYTES, HasCause, SinkState, IsAtEnd, then_known, GameFile};
+ghost use Rattle.script_run.specs.Stepping.{EndsScript, StopsAtLine};
 ghost use Rattle.tac_io.specs.Written.{WritesPiece};
-ghost use Rattle.game_text.specs.Games.{GameFile};
-ghost use Rattle.script_run.specs.{StepsGame, Answered, Ends, HasAnswered, HearsLines, IsStepping, StopsAt, TookMore, stopped_by};
 
 use crate::fault::{ScriptFault, ScriptReason, StepFault};
 use crate::game::held_line::HeldLine;
@@ -67,7 +64,7 @@ impl<'a> Stepper<'a> {
         requires number { self.old.number < 2 ^ 32 - 1 }
         requires room { vec_len self.old.run.text + REPLY_TEXT ≤ vec_capacity self.old.run.text }
         ensures line { (game : GameFile) (given written : List ℕ) → IsStepping game given written self.old →
-            MatchResult result (λ _. IsStepping game (given ++ 10 ∷ []) written self.new) (StopsAt game (given ++ 10 ∷ []) written self.new) }
+            MatchResult result (λ _. IsStepping game (given ++ 10 ∷ []) written self.new) (StopsAtLine game (given ++ 10 ∷ []) written self.new) }
         ensures number { IfOk result (λ _. self.new.number ≡ self.old.number + 1) }
         ensures len { vec_len self.new.run.text ≤ vec_len self.old.run.text + REPLY_TEXT }
         ensures capacity { vec_capacity self.old.run.text ≤ vec_capacity self.new.run.text }
@@ -93,7 +90,7 @@ impl<'a> Stepper<'a> {
         requires number { self.old.number + length piece.now < 2 ^ 32 }
         requires room { vec_len self.old.run.text + length piece.now * REPLY_TEXT ≤ vec_capacity self.old.run.text }
         ensures lines { (game : GameFile) (given written : List ℕ) → IsStepping game given written self.old →
-            MatchResult result (λ _. IsStepping game (given ++ piece.now) written self.new) (StopsAt game (given ++ piece.now) written self.new) }
+            MatchResult result (λ _. IsStepping game (given ++ piece.now) written self.new) (StopsAtLine game (given ++ piece.now) written self.new) }
         ensures number { IfOk result (λ _. self.new.number ≤ self.old.number + length piece.now) }
         ensures capacity { vec_capacity self.old.run.text ≤ vec_capacity self.new.run.text }
     {
@@ -145,7 +142,7 @@ impl<'a> Stepper<'a> {
 
     /// The run at the end of the script, or that its last line has no end.
     fn end(self) -> Result<GameRun<'a>, StepFault>
-        ensures { (game : GameFile) (given written : List ℕ) (stepping : IsStepping game given written self.entry) → Ends game stepping.lines stepping.rest written result }
+        ensures { (game : GameFile) (given written : List ℕ) (stepping : IsStepping game given written self.entry) → EndsScript game stepping.lines stepping.rest written result }
     {
         match self.held.line() {
             Some([]) => Ok(self.run),

@@ -1,10 +1,6 @@
 // The table at which the agents and the clock play.
 ghost use Rattle.std.specs.Prelude.{◌≡◌, ◌+◌, ◌-◌, drop, IfOk};
-ghost use Rattle.auction_core.specs.Calls.{IsFit};
-ghost use Rattle.game_text.specs.Schedule.{calls_at};
-ghost use Rattle.script_run.specs.GameStates.{opening, call_turn, cash_turn, turn, clocked, ticked};
-ghost use Rattle.script_run.specs.OneThreadRun.{closed_of, ticked_often};
-ghost use Rattle.script_run.specs.Tables.{HasClockRoom};
+ghost use Rattle.script_run.specs.{IsFit, calls_at, opening, call_turn, cash_turn, turn, clocked, ticked, closed_of, ticked_often, HasClockRoom};
 
 use crate::game::call_counts::CallCounts;
 use crate::game::open_game::OpenGame;

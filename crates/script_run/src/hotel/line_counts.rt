@@ -1,8 +1,8 @@
 // How many lines of a script there were.
 ghost use Rattle.std.specs.Prelude.{◌≡◌, ◌≤◌, ◌<◌, [], ◌∷◌, List, length, MatchResult, Ok, Err};
-ghost use Rattle.auction_rules.specs.Legal.{cap};
-ghost use Rattle.script_run.specs.HotelScripts.{judge_hotel_line, limited_hotel_line};
-ghost use Rattle.tac_base.specs.declared.limits.TheConstants.{AUCTION_ENTRIES};
+ghost use Rattle.script_run.specs.HotelScripts.{judge_hotel_line};
+ghost use Rattle.script_run.specs.Prelude.{cap, AUCTION_ENTRIES};
+ghost use Rattle.script_run.specs.HotelScripts.{limited_hotel_line};
 
 use crate::ScriptReason;
 use crate::hotel::lines::{HotelLine, line_of};

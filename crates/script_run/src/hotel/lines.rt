@@ -1,7 +1,6 @@
 // The lines of a hotel script.
 ghost use Rattle.std.specs.Prelude.{◌≡◌, ◌≤◌, [], ◌∷◌, List, Some};
-ghost use Rattle.bid_strings.specs.BidForm.{points_of, judged};
-ghost use Rattle.auction_core.specs.Calls.{IsFit};
+ghost use Rattle.script_run.specs.Prelude.{points_of, judged, IsFit};
 ghost use Rattle.script_run.specs.HotelLines as lines;
 
 use crate::ScriptReason;

@@ -1,12 +1,9 @@
 // A hotel that is run line by line.
-ghost use Rattle.std.specs.Prelude.{◌≡◌, ◌++◌, ◌≤◌, ◌<◌, [], List, length, reverse, OnOk, IfOk};
-ghost use Rattle.std.specs.List.{flat_map};
-ghost use Rattle.auction_rules.specs.Legal.{cap, entry_of};
-ghost use Rattle.turn_lock.specs.Part.{part};
+ghost use Rattle.std.specs.Prelude.{◌≡◌, ◌++◌, ◌≤◌, ◌<◌, [], List, length, reverse, OnOk, IfOk, flat_map};
 ghost use Rattle.script_run.specs.{asked, hotel_called, hotel_entry_text};
+ghost use Rattle.script_run.specs.Prelude.{cap, entry_of, part, AUCTION_ENTRIES};
 ghost use Rattle.script_run.specs.Replies as replies;
 ghost use Rattle.game_log.specs.LogText as log;
-ghost use Rattle.tac_base.specs.declared.limits.TheConstants.{AUCTION_ENTRIES};
 
 use crate::ScriptFault;
 use crate::hotel::line_counts::LineCounts;

@@ -1,10 +1,7 @@
 use Rattle.std.proofs.Common.{◌<◌, ◌≤◌, ◌≡◌, Ok, refl, arith, rules, subst, sym}
-use Rattle.line_protocol.specs.declared.asking.Request.{Request}
+use Rattle.agent_gate.specs.{Request, Said, Desk, Asks, TakesTurn}
 use Rattle.line_protocol.specs.declared.asking.Request.TheVariants as requests
-use Rattle.line_protocol.specs.declared.saying.Said.{Said}
 use Rattle.tac_base.specs.declared.calls.Call.TheVariants as calls
-use Rattle.floor.specs.declared.desk.Desk.{Desk}
-use Rattle.agent_gate.specs.{Asks, TakesTurn}
 use Rattle.agent_gate.proofs.Making.{call_made, cash_read, board_seen, agent_left}
 use Rattle.agent_gate.proofs.answering.answer.Goals as goal
 

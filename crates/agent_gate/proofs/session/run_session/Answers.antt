@@ -1,11 +1,7 @@
 use Rattle.std.proofs.Common.{◌≡◌, ◌∙◌, ap, sym, subst, refl, arith}
 use Rattle.std.proofs.lemmas.Result.{IfOk-at_ok}
-use Rattle.tac_io.specs.LineAnswers.{goes_on}
-use Rattle.tac_io.specs.Lines.{link_of}
-use Rattle.tac_io.specs.Known.{known_then, TakesSome}
+use Rattle.agent_gate.specs.{goes_on, link_of, known_then, TakesSome, desk_caller, welcome_text}
 use Rattle.tac_io.proofs.KnownPieces.{gave_nothing, no_read_fails_twice, no_write_fails_twice}
-use Rattle.floor.specs.Desks.{desk_caller}
-use Rattle.agent_gate.specs.Welcome.{welcome_text}
 use Rattle.agent_gate.proofs.DeskTurns.{made_none}
 use Rattle.agent_gate.proofs.UnderWay as session
 use Rattle.agent_gate.proofs.session.run_session.Goals as goal

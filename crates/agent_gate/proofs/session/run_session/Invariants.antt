@@ -1,8 +1,5 @@
 use Rattle.std.proofs.Common.{◌≡◌, true}
-use Rattle.tac_io.specs.LineAnswers.{goes_on}
-use Rattle.tac_io.specs.LinkCalls.{NoReadFails, NoWriteFails}
-use Rattle.tac_io.specs.Lines.{last_of, link_of}
-use Rattle.agent_gate.specs.Turning.{session_state}
+use Rattle.agent_gate.specs.{goes_on, NoReadFails, NoWriteFails, last_of, link_of, session_state}
 use Rattle.agent_gate.proofs.UnderWay.{IsUnderWay}
 use Rattle.agent_gate.proofs.session.run_session.Given as goal
 

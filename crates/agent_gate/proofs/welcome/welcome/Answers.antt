@@ -1,10 +1,7 @@
 use Rattle.std.proofs.Common.{◌≡◌, ◌<◌, ◌∙◌, sym, subst, arith, length}
 use Rattle.std.proofs.lemmas.Result.{err_from_is_err_and}
-use Rattle.game_text.specs.OneAgent.{lines_of_agent}
-use Rattle.tac_io.specs.Lines.{link_of}
-use Rattle.tac_io.specs.LinkCalls.{OnlySends}
+use Rattle.agent_gate.specs.{lines_of_agent, link_of, OnlySends, welcome_text}
 use Rattle.tac_io.proofs.KnownPieces.{no_write_fails_twice, read_nothing_twice}
-use Rattle.agent_gate.specs.Welcome.{welcome_text}
 use Rattle.agent_gate.proofs.Greeting.{greeting_more, greeting_sent, greeting_stopped}
 use Rattle.agent_gate.proofs.welcome.welcome.Goals as goal
 

@@ -1,8 +1,5 @@
-use Rattle.std.proofs.Common.{◌≡◌, ◌<◌, length}
-use Rattle.std.specs.Prelude.{◌++◌, codes, decimal}
-use Rattle.game_text.specs.OneAgent.{lines_of_agent}
-use Rattle.tac_io.specs.Lines.{KeepsPlace, link_of}
-use Rattle.tac_io.specs.LinkCalls.{NoWriteFails, ReadsNothing}
+use Rattle.std.proofs.Common.{◌≡◌, ◌<◌, length, ◌++◌, codes, decimal}
+use Rattle.agent_gate.specs.Prelude.{lines_of_agent, KeepsPlace, link_of, NoWriteFails, ReadsNothing}
 use Rattle.agent_gate.proofs.Greeting.{IsGreeting}
 use Rattle.agent_gate.proofs.welcome.welcome.Given as goal
 

@@ -1,5 +1,4 @@
-use Rattle.std.proofs.Common.{◌≡◌, length}
-use Rattle.std.specs.List.{All}
+use Rattle.std.proofs.Common.{◌≡◌, length, All}
 use Rattle.packages.specs.Packages.{IsPackage}
 use Rattle.allocator.proofs.candidates.better_choice.Given as goal
 

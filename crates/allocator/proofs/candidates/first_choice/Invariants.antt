@@ -1,7 +1,6 @@
 use Rattle.std.proofs.Common.{◌≡◌, ℕ, ◌<◌, true, length, get_or}
 use Rattle.packages.specs.declared.travel_packages.Package.TheVariants as kinds
-use Rattle.packages.specs.Packages.{is_package}
-use Rattle.dual_bound.specs.Choices.{chosen}
+use Rattle.allocator.specs.Prelude.{is_package, chosen}
 use Rattle.allocator.proofs.candidates.first_choice.Given as goal
 
 abbrev pub invariant-loop-client : goal.invariant-loop-client

@@ -1,8 +1,5 @@
-use Rattle.std.proofs.Common.{◌≡◌, ℕ, ◌<◌, Some, false}
-use Rattle.std.specs.List.{slice_get}
-use Rattle.packages.specs.declared.travel_packages.Package.{Package}
-use Rattle.packages.specs.Listing.{packages}
-use Rattle.dual_bound.specs.Choices.{chosen}
+use Rattle.std.proofs.Common.{◌≡◌, ℕ, ◌<◌, Some, false, slice_get}
+use Rattle.allocator.specs.Prelude.{Package, packages, chosen}
 use Rattle.allocator.proofs.candidates.first_left.Given as goal
 
 abbrev pub invariant-loop-n : goal.invariant-loop-n

@@ -1,5 +1,4 @@
-use Rattle.std.proofs.Common.{◌≡◌, ℕ, ◌<◌, ◌≤◌, length, get_or}
-use Rattle.std.specs.List.{All}
+use Rattle.std.proofs.Common.{◌≡◌, ℕ, ◌<◌, ◌≤◌, length, get_or, All}
 use Rattle.packages.specs.Stocks.{stock_of}
 use Rattle.allocator.specs.Scarcity.{scarcity_price}
 use Rattle.allocator.proofs.scarcity.scarcity_prices.Given as goal

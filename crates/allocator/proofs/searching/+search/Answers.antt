@@ -1,13 +1,5 @@
 use Rattle.std.proofs.Common.{◌≡◌, ℕ, ◌+◌, ◌-◌, ◌<◌, true, List, [], ◌∷◌, Option, None, length-append, sym, ap, subst, ◌∙◌, rules, arith}
-use Rattle.game_text.specs.Accounts.{IsAccount}
-use Rattle.packages.specs.Bounds.{stock_value}
-use Rattle.bound_cert.specs.Trees.{is_tree}
-use Rattle.bound_cert.specs.Views.{tree_of, forest_of}
-use Rattle.bound_cert.specs.Certificate.{holds}
-use Rattle.packages.specs.Features.{narrowed}
-use Rattle.relaxation.specs.Splits.{fixed_at}
-use Rattle.dual_bound.specs.Choices.{chosen, fixed_count, IsChoice}
-use Rattle.dual_bound.specs.Ceilings.{IsCeiling}
+use Rattle.allocator.specs.Prelude.{IsAccount, stock_value, is_tree, tree_of, forest_of, holds, narrowed, fixed_at, chosen, fixed_count, IsChoice, IsCeiling}
 use Rattle.dual_bound.proofs.CeilingLaws.{ceiling_narrowed}
 use Rattle.dual_bound.proofs.ChoiceLaws.{count_free}
 use Rattle.allocator.proofs.Claims.{all_hold_more}

@@ -1,10 +1,5 @@
 use Rattle.std.proofs.Common.{◌≡◌, ◌+◌, ◌-◌, ◌*◌, ◌<◌, ◌≤◌, true, length}
-use Rattle.bound_cert.specs.Trees.{are_trees}
-use Rattle.bound_cert.specs.Views.{forest_of}
-use Rattle.packages.specs.Bounds.{stock_value}
-use Rattle.dual_bound.specs.Choices.{chosen}
-use Rattle.bound_cert.specs.Certificate.{all_hold}
-use Rattle.allocator.specs.Searching.{IsReached}
+use Rattle.allocator.specs.{are_trees, forest_of, stock_value, chosen, all_hold, IsReached}
 use Rattle.allocator.proofs.searching.+search.Given as goal
 
 abbrev pub decreases-explore_parts : goal.decreases-explore_parts

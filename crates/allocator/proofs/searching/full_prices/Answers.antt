@@ -1,8 +1,5 @@
-use Rattle.std.proofs.Common.{ℕ, ◌<◌, subst, arith}
-use Rattle.std.specs.Prelude.{replicate}
-use Rattle.game_text.specs.Accounts.{IsAccount}
-use Rattle.dual_bound.specs.Choices.{chosen}
-use Rattle.allocator.specs.Searching.{IsOut}
+use Rattle.std.proofs.Common.{ℕ, ◌<◌, subst, arith, replicate}
+use Rattle.allocator.specs.{IsAccount, chosen, IsOut}
 use Rattle.allocator.proofs.FullLeaves.{full_leaf, full_same, out_leaf}
 use Rattle.packages.proofs.PriceLists.{equal_prices}
 use Rattle.allocator.proofs.searching.full_prices.Goals as goal

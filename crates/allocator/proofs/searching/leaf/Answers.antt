@@ -1,6 +1,5 @@
 use Rattle.std.proofs.Common.{subst, ◌∙◌, ap}
-use Rattle.packages.specs.Prices.{ArePrices}
-use Rattle.bound_cert.specs.Trees.{leaf}
+use Rattle.allocator.specs.Prelude.{ArePrices, leaf}
 use Rattle.bound_cert.proofs.Views.{tree_of-Leaf}
 use Rattle.allocator.proofs.Growing.{is_tree-leaf}
 use Rattle.allocator.proofs.searching.leaf.Goals as goal

@@ -1,8 +1,5 @@
 use Rattle.std.proofs.Common.{◌≡◌, true, ap, subst, ◌∙◌}
-use Rattle.packages.specs.Bounds.{Narrowing}
-use Rattle.bound_cert.specs.Certificate.{holds}
-use Rattle.bound_cert.specs.Views.{tree_of}
-use Rattle.dual_bound.specs.Choices.{chosen}
+use Rattle.allocator.specs.Prelude.{Narrowing, holds, tree_of, chosen}
 use Rattle.allocator.proofs.ChoiceStart.{chosen_nothing}
 use Rattle.allocator.proofs.Growing.{leaf_fits}
 use Rattle.allocator.proofs.solving.explore_all.Goals as goal

@@ -1,8 +1,5 @@
 use Rattle.std.proofs.Common.{◌≡◌, true, ap, subst, ◌∙◌}
-use Rattle.packages.specs.Bounds.{Narrowing}
-use Rattle.bound_cert.specs.Certificate.{holds, all_left}
-use Rattle.bound_cert.specs.Views.{tree_of}
-use Rattle.dual_bound.specs.Choices.{chosen}
+use Rattle.allocator.specs.Prelude.{Narrowing, holds, all_left, tree_of, chosen}
 use Rattle.allocator.proofs.ChoiceStart.{chosen_nothing}
 use Rattle.allocator.proofs.Claims.{holds_more}
 use Rattle.allocator.proofs.solving.shorter_of.Goals as goal

@@ -1,6 +1,5 @@
 use Rattle.std.proofs.Common.{subst}
-use Rattle.game_text.specs.Accounts.{IsAccount}
-use Rattle.bound_cert.specs.Views.{tree_of}
+use Rattle.allocator.specs.Prelude.{IsAccount, tree_of}
 use Rattle.bound_cert.proofs.Law.{bounds_all}
 use Rattle.dual_bound.proofs.CeilingLaws.{ceiling_of_worths}
 use Rattle.allocator.proofs.AtHome.{reached_none}

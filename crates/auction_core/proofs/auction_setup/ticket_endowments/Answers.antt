@@ -1,10 +1,7 @@
-use Rattle.std.proofs.Common.{◌≡◌, ℕ, ◌-◌, ◌≢◌, List, [], ℤ, pos, get_or, map, length, length-set, below_more, sym, ap, subst, ◌∙◌, arith, to_z, of_z, w32}
+use Rattle.std.proofs.Common.{◌≡◌, ℕ, ◌-◌, ◌≢◌, List, [], ℤ, pos, get_or, map, length, length-set, below_more, sym, ap, subst, ◌∙◌, arith, to_z, of_z, w32, get_or-set_same, get_or-set_other, ext_get_or, All}
 use Rattle.std.proofs.lemmas.Int.{ints}
-use Rattle.std.proofs.lemmas.List.{get_or-set_same, get_or-set_other, ext_get_or, get_or-map, length-map}
-use Rattle.game_text.specs.Games.{GameFile}
-use Rattle.game_text.specs.Endowments.{IsEndowment}
-use Rattle.std.specs.List.{All}
-use Rattle.auction_core.specs.Setups.{AreEndowed}
+use Rattle.std.proofs.lemmas.List.{get_or-map, length-map}
+use Rattle.auction_core.specs.{GameFile, IsEndowment, AreEndowed}
 use Rattle.auction_core.proofs.Starting.{tickets_endowed}
 use Rattle.auction_core.proofs.auction_setup.ticket_endowments.Goals as goal
 

@@ -1,6 +1,5 @@
-use Rattle.std.proofs.Common.{◌≡◌, ℕ, ◌≢◌, ℤ, pos, get_or, set, length-set, below_more, sym, ap, ◌∙◌, arith, to_z, of_z, w32}
+use Rattle.std.proofs.Common.{◌≡◌, ℕ, ◌≢◌, ℤ, pos, get_or, set, length-set, below_more, sym, ap, ◌∙◌, arith, to_z, of_z, w32, get_or-set_same, get_or-set_other}
 use Rattle.std.proofs.lemmas.Int.{ints}
-use Rattle.std.proofs.lemmas.List.{get_or-set_same, get_or-set_other}
 use Rattle.trade_ledger.proofs.Trading.{nine_numbers}
 use Rattle.auction_rules.specs.Effects.{dollars}
 use Rattle.auction_core.proofs.effects.nets.Goals as goal

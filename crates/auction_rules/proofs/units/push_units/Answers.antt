@@ -1,7 +1,6 @@
 use Rattle.std.proofs.Common.{pos, arith, ◌∙◌}
-use Rattle.tac_base.specs.declared.bids.Point.{Point}
+use Rattle.auction_rules.specs.Prelude.{Point, size_of}
 use Rattle.std.proofs.lemmas.List.Sums.{sum_by-drop_more}
-use Rattle.tac_base.specs.Bids.{size_of}
 use Rattle.auction_rules.proofs.Blocks.{units_from_more, cheap-units_of}
 use Rattle.auction_rules.proofs.units.push_units.Goals as goal
 

@@ -1,5 +1,4 @@
-use Rattle.std.proofs.Common.{◌++◌, sym, ap, ◌∙◌}
-use Rattle.std.specs.Option.{option_to_list}
+use Rattle.std.proofs.Common.{◌++◌, sym, ap, ◌∙◌, option_to_list}
 use lib.ListN.{get_elem?}
 use Rattle.trade_ledger.proofs.Taking.{two_taken}
 use Rattle.auction_tests.proofs.cash.begin_two.Goals as goal

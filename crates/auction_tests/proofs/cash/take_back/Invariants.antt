@@ -1,5 +1,4 @@
-use Rattle.std.proofs.Common.{◌≡◌, ◌+◌, length}
-use Rattle.std.specs.Prelude.{All}
+use Rattle.std.proofs.Common.{◌≡◌, ◌+◌, length, All}
 use Rattle.turn_lock.specs.Passes.{lock_of, lock_id, passes_of, returned_to}
 use Rattle.auction_tests.proofs.cash.take_back.Given as goal
 

@@ -1,6 +1,5 @@
-use Rattle.std.proofs.Common.{◌≤◌, ◌<◌, ap, arith, length, ℕ, SFits, w8, w64, to_z, of_z, decimal, rules}
+use Rattle.std.proofs.Common.{◌≤◌, ◌<◌, ap, arith, length, ℕ, SFits, w8, w64, to_z, of_z, decimal, rules, length-append}
 use Rattle.std.specs.Fmt.{signed_decimal}
-use Rattle.std.proofs.lemmas.List.{length-append}
 use Rattle.bid_strings.proofs.PrintedPoints.{passed_units, short_price}
 use Rattle.bid_strings.proofs.printing.print_point.Goals as goal
 

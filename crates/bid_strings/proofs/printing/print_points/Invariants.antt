@@ -1,5 +1,5 @@
-use Rattle.std.proofs.Common.{◌≡◌, ◌+◌, ◌*◌, ◌≤◌, ◌++◌, ◌∷◌, length, take}
-use Rattle.std.specs.List.{flat_map, join_with_byte}
+use Rattle.std.proofs.Common.{◌≡◌, ◌+◌, ◌*◌, ◌≤◌, ◌++◌, ◌∷◌, length, take, flat_map}
+use Rattle.std.specs.List.{join_with_byte}
 use Rattle.bid_strings.specs.Spelling.{point_words}
 use Rattle.bid_strings.proofs.printing.print_points.Given as goal
 

@@ -1,5 +1,4 @@
-use Rattle.std.proofs.Common.{◌≡◌, length}
-use Rattle.std.specs.Prelude.{is_some}
+use Rattle.std.proofs.Common.{◌≡◌, length, is_some}
 use Rattle.bid_strings.specs.BidForm as bid_form
 use Rattle.bid_strings.proofs.reading.are_points.Given as goal
 

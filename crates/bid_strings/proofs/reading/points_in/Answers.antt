@@ -1,5 +1,4 @@
-use Rattle.std.proofs.Common.{◌<◌, ◌++◌, ◌∷◌, [], length, ap, ◌∙◌, arith}
-use Rattle.std.proofs.lemmas.List.{length-append}
+use Rattle.std.proofs.Common.{◌<◌, ◌++◌, ◌∷◌, [], length, ap, ◌∙◌, arith, length-append}
 use Rattle.bid_strings.specs.BidForm.{points_from}
 use Rattle.bid_strings.proofs.Fronts.{bad, whole_step, refused}
 use Rattle.bid_strings.proofs.reading.points_in.Goals as goal

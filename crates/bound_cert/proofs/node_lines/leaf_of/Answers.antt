@@ -1,5 +1,4 @@
-use Rattle.std.proofs.Common.{sym, ◌∙◌, arith}
-use Rattle.std.specs.Prelude.{codes}
+use Rattle.std.proofs.Common.{sym, ◌∙◌, arith, codes}
 use Rattle.text_forms.proofs.RowLaws.{row_is}
 use Rattle.bound_cert.specs.NodeLines.{leaf_columns}
 use Rattle.bound_cert.proofs.LeafLines.{each_price, leaf_is}

@@ -1,6 +1,4 @@
-use Rattle.std.proofs.Common.{◌≡◌, map, sym, subst, ◌∙◌, ap, arith}
-use Rattle.std.specs.Prelude.{unsigned_abs}
-use Rattle.std.proofs.Math.Seq.{take_all}
+use Rattle.std.proofs.Common.{◌≡◌, map, sym, subst, ◌∙◌, ap, arith, unsigned_abs, take_all}
 use Rattle.packages.specs.Prices.{ArePrices}
 use Rattle.bound_cert.proofs.LeafLines.{row_prices}
 use Rattle.bound_cert.proofs.node_lines.prices_of.Goals as goal

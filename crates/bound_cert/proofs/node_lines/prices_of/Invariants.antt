@@ -1,5 +1,4 @@
-use Rattle.std.proofs.Common.{◌≡◌, map, take, length}
-use Rattle.std.specs.Prelude.{unsigned_abs}
+use Rattle.std.proofs.Common.{◌≡◌, map, take, length, unsigned_abs}
 use Rattle.bound_cert.proofs.node_lines.prices_of.Given as goal
 
 abbrev pub invariant-loop-good : goal.invariant-loop-good

@@ -1,12 +1,7 @@
-use Rattle.std.proofs.Common.{rules, ◌≡◌, ℕ, ◌≤◌, ◌-◌, ◌++◌, [], ◌∷◌, Some, map, take, slice_get, subst, sym, ap, ◌∙◌, arith, append_assoc, append-nil}
+use Rattle.std.proofs.Common.{rules, ◌≡◌, ℕ, ◌≤◌, ◌-◌, ◌++◌, [], ◌∷◌, Some, map, take, slice_get, subst, sym, ap, ◌∙◌, arith, append_assoc, append-nil, flat_map}
 use Rattle.std.proofs.lemmas.List.{map-append}
-use Rattle.tac_base.specs.declared.calls.Call.{Call}
-use Rattle.std.specs.List.{flat_map}
+use Rattle.clock_events.specs.{Call, desk_calls, desk_entries, desk_steps, calls_at, ticks, Step, CallMade, DueTaken, MakesCalls}
 use Rattle.std.proofs.lemmas.Option.{slice_get_within}
-use Rattle.floor.specs.Desks.{desk_calls, desk_entries, desk_steps}
-use Rattle.game_text.specs.Schedule.{calls_at, ticks}
-use Rattle.clock_events.specs.MadeCalls.{MakesCalls}
-use Rattle.floor.specs.Steps.{Step, CallMade, DueTaken}
 use Rattle.clock_events.proofs.ClockTurns.{makes_more, makes_none, makes_still}
 use Rattle.clock_events.proofs.MadeCalls.{AreMade, made_after, made_count, made_length}
 use Rattle.clock_events.proofs.TickCalls.{all_taken, call_is_due, few_so_far, one_more, so_far, some_to_come, tick_done}

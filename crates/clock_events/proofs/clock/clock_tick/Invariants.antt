@@ -1,9 +1,5 @@
 use Rattle.std.proofs.Common.{◌≡◌, ◌∷◌, ◌++◌, ◌-◌, ◌≤◌, length, map, take}
-use Rattle.floor.specs.Answers.{IsSameDesk}
-use Rattle.floor.specs.Desks.{boards_of, desk_calls, desk_steps}
-use Rattle.game_text.specs.Schedule.{calls_at}
-use Rattle.clock_events.specs.MadeCalls.{MakesCalls}
-use Rattle.floor.specs.Steps.{CallMade, DueTaken}
+use Rattle.clock_events.specs.{IsSameDesk, boards_of, desk_calls, desk_steps, calls_at, CallMade, DueTaken, MakesCalls}
 use Rattle.clock_events.proofs.clock.clock_tick.Given as goal
 
 abbrev pub invariant-loop-good : goal.invariant-loop-good

@@ -1,12 +1,6 @@
-use Rattle.std.proofs.Common.{rules, ◌≡◌, ◌≤◌, ◌+◌, ◌-◌, [], ◌∷◌, ◌++◌, take, subst, sym, ap, ◌∙◌, arith, append_assoc}
-use Rattle.std.specs.List.{flat_map}
-use Rattle.floor.specs.Desks.{desk_steps}
-use Rattle.floor.specs.Steps.{WaitsNoted}
-use Rattle.floor.specs.Keeping.{calls_of_good}
+use Rattle.std.proofs.Common.{rules, ◌≡◌, ◌≤◌, ◌+◌, ◌-◌, [], ◌∷◌, ◌++◌, take, subst, sym, ap, ◌∙◌, arith, append_assoc, flat_map}
+use Rattle.clock_events.specs.{desk_steps, WaitsNoted, calls_of_good, calls_at, ticks, known_then, MakesCalls}
 use Rattle.floor.proofs.CallLists.{none_listed}
-use Rattle.game_text.specs.Schedule.{calls_at, ticks}
-use Rattle.tac_io.specs.Known.{known_then}
-use Rattle.clock_events.specs.MadeCalls.{MakesCalls}
 use Rattle.clock_events.specs.Steps.{steps_at}
 use Rattle.clock_events.proofs.ClockTurns.{makes_both, makes_none, makes_still}
 use Rattle.clock_events.proofs.TickCalls.{tick_done}

@@ -1,9 +1,5 @@
-use Rattle.std.proofs.Common.{◌≡◌, ◌-◌, ◌<◌, take}
-use Rattle.std.specs.List.{flat_map}
-use Rattle.floor.specs.Answers.{IsSameDesk}
-use Rattle.floor.specs.Desks.{boards_of, desk_calls, desk_steps}
-use Rattle.game_text.specs.Schedule.{calls_at, ticks}
-use Rattle.clock_events.specs.MadeCalls.{MakesCalls}
+use Rattle.std.proofs.Common.{◌≡◌, ◌-◌, ◌<◌, take, flat_map}
+use Rattle.clock_events.specs.{IsSameDesk, boards_of, desk_calls, desk_steps, calls_at, ticks, MakesCalls}
 use Rattle.clock_events.proofs.Waits.{TakesSteps, moment}
 use Rattle.clock_events.proofs.clock.run_clock.Given as goal
 

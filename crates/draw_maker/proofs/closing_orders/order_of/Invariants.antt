@@ -1,6 +1,4 @@
-use Rattle.std.proofs.Common.{◌≡◌, length, drop}
-use Rattle.std.specs.Prelude.{fold, [], ◌∷◌}
-use Rattle.std.specs.List.{zip}
+use Rattle.std.proofs.Common.{◌≡◌, length, drop, fold, [], ◌∷◌, zip}
 use Rattle.draw_maker.specs.ClosingOrders.{exchanged, made_order}
 use Rattle.draw_maker.proofs.closing_orders.order_of.Given as goal
 

@@ -1,5 +1,4 @@
-use Rattle.std.proofs.Common.{ℕ, ◌%◌, List, map, ap, arith}
-use Rattle.std.proofs.Math.ListN.{length-set}
+use Rattle.std.proofs.Common.{ℕ, ◌%◌, List, map, ap, arith, length-set}
 use Rattle.draw_maker.proofs.DrawnWords.{number_more, after_word, front_whole, no_words, after_none}
 use Rattle.draw_maker.proofs.drawing.draw_below.Goals as goal
 

@@ -1,5 +1,4 @@
-use Rattle.std.proofs.Common.{arith}
-use Rattle.std.proofs.Math.ListN.{length-set}
+use Rattle.std.proofs.Common.{arith, length-set}
 use Rattle.draw_maker.proofs.DrawnWords.{front_more, word_first, after_word, front_whole, no_words, after_none}
 use Rattle.draw_maker.proofs.drawing.draw_words.Goals as goal
 

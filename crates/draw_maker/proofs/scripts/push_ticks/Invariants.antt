@@ -1,5 +1,4 @@
-use Rattle.std.proofs.Common.{◌≡◌, ◌++◌}
-use Rattle.std.specs.Prelude.{codes, replicate}
+use Rattle.std.proofs.Common.{◌≡◌, ◌++◌, codes, replicate}
 use Rattle.text_forms.specs.Lines.{text_of}
 use Rattle.draw_maker.proofs.scripts.push_ticks.Given as goal
 

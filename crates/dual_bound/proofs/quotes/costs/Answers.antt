@@ -1,8 +1,7 @@
 use Rattle.std.proofs.Common.{is_some, sym, ap, ◌∙◌, length-set, arith}
 use Rattle.std.proofs.lemmas.Bool.{false≢true}
 use Rattle.std.proofs.lemmas.Option.{slice_get_within}
-use Rattle.packages.specs.Listing.{packages}
-use Rattle.packages.specs.Bounds.{cost_of}
+use Rattle.dual_bound.specs.Prelude.{packages, cost_of}
 use Rattle.packages.proofs.Decoded.{length-packages}
 use Rattle.relaxation.proofs.TableLaws.{entries_more}
 use Rattle.dual_bound.proofs.quotes.costs.Goals as goal

@@ -1,8 +1,5 @@
-use Rattle.std.proofs.Common.{◌≡◌, ℕ, ◌<◌, Some, length, get_or}
-use Rattle.std.specs.List.{slice_get}
-use Rattle.packages.specs.declared.travel_packages.Package.{Package}
-use Rattle.packages.specs.Listing.{packages}
-use Rattle.packages.specs.Bounds.{cost_of}
+use Rattle.std.proofs.Common.{◌≡◌, ℕ, ◌<◌, Some, length, get_or, slice_get}
+use Rattle.dual_bound.specs.Prelude.{Package, packages, cost_of}
 use Rattle.dual_bound.proofs.quotes.costs.Given as goal
 
 abbrev pub invariant-loop-number : goal.invariant-loop-number

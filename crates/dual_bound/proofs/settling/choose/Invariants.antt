@@ -1,5 +1,4 @@
-use Rattle.dual_bound.specs.Choices.{chosen}
-use Rattle.dual_bound.specs.Restrictions.{KeepsLeft}
+use Rattle.dual_bound.specs.{chosen, KeepsLeft}
 use Rattle.dual_bound.proofs.RestrictionLaws.{TakesSoFar}
 use Rattle.dual_bound.proofs.settling.choose.Given as goal
 

@@ -1,8 +1,7 @@
 use Rattle.std.proofs.Common.{sym, subst}
 use Rattle.game_text.specs.Accounts.{IsAccount}
 use Rattle.relaxation.specs.declared.worth_table.WorthTable.{WorthTable}
-use Rattle.dual_bound.specs.Choices.{chosen}
-use Rattle.dual_bound.specs.Ceilings.{IsCeiling}
+use Rattle.dual_bound.specs.{chosen, IsCeiling}
 use Rattle.dual_bound.proofs.CeilingLaws.{ceiling_left}
 use Rattle.dual_bound.proofs.settling.dual_prices.Goals as goal
 

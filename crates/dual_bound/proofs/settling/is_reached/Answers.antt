@@ -1,9 +1,5 @@
 use Rattle.std.proofs.Common.{◌≡◌, true, sym, subst, ◌∙◌}
-use Rattle.game_text.specs.Accounts.{IsAccount}
-use Rattle.packages.specs.Bounds.{leaf_bound}
-use Rattle.packages.specs.BestTotal.{IsFeasible}
-use Rattle.bound_cert.specs.Certificate.{is_within}
-use Rattle.dual_bound.specs.Choices.{chosen}
+use Rattle.dual_bound.specs.{IsAccount, leaf_bound, IsFeasible, is_within, chosen}
 use Rattle.dual_bound.proofs.Reaching.{reached_settled}
 use Rattle.dual_bound.proofs.settling.is_reached.Goals as goal
 use Rattle.dual_bound.proofs.settling.is_reached.Goals.{then-are_left, else-are_left}

@@ -1,10 +1,5 @@
 use Rattle.std.proofs.Common.{◌≡◌, List, [], ◌∷◌, ◌++◌, map, length, ap, sym, ◌∙◌, arith, append-nil}
-use Rattle.trade_ledger.specs.declared.cash_calls.CashCall.TheVariants.{Post}
-use Rattle.trade_ledger.specs.declared.cash_calls.CashReply.TheVariants.{Done}
-use Rattle.trade_ledger.specs.declared.cash_calls.CashEntry.{CashEntry}
-use Rattle.trade_ledger.specs.Posts.{due_post}
-use Rattle.auction_rules.specs.Effects.{nets}
-use Rattle.turn_lock.specs.Passes.{made_by}
+use Rattle.floor.specs.Prelude.{Post, Done, CashEntry, due_post, nets, made_by}
 use Rattle.floor.proofs.Posts.{no_post, one_post}
 use Rattle.floor.proofs.CashReplies.{post_is_done}
 use Rattle.floor.proofs.cash_turns.post.Goals as goal

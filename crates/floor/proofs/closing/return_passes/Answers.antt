@@ -1,5 +1,5 @@
-use Rattle.std.proofs.Common.{rules, ◌≡◌, ℕ, ◌<◌, [], ◌∷◌, ◌++◌, map, length, get_or, refl, sym, ap, ◌∙◌, arith, append-nil, length-append}
-use Rattle.std.proofs.lemmas.List.{length-map, append_assoc, nil_from_length, map_push}
+use Rattle.std.proofs.Common.{rules, ◌≡◌, ℕ, ◌<◌, [], ◌∷◌, ◌++◌, map, length, get_or, refl, sym, ap, ◌∙◌, arith, append-nil, length-append, append_assoc}
+use Rattle.std.proofs.lemmas.List.{length-map, nil_from_length, map_push}
 use Rattle.std.specs.Vec.Iter.{into_iter_items}
 use Rattle.turn_lock.specs.Passes.{lock_of, lock_id, start_of, passes_of, returned_to, returned_by}
 use Rattle.floor.specs.Rows.{with_each}

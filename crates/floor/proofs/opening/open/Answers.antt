@@ -1,9 +1,7 @@
 use Rattle.std.proofs.Common.{◌∷◌, [], ◌++◌, map, length, sym, ap, ◌∙◌, subst, arith}
 use Rattle.std.proofs.lemmas.List.{length-map}
-use Rattle.turn_lock.specs.Passes.{lock_id}
+use Rattle.floor.specs.{lock_id, cap, AreFresh}
 use Rattle.turn_lock.proofs.Places.{place_below}
-use Rattle.auction_rules.specs.Legal.{cap}
-use Rattle.floor.specs.Dealing.{AreFresh}
 use Rattle.floor.proofs.FreshPasses.{calls_are, fresh_dealt}
 use Rattle.floor.proofs.Tables.{length-with_each}
 use Rattle.floor.proofs.opening.open.Goals as goal

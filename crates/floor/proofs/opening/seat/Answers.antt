@@ -1,14 +1,11 @@
-use Rattle.std.proofs.Common.{◌≡◌, ℕ, ◌+◌, [], ◌∷◌, ◌++◌, map, length, refl, sym, ap, ◌∙◌, subst, arith, append-nil, length-append}
+use Rattle.std.proofs.Common.{◌≡◌, ℕ, ◌+◌, [], ◌∷◌, ◌++◌, map, length, refl, sym, ap, ◌∙◌, subst, arith, append-nil, length-append, option_to_list, All, append_assoc}
 use Rattle.std.specs.Vec.Iter.{into_iter_items}
-use Rattle.std.specs.Option.{option_to_list}
-use Rattle.std.specs.Prelude.{All}
-use Rattle.std.proofs.lemmas.List.{length-map, append_assoc, nil_from_length, map_push}
+use Rattle.std.proofs.lemmas.List.{length-map, nil_from_length, map_push}
 use Rattle.std.proofs.lemmas.List.Elements.{All-push}
 use lib.ListN.{get_elem?}
 use Rattle.floor.specs.declared.desk.Desk.{Desk}
-use Rattle.floor.specs.Desks.{desk_steps}
+use Rattle.floor.specs.{desk_steps, calls_of_steps}
 use Rattle.floor.proofs.Tables.{at_next}
-use Rattle.floor.specs.Steps.{calls_of_steps}
 use Rattle.floor.proofs.CallLists.{listed_as}
 use Rattle.floor.proofs.opening.seat.Goals as goal
 

@@ -1,5 +1,4 @@
-use Rattle.std.proofs.Common.{◌≡◌, [], ◌++◌, map}
-use Rattle.std.specs.Prelude.{All}
+use Rattle.std.proofs.Common.{◌≡◌, [], ◌++◌, map, All}
 use Rattle.std.specs.Vec.Iter.{into_iter_items}
 use Rattle.floor.specs.Desks.{desk_steps}
 use Rattle.floor.proofs.opening.seat.Given as goal

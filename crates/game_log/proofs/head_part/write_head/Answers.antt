@@ -1,7 +1,5 @@
-use Rattle.std.proofs.Common.{refl}
-use Rattle.std.specs.Prelude.{codes}
-use Rattle.line_protocol.specs.Heads.{head_of}
-use Rattle.log_text.specs.LogText.{head_text}
+use Rattle.std.proofs.Common.{refl, codes}
+use Rattle.game_log.specs.Prelude.{head_of, head_text}
 use Rattle.game_log.proofs.Writing.{gathers_both, gathers_part}
 use Rattle.game_log.proofs.head_part.write_head.Goals as goal
 

@@ -1,6 +1,5 @@
-use Rattle.std.proofs.Common.{◌++◌, refl, ◌∙◌}
-use Rattle.std.specs.Prelude.{codes}
-use Rattle.std.specs.List.{flat_map, enumerate_from}
+use Rattle.std.proofs.Common.{◌++◌, refl, ◌∙◌, codes, flat_map}
+use Rattle.std.specs.List.{enumerate_from}
 use Rattle.log_text.specs.LogText.{link_line, end_line, missed_line}
 use Rattle.game_log.proofs.Writing.{gathers_both, part_first, part_second, whole_both, refused}
 use Rattle.game_log.proofs.head_part.write_served.Goals as goal

@@ -1,9 +1,7 @@
 use Rattle.std.proofs.Common.{rules}
 use Rattle.std.specs.Prelude.{⊤}
 use Rattle.std.proofs.lemmas.Iterator.{cases_from_all, YieldsList-from_slice}
-use Rattle.auction_core.specs.Auctions.{AuctionHistory}
-use Rattle.auction_core.specs.Ranges.{IsHistory}
-use Rattle.log_text.specs.Logged.{IsAuction}
+use Rattle.game_log.specs.Prelude.{AuctionHistory, IsHistory, IsAuction}
 use Rattle.game_log.proofs.AllTrue.{all_true}
 use Rattle.game_log.proofs.known.auctions_known.Goals as goal
 

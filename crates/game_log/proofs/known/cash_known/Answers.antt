@@ -5,10 +5,8 @@ use Rattle.trade_ledger.specs.declared.cash_calls.CashCall.{CashCall}
 use Rattle.trade_ledger.specs.declared.cash_calls.CashCall.TheVariants.{Post, Read}
 use Rattle.trade_ledger.specs.declared.cash_calls.CashReply.{CashReply}
 use Rattle.trade_ledger.specs.declared.cash_calls.CashReply.TheVariants.{Done, Cash}
-use Rattle.trade_ledger.specs.declared.cash_calls.CashEntry.{CashEntry}
+use Rattle.game_log.specs.Prelude.{CashEntry, IsLoggableCash, FitsCall, IsCashEntry}
 use Rattle.trade_ledger.specs.CashHistory.{IsFitCash, IsLegalCash, cash_reply_of}
-use Rattle.trade_ledger.specs.CashKeeping.{IsLoggableCash}
-use Rattle.log_text.specs.Logged.{FitsCall, IsCashEntry}
 use Rattle.log_text.proofs.Items.{both_all, all_from}
 use Rattle.log_text.proofs.ShownNumbers.{number_is, cash_entry_is}
 use Rattle.game_log.proofs.known.cash_known.Goals as goal

@@ -3,8 +3,7 @@ use Rattle.std.specs.Prelude.{⊤}
 use Rattle.std.specs.List.{AllByRecursion}
 use Rattle.std.proofs.lemmas.Iterator.{cases_from_all, YieldsList-from_slice}
 use Rattle.line_protocol.specs.declared.head.LogHead.{LogHead}
-use Rattle.line_protocol.specs.Heads.{head_of}
-use Rattle.log_text.specs.Logged.{IsVerdict, IsEnd, IsHead}
+use Rattle.game_log.specs.Prelude.{head_of, IsVerdict, IsEnd, IsHead}
 use Rattle.game_log.proofs.AllTrue.{all_true}
 use Rattle.game_log.proofs.known.head_known.Goals as goal
 

@@ -1,8 +1,7 @@
 use Rattle.std.proofs.Common.{◌∙◌, ap, sym, subst}
 use Rattle.std.specs.List.{AllByRecursion}
-use Rattle.auction_core.specs.ClosedGame.{ClosedGame}
+use Rattle.game_log.specs.Prelude.{ClosedGame, IsAuction, IsCash}
 use Rattle.log_text.proofs.Trades.{goods_of}
-use Rattle.log_text.specs.Logged.{IsAuction, IsCash}
 use Rattle.game_log.proofs.play_part.game_known.Goals as goal
 
 pub returns : goal.returns

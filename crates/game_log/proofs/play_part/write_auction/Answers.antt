@@ -1,5 +1,4 @@
-use Rattle.std.proofs.Common.{◌∙◌, ℕ, length, refl, ap}
-use Rattle.std.specs.List.{flat_map}
+use Rattle.std.proofs.Common.{◌∙◌, ℕ, length, refl, ap, flat_map}
 use Rattle.log_text.specs.LogText.{auction_line, entry_text}
 use Rattle.game_log.proofs.Writing.{gathers_both, gathers_part}
 use Rattle.game_log.proofs.play_part.write_auction.Goals as goal

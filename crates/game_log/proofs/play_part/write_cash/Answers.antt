@@ -1,5 +1,4 @@
-use Rattle.std.proofs.Common.{◌∙◌, length, refl, ap}
-use Rattle.std.specs.List.{flat_map}
+use Rattle.std.proofs.Common.{◌∙◌, length, refl, ap, flat_map}
 use Rattle.log_text.specs.LogText.{cash_line, cash_entry_line}
 use Rattle.game_log.proofs.Writing.{gathers_both, gathers_part}
 use Rattle.game_log.proofs.play_part.write_cash.Goals as goal

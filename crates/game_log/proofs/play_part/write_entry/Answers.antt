@@ -1,6 +1,4 @@
-use Rattle.std.proofs.Common.{◌≡◌, ◌∙◌, ℕ, List, ap, sym, map}
-use Rattle.std.specs.Prelude.{Some, option_map, slice_get}
-use Rattle.std.specs.List.{flat_map}
+use Rattle.std.proofs.Common.{◌≡◌, ◌∙◌, ℕ, List, ap, sym, map, Some, option_map, slice_get, flat_map}
 use Rattle.std.proofs.lemmas.Option.{same_Some, slice_get-map}
 use Rattle.tac_base.specs.declared.calls.Entry.{Entry as StoredEntry}
 use Rattle.tac_base.specs.declared.calls.Call.{Call}

@@ -1,8 +1,6 @@
-use Rattle.std.proofs.Common.{◌∙◌, ℕ, List, Err, ap, sym, subst}
-use Rattle.std.specs.List.{flat_map}
-use Rattle.auction_core.specs.ClosedGame.{ClosedGame}
+use Rattle.std.proofs.Common.{◌∙◌, ℕ, List, Err, ap, sym, subst, flat_map}
+use Rattle.game_log.specs.Prelude.{ClosedGame, cash_text}
 use Rattle.log_text.proofs.InOrder.{kept_text, in_order}
-use Rattle.log_text.specs.LogText.{cash_text}
 use Rattle.game_log.specs.Gathering.{Gathers}
 use Rattle.game_log.proofs.Writing.{gathers_both, gathers_part}
 use Rattle.log_text.proofs.Trades.{goods_of}

@@ -1,6 +1,5 @@
 use Rattle.std.proofs.Common.{refl}
-use Rattle.line_protocol.specs.Heads.{head_of}
-use Rattle.log_text.specs.LogText.{first_lines, histories_of, histories_text}
+use Rattle.game_log.specs.Prelude.{head_of, first_lines, histories_of, histories_text}
 use Rattle.game_log.proofs.Writing.{gathers_both, gathers_part}
 use Rattle.game_log.proofs.play_part.write_lines.Goals as goal
 

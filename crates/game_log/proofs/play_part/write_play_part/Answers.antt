@@ -1,5 +1,4 @@
-use Rattle.line_protocol.specs.Heads.{head_of}
-use Rattle.log_text.specs.LogText.{play_part}
+use Rattle.game_log.specs.Prelude.{head_of, play_part}
 use Rattle.game_log.proofs.Writing.{writes_gathered, fails_gathered}
 use Rattle.game_log.proofs.play_part.write_play_part.Goals as goal
 

@@ -1,12 +1,7 @@
-use Rattle.std.proofs.Common.{◌≤◌, List, length, ap, subst, ◌∙◌}
-use Rattle.std.specs.List.{All, AllByRecursion}
+use Rattle.std.proofs.Common.{◌≤◌, List, length, ap, subst, ◌∙◌, All}
+use Rattle.std.specs.List.{AllByRecursion}
 use Rattle.std.proofs.lemmas.List.Elements.{All-from_recursion}
-use Rattle.game_text.specs.Games.{IsGame}
-use Rattle.trade_ledger.specs.declared.cash_calls.CashEntry.{CashEntry}
-use Rattle.trade_ledger.specs.CashKeeping.{IsLoggableCash}
-use Rattle.auction_core.specs.Auctions.{AuctionHistory}
-use Rattle.auction_core.specs.ClosedGame.{ClosedGame}
-use Rattle.auction_core.specs.Ranges.{IsHistory}
+use Rattle.game_log.specs.Prelude.{IsGame, CashEntry, IsLoggableCash, AuctionHistory, ClosedGame, IsHistory}
 use Rattle.game_log.proofs.RangedSheets.{sheet_is_ranged}
 use Rattle.game_log.proofs.ranges.log_ranges.Goals as goal
 

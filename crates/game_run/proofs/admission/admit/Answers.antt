@@ -1,5 +1,4 @@
-use Rattle.std.proofs.Common.{◌≡◌, ◌+◌, ◌∙◌, arith, sym, ap, subst, count_by, length}
-use Rattle.std.specs.Prelude.{if◌then◌else◌}
+use Rattle.std.proofs.Common.{◌≡◌, ◌+◌, ◌∙◌, arith, sym, ap, subst, count_by, length, if◌then◌else◌}
 use Rattle.game_run.specs.{MayGoOn, is_seated, seats_given, AreTaken}
 use Rattle.game_run.proofs.TakenLinks.{none_taken, one_taken, gate_after, seats_counted, one_if, none_if}
 use Rattle.game_run.proofs.admission.admit.Goals as goal

@@ -1,9 +1,6 @@
-use Rattle.std.proofs.Common.{◌≡◌, ◌≢◌, ◌∙◌, ap, refl, inl, inr}
-use Rattle.std.specs.Prelude.{◌⊎◌}
-use Rattle.tac_io.specs.Lines.{link_place}
-use Rattle.tac_io.specs.declared.line_got.LineGot.{LineGot}
+use Rattle.std.proofs.Common.{◌≡◌, ◌≢◌, ◌∙◌, ap, refl, inl, inr, ◌⊎◌}
+use Rattle.game_run.specs.Prelude.{link_place, LineGot, verdict_of}
 use Rattle.tac_io.specs.declared.line_got.LineGot.TheVariants as gots
-use Rattle.agent_gate.specs.Gates.{verdict_of}
 use Rattle.game_run.proofs.FirstLines.{line_read, long_read, none_read}
 use Rattle.game_run.proofs.admission.first_verdict.Goals as goal
 

@@ -1,5 +1,4 @@
-use Rattle.std.proofs.Common.{◌∙◌, ap, refl, Some, arith}
-use Rattle.std.specs.Prelude.{slice_set}
+use Rattle.std.proofs.Common.{◌∙◌, ap, refl, Some, arith, slice_set}
 use Rattle.game_run.specs.declared.arrivals.Greeting.TheVariants.{Seated, Unseated}
 use Rattle.game_run.proofs.admission.take_in.Goals as goal
 

@@ -1,13 +1,7 @@
-use Rattle.std.proofs.Common.{◌≡◌, ◌∷◌, ◌++◌, ◌∙◌, [], All, ap, sym, subst, arith, length, map, length-append}
-use Rattle.std.specs.Prelude.{option_to_list}
-use Rattle.std.specs.List.{filter_map}
-use Rattle.std.specs.List.Sorted.{IsPermutation}
+use Rattle.std.proofs.Common.{◌≡◌, ◌∷◌, ◌++◌, ◌∙◌, [], All, ap, sym, subst, arith, length, map, length-append, option_to_list, filter_map, IsPermutation}
 use Rattle.std.proofs.lemmas.List.{length-map}
 use Rattle.std.proofs.lemmas.List.Sorted.{IsPermutation-refl}
-use Rattle.floor.specs.Closing.{IsBorneOut}
-use Rattle.floor.specs.Desks.{desk_ids, desk_caller}
-use Rattle.floor.specs.Floors.{floor_ids}
-use Rattle.game_run.specs.Seatings.{eight_of, played_end, played_link, AreTakenPlayed}
+use Rattle.game_run.specs.{IsBorneOut, desk_ids, desk_caller, floor_ids, eight_of, played_end, played_link, AreTakenPlayed}
 use Rattle.game_run.proofs.AgentParts.{new_desk, eight_ready, clock_ready}
 use Rattle.game_run.proofs.PlayedSeats.{eight_agents, all_back, played_through}
 use Rattle.game_run.proofs.play.play_out.Goals as goal

@@ -1,5 +1,4 @@
-use Rattle.std.proofs.Common.{map, sym, subst}
-use Rattle.std.specs.Option.{option_map}
+use Rattle.std.proofs.Common.{map, sym, subst, option_map}
 use Rattle.tac_io.specs.Lines.{link_of}
 use Rattle.game_run.specs.SeatedLinks.{AreFilled, AreLinksOf}
 use Rattle.game_run.proofs.LinksBack.{filled_alike, same_kinds}

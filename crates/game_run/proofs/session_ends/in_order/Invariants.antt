@@ -1,5 +1,4 @@
-use Rattle.std.proofs.Common.{◌≡◌, ℕ, ◌≤◌, ◌++◌, Some, length, vec_len, vec_capacity}
-use Rattle.std.specs.Prelude.{slice_get}
+use Rattle.std.proofs.Common.{◌≡◌, ℕ, ◌≤◌, ◌++◌, Some, length, vec_len, vec_capacity, slice_get}
 use Rattle.std.specs.Vec.Iter.{into_iter_items}
 use Rattle.game_run.specs.SeatedLinks.{AreFilled, AreLinksOf}
 use Rattle.game_run.proofs.session_ends.in_order.Given as goal

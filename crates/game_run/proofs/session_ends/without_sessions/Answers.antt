@@ -1,6 +1,5 @@
-use Rattle.std.proofs.Common.{◌≡◌, ◌∷◌, ◌++◌, ◌∙◌, [], ap, sym, arith, length, map, length-append}
-use Rattle.std.proofs.lemmas.List.{append_assoc, map_push}
-use Rattle.std.specs.Option.{option_map}
+use Rattle.std.proofs.Common.{◌≡◌, ◌∷◌, ◌++◌, ◌∙◌, [], ap, sym, arith, length, map, length-append, append_assoc, option_map}
+use Rattle.std.proofs.lemmas.List.{map_push}
 use Rattle.std.specs.Vec.Iter.{into_iter_items}
 use Rattle.tac_io.specs.Lines.{link_of}
 use Rattle.game_run.proofs.session_ends.without_sessions.Goals as goal

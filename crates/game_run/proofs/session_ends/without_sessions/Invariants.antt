@@ -1,6 +1,5 @@
-use Rattle.std.proofs.Common.{◌≡◌, ◌≤◌, ◌++◌, map, length, vec_len, vec_capacity}
+use Rattle.std.proofs.Common.{◌≡◌, ◌≤◌, ◌++◌, map, length, vec_len, vec_capacity, option_map}
 use Rattle.std.specs.Vec.Iter.{into_iter_items}
-use Rattle.std.specs.Option.{option_map}
 use Rattle.tac_io.specs.Lines.{link_of}
 use Rattle.game_run.proofs.session_ends.without_sessions.Given as goal
 

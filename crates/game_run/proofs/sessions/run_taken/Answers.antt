@@ -1,5 +1,4 @@
-use Rattle.std.proofs.Common.{◌∙◌, sym, subst}
-use Rattle.std.specs.Prelude.{IfSome}
+use Rattle.std.proofs.Common.{◌∙◌, sym, subst, IfSome}
 use Rattle.game_run.specs.Seatings.{AreTakenPlayed, AreEightPlayed}
 use Rattle.game_run.proofs.sessions.run_taken.Goals as goal
 

@@ -1,5 +1,4 @@
-use Rattle.std.proofs.Common.{◌≡◌, ◌+◌, ◌≤◌, ◌++◌, List, ℤ, length, sym, subst, arith}
-use Rattle.std.specs.Prelude.{codes}
+use Rattle.std.proofs.Common.{◌≡◌, ◌+◌, ◌≤◌, ◌++◌, List, ℤ, length, sym, subst, arith, codes}
 use Rattle.text_forms.specs.Rows.{row_text}
 use Rattle.game_text.proofs.AgentLineLaws.{endow_sent}
 use Rattle.game_text.proofs.agent_lines.print_endowment.Goals as goal

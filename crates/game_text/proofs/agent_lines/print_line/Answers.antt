@@ -1,7 +1,5 @@
-use Rattle.std.proofs.Common.{◌≡◌, ◌++◌, ℤ, List, ℕ, length, ap, ◌∙◌, arith, pos, get_or, ◌∷◌, rules}
+use Rattle.std.proofs.Common.{◌≡◌, ◌++◌, ℤ, List, ℕ, length, ap, ◌∙◌, arith, pos, get_or, ◌∷◌, rules, take_all, length-append}
 use Rattle.std.specs.Fmt.{signed_decimal}
-use Rattle.std.proofs.Math.Seq.{take_all}
-use Rattle.std.proofs.lemmas.List.{length-append}
 use Rattle.text_forms.proofs.RowLoops.{spaced, keyword_and_words}
 use Rattle.game_text.proofs.AgentLineLaws.{row_more, row_step}
 use Rattle.game_text.proofs.agent_lines.print_line.Goals as goal

@@ -1,5 +1,4 @@
-use Rattle.std.proofs.Common.{◌≡◌, map, take, length}
-use Rattle.std.specs.Prelude.{unsigned_abs}
+use Rattle.std.proofs.Common.{◌≡◌, map, take, length, unsigned_abs}
 use Rattle.game_text.proofs.closing_orders.goods_of.Given as goal
 
 abbrev pub invariant-loop-i : goal.invariant-loop-i

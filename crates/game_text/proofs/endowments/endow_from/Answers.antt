@@ -1,5 +1,5 @@
-use Rattle.std.proofs.Common.{arith, lit<}
-use Rattle.std.proofs.lemmas.List.{take_rest, length-drop}
+use Rattle.std.proofs.Common.{arith, lit<, length-drop}
+use Rattle.std.proofs.lemmas.List.{take_rest}
 use Rattle.game_text.proofs.EndowmentLaws.{endow_bytes}
 use Rattle.game_text.proofs.endowments.endow_from.Goals as goal
 

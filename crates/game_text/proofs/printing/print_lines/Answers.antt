@@ -1,9 +1,5 @@
-use Rattle.std.proofs.Common.{◌≡◌, ℕ, List, [], ◌∷◌, ◌++◌, ℤ, sym, ap, ◌∙◌, subst}
-use Rattle.std.specs.Prelude.{codes}
-use Rattle.text_forms.specs.Lines.{text_of}
-use Rattle.text_forms.specs.Steps.{lines_of_parts, one_line}
-use Rattle.text_forms.specs.Rows.{row_text}
-use Rattle.game_text.specs.{header_text, night_lines, seats_text, flight_text, order_text, endow_text, client_lines, GameFile, nights_of, canonical_text}
+use Rattle.std.proofs.Common.{◌≡◌, ℕ, List, [], ◌∷◌, ◌++◌, ℤ, sym, ap, ◌∙◌, subst, codes}
+use Rattle.game_text.specs.{text_of, lines_of_parts, one_line, row_text, header_text, night_lines, seats_text, flight_text, order_text, endow_text, client_lines, GameFile, nights_of, canonical_text}
 use Rattle.game_text.proofs.PrintedGames.{in_parts, spelled}
 use Rattle.game_text.proofs.printing.print_lines.Goals as goal
 

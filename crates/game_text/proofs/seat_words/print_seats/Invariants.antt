@@ -1,5 +1,4 @@
-use Rattle.std.proofs.Common.{◌≡◌, ℕ, List, ◌++◌, take}
-use Rattle.std.specs.Prelude.{codes}
+use Rattle.std.proofs.Common.{◌≡◌, ℕ, List, ◌++◌, take, codes}
 use Rattle.text_forms.proofs.RowLoops.{spaced}
 use Rattle.game_text.proofs.seat_words.print_seats.Given as goal
 

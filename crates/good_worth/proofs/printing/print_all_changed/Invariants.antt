@@ -1,7 +1,6 @@
 use Rattle.std.proofs.Common.{◌≡◌, ◌++◌}
 use Rattle.text_forms.specs.Lines.{text_of}
-use Rattle.good_worth.specs.Views.{worths_of}
-use Rattle.good_worth.specs.WorthTexts.{lines_below, changed_lines}
+use Rattle.good_worth.specs.{worths_of, lines_below, changed_lines}
 use Rattle.good_worth.proofs.printing.print_all_changed.Given as goal
 
 abbrev pub invariant-loop-good : goal.invariant-loop-good

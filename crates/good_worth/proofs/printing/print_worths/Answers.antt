@@ -1,7 +1,6 @@
 use Rattle.std.proofs.Common.{ℕ, List, ◌++◌, ◌∙◌, ap}
 use Rattle.text_forms.specs.Lines.{text_of}
-use Rattle.good_worth.specs.Views.{worths_of}
-use Rattle.good_worth.specs.WorthTexts.{head_lines}
+use Rattle.good_worth.specs.{worths_of, head_lines}
 use Rattle.good_worth.proofs.Lines.{whole}
 use Rattle.good_worth.proofs.printing.print_worths.Goals as goal
 

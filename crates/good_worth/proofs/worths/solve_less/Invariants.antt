@@ -1,6 +1,5 @@
-use Rattle.good_worth.specs.Views.{solutions_of}
+use Rattle.good_worth.specs.{solutions_of, AreChanged}
 use Rattle.good_worth.specs.Worth.{less}
-use Rattle.good_worth.specs.Worths.{AreChanged}
 use Rattle.good_worth.proofs.worths.solve_less.Given as goal
 
 abbrev pub invariant-loop-good : goal.invariant-loop-good

@@ -1,7 +1,6 @@
 use Rattle.std.proofs.Common.{subst}
 use Rattle.game_text.specs.Accounts.{IsAccount}
-use Rattle.good_worth.specs.Views.{solution_of, worths_of}
-use Rattle.good_worth.specs.Worths.{AreWorths, Solves}
+use Rattle.good_worth.specs.{solution_of, worths_of, AreWorths, Solves}
 use Rattle.good_worth.proofs.Gains.{ranged, up_is, down_is, not_held_is, owed_is}
 use Rattle.good_worth.proofs.worths.worth.Goals as goal
 

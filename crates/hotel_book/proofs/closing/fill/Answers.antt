@@ -1,6 +1,5 @@
 use Rattle.std.proofs.Common.{◌≡◌, ◌<◌, length, ap, arith}
-use Rattle.hotel_book.specs.Ranked.{won, last_price}
-use Rattle.hotel_book.specs.Book.{winner_trade}
+use Rattle.hotel_book.specs.{won, last_price, winner_trade}
 use Rattle.hotel_book.proofs.Offers.{trades_more}
 use Rattle.hotel_book.proofs.closing.fill.Goals as goal
 

@@ -1,7 +1,5 @@
-use Rattle.std.proofs.Common.{◌≡◌, ◌≤◌, take, length}
-use Rattle.std.specs.List.{filter_map}
-use Rattle.hotel_book.specs.Ranked.{won, last_price}
-use Rattle.hotel_book.specs.Book.{winner_trade}
+use Rattle.std.proofs.Common.{◌≡◌, ◌≤◌, take, length, filter_map}
+use Rattle.hotel_book.specs.{won, last_price, winner_trade}
 use Rattle.hotel_book.proofs.closing.fill.Given as goal
 
 abbrev pub invariant-loop-agent : goal.invariant-loop-agent

@@ -1,7 +1,6 @@
 use Rattle.std.proofs.Common.{ℕ, ap, arith}
 use Rattle.std.proofs.lemmas.List.Sums.{sum_by_more}
-use Rattle.auction_rules.specs.declared.units.BidUnit.{BidUnit}
-use Rattle.auction_rules.specs.Shown.{shown_unit}
+use Rattle.hotel_book.specs.Prelude.{BidUnit, shown_unit}
 use Rattle.hotel_book.proofs.order.put_all.Goals as goal
 
 pub loop-unit-preserved : goal.loop-unit-preserved

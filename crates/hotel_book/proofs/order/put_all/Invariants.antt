@@ -1,9 +1,5 @@
-use Rattle.std.proofs.Common.{◌≡◌, ◌+◌, ◌≤◌, ℕ, length, take}
-use Rattle.std.specs.Prelude.{All, sum_by}
-use Rattle.tac_base.specs.declared.units.Unit.{Unit as ShownUnit}
-use Rattle.tac_base.specs.declared.limits.TheConstants.{BID_PRICE}
-use Rattle.auction_rules.specs.Shown.{shown_unit}
-use Rattle.hotel_book.specs.Ranked.{AreSortedUnits}
+use Rattle.std.proofs.Common.{◌≡◌, ◌+◌, ◌≤◌, ℕ, length, take, All, sum_by}
+use Rattle.hotel_book.specs.{Unit as ShownUnit, BID_PRICE, shown_unit, AreSortedUnits}
 use Rattle.hotel_book.proofs.order.put_all.Given as goal
 
 abbrev pub invariant-loop-unit : goal.invariant-loop-unit

@@ -1,7 +1,7 @@
 use Rattle.std.proofs.Common.{pos, arith}
 use Rattle.std.proofs.lemmas.List.Sums.{sum_by_more}
 use Rattle.tac_base.specs.declared.bids.Point.{Point}
-use Rattle.auction_rules.specs.BeatQuote.{offered_by}
+use Rattle.auction_rules.proofs.Counts.{offered_by}
 use Rattle.hotel_book.proofs.Offers.{offered_one}
 use Rattle.hotel_book.proofs.quotes.offered.Goals as goal
 

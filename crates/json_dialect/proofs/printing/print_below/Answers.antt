@@ -1,5 +1,4 @@
-use Rattle.std.proofs.Common.{◌∷◌, [], ◌++◌, ◌≡◌, ◌^◌, ◌<◌, refl, rules, decimal, append_assoc, append-nil}
-use Rattle.std.specs.Prelude.{codes}
+use Rattle.std.proofs.Common.{◌∷◌, [], ◌++◌, ◌≡◌, ◌^◌, ◌<◌, refl, rules, decimal, append_assoc, append-nil, codes}
 use Rattle.line_protocol.proofs.OneLine.{known_line, number_line}
 use Rattle.json_dialect.proofs.OneObject.{whole_line}
 use Rattle.json_dialect.proofs.printing.print_below.Goals as goal

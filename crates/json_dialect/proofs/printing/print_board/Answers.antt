@@ -1,5 +1,4 @@
-use Rattle.std.proofs.Common.{◌∷◌, [], ◌^◌, ◌<◌, refl, rules, decimal}
-use Rattle.std.specs.Prelude.{codes}
+use Rattle.std.proofs.Common.{◌∷◌, [], ◌^◌, ◌<◌, refl, rules, decimal, codes}
 use Rattle.line_protocol.proofs.OneLine.{known_line}
 use Rattle.json_dialect.specs.JsonReplies.{pair_text, quote_members, openness}
 use Rattle.json_dialect.proofs.OneObject.{whole_line, numbers_line, placed_line}

@@ -1,5 +1,4 @@
-use Rattle.std.proofs.Common.{◌^◌, ◌<◌, rules, arith, SFits, w64}
-use Rattle.std.specs.Prelude.{unsigned_abs}
+use Rattle.std.proofs.Common.{◌^◌, ◌<◌, rules, arith, SFits, w64, unsigned_abs}
 use Rattle.std.proofs.lemmas.Int.{ints}
 use Rattle.json_dialect.proofs.OneObject.{cash_line}
 use Rattle.json_dialect.proofs.printing.print_cash.Goals as goal

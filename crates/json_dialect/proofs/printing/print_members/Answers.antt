@@ -1,5 +1,4 @@
-use Rattle.std.proofs.Common.{◌^◌, ◌<◌, refl, rules, decimal, arith, SFits, w32}
-use Rattle.std.specs.Prelude.{codes, unsigned_abs}
+use Rattle.std.proofs.Common.{◌^◌, ◌<◌, refl, rules, decimal, arith, SFits, w32, codes, unsigned_abs}
 use Rattle.std.proofs.lemmas.Int.{ints}
 use Rattle.line_protocol.proofs.OneLine.{known_line}
 use Rattle.json_dialect.specs.JsonReplies.{pair_text}

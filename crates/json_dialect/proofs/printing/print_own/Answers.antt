@@ -1,7 +1,5 @@
-use Rattle.std.proofs.Common.{◌++◌, ◌≡◌, ap, ℕ, length, rules, arith}
-use Rattle.std.specs.Prelude.{codes}
+use Rattle.std.proofs.Common.{◌++◌, ◌≡◌, ap, ℕ, length, rules, arith, codes, length-append}
 use Rattle.std.specs.Fmt.{signed_decimal}
-use Rattle.std.proofs.lemmas.List.{length-append}
 use Rattle.json_dialect.specs.JsonReplies.{points_text}
 use Rattle.json_dialect.proofs.OneObject.{four_pieces}
 use Rattle.json_dialect.proofs.printing.print_own.Goals as goal

@@ -1,5 +1,4 @@
-use Rattle.std.proofs.Common.{◌∷◌, [], ◌^◌, ◌<◌, refl, append_assoc, arith, rules, decimal, SFits, w32}
-use Rattle.std.specs.Prelude.{codes, unsigned_abs}
+use Rattle.std.proofs.Common.{◌∷◌, [], ◌^◌, ◌<◌, refl, append_assoc, arith, rules, decimal, SFits, w32, codes, unsigned_abs}
 use Rattle.std.specs.Fmt.{signed_decimal}
 use Rattle.std.proofs.lemmas.Int.{ints}
 use Rattle.bid_strings.specs.Spelling.{spelling}

@@ -1,6 +1,6 @@
-use Rattle.std.proofs.Common.{◌∷◌, [], ◌^◌, ◌<◌, refl, rules, decimal}
-use Rattle.std.specs.Prelude.{codes}
-use Rattle.line_protocol.specs.Replies.{place, state_word}
+use Rattle.std.proofs.Common.{◌∷◌, [], ◌^◌, ◌<◌, refl, rules, decimal, codes}
+use Rattle.line_protocol.specs.Replies.{place}
+use Rattle.line_protocol.proofs.JoinedWords.{state_word}
 use Rattle.line_protocol.proofs.OneLine.{known_line, number_line, place_line, joined_line}
 use Rattle.line_protocol.proofs.printing.print_board.Goals as goal
 

@@ -1,7 +1,6 @@
-use Rattle.std.proofs.Common.{w64}
+use Rattle.std.proofs.Common.{w64, rules}
 use Rattle.std.proofs.lemmas.Int.{to_z-of_z}
 use mir.Val.{SFits}
-use Rattle.std.proofs.Common.{rules}
 use Rattle.link_audit.proofs.Posting.{reading_of}
 use Rattle.link_audit.proofs.cash.amount_read.Goals as goal
 

@@ -1,5 +1,4 @@
-use Rattle.std.proofs.Common.{◌≡◌, ◌≢◌, List, length, get_or, Some, true, false, refl, sym, ap, ◌∙◌, subst, eq-eqb, eqb-true}
-use Rattle.std.specs.Prelude.{slice_get}
+use Rattle.std.proofs.Common.{◌≡◌, ◌≢◌, List, length, get_or, Some, true, false, refl, sym, ap, ◌∙◌, subst, eq-eqb, eqb-true, slice_get}
 use Rattle.std.proofs.lemmas.Option.{slice_get_read}
 use Rattle.trade_ledger.specs.declared.cash_calls.CashEntry.{CashEntry}
 use Rattle.link_audit.specs.Ahead.{cash_caller}

@@ -1,5 +1,4 @@
-use Rattle.std.proofs.Common.{◌≡◌, ◌+◌, ℕ, List, [], ◌∷◌, sym, ap, ◌∙◌, arith}
-use Rattle.std.specs.Prelude.{slice_range}
+use Rattle.std.proofs.Common.{◌≡◌, ◌+◌, ℕ, List, [], ◌∷◌, sym, ap, ◌∙◌, arith, slice_range}
 use Rattle.link_audit.specs.Walks.{replies_at}
 use Rattle.link_audit.proofs.Cuts.{replies_here, replies_end}
 use Rattle.link_audit.proofs.Leading.{first_reply}

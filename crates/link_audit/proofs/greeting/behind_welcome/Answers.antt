@@ -1,8 +1,6 @@
-use Rattle.std.proofs.Common.{◌≡◌, ◌<◌, ℕ, List, [], ◌∷◌, ◌++◌, length, get_or, sym, ap, ◌∙◌, arith}
-use Rattle.std.specs.Prelude.{codes, decimal}
+use Rattle.std.proofs.Common.{◌≡◌, ◌<◌, ℕ, List, [], ◌∷◌, ◌++◌, length, get_or, sym, ap, ◌∙◌, arith, codes, decimal}
 use Rattle.game_text.specs.OneAgent.{agent_line, lines_of_agent}
-use Rattle.link_audit.specs.Links.{whole_lines}
-use Rattle.link_audit.specs.Walks.{replies_at}
+use Rattle.link_audit.specs.{whole_lines, replies_at}
 use Rattle.link_audit.proofs.Welcomes.{welcome_more, welcome_not}
 use Rattle.link_audit.proofs.greeting.behind_welcome.Goals as goal
 

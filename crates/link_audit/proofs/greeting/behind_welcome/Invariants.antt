@@ -1,8 +1,6 @@
-use Rattle.std.proofs.Common.{◌≡◌, ◌<◌, ◌≤◌, ◌∷◌, ◌++◌, length, take}
-use Rattle.std.specs.Prelude.{codes, decimal}
+use Rattle.std.proofs.Common.{◌≡◌, ◌<◌, ◌≤◌, ◌∷◌, ◌++◌, length, take, codes, decimal}
 use Rattle.game_text.specs.OneAgent.{lines_of_agent}
-use Rattle.link_audit.specs.Links.{whole_lines}
-use Rattle.link_audit.specs.Walks.{replies_at}
+use Rattle.link_audit.specs.{whole_lines, replies_at}
 use Rattle.link_audit.proofs.greeting.behind_welcome.Given as goal
 
 -- the first lines came, and then these

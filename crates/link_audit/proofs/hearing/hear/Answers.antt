@@ -1,16 +1,9 @@
-use Rattle.std.proofs.Common.{◌≡◌, ◌+◌, ◌-◌, ℕ, suc, List, [], ◌∷◌, true, length, refl, sym, ap, ◌∙◌, subst, arith}
-use Rattle.std.specs.Prelude.{slice_range}
-use Rattle.tac_base.specs.declared.limits.TheConstants.{SESSION_LINES}
-use Rattle.tac_io.specs.AllAnswers.{ended_line}
-use Rattle.tac_io.specs.declared.line_got.LineGot.{LineGot}
+use Rattle.std.proofs.Common.{◌≡◌, ◌+◌, ◌-◌, ℕ, suc, List, [], ◌∷◌, true, length, refl, sym, ap, ◌∙◌, subst, arith, slice_range}
+use Rattle.link_audit.specs.{SESSION_LINES, ended_line, LineGot, Dialect, Subject, IsAsked, FitsReply, IsAhead, IsOver, IsStep, start, subject_of, FinishesLog, HasCourse, behind_course, HasHeard, HasLeft, IsAheadAt, IsBehind, EndsByLeaving, lines_at, replies_at}
 use Rattle.tac_io.specs.declared.line_got.LineGot.TheVariants as gots
-use Rattle.agent_gate.specs.Dialects.{Dialect}
 use Rattle.link_audit.specs.declared.places.Places.{Places}
 use Rattle.link_audit.specs.declared.stepping.Step.TheVariants.{Taken, Leaves, Stuck}
 use Rattle.link_audit.specs.declared.hearing.Heard.TheVariants.{Through}
-use Rattle.link_audit.specs.Ahead.{Subject, IsAsked, FitsReply, IsAhead, IsOver, IsStep, start, subject_of}
-use Rattle.link_audit.specs.Courses.{FinishesLog, HasCourse, behind_course}
-use Rattle.link_audit.specs.Walks.{HasHeard, HasLeft, IsAheadAt, IsBehind, IsLeft, lines_at, replies_at}
 use Rattle.link_audit.proofs.Cuts.{lines_here, lines_end, replies_here, replies_end}
 use Rattle.link_audit.proofs.Walked.{walked_on, walk_stuck, walk_left, left_walk, walk_ended, walk_full, more_replies, left_heard, taken_wide}
 use Rattle.link_audit.proofs.Courses.{course_stuck, end_course, heard_on}
@@ -67,7 +60,7 @@ returns-in-Leaves-clause-ahead g c =
     let leaves : IsStep (IsAsked dialect true (ended_line line)) (FitsReply dialect.text true reply) s places c.step_line.new.places Leaves =
     subst (IsStep (IsAsked dialect true (ended_line line)) (FitsReply dialect.text true reply) s places c.step_line.new.places) c.in-Leaves.is c.in_ok-step_line.ensures in
     let more = more_replies said (reply_end + 1) c.line_end-in-Leaves.result c.line_end-in-Leaves.ensures in
-    let is = subst (λ (p : Places). IsLeft (IsOver s p) c.is_some-more.result c.leave.result) leaves.1 (c.leave.ensures.left c.args.boards.now) in
+    let is = subst (λ (p : Places). EndsByLeaving (IsOver s p) c.is_some-more.result c.leave.result) leaves.1 (c.leave.ensures.left c.args.boards.now) in
     left_heard dialect s asked c.args.from (replies_at said c.args.told) (replies_at said (reply_end + 1)) (IsOver s places) c.is_some-more.result c.leave.result is
     (λ no. more.0 (sym c.is_some-more.ensures ∙ no)) (λ none. c.is_some-more.ensures ∙ more.1 none)
     (walk_left dialect s Before places v.wide (lines_at asked at) (lines_at asked (end + 1)) (ended_line line) lines_are (SESSION_LINES - lines) (SESSION_LINES - (lines + 1)) room_is (replies_at said place) (replies_at said (reply_end + 1)) reply replies_are v.behind leaves.0)

@@ -1,8 +1,6 @@
 use Rattle.std.proofs.Common.{◌≡◌, ◌+◌, ◌≤◌, ◌-◌, ℕ, drop, length}
 use Rattle.tac_base.specs.declared.limits.TheConstants.{SESSION_LINES}
-use Rattle.link_audit.specs.Ahead.{IsAhead, IsWide, start, subject_of}
-use Rattle.link_audit.specs.Courses.{Course, FinishesLog, HasCourse, behind_course}
-use Rattle.link_audit.specs.Walks.{IsAheadAt, IsBehind, lines_at, replies_at}
+use Rattle.link_audit.specs.{IsAhead, IsWide, start, subject_of, Course, FinishesLog, HasCourse, behind_course, IsAheadAt, IsBehind, lines_at, replies_at}
 use Rattle.link_audit.proofs.hearing.hear.Given as goal
 
 abbrev pub invariant-loop-lines : goal.invariant-loop-lines

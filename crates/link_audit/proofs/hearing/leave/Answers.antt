@@ -2,9 +2,7 @@ use Rattle.std.proofs.Common.{List, Bool, refl, sym, subst}
 use Rattle.std.specs.Global.{Vec}
 use Rattle.tac_base.specs.declared.calls.Board.{Board}
 use Rattle.link_audit.specs.declared.vouching.Difference.{Difference}
-use Rattle.link_audit.specs.Ahead.{subject_of}
-use Rattle.link_audit.specs.Courses.{IsLowestLeft}
-use Rattle.link_audit.specs.Walks.{DiffersAfter}
+use Rattle.link_audit.specs.{subject_of, IsLowestLeft, DiffersAfter}
 use Rattle.link_audit.proofs.CourseWalks.{some_is}
 use Rattle.link_audit.proofs.hearing.leave.Goals as goal
 

@@ -1,11 +1,6 @@
-use Rattle.std.proofs.Common.{◌≡◌, ◌+◌, ◌-◌, ℕ, List, [], refl, sym, ◌∙◌, subst}
-use Rattle.std.specs.Prelude.{Result, MatchResult, slice_range}
-use Rattle.tac_base.specs.declared.limits.TheConstants.{SESSION_LINES}
-use Rattle.agent_gate.specs.Dialects.{Dialect}
+use Rattle.std.proofs.Common.{◌≡◌, ◌+◌, ◌-◌, ℕ, List, [], refl, sym, ◌∙◌, subst, Result, MatchResult, slice_range}
+use Rattle.link_audit.specs.{SESSION_LINES, Dialect, Subject, IsAhead, subject_of, FinishesLog, IsStop, lines_at}
 use Rattle.link_audit.specs.declared.vouching.Difference.{Difference}
-use Rattle.link_audit.specs.Ahead.{Subject, IsAhead, subject_of}
-use Rattle.link_audit.specs.Courses.{FinishesLog, IsStop}
-use Rattle.link_audit.specs.Walks.{lines_at}
 use Rattle.link_audit.proofs.Cuts.{lines_here, lines_end}
 use Rattle.link_audit.proofs.Judged.{finished_so, no_end, yes_so}
 use Rattle.link_audit.proofs.judging.finish.Goals as goal

@@ -1,18 +1,11 @@
-use Rattle.std.proofs.Common.{◌≡◌, ◌+◌, ◌-◌, ℕ, List, [], ◌∷◌, length, map, Ok, Err, sym, ◌∙◌, subst, arith}
-use Rattle.std.specs.Prelude.{Result, IfOk, ◌↔◌, slice_range}
+use Rattle.std.proofs.Common.{◌≡◌, ◌+◌, ◌-◌, ℕ, List, [], ◌∷◌, length, map, Ok, Err, sym, ◌∙◌, subst, arith, Result, IfOk, ◌↔◌, slice_range}
 use Rattle.std.specs.Global.{Vec}
-use Rattle.tac_base.specs.declared.calls.Board.{Board}
+use Rattle.link_audit.specs.{Board, LINK_BYTES, SESSION_LINES, all_answers, ended_line, Dialect, Subject, AreBoards, IsAhead, subject_of, IsJudged, IsYes, HasHeard, IsFinished, IsHeard, TakesSeat, lines_at, replies_at}
 use Rattle.tac_base.specs.declared.memory.Memory.{Memory}
-use Rattle.tac_base.specs.declared.limits.TheConstants.{LINK_BYTES, SESSION_LINES}
-use Rattle.tac_io.specs.AllAnswers.{all_answers, ended_line}
 use Rattle.log_audit.specs.declared.findings.Flaw.TheVariants as flaws
-use Rattle.agent_gate.specs.Dialects.{Dialect}
 use Rattle.link_audit.specs.declared.hearing.Heard.TheVariants.{Through, Gone, Not}
 use Rattle.link_audit.specs.declared.vouching.Difference.TheVariants.{Seat, Welcome}
 use Rattle.link_audit.specs.declared.vouching.Vouching.{Vouching}
-use Rattle.link_audit.specs.Ahead.{Subject, AreBoards, IsAhead, subject_of}
-use Rattle.link_audit.specs.Vouchings.{IsJudged, IsYes}
-use Rattle.link_audit.specs.Walks.{HasHeard, IsFinished, IsHeard, TakesSeat, lines_at, replies_at}
 use Rattle.link_audit.proofs.Cuts.{lines_here, lines_end}
 use Rattle.link_audit.proofs.Judged.{different_judged, gone_judged, no_line, no_seat, no_welcome, not_judged, through_judged}
 use Rattle.link_audit.proofs.Vouched.{unvouched_end, unvouched_welcome, takes_seat}

@@ -1,10 +1,8 @@
-use Rattle.std.proofs.Common.{ℕ, Ok, Err}
-use Rattle.std.specs.Prelude.{Result, IfOk, ◌↔◌}
+use Rattle.std.proofs.Common.{ℕ, Ok, Err, Result, IfOk, ◌↔◌}
 use Rattle.tac_base.specs.declared.memory.Memory.{Memory}
 use Rattle.agent_gate.specs.Dialects.{Dialect}
 use Rattle.link_audit.specs.declared.vouching.Vouching.{Vouching}
-use Rattle.link_audit.specs.Links.{IsVouched}
-use Rattle.link_audit.specs.Vouchings.{HasNumbers, IsDifferenceOf, IsJudged, IsWhole, IsWholeLink, IsYes}
+use Rattle.link_audit.specs.{IsVouched, HasNumbers, IsDifferenceOf, IsJudged, IsWhole, IsWholeLink, IsYes}
 use Rattle.link_audit.proofs.judging.vouch.Goals as goal
 
 ok_then : (result : Result Vouching Memory) (P Q : Vouching → Type 0) → IfOk result P → ((v : Vouching) → P v → Q v) → IfOk result Q

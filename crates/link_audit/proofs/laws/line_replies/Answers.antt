@@ -1,5 +1,4 @@
-use Rattle.line_protocol.specs.Replies.{said_text}
-use Rattle.json_dialect.specs.JsonReplies.{json_text}
+use Rattle.link_audit.specs.Prelude.{said_text, json_text}
 use Rattle.link_audit.proofs.OneLines.{one_line_of, json_line, said_line}
 use Rattle.link_audit.proofs.laws.line_replies.Goals as goal
 

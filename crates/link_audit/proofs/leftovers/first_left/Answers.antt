@@ -1,9 +1,7 @@
-use Rattle.std.proofs.Common.{◌≡◌, ℕ, List, [], Some, refl, sym, subst, arith, below_more}
-use Rattle.std.specs.Prelude.{slice_get}
+use Rattle.std.proofs.Common.{◌≡◌, ℕ, List, [], Some, refl, sym, subst, arith, below_more, slice_get}
 use Rattle.auction_rules.specs.History.{Entry}
 use Rattle.link_audit.specs.declared.vouching.Difference.TheVariants as differences
-use Rattle.link_audit.specs.Ahead.{calls_left, subject_of}
-use Rattle.link_audit.specs.Courses.{IsLowestLeft}
+use Rattle.link_audit.specs.{calls_left, subject_of, IsLowestLeft}
 use Rattle.link_audit.proofs.Found.{left_at, none_found}
 use Rattle.link_audit.proofs.leftovers.first_left.Goals as goal
 

@@ -1,5 +1,4 @@
-use Rattle.std.proofs.Common.{◌≡◌, false}
-use Rattle.std.specs.Prelude.{slice_range}
+use Rattle.std.proofs.Common.{◌≡◌, false, slice_range}
 use Rattle.tac_io.specs.LineText.{has_end}
 use Rattle.link_audit.proofs.lines.line_end.Given as goal
 

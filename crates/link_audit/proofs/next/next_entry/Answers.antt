@@ -1,9 +1,6 @@
-use Rattle.std.proofs.Common.{◌≡◌, ◌≢◌, ◌<◌, Some, Option, Bor, true, false, arith, sym, ◌∙◌, subst, eq-eqb, eqb-true}
-use Rattle.std.specs.Option.{option_copied}
-use Rattle.tac_base.specs.declared.limits.TheConstants.{AUCTION_ENTRIES}
+use Rattle.std.proofs.Common.{◌≡◌, ◌≢◌, ◌<◌, Some, Option, Bor, true, false, arith, sym, ◌∙◌, subst, eq-eqb, eqb-true, option_copied}
+use Rattle.link_audit.specs.{AUCTION_ENTRIES, IsShown, entry_caller}
 use Rattle.tac_base.specs.declared.calls.Entry.{Entry as StoredEntry}
-use Rattle.auction_core.specs.Stored.{IsShown}
-use Rattle.link_audit.specs.Ahead.{entry_caller}
 use Rattle.link_audit.proofs.Rest.{rest_here, rest_there}
 use Rattle.link_audit.proofs.next.next_entry.Goals as goal
 

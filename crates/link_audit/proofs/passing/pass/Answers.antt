@@ -1,18 +1,10 @@
-use Rattle.std.proofs.Common.{◌≡◌, ◌+◌, ◌-◌, ℕ, suc, List, [], ◌∷◌, false, refl, subst, arith}
-use Rattle.std.specs.Prelude.{slice_range}
+use Rattle.std.proofs.Common.{◌≡◌, ◌+◌, ◌-◌, ℕ, suc, List, [], ◌∷◌, false, refl, subst, arith, slice_range}
 use Rattle.std.specs.Global.{Vec}
-use Rattle.tac_base.specs.declared.calls.Board.{Board}
-use Rattle.tac_base.specs.declared.limits.TheConstants.{SESSION_LINES}
-use Rattle.tac_io.specs.AllAnswers.{ended_line}
-use Rattle.tac_io.specs.declared.line_got.LineGot.{LineGot}
+use Rattle.link_audit.specs.{Board, SESSION_LINES, ended_line, LineGot, Dialect, Subject, IsAsked, FitsReply, IsAhead, IsOver, IsStep, subject_of, HasCourse, IsLowestLeft, has_entry, lines_at}
 use Rattle.tac_io.specs.declared.line_got.LineGot.TheVariants as gots
-use Rattle.agent_gate.specs.Dialects.{Dialect}
 use Rattle.link_audit.specs.declared.places.Places.{Places}
 use Rattle.link_audit.specs.declared.vouching.Difference.{Difference}
 use Rattle.link_audit.specs.declared.stepping.Step.TheVariants.{Taken, Leaves, Stuck}
-use Rattle.link_audit.specs.Ahead.{Subject, IsAsked, FitsReply, IsAhead, IsOver, IsStep, subject_of}
-use Rattle.link_audit.specs.Courses.{HasCourse, IsLowestLeft, has_entry}
-use Rattle.link_audit.specs.Walks.{lines_at}
 use Rattle.link_audit.proofs.Cuts.{lines_here, lines_end}
 use Rattle.link_audit.proofs.Walked.{passed_on, pass_stuck, pass_left, pass_ended, pass_full, pass_over, taken_wide}
 use Rattle.link_audit.proofs.Courses.{end_course, finish_over, pass_course_stuck}

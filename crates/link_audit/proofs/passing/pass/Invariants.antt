@@ -1,8 +1,6 @@
 use Rattle.std.proofs.Common.{◌≡◌, ◌+◌, ◌≤◌, ◌-◌, ℕ, [], length}
 use Rattle.tac_base.specs.declared.limits.TheConstants.{SESSION_LINES}
-use Rattle.link_audit.specs.Ahead.{IsAhead, IsWide, subject_of}
-use Rattle.link_audit.specs.Courses.{Course, FinishesLog, HasCourse, behind_course}
-use Rattle.link_audit.specs.Walks.{IsBehind, lines_at}
+use Rattle.link_audit.specs.{IsAhead, IsWide, subject_of, Course, FinishesLog, HasCourse, behind_course, IsBehind, lines_at}
 use Rattle.link_audit.proofs.passing.pass.Given as goal
 
 abbrev pub invariant-loop-line : goal.invariant-loop-line

@@ -1,9 +1,5 @@
-use Rattle.std.proofs.Common.{◌≡◌, Err, sym, subst}
-use Rattle.std.specs.Prelude.{Result}
-use Rattle.line_protocol.specs.declared.asking.Request.{Request}
-use Rattle.line_protocol.specs.declared.asking.RequestFault.{RequestFault}
-use Rattle.agent_gate.specs.Items.{Asks}
-use Rattle.link_audit.specs.Ahead.{FitsReply, IsStep, subject_of}
+use Rattle.std.proofs.Common.{◌≡◌, Err, sym, subst, Result}
+use Rattle.link_audit.specs.{Request, RequestFault, Asks, FitsReply, IsStep, subject_of}
 use Rattle.link_audit.proofs.Steps.{step_of, fault_taken, fault_stuck}
 use Rattle.link_audit.proofs.stepping.step_asked.Goals as goal
 

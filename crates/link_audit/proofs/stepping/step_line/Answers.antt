@@ -1,8 +1,5 @@
 use Rattle.std.proofs.Common.{ℕ, List, [], sym, subst}
-use Rattle.tac_io.specs.declared.line_got.LineGot.TheVariants.{TooLong}
-use Rattle.tac_io.specs.declared.line_got.LineGot.{LineGot}
-use Rattle.agent_gate.specs.Dialects.{Dialect}
-use Rattle.link_audit.specs.Ahead.{ReadsBy, FitsReply, IsAsked, IsStep, subject_of}
+use Rattle.link_audit.specs.{TooLong, LineGot, Dialect, ReadsBy, FitsReply, IsAsked, IsStep, subject_of}
 use Rattle.link_audit.proofs.Steps.{step_of, long_taken, long_stuck, long_line, read_step}
 use Rattle.link_audit.proofs.stepping.step_line.Goals as goal
 

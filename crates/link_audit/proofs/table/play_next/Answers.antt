@@ -1,10 +1,7 @@
-use Rattle.std.proofs.Common.{◌<◌, ◌≤◌, ℕ, List, [], ◌∷◌, ◌++◌, Some, Option, Bor, take, sym, ◌∙◌, subst, arith}
-use Rattle.std.specs.Prelude.{reverse}
-use Rattle.std.specs.Option.{option_copied}
+use Rattle.std.proofs.Common.{◌<◌, ◌≤◌, ℕ, List, [], ◌∷◌, ◌++◌, Some, Option, Bor, take, sym, ◌∙◌, subst, arith, reverse, option_copied}
 use Rattle.tac_base.specs.declared.calls.Entry.{Entry as StoredEntry}
 use Rattle.auction_rules.specs.History.{Entry}
-use Rattle.auction_rules.specs.Legal.{entry_of, entries_of, cap}
-use Rattle.auction_core.specs.Stored.{IsShown}
+use Rattle.link_audit.specs.Prelude.{entry_of, entries_of, cap, IsShown}
 use Rattle.auction_core.proofs.Counting.{length-part}
 use Rattle.link_audit.proofs.Prefixes.{next_prefix, room_next}
 use Rattle.link_audit.proofs.table.play_next.Goals as goal

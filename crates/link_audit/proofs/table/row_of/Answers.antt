@@ -1,10 +1,7 @@
-use Rattle.std.proofs.Common.{◌≡◌, ◌+◌, List, take, sym, ◌∙◌, subst, arith}
-use Rattle.std.specs.Prelude.{reverse}
-use Rattle.tac_base.specs.declared.calls.Board.{Board}
+use Rattle.std.proofs.Common.{◌≡◌, ◌+◌, List, take, sym, ◌∙◌, subst, arith, reverse}
+use Rattle.link_audit.specs.{Board, setup_of, AreRow}
 use Rattle.auction_rules.specs.Board as boards
 use Rattle.auction_rules.specs.History.{Entry}
-use Rattle.auction_core.specs.Setups.{setup_of}
-use Rattle.link_audit.specs.Ahead.{AreRow}
 use Rattle.link_audit.proofs.Prefixes.{row_more}
 use Rattle.link_audit.proofs.table.row_of.Goals as goal
 

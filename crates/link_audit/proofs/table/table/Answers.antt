@@ -2,11 +2,8 @@ use Rattle.std.proofs.Common.{◌≡◌, ◌≤◌, ◌+◌, ℕ, List, [], ◌�
 use Rattle.std.specs.Global.{Vec}
 use Rattle.std.proofs.lemmas.List.{map-append}
 use Rattle.std.proofs.lemmas.Option.{get_or_from_slice_get}
-use Rattle.tac_base.specs.declared.calls.Board.{Board}
-use Rattle.tac_base.specs.declared.limits.TheConstants.{AUCTION_ENTRIES}
+use Rattle.link_audit.specs.{Board, AUCTION_ENTRIES, logged_history, AreRow}
 use Rattle.auction_rules.specs.History.{Entry}
-use Rattle.log_text.specs.SoundLog.{logged_history}
-use Rattle.link_audit.specs.Ahead.{AreRow}
 use Rattle.link_audit.proofs.Prefixes.{AreRows, rows_more, boards_of_rows, table_of_rows}
 use Rattle.link_audit.proofs.table.table.Goals as goal
 

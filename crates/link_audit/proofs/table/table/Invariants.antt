@@ -1,6 +1,5 @@
 use Rattle.std.proofs.Common.{◌≡◌, ℕ, ◌<◌, ◌≤◌, length, map, vec_len, vec_capacity}
-use Rattle.tac_base.specs.declared.limits.TheConstants.{AUCTION_ENTRIES}
-use Rattle.log_text.specs.SoundLog.{logged_history}
+use Rattle.link_audit.specs.Prelude.{AUCTION_ENTRIES, logged_history}
 use Rattle.link_audit.proofs.Prefixes.{AreRows}
 use Rattle.link_audit.proofs.table.table.Given as goal
 

@@ -1,8 +1,5 @@
-use Rattle.std.proofs.Common.{◌≡◌, ℕ, ◌<◌, ◌≤◌, Some}
-use Rattle.std.specs.Prelude.{slice_get}
-use Rattle.tac_base.specs.declared.calls.Board.{Board}
-use Rattle.line_protocol.specs.declared.saying.Said.TheVariants.{Quote}
-use Rattle.link_audit.specs.Ahead.{FitsReply}
+use Rattle.std.proofs.Common.{◌≡◌, ℕ, ◌<◌, ◌≤◌, Some, slice_get}
+use Rattle.link_audit.specs.{Board, Quote, FitsReply}
 use Rattle.link_audit.proofs.taking.first_shown.Given as goal
 
 -- no board before this count has the line

@@ -1,18 +1,9 @@
-use Rattle.std.proofs.Common.{◌≡◌, ◌≢◌, ◌<◌, ◌≤◌, ℕ, List, Option, Some, Ok, Bor, sym, ap, ◌∙◌, subst, arith}
-use Rattle.std.specs.Prelude.{slice_index}
-use Rattle.std.specs.Option.{option_copied, option_map}
+use Rattle.std.proofs.Common.{◌≡◌, ◌≢◌, ◌<◌, ◌≤◌, ℕ, List, Option, Some, Ok, Bor, sym, ap, ◌∙◌, subst, arith, slice_index, option_copied, option_map}
 use Rattle.std.proofs.lemmas.Option.{slice_get_within}
-use Rattle.tac_base.specs.declared.limits.TheConstants.{AGENT_CALLS}
-use Rattle.tac_base.specs.declared.calls.Call.{Call}
-use Rattle.tac_base.specs.declared.calls.Reply.{Reply}
+use Rattle.link_audit.specs.{AGENT_CALLS, Call, Reply, IsShown, At, Asks, asked_call, FitsReply, IsTaken, behind_call, subject_of}
 use Rattle.tac_base.specs.declared.calls.Entry.{Entry as StoredEntry}
 use Rattle.auction_rules.specs.History.{Entry}
-use Rattle.auction_core.specs.Stored.{IsShown}
-use Rattle.line_protocol.specs.declared.saying.Said.TheVariants.{At}
-use Rattle.agent_gate.specs.Items.{Asks}
-use Rattle.agent_gate.specs.Turns.{asked_call}
 use Rattle.link_audit.specs.declared.places.Places.{Places}
-use Rattle.link_audit.specs.Ahead.{FitsReply, IsTaken, behind_call, subject_of}
 use Rattle.link_audit.proofs.Determined.{spent_taken, none_stuck, many_stuck, seen_stuck, other_stuck, unfit_stuck, unposted_stuck, call_taken}
 use Rattle.link_audit.proofs.Found.{none_found, is_found, some_shown}
 use Rattle.link_audit.proofs.taking.take_call.Goals as goal

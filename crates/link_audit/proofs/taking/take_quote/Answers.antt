@@ -1,11 +1,8 @@
-use Rattle.std.proofs.Common.{◌≡◌, ◌<◌, ◌≤◌, ℕ, List, [], length, map, get_or, Some, Ok, sym, ap, ◌∙◌, subst, arith}
-use Rattle.std.specs.Prelude.{slice_get, slice_index_or, slice_set}
+use Rattle.std.proofs.Common.{◌≡◌, ◌<◌, ◌≤◌, ℕ, List, [], length, map, get_or, Some, Ok, sym, ap, ◌∙◌, subst, arith, slice_get, slice_index_or, slice_set}
 use Rattle.std.specs.Global.{Vec}
-use Rattle.tac_base.specs.declared.calls.Board.{Board}
+use Rattle.link_audit.specs.{Board, Asks, FitsReply, IsTaken, subject_of}
 use Rattle.line_protocol.specs.declared.asking.Request.TheVariants as requests
-use Rattle.agent_gate.specs.Items.{Asks}
 use Rattle.link_audit.specs.declared.places.Places.{Places}
-use Rattle.link_audit.specs.Ahead.{FitsReply, IsTaken, subject_of}
 use Rattle.link_audit.proofs.Determined.{quote_taken, quote_stuck}
 use Rattle.link_audit.proofs.Found.{row_at}
 use Rattle.link_audit.proofs.taking.take_quote.Goals as goal

@@ -1,14 +1,9 @@
-use Rattle.std.proofs.Common.{◌≡◌, ◌<◌, ℕ, ℤ, List, length, Some, sym, ap, ◌∙◌, subst, arith, rules, w64}
+use Rattle.std.proofs.Common.{◌≡◌, ◌<◌, ℕ, ℤ, List, length, Some, sym, ap, ◌∙◌, subst, arith, rules, w64, slice_get}
 use mir.Val.{SFits}
-use Rattle.std.specs.Prelude.{slice_get}
 use Rattle.std.proofs.lemmas.Int.{to_z-of_z}
 use Rattle.std.proofs.lemmas.Option.{slice_get_within, get_or_from_slice_get}
-use Rattle.tac_base.specs.declared.limits.TheConstants.{CASH_READINGS}
-use Rattle.trade_ledger.specs.declared.cash_calls.CashEntry.{CashEntry}
+use Rattle.link_audit.specs.{CASH_READINGS, CashEntry, IsLoggedCashEntry, reading, FitsReply, subject_of}
 use Rattle.line_protocol.specs.declared.saying.Said.TheVariants.{Cash}
-use Rattle.log_text.specs.LoggedGames.{IsLoggedCashEntry}
-use Rattle.agent_gate.specs.Turns.{reading}
-use Rattle.link_audit.specs.Ahead.{FitsReply, subject_of}
 use Rattle.link_audit.proofs.Determined.{read_spent_taken, read_post_stuck, read_unfit_stuck, read_taken}
 use Rattle.link_audit.proofs.Posting.{logged_at}
 use Rattle.link_audit.proofs.taking.take_reading.Goals as goal

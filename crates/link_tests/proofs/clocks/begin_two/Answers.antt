@@ -1,5 +1,4 @@
-use Rattle.std.proofs.Common.{◌++◌, ap, ◌∙◌}
-use Rattle.std.specs.Option.{option_to_list}
+use Rattle.std.proofs.Common.{◌++◌, ap, ◌∙◌, option_to_list}
 use Rattle.std.specs.Result.{result_ok}
 use Rattle.clock_events.proofs.NewDesks.{last_is_new, one_before_is_new}
 use Rattle.link_tests.proofs.clocks.begin_two.Goals as goal

@@ -1,10 +1,7 @@
 use Rattle.std.proofs.Common.{◌≡◌, ◌∙◌, ℕ, ap, sym, subst, arith, length, None, map}
 use Rattle.std.proofs.lemmas.List.{length-map}
-use Rattle.auction_core.specs.Auctions.{AuctionHistory}
-use Rattle.auction_core.specs.ClosedGame.{all_goods}
-use Rattle.settlement.specs.Settlement.{settlement_of}
+use Rattle.log_audit.specs.{AuctionHistory, all_goods, settlement_of, IsFirstFrom, HasNoneFrom, AreReplays, AreReplayed, AreUnfair}
 use Rattle.log_audit.specs.declared.findings.Flaw.TheVariants as flaws
-use Rattle.log_audit.specs.{IsFirstFrom, HasNoneFrom, AreReplays, AreReplayed, AreUnfair}
 use Rattle.log_audit.proofs.Opened.{goods_of}
 use Rattle.log_audit.proofs.Parting.{none_before, found_first, free_of_all, entry_found, entries_free, unsound_is, sound_is}
 use Rattle.log_audit.proofs.auditing.audit_log.Goals as goal

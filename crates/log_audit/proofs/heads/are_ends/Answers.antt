@@ -1,5 +1,4 @@
-use Rattle.std.proofs.Common.{◌≡◌, ◌<◌, ℕ, List, Bool, true, false, map, take, get_or, Some, slice_get, inl, inr, sym, ap, ◌∙◌, subst, arith, lt-ltb}
-use Rattle.std.specs.Prelude.{nat_lt}
+use Rattle.std.proofs.Common.{◌≡◌, ◌<◌, ℕ, List, Bool, true, false, map, take, get_or, Some, slice_get, inl, inr, sym, ap, ◌∙◌, subst, arith, lt-ltb, nat_lt}
 use Rattle.std.proofs.lemmas.List.{length-map}
 use Rattle.std.proofs.lemmas.Option.{slice_get_within}
 use Rattle.line_protocol.specs.declared.admission.Cause.{Cause}

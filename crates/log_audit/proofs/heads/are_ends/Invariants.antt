@@ -1,7 +1,5 @@
-use Rattle.std.proofs.Common.{◌≡◌, ◌≤◌, map, length, take}
-use Rattle.std.specs.Prelude.{filter, nat_lt}
-use Rattle.tac_base.specs.Goods.{agents}
-use Rattle.log_text.specs.SoundLog.{seatings}
+use Rattle.std.proofs.Common.{◌≡◌, ◌≤◌, map, length, take, filter, nat_lt}
+use Rattle.log_audit.specs.Prelude.{agents, seatings}
 use Rattle.log_audit.proofs.heads.are_ends.Given as goal
 
 abbrev pub invariant-loop-agent : goal.invariant-loop-agent

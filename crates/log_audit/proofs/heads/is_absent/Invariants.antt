@@ -1,5 +1,4 @@
-use Rattle.std.proofs.Common.{◌≡◌, ℕ, ◌<◌, false}
-use Rattle.std.specs.Prelude.{◌==◌}
+use Rattle.std.proofs.Common.{◌≡◌, ℕ, ◌<◌, false, ◌==◌}
 use Rattle.std.specs.List.{list_any}
 use Rattle.log_text.specs.SoundLog.{logged_history}
 use Rattle.log_audit.proofs.heads.is_absent.Given as goal

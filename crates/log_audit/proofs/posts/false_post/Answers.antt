@@ -1,8 +1,6 @@
 use Rattle.std.proofs.Common.{◌≡◌, List, length, take, get_or, slice_get, Some, refl, sym, ap, ◌∙◌, subst, arith, below_more}
 use Rattle.std.proofs.lemmas.Option.{slice_get_read, slice_get_within}
-use Rattle.trade_ledger.specs.declared.cash_calls.CashEntry.{CashEntry}
-use Rattle.log_text.specs.SoundLog.{logged_history}
-use Rattle.log_audit.specs.{IsDuePost, AreNamed}
+use Rattle.log_audit.specs.{CashEntry, logged_history, IsDuePost, AreNamed}
 use Rattle.log_audit.proofs.Positions.{take_at, same_at}
 use Rattle.log_audit.proofs.posts.false_post.Goals as goal
 

@@ -1,10 +1,8 @@
-use Rattle.std.proofs.Common.{◌≡◌, ◌≤◌, List, [], length, Some, Option, Bor, sym, ap, subst, arith}
-use Rattle.std.specs.Option.{option_copied}
+use Rattle.std.proofs.Common.{◌≡◌, ◌≤◌, List, [], length, Some, Option, Bor, sym, ap, subst, arith, option_copied}
 use Rattle.std.proofs.lemmas.Option.{get_or_from_slice_get, slice_get_within}
 use Rattle.tac_base.specs.declared.calls.Entry.{Entry as StoredEntry}
 use Rattle.auction_rules.specs.History.{Entry}
-use Rattle.auction_core.specs.Stored.{IsShown}
-use Rattle.log_text.specs.SoundLog.{logged_history}
+use Rattle.log_audit.specs.Prelude.{IsShown, logged_history}
 use Rattle.log_audit.proofs.Earned.{from_earned, to_earned}
 use Rattle.log_audit.proofs.posts.is_earned.Goals as goal
 

@@ -2,9 +2,7 @@ use Rattle.std.proofs.Common.{◌≡◌, ℕ, List, length, get_or, Some, slice_
 use Rattle.std.specs.Global.{Vec}
 use Rattle.std.proofs.lemmas.List.{length-map}
 use Rattle.std.proofs.lemmas.Option.{slice_get_read}
-use Rattle.tac_base.specs.declared.calls.Nets.{Nets}
-use Rattle.log_text.specs.SoundLog.{logged_history}
-use Rattle.log_audit.specs.Auditing.{nets_by}
+use Rattle.log_audit.specs.{Nets, logged_history, nets_by}
 use Rattle.log_audit.proofs.Earned.{row_of, earned_within}
 use Rattle.log_audit.proofs.posts.nets_at.Goals as goal
 

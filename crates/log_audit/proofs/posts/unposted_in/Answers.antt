@@ -1,10 +1,8 @@
-use Rattle.std.proofs.Common.{◌≡◌, ◌≤◌, List, [], ◌∷◌, length, Some, Option, Bor, refl, sym, ap, ◌∙◌, subst, arith, below_more}
-use Rattle.std.specs.Option.{option_copied}
+use Rattle.std.proofs.Common.{◌≡◌, ◌≤◌, List, [], ◌∷◌, length, Some, Option, Bor, refl, sym, ap, ◌∙◌, subst, arith, below_more, option_copied}
 use Rattle.std.proofs.lemmas.Option.{slice_get_within}
 use Rattle.tac_base.specs.declared.calls.Entry.{Entry as StoredEntry}
-use Rattle.tac_base.specs.declared.calls.Trade.{Trade}
+use Rattle.log_audit.specs.Prelude.{Trade, IsShown}
 use Rattle.auction_rules.specs.History.{Entry}
-use Rattle.auction_core.specs.Stored.{IsShown}
 use Rattle.log_audit.proofs.Positions.{same_at}
 use Rattle.log_audit.proofs.posts.unposted_in.Goals as goal
 use Rattle.log_audit.proofs.posts.unposted_in.Goals.{else-entry-gt0-via-then-entry-gt0+else-not-is_named, else-entry-gt0-via-else-entry-gt0}

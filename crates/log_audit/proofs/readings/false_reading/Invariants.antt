@@ -1,7 +1,5 @@
 use Rattle.std.proofs.Common.{ℕ, ◌<◌, ◌*◌, take}
-use Rattle.trade_ledger.specs.CashHistory.{cash_total}
-use Rattle.trade_ledger.specs.CashKeeping.{IsWithin}
-use Rattle.log_audit.specs.{HasTrueReading, AreTotals}
+use Rattle.log_audit.specs.{cash_total, IsWithin, HasTrueReading, AreTotals}
 use Rattle.log_audit.proofs.readings.false_reading.Given as goal
 
 abbrev pub invariant-loop-position : goal.invariant-loop-position

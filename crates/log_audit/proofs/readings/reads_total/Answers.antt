@@ -1,7 +1,5 @@
 use Rattle.std.proofs.Common.{ℕ, ◌<◌, sym, subst}
-use Rattle.trade_ledger.specs.declared.cash_calls.CashCall.{CashCall}
-use Rattle.trade_ledger.specs.CashHistory.{gain_of}
-use Rattle.trade_ledger.specs.CashKeeping.{IsWithin}
+use Rattle.log_audit.specs.Prelude.{CashCall, gain_of, IsWithin}
 use Rattle.log_audit.proofs.readings.reads_total.Goals as goal
 
 pub returns-in-Post-clause-small : goal.returns-in-Post-clause-small

@@ -2,9 +2,7 @@ use Rattle.std.proofs.Common.{◌≡◌, ℕ, List, [], ◌∷◌, ◌++◌, len
 use Rattle.std.proofs.lemmas.List.{length-map}
 use Rattle.std.proofs.lemmas.Option.{slice_get_within}
 use Rattle.auction_rules.specs.History.{Entry}
-use Rattle.auction_rules.specs.Setup.{Setup}
-use Rattle.auction_core.specs.Setups.{setup_of}
-use Rattle.log_audit.specs.{HasFairEntry, IsStruck, nets_by}
+use Rattle.log_audit.specs.{Setup, setup_of, HasFairEntry, IsStruck, nets_by}
 use Rattle.log_audit.proofs.Positions.{take_at, all_taken}
 use Rattle.log_audit.proofs.replaying.play_again.Goals as goal
 

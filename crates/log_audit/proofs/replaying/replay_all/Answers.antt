@@ -1,16 +1,11 @@
-use Rattle.std.proofs.Common.{◌≡◌, ℕ, List, [], ◌∷◌, ◌++◌, map, Some, slice_get, sym, ap, ◌∙◌, subst, arith, below_more}
+use Rattle.std.proofs.Common.{◌≡◌, ℕ, List, [], ◌∷◌, ◌++◌, map, Some, slice_get, sym, ap, ◌∙◌, subst, arith, below_more, option_map}
 use Rattle.std.specs.Global.{Vec}
-use Rattle.std.specs.Option.{option_map}
 use Rattle.std.specs.List.{enumerate_from}
 use Rattle.std.proofs.lemmas.List.{length-map, map-append}
 use Rattle.std.proofs.lemmas.List.FromFn.{length-enumerate_from}
 use Rattle.std.proofs.lemmas.Option.{slice_get-map, get_or_from_slice_get}
-use Rattle.tac_base.specs.declared.calls.Nets.{Nets}
+use Rattle.log_audit.specs.{Nets, AuctionHistory, setup_of, logged_history, auctions_in, HasFairEntry, nets_by, IsReplay, IsReplayed, IsUnfair}
 use Rattle.auction_rules.specs.History.{Entry}
-use Rattle.auction_core.specs.Auctions.{AuctionHistory}
-use Rattle.auction_core.specs.Setups.{setup_of}
-use Rattle.log_text.specs.SoundLog.{logged_history, auctions_in}
-use Rattle.log_audit.specs.{HasFairEntry, nets_by, IsReplay, IsReplayed, IsUnfair}
 use Rattle.log_audit.proofs.Positions.{take_at, all_taken}
 use Rattle.log_audit.proofs.Opened.{auction_at}
 use Rattle.log_audit.proofs.Unfair.{unfair_at}

@@ -1,7 +1,5 @@
 use Rattle.std.proofs.Common.{◌≡◌, ℕ, ◌<◌, ◌≤◌, map, take, vec_len, vec_capacity}
-use Rattle.auction_core.specs.Setups.{setup_of}
-use Rattle.log_text.specs.SoundLog.{logged_history, auctions_in}
-use Rattle.log_audit.specs.{HasFairEntry, nets_by}
+use Rattle.log_audit.specs.{setup_of, logged_history, auctions_in, HasFairEntry, nets_by}
 use Rattle.log_audit.proofs.replaying.replay_all.Given as goal
 
 abbrev pub invariant-loop-number : goal.invariant-loop-number

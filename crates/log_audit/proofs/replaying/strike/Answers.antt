@@ -1,8 +1,6 @@
-use Rattle.std.proofs.Common.{◌≡◌, List, map, Some, slice_get, sym, ap, ◌∙◌, subst, arith}
-use Rattle.std.specs.Prelude.{reverse}
+use Rattle.std.proofs.Common.{◌≡◌, List, map, Some, slice_get, sym, ap, ◌∙◌, subst, arith, reverse}
 use Rattle.auction_rules.specs.History.{Entry}
-use Rattle.auction_rules.specs.Effects.{nets as nets_of}
-use Rattle.auction_rules.specs.Legal.{entry_of}
+use Rattle.log_audit.specs.Prelude.{nets as nets_of, entry_of}
 use Rattle.auction_core.specs.declared.entries.Struck.{Struck}
 use Rattle.auction_core.specs.Struck.{struck_of}
 use Rattle.auction_core.proofs.Counting.{length-part}

@@ -1,9 +1,7 @@
-use Rattle.std.proofs.Common.{◌≡◌, ◌<◌, ℕ, List, length, map, Some, Option, Bor, slice_get, sym, ap, ◌∙◌, subst, arith, length-set}
-use Rattle.std.specs.Option.{option_copied}
+use Rattle.std.proofs.Common.{◌≡◌, ◌<◌, ℕ, List, length, map, Some, Option, Bor, slice_get, sym, ap, ◌∙◌, subst, arith, length-set, option_copied}
 use Rattle.tac_base.specs.declared.calls.Entry.{Entry as StoredEntry}
 use Rattle.auction_rules.specs.History.{Entry}
-use Rattle.auction_rules.specs.Legal.{entries_of, cap}
-use Rattle.auction_core.specs.Stored.{IsShown}
+use Rattle.log_audit.specs.Prelude.{entries_of, cap, IsShown}
 use Rattle.log_audit.proofs.Struck.{struck_next, trades_there}
 use Rattle.log_audit.proofs.replaying.strike_next.Goals as goal
 

@@ -1,9 +1,6 @@
-use Rattle.std.proofs.Common.{◌≡◌, ◌+◌, ◌-◌, ◌++◌, ℕ, List, take, sym, ap, ◌∙◌, arith}
-use Rattle.std.specs.List.{flat_map}
-use Rattle.tac_base.specs.declared.calls.Call.{Call}
-use Rattle.game_text.specs.Schedule.{calls_at, ticks}
+use Rattle.std.proofs.Common.{◌≡◌, ◌+◌, ◌-◌, ◌++◌, ℕ, List, take, sym, ap, ◌∙◌, arith, flat_map}
+use Rattle.log_audit.specs.{Call, calls_at, ticks, calls_for}
 use Rattle.clock_events.proofs.TickCalls.{tick_done}
-use Rattle.log_audit.specs.Auditing.{calls_for}
 use Rattle.log_audit.proofs.Scheduled.{calls_for-append}
 use Rattle.log_audit.proofs.scheduling.due_calls.Goals as goal
 

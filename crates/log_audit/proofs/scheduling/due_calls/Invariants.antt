@@ -1,5 +1,4 @@
-use Rattle.std.proofs.Common.{◌≡◌, take}
-use Rattle.std.specs.List.{flat_map}
+use Rattle.std.proofs.Common.{◌≡◌, take, flat_map}
 use Rattle.game_text.specs.Schedule.{calls_at, ticks}
 use Rattle.log_audit.specs.Auditing.{calls_for}
 use Rattle.log_audit.proofs.scheduling.due_calls.Given as goal

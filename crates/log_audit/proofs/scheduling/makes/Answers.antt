@@ -1,9 +1,7 @@
-use Rattle.std.proofs.Common.{◌≡◌, ℕ, take, Some, Option, Bor, slice_get, inl, inr, sym, ap, ◌∙◌, subst, arith}
-use Rattle.std.specs.Option.{option_copied}
+use Rattle.std.proofs.Common.{◌≡◌, ℕ, take, Some, Option, Bor, slice_get, inl, inr, sym, ap, ◌∙◌, subst, arith, option_copied}
 use Rattle.std.proofs.lemmas.Option.{slice_get_within}
-use Rattle.tac_base.specs.declared.calls.Call.{Call}
+use Rattle.log_audit.specs.Prelude.{Call, IsShown}
 use Rattle.tac_base.specs.declared.calls.Entry.{Entry as StoredEntry}
-use Rattle.auction_core.specs.Stored.{IsShown}
 use Rattle.log_audit.proofs.Scheduled.{next_due, made_more, made_same}
 use Rattle.log_audit.proofs.scheduling.makes.Goals as goal
 

@@ -1,5 +1,4 @@
-use Rattle.std.proofs.Common.{◌≡◌, ℕ, Some, slice_get, sym, ap, ◌∙◌, arith, take, ◌++◌}
-use Rattle.std.specs.Prelude.{Result, Ok, Err, OnErr}
+use Rattle.std.proofs.Common.{◌≡◌, ℕ, Some, slice_get, sym, ap, ◌∙◌, arith, take, ◌++◌, Result, Ok, Err, OnErr}
 use Rattle.std.proofs.lemmas.Option.{slice_get_within}
 use Rattle.game_text.specs.Schedule.{calls_at}
 use Rattle.clock_events.proofs.TickCalls.{all_taken}

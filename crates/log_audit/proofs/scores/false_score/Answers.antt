@@ -1,9 +1,6 @@
 use Rattle.std.proofs.Common.{◌≡◌, get_or, sym, ◌∙◌, subst, below_more, arith}
 use Rattle.std.proofs.lemmas.Option.{slice_get_within}
-use Rattle.settlement.specs.Sheets.{IsDueScore}
-use Rattle.settlement.specs.Settlement.{settlement_of}
-use Rattle.log_text.specs.SoundLog.{auctions_in}
-use Rattle.log_audit.specs.Flaws.{HasDueScore}
+use Rattle.log_audit.specs.{IsDueScore, settlement_of, auctions_in, HasDueScore}
 use Rattle.log_audit.proofs.Seated.{agent_is}
 use Rattle.log_audit.proofs.Positions.{same_at}
 use Rattle.log_audit.proofs.scores.false_score.Goals as goal

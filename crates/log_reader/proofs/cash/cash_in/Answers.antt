@@ -1,5 +1,5 @@
 use Rattle.std.proofs.Common.{sym}
-use Rattle.log_text.specs.LogReading.{cash_in}
+use Rattle.log_reader.specs.LogReading.{cash_in}
 use Rattle.log_reader.proofs.PartCases.{no_cash, cash_is}
 use Rattle.log_reader.proofs.Refusals.{line_on}
 use Rattle.log_reader.proofs.cash.cash_in.Goals as goal

@@ -1,8 +1,7 @@
 use Rattle.std.proofs.Common.{sym, subst}
 use Rattle.bound_cert.specs.Reading.{cert_of}
-use Rattle.log_text.specs.LogReading.{cert_by}
+use Rattle.log_reader.specs.{cert_by, or_log_fault, IsLogRefusal}
 use Rattle.log_reader.specs.declared.fault.LogFault.{LogFault}
-use Rattle.log_reader.specs.Faults.{or_log_fault, IsLogRefusal}
 use Rattle.log_reader.proofs.CertCases.{cert_refused}
 use Rattle.log_reader.proofs.LowNumbers.{cert_low}
 use Rattle.log_reader.proofs.certs.cert_at.Goals as goal

@@ -1,8 +1,7 @@
 use Rattle.std.proofs.Common.{◌≡◌, Ok, Err, sym, ap, ◌∙◌}
 use Rattle.bound_cert.specs.Reading.{cert_of}
 use Rattle.bound_cert.specs.Views.{tree_of}
-use Rattle.log_text.specs.LogReading.{cert_by, cert_in}
-use Rattle.log_reader.specs.Faults.{or_log_fault}
+use Rattle.log_reader.specs.{cert_by, cert_in, or_log_fault}
 use Rattle.log_reader.proofs.CertCases.{no_line, no_count, counted, no_block, block_bad, block_read}
 use Rattle.log_reader.proofs.Refusals.{was_read, is_read, line_on, fault_on}
 use Rattle.log_reader.proofs.certs.cert_in.Goals as goal

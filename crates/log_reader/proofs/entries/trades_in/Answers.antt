@@ -1,8 +1,6 @@
-use Rattle.std.proofs.Common.{ℕ, length-append, sym, ◌∙◌, arith}
-use Rattle.std.specs.Prelude.{codes}
+use Rattle.std.proofs.Common.{ℕ, length-append, sym, ◌∙◌, arith, codes}
 use Rattle.std.proofs.lemmas.Result.{err_from_is_err_and}
-use Rattle.log_text.specs.EntryForms.{trade_of}
-use Rattle.log_text.specs.LogReading.{line_by}
+use Rattle.log_reader.specs.{trade_of, line_by}
 use Rattle.log_reader.proofs.EntryCases.{all_some}
 use Rattle.log_reader.proofs.Sequences.{goes_on, goes_wrong, stops, full, one_over}
 use Rattle.log_reader.proofs.entries.trades_in.Goals as goal

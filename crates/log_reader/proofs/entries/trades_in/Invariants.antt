@@ -1,10 +1,8 @@
-use Rattle.std.proofs.Common.{◌≡◌, ◌≤◌, ◌-◌, length}
-use Rattle.std.specs.Prelude.{codes}
+use Rattle.std.proofs.Common.{◌≡◌, ◌≤◌, ◌-◌, length, codes}
 use Rattle.std.specs.List.{AllByRecursion}
 use Rattle.tac_base.specs.declared.calls.Trade.{Trade}
 use Rattle.text_forms.proofs.Repeats.{with_front}
-use Rattle.log_text.specs.EntryForms.{trade_of}
-use Rattle.log_text.specs.LogReading.{line_by, as_long_as}
+use Rattle.log_reader.specs.{trade_of, line_by, as_long_as}
 use Rattle.log_reader.proofs.entries.trades_in.Given as goal
 
 abbrev pub invariant-loop-i : goal.invariant-loop-i

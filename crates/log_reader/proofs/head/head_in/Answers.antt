@@ -1,6 +1,6 @@
 use Rattle.std.proofs.Common.{Bool, Ok, sym, ap}
 use Rattle.line_protocol.specs.Heads.{Play}
-use Rattle.log_text.specs.LogReading.{served_in, head_by, head_in}
+use Rattle.log_reader.specs.LogReading.{served_in, head_by, head_in}
 use Rattle.log_reader.proofs.PartCases.{no_title, no_kind, head_is}
 use Rattle.log_reader.proofs.Refusals.{is_read, line_on}
 use Rattle.log_reader.proofs.head.head_in.Goals as goal

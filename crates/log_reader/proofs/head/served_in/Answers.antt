@@ -1,5 +1,5 @@
 use Rattle.std.proofs.Common.{sym}
-use Rattle.log_text.specs.LogReading.{served_in}
+use Rattle.log_reader.specs.LogReading.{served_in}
 use Rattle.log_reader.proofs.PartCases.{links_in, ends_in, no_links, no_ends, no_missed, served_is}
 use Rattle.log_reader.proofs.Refusals.{was_read, is_read, line_on, fault_on}
 use Rattle.log_reader.proofs.head.served_in.Goals as goal

@@ -1,5 +1,5 @@
 use Rattle.std.proofs.Common.{◌≡◌, ◌++◌, ◌∷◌, [], length-append, sym, ◌∙◌, arith}
-use Rattle.log_text.specs.LogReading.{entry_in, history_in}
+use Rattle.log_reader.specs.LogReading.{entry_in, history_in}
 use Rattle.log_reader.proofs.HistoryCases.{no_count, history_is, if_done}
 use Rattle.log_reader.proofs.Refusals.{is_read, line_on}
 use Rattle.log_reader.proofs.Sequences.{one_more, one_bad, all_read}

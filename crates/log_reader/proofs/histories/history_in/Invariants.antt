@@ -1,7 +1,7 @@
 use Rattle.std.proofs.Common.{◌≡◌, ◌-◌, length}
 use Rattle.text_forms.specs.Steps.{repeat}
 use Rattle.text_forms.proofs.Repeats.{with_front}
-use Rattle.log_text.specs.LogReading.{entry_in}
+use Rattle.log_reader.specs.LogReading.{entry_in}
 use Rattle.log_reader.proofs.histories.history_in.Given as goal
 
 abbrev pub invariant-loop-i : goal.invariant-loop-i

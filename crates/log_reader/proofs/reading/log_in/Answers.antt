@@ -1,7 +1,7 @@
 use Rattle.std.proofs.Common.{sym}
 use Rattle.text_forms.specs.Steps.{repeat}
-use Rattle.log_text.specs.LogReading.{head_in, history_in, cash_in, score_in, log_in}
-use Rattle.log_text.proofs.LogTaking.{log_is}
+use Rattle.log_reader.specs.LogReading.{head_in, history_in, cash_in, score_in, log_in}
+use Rattle.log_reader.proofs.LogTaking.{log_is}
 use Rattle.log_reader.proofs.LogCases.{no_head, no_histories, no_cash, no_sheet, no_scores, no_end, more_lines, whole_log}
 use Rattle.log_reader.proofs.Refusals.{is_read, line_on, fault_on}
 use Rattle.log_reader.proofs.reading.log_in.Goals as goal

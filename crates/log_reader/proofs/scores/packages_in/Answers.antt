@@ -1,9 +1,7 @@
-use Rattle.std.proofs.Common.{ℕ, sym, arith, take, length}
-use Rattle.std.proofs.Math.ListN.{length-set}
+use Rattle.std.proofs.Common.{ℕ, sym, arith, take, length, length-set}
 use Rattle.std.proofs.lemmas.Result.{err_from_is_err_and}
 use Rattle.text_forms.proofs.Repeats.{ends, reads_one, reads_all}
-use Rattle.log_text.specs.SheetForms.{package_of}
-use Rattle.log_text.specs.LogReading.{line_by}
+use Rattle.log_reader.specs.{package_of, line_by}
 use Rattle.log_reader.proofs.scores.packages_in.Goals as goal
 
 pub returns-in_err-package : goal.returns-in_err-package

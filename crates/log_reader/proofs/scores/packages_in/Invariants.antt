@@ -1,8 +1,7 @@
 use Rattle.std.proofs.Common.{◌≡◌, ◌-◌, length, take}
 use Rattle.text_forms.specs.Steps.{repeat}
 use Rattle.text_forms.proofs.Repeats.{with_front}
-use Rattle.log_text.specs.SheetForms.{package_of}
-use Rattle.log_text.specs.LogReading.{line_by}
+use Rattle.log_reader.specs.{package_of, line_by}
 use Rattle.log_reader.proofs.scores.packages_in.Given as goal
 
 abbrev pub invariant-loop-client : goal.invariant-loop-client

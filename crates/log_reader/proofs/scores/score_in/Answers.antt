@@ -1,7 +1,7 @@
 use Rattle.std.proofs.Common.{rules, sym, SFits, w64}
 use Rattle.std.proofs.lemmas.Int.{to_z-of_z}
 use Rattle.bound_cert.specs.Views.{tree_of}
-use Rattle.log_text.specs.LogReading.{cert_in, score_in}
+use Rattle.log_reader.specs.LogReading.{cert_in, score_in}
 use Rattle.log_reader.proofs.PartCases.{no_score, no_packages, no_cert, score_is}
 use Rattle.log_reader.proofs.Refusals.{was_read, is_read, line_on, fault_on}
 use Rattle.log_reader.proofs.scores.score_in.Goals as goal

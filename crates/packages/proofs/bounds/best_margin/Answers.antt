@@ -1,9 +1,7 @@
-use Rattle.std.proofs.Common.{◌*◌, ◌≡◌, ◌+◌, Some, is_some, true, false, pos, negsuc, ◌≤ℤ◌, sym, ap, ◌∙◌, arith}
+use Rattle.std.proofs.Common.{◌*◌, ◌≡◌, ◌+◌, Some, is_some, true, false, pos, negsuc, ◌≤ℤ◌, sym, ap, ◌∙◌, arith, slice_get}
 use Rattle.tac_base.specs.declared.limits.TheConstants.{DUAL_PRICE}
 use Rattle.std.proofs.lemmas.Bool.{false≢true}
-use Rattle.std.specs.List.{slice_get}
-use Rattle.packages.specs.Listing.{packages}
-use Rattle.packages.specs.Bounds.{margin_of, greater}
+use Rattle.packages.specs.{packages, margin_of, greater}
 use Rattle.packages.proofs.Decoded.{length-packages}
 use Rattle.packages.proofs.Margins.{greatest_from, greatest_takes, greatest_skips, greatest_done, if_some_is}
 use Rattle.packages.proofs.bounds.best_margin.Goals as goal

@@ -1,7 +1,6 @@
 use Rattle.std.proofs.Common.{◌*◌, ◌≡◌, pos, negsuc, ◌≤ℤ◌, IfSome}
 use Rattle.tac_base.specs.declared.limits.TheConstants.{DUAL_PRICE}
-use Rattle.packages.specs.Listing.{packages}
-use Rattle.packages.specs.Bounds.{best_margin, greater, margin_of}
+use Rattle.packages.specs.{packages, best_margin, greater, margin_of}
 use Rattle.packages.proofs.Margins.{greatest_from}
 use Rattle.packages.proofs.bounds.best_margin.Given as goal
 

@@ -1,8 +1,5 @@
-use Rattle.std.proofs.Common.{◌≡◌, ℕ, ◌<◌, [], Some, length, get_or}
-use Rattle.std.specs.List.{slice_get}
-use Rattle.packages.specs.declared.travel_packages.Package.{Package}
-use Rattle.packages.specs.Listing.{packages}
-use Rattle.relaxation.specs.Tables.{features_of}
+use Rattle.std.proofs.Common.{◌≡◌, ℕ, ◌<◌, [], Some, length, get_or, slice_get}
+use Rattle.relaxation.specs.{Package, packages, features_of}
 use Rattle.relaxation.proofs.features.table.Given as goal
 
 abbrev pub invariant-loop-number : goal.invariant-loop-number

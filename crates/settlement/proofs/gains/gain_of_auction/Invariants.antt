@@ -1,7 +1,5 @@
-use Rattle.std.proofs.Common.{◌≡◌, ◌*◌, take}
-use Rattle.std.specs.Prelude.{reverse}
-use Rattle.auction_rules.specs.Effects.{all_trades, dollars}
-use Rattle.trade_ledger.specs.CashKeeping.{IsWithin}
+use Rattle.std.proofs.Common.{◌≡◌, ◌*◌, take, reverse}
+use Rattle.settlement.specs.Prelude.{all_trades, dollars, IsWithin}
 use Rattle.settlement.proofs.gains.gain_of_auction.Given as goal
 
 abbrev pub invariant-loop-position : goal.invariant-loop-position

@@ -1,6 +1,5 @@
 use Rattle.std.proofs.Common.{◌≡◌, ◌*◌, take}
-use Rattle.auction_rules.specs.Effects.{dollars}
-use Rattle.trade_ledger.specs.CashKeeping.{IsWithin}
+use Rattle.settlement.specs.Prelude.{dollars, IsWithin}
 use Rattle.settlement.proofs.gains.gain_of_trades.Given as goal
 
 abbrev pub invariant-loop-trade : goal.invariant-loop-trade

@@ -1,5 +1,4 @@
-use Rattle.std.proofs.Common.{Option, Some, subst, arith, Bor}
-use Rattle.std.specs.Option.{option_copied}
+use Rattle.std.proofs.Common.{Option, Some, subst, arith, Bor, option_copied}
 use Rattle.tac_base.specs.declared.calls.Entry.{Entry as StoredEntry}
 use Rattle.auction_core.specs.Stored.{IsShown}
 use Rattle.settlement.proofs.Dollars.{shown_count}

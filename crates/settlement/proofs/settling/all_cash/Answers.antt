@@ -1,7 +1,5 @@
 use Rattle.std.proofs.Common.{◌≡◌, ℕ, ℤ, List, length-set, get_or, sym, ap, ◌∙◌, subst, arith, to_z, of_z, w64}
-use Rattle.tac_base.specs.Goods.{agents}
-use Rattle.trade_ledger.specs.CashKeeping.{IsWithin}
-use Rattle.settlement.specs.Settlement.{cash_gained}
+use Rattle.settlement.specs.{agents, IsWithin, cash_gained}
 use Rattle.settlement.proofs.Dollars.{fits}
 use Rattle.settlement.proofs.Filling.{filled_more, all_more}
 use Rattle.settlement.proofs.settling.all_cash.Goals as goal

@@ -1,8 +1,5 @@
-use Rattle.std.proofs.Common.{◌≡◌, length, take, map}
-use Rattle.std.specs.List.{All}
-use Rattle.tac_base.specs.Goods.{agents}
-use Rattle.trade_ledger.specs.CashKeeping.{IsWithin}
-use Rattle.settlement.specs.Settlement.{cash_gained}
+use Rattle.std.proofs.Common.{◌≡◌, length, take, map, All}
+use Rattle.settlement.specs.{agents, IsWithin, cash_gained}
 use Rattle.settlement.proofs.settling.all_cash.Given as goal
 
 abbrev pub invariant-loop-number : goal.invariant-loop-number

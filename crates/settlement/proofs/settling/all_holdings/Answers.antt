@@ -1,7 +1,6 @@
 use Rattle.std.proofs.Common.{◌≡◌, ℕ, List, length-set, get_or, sym, ap, ◌∙◌, arith}
 use Rattle.tac_base.specs.Goods.{agents}
-use Rattle.settlement.specs.Settlement.{holdings_of}
-use Rattle.settlement.specs.SettledRanges.{AreHoldings}
+use Rattle.settlement.specs.{holdings_of, AreHoldings}
 use Rattle.settlement.proofs.Filling.{filled_more, all_more}
 use Rattle.settlement.proofs.settling.all_holdings.Goals as goal
 

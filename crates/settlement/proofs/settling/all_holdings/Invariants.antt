@@ -1,8 +1,6 @@
-use Rattle.std.proofs.Common.{◌≡◌, length, take, map}
-use Rattle.std.specs.List.{All}
+use Rattle.std.proofs.Common.{◌≡◌, length, take, map, All}
 use Rattle.tac_base.specs.Goods.{agents}
-use Rattle.settlement.specs.Settlement.{holdings_of}
-use Rattle.settlement.specs.SettledRanges.{AreHoldings}
+use Rattle.settlement.specs.{holdings_of, AreHoldings}
 use Rattle.settlement.proofs.settling.all_holdings.Given as goal
 
 abbrev pub invariant-loop-number : goal.invariant-loop-number

@@ -1,8 +1,5 @@
-use Rattle.std.proofs.Common.{◌≡◌, ◌<◌, ℤ, length, length-set, sym, ◌∙◌, subst, arith, to_z, of_z, w32}
-use Rattle.std.specs.Prelude.{reverse}
-use Rattle.auction_rules.specs.Effects.{holding}
-use Rattle.auction_core.specs.Auctions.{AuctionHistory}
-use Rattle.game_text.specs.Accounts.{IsHolding}
+use Rattle.std.proofs.Common.{◌≡◌, ◌<◌, ℤ, length, length-set, sym, ◌∙◌, subst, arith, to_z, of_z, w32, reverse}
+use Rattle.settlement.specs.Prelude.{holding, AuctionHistory, IsHolding}
 use Rattle.settlement.proofs.Filling.{filled_more, all_more, holding_fits}
 use Rattle.settlement.proofs.settling.holdings_after.Goals as goal
 

@@ -1,5 +1,4 @@
-use Rattle.std.proofs.Common.{◌≡◌, length, take}
-use Rattle.std.specs.List.{All}
+use Rattle.std.proofs.Common.{◌≡◌, length, take, All}
 use Rattle.game_text.specs.Accounts.{IsHolding}
 use Rattle.settlement.specs.Settlement.{holdings_of}
 use Rattle.settlement.proofs.settling.holdings_after.Given as goal

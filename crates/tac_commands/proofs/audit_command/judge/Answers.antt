@@ -1,5 +1,4 @@
-use Rattle.tac_commands.specs.{WritesDue}
-use Rattle.tac_commands.specs.Steps.{EndsWith}
+use Rattle.tac_commands.specs.{WritesDue, EndsWith}
 use Rattle.std.specs.Prelude.{◌≡◌, codes}
 use Rattle.tac_commands.proofs.VouchedLogs.{flaw_ends}
 use Rattle.tac_commands.proofs.audit_command.judge.Goals as goal

@@ -1,7 +1,5 @@
 use Rattle.std.specs.Prelude.{◌≡◌}
-use Rattle.game_text.specs.Games.{canonical_text}
-use Rattle.draw_maker.specs.Games.{made_game}
-use Rattle.tac_commands.specs.Allowed.{IsTrial, WritesDue}
+use Rattle.tac_commands.specs.{canonical_text, made_game, IsTrial, WritesDue}
 use Rattle.tac_commands.proofs.ReadFiles.{ends_alone}
 use Rattle.tac_commands.proofs.batch.run_batch.Goals as goal
 

@@ -1,5 +1,4 @@
-use Rattle.std.proofs.Common.{ℕ, ◌≡◌, List, [], Option, Some, None}
-use Rattle.std.specs.Prelude.{IfSome}
+use Rattle.std.proofs.Common.{ℕ, ◌≡◌, List, [], Option, Some, None, IfSome}
 use Rattle.tac_commands.specs.Commands.{seen_batch}
 use Rattle.tac_commands.proofs.Endings.{reports_or_stops}
 use Rattle.tac_commands.proofs.PromptSteps.{prompt_command}

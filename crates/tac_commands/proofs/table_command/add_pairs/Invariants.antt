@@ -1,6 +1,5 @@
 use Rattle.std.proofs.Common.{◌≡◌, ◌≤◌, ◌*◌, List, ℕ, drop, length, string_len, All, IfSome}
-use Rattle.tac_commands.specs.{in_pairs, TableGoesOn}
-use Rattle.tac_commands.specs.Services.{bytes_of_words}
+use Rattle.tac_commands.specs.{in_pairs, TableGoesOn, bytes_of_words}
 use Rattle.tac_commands.proofs.table_command.add_pairs.Given as goal
 
 abbrev pub invariant-loop-pair : goal.invariant-loop-pair

@@ -1,5 +1,4 @@
-use Rattle.tac_commands.specs.Commands.{in_pairs}
-use Rattle.tac_commands.specs.Services.{bytes_of_words}
+use Rattle.tac_commands.specs.{in_pairs, bytes_of_words}
 use Rattle.tac_commands.proofs.TableRuns.{ends_reported, ends_written}
 use Rattle.tac_commands.proofs.table_command.table_files.Goals as goal
 

@@ -1,6 +1,5 @@
 use Rattle.std.proofs.Common.{◌≡◌, ◌<◌, ◌^◌, arith, ◌∙◌, sym, subst, ap}
-use Rattle.tac_io.specs.Known.{IsAtEnd}
-use Rattle.tac_io.specs.LineText.{has_end}
+use Rattle.tac_io.specs.{IsAtEnd, has_end}
 use Rattle.tac_io.proofs.KnownPieces.{send_nothing_twice}
 use Rattle.tac_io.proofs.NextLine.{IsGoing, going_skip, going_fill, going_undecided, going_same, nothing_given, answers_line, answers_none}
 use Rattle.tac_io.proofs.lines.next_line.Goals as goal

@@ -1,6 +1,5 @@
 use Rattle.std.proofs.Common.{◌≡◌, ◌≤◌, ◌-◌, ◌^◌}
-use Rattle.tac_io.specs.LineAnswers.{IsDecided}
-use Rattle.tac_io.specs.LinkCalls.{NoReadFails, SendsNothing}
+use Rattle.tac_io.specs.{IsDecided, NoReadFails, SendsNothing}
 use Rattle.tac_io.proofs.NextLine.{IsGoing}
 use Rattle.tac_io.proofs.lines.next_line.Given as goal
 

@@ -1,6 +1,5 @@
 use Rattle.std.proofs.Common.{length, ◌-◌, ◌≡◌, ◌≤◌, take}
-use Rattle.tac_io.specs.LinkCalls.{NoWriteFails, ReadsNothing}
-use Rattle.tac_io.specs.Known.{known_then}
+use Rattle.tac_io.specs.{NoWriteFails, ReadsNothing, known_then}
 use Rattle.tac_io.proofs.lines.send_all.Given as goal
 
 abbrev pub invariant-loop-done : goal.invariant-loop-done

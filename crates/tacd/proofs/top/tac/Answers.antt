@@ -1,5 +1,4 @@
-use Rattle.std.proofs.Common.{ℕ, ◌≡◌, ◌<◌, ◌≤◌, List, [], Option, Some, None, length, arith}
-use Rattle.std.specs.Prelude.{IfSome}
+use Rattle.std.proofs.Common.{ℕ, ◌≡◌, ◌<◌, ◌≤◌, List, [], Option, Some, None, length, arith, IfSome}
 use Rattle.tac_commands.specs.Outsides.{outside_of}
 use Rattle.tac_commands.proofs.CommandCauses as causes
 use Rattle.tac_commands.proofs.CodedOutcomes.{coded}

@@ -1,6 +1,5 @@
 use Rattle.std.proofs.Common.{◌≡◌, ◌+◌, ◌^◌, ◌<◌, length}
-use Rattle.text_forms.specs.Lines.{lines_from}
-use Rattle.text_forms.specs.Words.{parts_of}
+use Rattle.text_forms.specs.{lines_from, parts_of}
 use Rattle.text_forms.proofs.lines.past_comments.Given as goal
 
 abbrev pub invariant-loop-line : goal.invariant-loop-line

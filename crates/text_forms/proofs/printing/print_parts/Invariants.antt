@@ -1,6 +1,5 @@
 use Rattle.std.proofs.Common.{◌≡◌, ◌++◌, take}
-use Rattle.text_forms.specs.Lines.{text_of}
-use Rattle.text_forms.specs.Steps.{lines_of_parts}
+use Rattle.text_forms.specs.{text_of, lines_of_parts}
 use Rattle.text_forms.proofs.printing.print_parts.Given as goal
 
 abbrev pub invariant-loop-number : goal.invariant-loop-number

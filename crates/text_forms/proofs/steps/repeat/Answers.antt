@@ -1,5 +1,4 @@
-use Rattle.std.proofs.Common.{arith, take, length}
-use Rattle.std.proofs.Math.ListN.{length-set}
+use Rattle.std.proofs.Common.{arith, take, length, length-set}
 use Rattle.std.proofs.lemmas.Result.{err_from_is_err_and}
 use Rattle.text_forms.proofs.Repeats.{ends, reads_one, reads_all}
 use Rattle.text_forms.proofs.steps.repeat.Goals as goal

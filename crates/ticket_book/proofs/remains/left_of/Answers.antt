@@ -1,9 +1,6 @@
 use Rattle.std.proofs.Common.{List, ◌++◌, ap, sym, ◌∙◌, append-nil, arith}
 use Rattle.std.proofs.lemmas.List.{drop_all}
-use Rattle.tac_base.specs.declared.bids.Point.{Point}
-use Rattle.tac_base.specs.Bids.{fault_of, left_fault}
-use Rattle.auction_rules.specs.Standing.{left_points}
-use Rattle.ticket_book.specs.Sides.{both}
+use Rattle.ticket_book.specs.{Point, fault_of, left_fault, left_points, both}
 use Rattle.auction_rules.proofs.LeftPoints.{left_no_fault}
 use Rattle.ticket_book.proofs.remains.left_of.Goals as goal
 

@@ -1,7 +1,5 @@
 use Rattle.std.proofs.Common.{◌≡◌, ◌+◌, ◌≤◌, ◌++◌, length, drop}
-use Rattle.tac_base.specs.Bids.{total_size}
-use Rattle.auction_rules.specs.Standing.{left_points}
-use Rattle.ticket_book.specs.Sides.{both}
+use Rattle.ticket_book.specs.{total_size, left_points, both}
 use Rattle.ticket_book.proofs.remains.left_of.Given as goal
 
 -- what is left of the points so far, and of the others, is all that is left

@@ -2,8 +2,7 @@ use Rattle.std.proofs.Common.{List, ap, sym, ◌∙◌}
 use Rattle.std.specs.List.{list_any}
 use Rattle.line_protocol.specs.declared.admission.Verdict.{Verdict}
 use Rattle.line_protocol.specs.declared.head.LogHead.{LogHead}
-use Rattle.line_protocol.specs.Heads.{head_of}
-use Rattle.log_text.specs.SoundLog.{gives_seat}
+use Rattle.tourney.specs.Prelude.{head_of, gives_seat}
 use Rattle.tourney.specs.Standings as standings
 use Rattle.tourney.proofs.Seats.{given}
 use Rattle.tourney.proofs.counting.counts.Goals as goal

@@ -1,10 +1,5 @@
 use Rattle.std.proofs.Common.{◌≡◌, List, ◌++◌, take}
-use Rattle.text_forms.specs.Lines.{text_of, GoesOn}
-use Rattle.game_text.specs.Games.{GameFile}
-use Rattle.log_text.specs.LoggedGames.{LoggedGame}
-use Rattle.tourney.specs.Standings.{teams}
-use Rattle.tourney.specs.Tallies.{AreStandingsOf}
-use Rattle.tourney.specs.StandingsTexts.{team_lines}
+use Rattle.tourney.specs.{text_of, GoesOn, GameFile, LoggedGame, teams, AreStandingsOf, team_lines}
 use Rattle.tourney.proofs.printing.print_teams.Given as goal
 
 abbrev pub invariant-loop-row : goal.invariant-loop-row

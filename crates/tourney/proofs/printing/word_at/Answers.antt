@@ -1,5 +1,4 @@
-use Rattle.std.proofs.Common.{ℕ, List, [], Option, ap, ◌∙◌}
-use Rattle.std.specs.Option.{unwrap_or}
+use Rattle.std.proofs.Common.{ℕ, List, [], Option, ap, ◌∙◌, unwrap_or}
 use Rattle.std.proofs.lemmas.Option.{unwrap_or-slice_get}
 use Rattle.tourney.specs.Standings.{teams}
 use Rattle.tourney.proofs.printing.word_at.Goals as goal

@@ -1,5 +1,4 @@
-use Rattle.std.proofs.Common.{rules, ◌≡◌, ℕ, ℤ, pos, ◌+ℤ◌, get_or, arith, below_more, ◌∙◌, to_z, of_z, w32, w64, SFits, length-set}
-use Rattle.std.proofs.lemmas.List.{get_or-set_same, get_or-set_other}
+use Rattle.std.proofs.Common.{rules, ◌≡◌, ℕ, ℤ, pos, ◌+ℤ◌, get_or, arith, below_more, ◌∙◌, to_z, of_z, w32, w64, SFits, length-set, get_or-set_same, get_or-set_other}
 use Rattle.std.proofs.lemmas.Int.{ints}
 use Rattle.std.proofs.lemmas.List.Elements.{All-from_get_or}
 use Rattle.tac_base.specs.Ranges.{IsNet}

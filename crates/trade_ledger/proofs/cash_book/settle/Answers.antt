@@ -1,7 +1,6 @@
 use Rattle.std.proofs.Common.{ℕ, ◌<◌, sym, subst}
 use Rattle.trade_ledger.specs.declared.cash_calls.CashCall.{CashCall}
-use Rattle.trade_ledger.specs.CashHistory.{gain_of}
-use Rattle.trade_ledger.specs.CashKeeping.{IsWithin}
+use Rattle.trade_ledger.specs.{gain_of, IsWithin}
 use Rattle.trade_ledger.proofs.cash_book.settle.Goals as goal
 
 pub returns-in-Post-clause-small : goal.returns-in-Post-clause-small

@@ -1,5 +1,4 @@
-use Rattle.std.proofs.Common.{◌≡◌, List, slice_get, subst, sym, ap, ◌∙◌}
-use Rattle.std.specs.Option.{option_copied}
+use Rattle.std.proofs.Common.{◌≡◌, List, slice_get, subst, sym, ap, ◌∙◌, option_copied}
 use Rattle.tac_base.specs.declared.calls.Entry.{Entry as StoredEntry}
 use Rattle.auction_core.specs.{AuctionHistory, IsShown}
 use Rattle.auction_core.proofs.Chains.{shown_at}

@@ -1,8 +1,6 @@
 use Rattle.std.proofs.Common.{rules, ◌≡◌, ◌≤◌, ℤ, subst, sym, ◌∙◌, reverse, arith, to_z, of_z, w32}
 use Rattle.std.proofs.lemmas.Int.{ints}
-use Rattle.auction_rules.specs.Effects.{holding}
-use Rattle.game_text.specs.Accounts.{IsHolding}
-use Rattle.auction_core.specs.{AuctionHistory, stored}
+use Rattle.auction_core.specs.{holding, IsHolding, AuctionHistory, stored}
 use Rattle.auction_core.proofs.Answering.{held_is}
 use Rattle.auction_core.proofs.Keeping.{in_range}
 use Rattle.auction_core.proofs.auction.Auction.holding.Goals as goal

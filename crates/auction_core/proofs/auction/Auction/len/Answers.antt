@@ -1,7 +1,6 @@
-use Rattle.std.proofs.Common.{arith, subst}
+use Rattle.std.proofs.Common.{arith, subst, All}
 use Rattle.std.proofs.lemmas.List.{length-map}
 use Rattle.std.proofs.lemmas.List.Elements.{All-from_recursion}
-use Rattle.std.specs.List.{All}
 use Rattle.auction_rules.specs.History.{Entry}
 use Rattle.auction_core.specs.{AuctionHistory, IsEntry, IsHistory, IsToldInRange, stored, entry_with}
 use Rattle.auction_core.proofs.Keeping.{few_stored}

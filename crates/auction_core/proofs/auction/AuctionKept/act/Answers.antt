@@ -1,15 +1,8 @@
 use Rattle.std.proofs.Common.{rules, ◌≡◌, ℕ, ◌<◌, ◌≤◌, List, [], ◌∷◌, ◌++◌, ℤ, length, reverse, sym, ap, ◌∙◌, subst, arith, vec_capacity}
 use Rattle.tac_base.specs.declared.calls.Entry.{Entry as StoredEntry}
-use Rattle.tac_base.specs.declared.calls.Trade.{Trade}
-use Rattle.auction_rules.specs.Effects.{nets}
-use Rattle.auction_rules.specs.Follows.{Follows}
+use Rattle.auction_core.specs.{Trade, nets, Follows, cap, IsLawful, entry_of, traded, part, held_after, AuctionHistory, IsAuctionSound, Stands, stored, entry_behind, struck_of, AreInRange}
 use Rattle.auction_rules.specs.History.{Entry}
-use Rattle.auction_rules.specs.Legal.{cap, IsLawful, entry_of}
-use Rattle.auction_rules.specs.Traded.{traded}
 use Rattle.auction_rules.proofs.Histories.{entry_caller, entry_call}
-use Rattle.turn_lock.specs.Part.{part}
-use Rattle.trade_ledger.specs.Holdings.{held_after}
-use Rattle.auction_core.specs.{AuctionHistory, IsAuctionSound, Stands, stored, entry_behind, struck_of, AreInRange}
 use Rattle.auction_core.proofs.LawsHold.{Laws, laws_hold}
 use Rattle.auction_core.proofs.Counting.{by}
 use Rattle.auction_core.proofs.Telling.{call_ranged}

@@ -1,7 +1,5 @@
 use Rattle.std.proofs.Common.{◌≡◌, ◌+◌, ◌*◌, ◌^◌, pos, negsuc, ◌≤ℤ◌, drop}
-use Rattle.game_text.specs.Accounts.{AccountFile, IsAccount}
-use Rattle.packages.specs.Bounds.{Narrowing, stock_value, margins, leaf_bound}
-use Rattle.dual_bound.specs.Ceilings.{IsCeiling}
+use Rattle.dual_bound.specs.{AccountFile, IsAccount, Narrowing, stock_value, margins, leaf_bound, IsCeiling}
 use Rattle.dual_bound.proofs.CeilingLaws.{IsChosen, IsUnder}
 use Rattle.dual_bound.proofs.quotes.Quote.holds.Given as goal
 

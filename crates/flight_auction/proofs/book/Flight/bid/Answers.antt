@@ -1,17 +1,9 @@
 use Rattle.std.proofs.Common.{◌≡◌, ◌+◌, ◌≤◌, ◌≢◌, List, ◌++◌, refl, ap, sym, ◌∙◌, arith}
 use Rattle.std.proofs.lemmas.List.Elements.{recursion_from_All}
-use Rattle.tac_base.specs.declared.bids.Point.{Point}
-use Rattle.tac_base.specs.declared.calls.Trade.{Trade}
-use Rattle.tac_base.specs.declared.calls.Call.TheVariants.{Bid}
-use Rattle.tac_base.specs.Bids.{size_of}
-use Rattle.auction_rules.specs.Effects.{bought}
-use Rattle.auction_rules.specs.Refusals.{sells}
-use Rattle.auction_rules.specs.FlightSales.{owned_by}
-use Rattle.flight_auction.specs.Book.{FlightBook, StandsFor, others_than, sales, unsold}
+use Rattle.flight_auction.specs.{Point, Trade, Bid, size_of, bought, sells, owned_by, FlightBook, FlightStandsFor, others_than, sales, unsold, units_standing}
 use Rattle.flight_auction.proofs.Keeping.{book_of, follows_on_closed, follows_seller, follows_taken}
 use Rattle.flight_auction.proofs.Limits.{sound_placed, sound_unsold, few_of_all, few_bought, placed_is, length-placed}
 use Rattle.flight_auction.proofs.Paying.{bid_paid}
-use Rattle.flight_auction.specs.Book.{units_standing}
 use Rattle.auction_rules.proofs.Trading.{nothing_spent}
 use Rattle.flight_auction.proofs.Spending.{sales_short, sales_spend, placed_units}
 use Rattle.flight_auction.proofs.book.Flight.bid.Goals as goal
@@ -20,14 +12,14 @@ pub returns-then-self-clause-follows : goal.returns-then-self-clause-follows
 returns-then-self-clause-follows c = λ setup past stood here.
     let f = c.self.inside in
     let book : FlightBook = book_of f.good f.bound f.price f.standing.items f.closed in
-    let kept : StandsFor book setup past = rw c.self.view_is stood in
+    let kept : FlightStandsFor book setup past = rw c.self.view_is stood in
     rw (← c.self.view_is) (follows_on_closed setup past book kept c.args.agent (Bid c.args.points.now) c.clear.new.self refl c.if-self.true c.clear.ensures)
 
 pub returns-then-sells-clause-follows : goal.returns-then-sells-clause-follows
 returns-then-sells-clause-follows c = λ setup past stood here.
     let f = c.self.inside in
     let book : FlightBook = book_of f.good f.bound f.price f.standing.items f.closed in
-    let kept : StandsFor book setup past = rw c.self.view_is stood in
+    let kept : FlightStandsFor book setup past = rw c.self.view_is stood in
     let le : c.args.agent ≤ 7 = omega (arith, c.get-number.ensures.range, c.get-number.ensures.value) in
     rw (← c.self.view_is) (follows_seller setup past book kept c.args.agent c.args.points.now c.clear.new.self le c.if-self.false
     (ap sells (sym c.as_slice-points.ensures.value) ∙ sym c.sells.ensures ∙ c.if-sells.true) c.clear.ensures)
@@ -75,7 +67,7 @@ returns-clause-follows c = λ setup past stood here.
     let f = c.self.inside in
     let agent = c.args.agent in
     let book : FlightBook = book_of f.good f.bound f.price f.standing.items f.closed in
-    let kept : StandsFor book setup past = rw c.self.view_is stood in
+    let kept : FlightStandsFor book setup past = rw c.self.view_is stood in
     let le : c.args.agent ≤ 7 = omega (arith, c.get-number.ensures.range, c.get-number.ensures.value) in
     let placed = placed_is c.get-number.result agent f.standing.items c.forget.new.standing.items c.place.new.standing.items c.as_slice-points.result.now c.args.points.now
     c.get-number.ensures.value c.as_slice-points.ensures.value c.forget.ensures c.place.ensures in

@@ -1,13 +1,9 @@
 use Rattle.std.proofs.Common.{refl, ◌∙◌, ap, w8, ℤ, ◌≡◌, arith, to_z, of_z}
 use Rattle.std.proofs.lemmas.Int.{ints}
-use Rattle.auction_rules.specs.FlightRule.{next_price}
-use Rattle.tac_base.specs.declared.calls.Call.TheVariants.{Update}
-use Rattle.tac_base.specs.Goods.{clock}
-use Rattle.flight_auction.specs.Book.{FlightBook, StandsFor}
+use Rattle.flight_auction.specs.{next_price, Update, clock, FlightBook, FlightStandsFor, units_standing}
 use Rattle.flight_auction.proofs.Keeping.{book_of, follows_on_closed, follows_updated}
 use Rattle.flight_auction.proofs.Limits.{sound_priced, sound_unsold}
 use Rattle.flight_auction.proofs.Paying.{sales_paid}
-use Rattle.flight_auction.specs.Book.{units_standing}
 use Rattle.auction_rules.proofs.Trading.{nothing_spent}
 use Rattle.flight_auction.proofs.Spending.{sales_spend, sales_short}
 use Rattle.flight_auction.proofs.book.Flight.update.Goals as goal
@@ -16,7 +12,7 @@ pub returns-then-self-clause-follows : goal.returns-then-self-clause-follows
 returns-then-self-clause-follows c = λ setup past stood here.
     let f = c.self.inside in
     let book : FlightBook = book_of f.good f.bound f.price f.standing.items f.closed in
-    let kept : StandsFor book setup past = rw c.self.view_is stood in
+    let kept : FlightStandsFor book setup past = rw c.self.view_is stood in
     rw (← c.self.view_is) (follows_on_closed setup past book kept clock (Update c.args.tick c.args.draw) c.clear.new.self refl c.if-self.true c.clear.ensures)
 
 pub invariant_of-self : goal.invariant_of-self
@@ -31,7 +27,7 @@ pub returns-clause-follows : goal.returns-clause-follows
 returns-clause-follows c = λ setup past stood here.
     let f = c.self.inside in
     let book : FlightBook = book_of f.good f.bound f.price f.standing.items f.closed in
-    let kept : StandsFor book setup past = rw c.self.view_is stood in
+    let kept : FlightStandsFor book setup past = rw c.self.view_is stood in
     let kept_bound : to_z w8 (of_z w8 f.bound) ≡ f.bound = omega (arith, ints, c.self.invariant.bound_from, c.self.invariant.bound_to) in
     follows_updated setup past book kept c.args.tick c.args.draw c.next_price-self-inside.result c.sell.new.standing.items c.sell.new.fills c.if-self.false
     (c.next_price-self-inside.ensures.value ∙ ap (λ (z : ℤ). next_price f.price z c.args.tick c.args.draw) kept_bound) c.sell.ensures.left c.sell.ensures.trades

@@ -1,14 +1,6 @@
-use Rattle.std.proofs.Common.{◌≡◌, ◌++◌, ℕ, ◌+◌, ◌<◌, ◌≤◌, List, [], ◌∷◌, map, length, reverse, slice_get, get_or, set, sym, ap, ◌∙◌, subst, refl, arith}
+use Rattle.std.proofs.Common.{◌≡◌, ◌++◌, ℕ, ◌+◌, ◌<◌, ◌≤◌, List, [], ◌∷◌, map, length, reverse, slice_get, get_or, set, sym, ap, ◌∙◌, subst, refl, arith, option_and_then, option_map}
 use Rattle.std.proofs.lemmas.List.{length-map, get_or-replicate}
-use Rattle.std.specs.Prelude.{option_and_then}
-use Rattle.std.specs.Option.{option_map}
-use Rattle.auction_core.specs.Auctions.{AuctionHistory}
-use Rattle.auction_rules.specs.History.{Entry}
-use Rattle.auction_rules.specs.Legal.{entry_of}
-use Rattle.turn_lock.specs.Part.{part}
-use Rattle.turn_lock.specs.Passes.{LockId, lock_of, lock_id, start_of, caller_of, turns_left, made_by, noted_by, seen_by}
-use Rattle.floor.specs.Desks.{desk_steps}
-use Rattle.floor.specs.Steps.{calls_of_steps}
+use Rattle.floor.specs.{AuctionHistory, Entry, entry_of, part, LockId, lock_of, lock_id, start_of, caller_of, turns_left, made_by, noted_by, seen_by, desk_steps, calls_of_steps}
 use Rattle.floor.proofs.Rows.{map_get, map_at, map_set, map_set_same, same_at}
 use Rattle.floor.proofs.Desks.{kept_more, kept_as}
 use Rattle.floor.proofs.Orders.{orders_entry, order_as}

@@ -1,7 +1,6 @@
 use Rattle.std.proofs.Common.{◌≡◌, ◌++◌, ℕ, ◌<◌, ◌≤◌, List, [], ◌∷◌, map, length, get_or, set, refl, sym, ap, ◌∙◌, subst, arith}
 use Rattle.std.proofs.lemmas.List.{length-map}
-use Rattle.tac_base.specs.declared.calls.Board.{Board}
-use Rattle.turn_lock.specs.Passes.{lock_of, lock_id, caller_of, turns_left, made_by, noted_by, seen_by}
+use Rattle.floor.specs.Prelude.{Board, lock_of, lock_id, caller_of, turns_left, made_by, noted_by, seen_by}
 use Rattle.floor.proofs.Rows.{map_get, map_set, map_set_same, same_at}
 use Rattle.floor.proofs.Desks.{kept_as}
 use Rattle.floor.proofs.Orders.{orders_board, order_as}

@@ -1,6 +1,5 @@
 use Rattle.std.proofs.Common.{refl, ap, ◌∙◌}
-use Rattle.floor.specs.Desks.{desk_steps}
-use Rattle.floor.specs.Steps.{calls_of_steps}
+use Rattle.floor.specs.{desk_steps, calls_of_steps}
 use Rattle.floor.proofs.CallLists.{calls_of_steps-other, listed_as}
 use Rattle.floor.proofs.desk.Desk.take_step.Goals as goal
 

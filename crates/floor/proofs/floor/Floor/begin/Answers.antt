@@ -1,23 +1,15 @@
-use Rattle.std.proofs.Common.{◌≡◌, ℕ, ◌<◌, [], ◌∷◌, ◌++◌, map, length, replicate, refl, sym, ap, ◌∙◌, subst, arith, Option, Some, slice_get}
-use Rattle.std.specs.Prelude.{IfOk, option_and_then}
-use Rattle.std.specs.Option.{option_map}
+use Rattle.std.proofs.Common.{◌≡◌, ℕ, ◌<◌, [], ◌∷◌, ◌++◌, map, length, replicate, refl, sym, ap, ◌∙◌, subst, arith, Option, Some, slice_get, IfOk, option_and_then, option_map}
 use Rattle.std.specs.List.{range_with_len}
 use Rattle.std.proofs.lemmas.List.{length-map, length-replicate, map_push, replicate_more}
 use Rattle.std.proofs.lemmas.List.FromFn.{map-range_with_len_more}
 use lib.ListN.{get_elem?}
 use Rattle.atomic_table.proofs.Lists.{at_map}
-use Rattle.auction_rules.specs.Setup.{Setup}
-use Rattle.auction_rules.specs.Legal.{cap}
-use Rattle.auction_core.specs.Auctions.{AuctionHistory}
-use Rattle.auction_core.specs.Setups.{setup_of}
-use Rattle.turn_lock.specs.Passes.{LockId, lock_id, start_of, passes_of, returned_to}
+use Rattle.floor.specs.{Setup, cap, AuctionHistory, setup_of, LockId, lock_id, start_of, passes_of, returned_to, goods_of, desk_ids, desk_caller, desk_steps, setup_at, AreFresh}
 use Rattle.turn_lock.proofs.Places.{place_below}
+use Rattle.trade_ledger.proofs.Taking.{all_by_place}
 use Rattle.floor.specs.declared.desk.Desk.{Desk}
-use Rattle.floor.specs.Keeping.{goods_of}
-use Rattle.floor.specs.Desks.{desk_ids, desk_caller, desk_steps, setup_at}
-use Rattle.floor.proofs.BornOut.{all_same, all_numbered, all_by_place, get_or_place}
+use Rattle.floor.proofs.BornOut.{all_same, all_numbered, get_or_place}
 use Rattle.floor.proofs.Rows.{read_twice, at_numbered}
-use Rattle.floor.specs.Dealing.{AreFresh}
 use Rattle.floor.proofs.FreshPasses.{fresh_first, make_desk, new_desk}
 use Rattle.floor.proofs.floor.Floor.begin.Goals as goal
 

@@ -1,10 +1,6 @@
 use Rattle.std.proofs.Common.{◌≡◌, ◌≤◌, [], map, length, replicate}
 use Rattle.std.specs.List.{range_with_len}
-use Rattle.auction_rules.specs.Legal.{cap}
-use Rattle.auction_core.specs.Auctions.{AuctionHistory}
-use Rattle.auction_core.specs.Setups.{setup_of}
-use Rattle.turn_lock.specs.Passes.{lock_id, start_of, passes_of, returned_to}
-use Rattle.floor.specs.Dealing.{AreFresh}
+use Rattle.floor.specs.{cap, AuctionHistory, setup_of, lock_id, start_of, passes_of, returned_to, AreFresh}
 use Rattle.floor.proofs.floor.Floor.begin.Given as goal
 
 abbrev pub invariant-loop-number : goal.invariant-loop-number

@@ -1,30 +1,21 @@
-use Rattle.std.proofs.Common.{◌≡◌, ℕ, ◌≤◌, [], ◌∷◌, ◌++◌, map, fold, length, sym, ap, ◌∙◌, arith, append-nil}
+use Rattle.std.proofs.Common.{◌≡◌, ℕ, ◌≤◌, [], ◌∷◌, ◌++◌, map, fold, length, sym, ap, ◌∙◌, arith, append-nil, append_assoc}
 use Rattle.std.specs.Vec.Iter.{into_iter_items}
 use Rattle.std.specs.List.{AllByRecursion}
-use Rattle.std.proofs.lemmas.List.{length-map, append_assoc, nil_from_length, map_push}
+use Rattle.std.proofs.lemmas.List.{length-map, nil_from_length, map_push}
 use Rattle.std.proofs.lemmas.List.Sums.{fold_push}
 use Rattle.std.proofs.lemmas.List.Elements.{All-from_recursion}
 use mathlib.Core.Option.{some}
 use lib.ListN.{get_elem?}
 use Rattle.atomic_table.proofs.Lists.{at_map}
-use Rattle.auction_core.specs.Auctions.{AuctionHistory}
-use Rattle.trade_ledger.specs.declared.cash_calls.CashEntry.{CashEntry}
+use Rattle.floor.specs.{AuctionHistory, CashEntry, start_of, passes_of, returned_to, returned_by, Entry, part, AreKnown, desk_ids, desk_caller, desk_cash, goods_of, with_each, TakesLawfulBids, board_of}
 use Rattle.trade_ledger.proofs.Matching.{called_by_nine, matched_totals}
-use Rattle.turn_lock.specs.Passes.{start_of, passes_of, returned_to, returned_by}
+use Rattle.trade_ledger.proofs.Taking.{all_by_place}
 use Rattle.floor.specs.declared.desk.Desk.{Desk}
-use Rattle.floor.specs.Desks.{desk_ids, desk_caller, desk_cash}
-use Rattle.auction_rules.specs.History.{Entry}
-use Rattle.turn_lock.specs.Part.{part}
-use Rattle.turn_lock.specs.TurnRule.{AreKnown}
 use Rattle.floor.specs.Floors.{floor_ids}
-use Rattle.floor.specs.Keeping.{goods_of}
-use Rattle.floor.specs.Rows.{with_each}
-use Rattle.floor.specs.Closing.{TakesLawfulBids}
-use Rattle.floor.specs.ClosedBoards.{board_of}
 use Rattle.floor.proofs.Rows.{map_of}
 use Rattle.floor.proofs.Tables.{at_next}
 use Rattle.floor.proofs.FreshPasses.{at_replicate}
-use Rattle.floor.proofs.BornOut.{all_by_place, maps_agree, takes_lawful_bids}
+use Rattle.floor.proofs.BornOut.{maps_agree, takes_lawful_bids}
 use Rattle.floor.proofs.ReturnedRows.{returned_at, gathered, all_back, given_by_good, borne_out, all_matched}
 use Rattle.floor.proofs.floor.Floor.close.Goals as goal
 

@@ -1,6 +1,5 @@
 use Rattle.std.proofs.Common.{ℕ, min, refl, sym, ap, ◌∙◌, arith}
-use Rattle.hotel_book.specs.Ranked.{won, last_price}
-use Rattle.hotel_book.specs.Book.{HotelBook, StandsFor, winner_trades}
+use Rattle.hotel_book.specs.{won, last_price, HotelBook, HotelStandsFor, winner_trades}
 use Rattle.hotel_book.proofs.Keeping.{book_of, follows_closed}
 use Rattle.hotel_book.proofs.Showing.{asked, wins, as_many}
 use Rattle.hotel_book.proofs.Bids.{few_won}
@@ -11,7 +10,7 @@ use Rattle.hotel_book.proofs.book.Hotel.close.Goals as goal
 pub returns-clause-follows : goal.returns-clause-follows
 returns-clause-follows c = λ setup past stood here.
     let book : HotelBook = book_of c.self.inside.ranking.rooms c.self.inside.live c.self.inside.good c.self.inside.bids c.self.inside.published c.self.inside.closed in
-    let kept : StandsFor book setup past = rw c.self.view_is stood in
+    let kept : HotelStandsFor book setup past = rw c.self.view_is stood in
     let units = c.self.inside.ranking.units in
     rw c.clear-2.ensures.rooms
     (follows_closed setup past book c.taken-units.result c.ask-price.result (won book.rooms units) c.fill.new.fills kept c.if-self.false
@@ -23,7 +22,7 @@ returns-clause-follows c = λ setup past stood here.
 pub returns-clause-sells : goal.returns-clause-sells
 returns-clause-sells c = λ setup past stood open_now.
     let book : HotelBook = book_of c.self.inside.ranking.rooms c.self.inside.live c.self.inside.good c.self.inside.bids c.self.inside.published c.self.inside.closed in
-    let kept : StandsFor book setup past = rw c.self.view_is stood in
+    let kept : HotelStandsFor book setup past = rw c.self.view_is stood in
     let units = c.self.inside.ranking.units in
     rw (
       ← c.self.view_is,

@@ -1,14 +1,5 @@
-use Rattle.std.proofs.Common.{◌≡◌, ℕ, ◌≤◌, true, false, List, length, length-set, set, sym, ap, ◌∙◌, subst, arith, Option, Some, Bool}
-use Rattle.std.specs.Prelude.{if◌then◌else◌}
-use Rattle.tac_base.specs.declared.limits.TheConstants.{BID_PRICE}
-use Rattle.tac_base.specs.declared.bids.Point.{Point}
-use Rattle.tac_base.specs.declared.units.Unit.{Unit as ShownUnit}
-use Rattle.auction_rules.specs.declared.units.Placed.{Placed}
-use Rattle.auction_rules.specs.Shown.{AreShown}
-use Rattle.auction_rules.specs.History.{units_of_bids}
-use Rattle.auction_rules.specs.Ask.{ask}
-use Rattle.hotel_book.specs.Ranked.{last_price}
-use Rattle.hotel_book.specs.Book.{HotelBook, AreOwn, standing, with_bid}
+use Rattle.std.proofs.Common.{◌≡◌, ℕ, ◌≤◌, true, false, List, length, length-set, set, sym, ap, ◌∙◌, subst, arith, Option, Some, Bool, if◌then◌else◌}
+use Rattle.hotel_book.specs.{BID_PRICE, Point, Unit as ShownUnit, Placed, AreShown, units_of_bids, ask, last_price, HotelBook, AreOwn, standing, with_bid}
 use Rattle.hotel_book.proofs.Bids.{room_for_bid, own_replaced, shown_replaced}
 use Rattle.hotel_book.proofs.Winners.{ask_is}
 use Rattle.hotel_book.proofs.book.Hotel.place.Goals as goal

@@ -1,12 +1,9 @@
-use Rattle.std.proofs.Common.{◌≡◌, ℕ, ◌+◌, ◌≤◌, not, List, length, sym, ap, ◌∙◌, subst, arith}
-use Rattle.std.specs.Prelude.{◌==◌, filter, count_by, sum_by}
+use Rattle.std.proofs.Common.{◌≡◌, ℕ, ◌+◌, ◌≤◌, not, List, length, sym, ap, ◌∙◌, subst, arith, ◌==◌, filter, count_by, sum_by}
 use Rattle.std.proofs.lemmas.List.Sums.{length-filter}
-use Rattle.tac_base.specs.declared.units.Unit.{Unit as ShownUnit}
-use Rattle.tac_base.specs.declared.limits.TheConstants.{BID_PRICE}
-use Rattle.auction_rules.specs.Units.{units_of}
-use Rattle.auction_rules.specs.Shown.{shown_unit}
-use Rattle.hotel_book.specs.Ranked.{Ranked}
-use Rattle.hotel_book.proofs.Sorting.{sorted-filter, priced-filter}
+use Rattle.hotel_book.specs.Prelude.{Unit as ShownUnit, BID_PRICE, units_of, shown_unit}
+use Rattle.auction_rules.proofs.Sorting.{sorted-filter}
+use Rattle.hotel_book.specs.Ranked.{Ranked, ranks_first}
+use Rattle.hotel_book.proofs.Sorting.{priced-filter}
 use Rattle.hotel_book.proofs.ranking.Ranking.replace.Goals as goal
 
 -- the units of others than an agent
@@ -22,7 +19,7 @@ put_all-requires-clause-room c =
     omega (arith, room, ap length rest, length-filter (λ u. not (u.agent == agent)) c.self.inside.units.items)
 
 pub put_all-requires-clause-order : goal.put_all-requires-clause-order
-put_all-requires-clause-order c = rw c.take_out.ensures (sorted-filter (λ u. not (u.agent == c.get.result)) c.self.inside.units.items c.self.invariant.sorted)
+put_all-requires-clause-order c = rw c.take_out.ensures (sorted-filter ranks_first (λ u. not (u.agent == c.get.result)) c.self.inside.units.items c.self.invariant.sorted)
 
 pub put_all-requires-clause-prices : goal.put_all-requires-clause-prices
 put_all-requires-clause-prices c = rw c.take_out.ensures (priced-filter BID_PRICE (λ u. not (u.agent == c.get.result)) c.self.inside.units.items c.self.invariant.priced)

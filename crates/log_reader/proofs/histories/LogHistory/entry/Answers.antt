@@ -1,9 +1,7 @@
-use Rattle.std.proofs.Common.{◌≡◌, List, slice_get, subst, sym, ap, ◌∙◌}
-use Rattle.std.specs.Option.{option_copied}
+use Rattle.std.proofs.Common.{◌≡◌, List, slice_get, subst, sym, ap, ◌∙◌, option_copied}
 use Rattle.tac_base.specs.declared.calls.Entry.{Entry as StoredEntry}
 use Rattle.auction_rules.specs.History.{Entry}
-use Rattle.auction_core.specs.Calls.{IsFit}
-use Rattle.auction_core.specs.Stored.{IsShown}
+use Rattle.log_reader.specs.Prelude.{IsFit, IsShown}
 use Rattle.auction_core.proofs.Chains.{shown_at}
 use Rattle.log_reader.proofs.KeptHistories.{found_is}
 use Rattle.log_reader.proofs.histories.LogHistory.entry.Goals as goal

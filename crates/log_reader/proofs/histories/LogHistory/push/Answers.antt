@@ -1,5 +1,4 @@
-use Rattle.std.proofs.Common.{List, length, ◌≡◌, ◌<◌, ◌++◌, ◌∷◌, [], sym, subst, arith}
-use Rattle.std.specs.Prelude.{OnOk}
+use Rattle.std.proofs.Common.{List, length, ◌≡◌, ◌<◌, ◌++◌, ◌∷◌, [], sym, subst, arith, OnOk}
 use Rattle.std.proofs.lemmas.List.{length-map}
 use Rattle.auction_rules.specs.History.{Entry}
 use Rattle.auction_core.specs.Stored.{entry_with, stored}

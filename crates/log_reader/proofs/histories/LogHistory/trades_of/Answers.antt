@@ -2,9 +2,8 @@ use Rattle.std.proofs.Common.{◌≡◌, ◌<◌, List, take, drop, map, length,
 use Rattle.std.proofs.lemmas.List.{length-map}
 use Rattle.std.proofs.lemmas.Option.{slice_get-get_or}
 use Rattle.tac_base.specs.declared.calls.Entry.{Entry as StoredEntry}
-use Rattle.tac_base.specs.declared.calls.Trade.{Trade}
+use Rattle.log_reader.specs.Prelude.{Trade, entry_with, stored}
 use Rattle.auction_rules.specs.History.{Entry}
-use Rattle.auction_core.specs.Stored.{entry_with, stored}
 use Rattle.auction_core.proofs.Chains.{trades_end, trades_are}
 use Rattle.log_reader.proofs.histories.LogHistory.trades_of.Goals as goal
 

@@ -1,5 +1,4 @@
-use Rattle.std.proofs.Common.{◌≡◌, ◌++◌, ◌+◌, ◌*◌, ◌≤◌, take, length}
-use Rattle.std.specs.List.{flat_map}
+use Rattle.std.proofs.Common.{◌≡◌, ◌++◌, ◌+◌, ◌*◌, ◌≤◌, take, length, flat_map}
 use Rattle.log_text.specs.LogText.{then_signed}
 use Rattle.log_text.proofs.printing.lines.push_nets.Given as goal
 

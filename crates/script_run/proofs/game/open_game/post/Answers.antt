@@ -1,6 +1,5 @@
 use Rattle.std.proofs.Common.{ap}
-use Rattle.trade_ledger.specs.declared.cash_calls.CashCall.TheVariants.{Post}
-use Rattle.auction_core.specs.declared.entries.Struck.{Struck}
+use Rattle.script_run.specs.Prelude.{Post, Struck}
 use Rattle.script_run.proofs.CashMore.{cash_more, no_posts, posted_is}
 use Rattle.script_run.proofs.game.open_game.post.Goals as goal
 

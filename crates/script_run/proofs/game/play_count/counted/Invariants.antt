@@ -1,6 +1,5 @@
 use Rattle.std.proofs.Common.{◌≡◌, ◌*◌, ◌≤◌, length, take, sum_by}
-use Rattle.auction_rules.specs.Effects.{all_trades}
-use Rattle.auction_core.specs.Auctions.{AuctionHistory}
+use Rattle.script_run.specs.Prelude.{all_trades, AuctionHistory}
 use Rattle.script_run.proofs.game.play_count.counted.Given as goal
 
 abbrev pub invariant-loop-auction : goal.invariant-loop-auction

@@ -1,6 +1,5 @@
 use Rattle.std.proofs.Common.{refl}
-use Rattle.game_log.specs.LogText.{play_part}
-use Rattle.line_protocol.specs.Heads.{Play}
+use Rattle.script_run.specs.Prelude.{play_part, Play}
 use Rattle.game_log.proofs.Writing.{writes_both}
 use Rattle.script_run.proofs.game.playing.write_first.Goals as goal
 

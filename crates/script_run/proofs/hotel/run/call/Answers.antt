@@ -1,12 +1,5 @@
-use Rattle.std.proofs.Common.{◌≡◌, ◌++◌, [], ◌∷◌, List, reverse, ap, ◌∙◌, subst}
-use Rattle.std.specs.Prelude.{OnOk}
-use Rattle.std.specs.List.{flat_map}
-use Rattle.tac_base.specs.declared.calls.Reply.{Reply}
-use Rattle.tac_base.specs.declared.calls.Trade.{Trade}
-use Rattle.auction_rules.specs.History.{Entry}
-use Rattle.auction_rules.specs.Legal.{entry_of}
-use Rattle.auction_core.specs.declared.entries.Struck.{Struck}
-use Rattle.script_run.specs.HotelLines.{asked}
+use Rattle.std.proofs.Common.{◌≡◌, ◌++◌, [], ◌∷◌, List, reverse, ap, ◌∙◌, subst, OnOk, flat_map}
+use Rattle.script_run.specs.{Reply, Trade, Entry, entry_of, Struck, asked}
 use Rattle.script_run.specs.Replies as replies
 use Rattle.game_log.specs.LogText as log
 use Rattle.script_run.proofs.Running.{newest_trades}

@@ -1,5 +1,4 @@
-use Rattle.std.proofs.Common.{◌≡◌, ◌++◌, take}
-use Rattle.std.specs.List.{flat_map}
+use Rattle.std.proofs.Common.{◌≡◌, ◌++◌, take, flat_map}
 use Rattle.game_log.specs.LogText.{trade_line}
 use Rattle.script_run.proofs.hotel.run.push_trades.Given as goal
 

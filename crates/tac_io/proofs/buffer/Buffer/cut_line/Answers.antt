@@ -1,5 +1,4 @@
-use Rattle.std.proofs.Common.{◌≡◌, length, ◌≤◌, ap, ◌∙◌, sym, arith, subst, ◌+◌}
-use Rattle.std.specs.List.{slice_range}
+use Rattle.std.proofs.Common.{◌≡◌, length, ◌≤◌, ap, ◌∙◌, sym, arith, subst, ◌+◌, slice_range}
 use Rattle.tac_io.specs.LineText.{BeginsWithLine}
 use Rattle.tac_io.proofs.LineEnds.{cut_part}
 use Rattle.tac_io.proofs.buffer.Buffer.cut_line.Goals as goal

@@ -1,14 +1,6 @@
-use Rattle.std.proofs.Common.{◌≡◌, ◌≤◌, List, Some, refl, sym, ap, ◌∙◌, arith, set, length}
-use Rattle.std.specs.Prelude.{sum_by}
-use Rattle.tac_base.specs.declared.calls.Trade.{Trade}
-use Rattle.auction_rules.specs.declared.units.Placed.{Placed}
-use Rattle.auction_rules.specs.Units.{units_of}
-use Rattle.auction_rules.specs.Effects.{bought, sold}
-use Rattle.auction_rules.specs.Refusals.{crosses_itself}
-use Rattle.auction_rules.specs.TicketMatch.{ticket_trades}
+use Rattle.std.proofs.Common.{◌≡◌, ◌≤◌, List, Some, refl, sym, ap, ◌∙◌, arith, set, length, sum_by}
+use Rattle.ticket_book.specs.{Trade, Placed, units_of, bought, sold, crosses_itself, ticket_trades, both, after_bid, TicketBook, TicketsStandFor}
 use Rattle.auction_rules.proofs.Trading.{nothing_spent}
-use Rattle.ticket_book.specs.Sides.{both, after_bid}
-use Rattle.ticket_book.specs.Book.{TicketBook, StandsFor}
 use Rattle.ticket_book.proofs.Trades.{few_bought, few_sold, bid_spends, trades_priced}
 use Rattle.ticket_book.proofs.Keeping.{book_of, follows_crossing, follows_taken}
 use Rattle.ticket_book.proofs.book.Tickets.bid.Goals as goal
@@ -37,7 +29,7 @@ pub returns-then-crosses_itself-clause-follows : goal.returns-then-crosses_itsel
 returns-then-crosses_itself-clause-follows c = λ setup past stood here.
     let t = c.self.inside in
     let book : TicketBook = book_of t.good t.bids t.sides t.closed in
-    let kept : StandsFor book setup past = rw c.self.view_is stood in
+    let kept : TicketsStandFor book setup past = rw c.self.view_is stood in
     let le : c.args.agent ≤ 7 = omega (arith, c.get-number.ensures.range, c.get-number.ensures.value) in
     rw (← c.self.view_is)
     (follows_crossing setup past book kept c.args.agent c.args.points.now c.clear.new.self le c.if-self.false
@@ -47,7 +39,7 @@ pub returns-clause-follows : goal.returns-clause-follows
 returns-clause-follows c = λ setup past stood here.
     let t = c.self.inside in
     let book : TicketBook = book_of t.good t.bids t.sides t.closed in
-    let kept : StandsFor book setup past = rw c.self.view_is stood in
+    let kept : TicketsStandFor book setup past = rw c.self.view_is stood in
     let le : c.args.agent ≤ 7 = omega (arith, c.get-number.ensures.range, c.get-number.ensures.value) in
     let bid : Placed = record { agent = c.args.agent; position = length past; points = c.args.points.now } in
     let placed : Placed = record { agent = c.args.agent; position = c.args.at; points = c.copy.result } in

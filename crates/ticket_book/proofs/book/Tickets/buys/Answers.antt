@@ -1,6 +1,4 @@
-use Rattle.auction_rules.specs.declared.rules.Rules.TheVariants.{Tickets as TicketRules}
-use Rattle.auction_rules.specs.Standing.{stand}
-use Rattle.ticket_book.specs.Book.{TicketBook, StandsFor}
+use Rattle.ticket_book.specs.{Tickets as TicketRules, stand, TicketBook, TicketsStandFor}
 use Rattle.ticket_book.proofs.Keeping.{book_of}
 use Rattle.ticket_book.proofs.Placing.{buys_shown}
 use Rattle.ticket_book.proofs.Untied.{buys_in_order}
@@ -10,12 +8,12 @@ pub returns-clause-units : goal.returns-clause-units
 returns-clause-units c = λ setup past stood.
     let t = c.self.inside in
     let book : TicketBook = book_of t.good t.bids t.sides t.closed in
-    let kept : StandsFor book setup past = rw c.self.view_is stood in
+    let kept : TicketsStandFor book setup past = rw c.self.view_is stood in
     rw (c.side.ensures.value, kept.rules) (buys_shown t.sides (stand TicketRules past) kept.units)
 
 pub returns-clause-order : goal.returns-clause-order
 returns-clause-order c = λ setup past stood.
     let t = c.self.inside in
     let book : TicketBook = book_of t.good t.bids t.sides t.closed in
-    let kept : StandsFor book setup past = rw c.self.view_is stood in
+    let kept : TicketsStandFor book setup past = rw c.self.view_is stood in
     rw c.side.ensures.value (buys_in_order past t.sides kept.units c.side.ensures.sorted)

@@ -1,8 +1,6 @@
 use Rattle.std.proofs.Common.{ℕ, ◌≡◌, ◌≤◌, Some, sym, ap, ◌∙◌, arith, get_or}
-use Rattle.ticket_book.specs.Book.{TicketBook, StandsFor}
+use Rattle.ticket_book.specs.{TicketBook, TicketsStandFor, Own as OwnCall, entry_of}
 use Rattle.auction_rules.proofs.Idle.{own_idle}
-use Rattle.tac_base.specs.declared.calls.Call.TheVariants.{Own as OwnCall}
-use Rattle.auction_rules.specs.Legal.{entry_of}
 use Rattle.ticket_book.proofs.Keeping.{book_of, idle_keeps, owns}
 use Rattle.ticket_book.proofs.book.Tickets.own.Goals as goal
 
@@ -10,7 +8,7 @@ pub returns-in-Some-clause-left : goal.returns-in-Some-clause-left
 returns-in-Some-clause-left c = λ setup past stood.
     let t = c.self.inside in
     let book : TicketBook = book_of t.good t.bids t.sides t.closed in
-    let kept : StandsFor book setup past = rw c.self.view_is stood in
+    let kept : TicketsStandFor book setup past = rw c.self.view_is stood in
     let le : c.args.agent ≤ 7 = omega (arith, c.get.ensures.range, c.get.ensures.value) in
     let at : get_or t.bids c.args.agent c.index-self-get.result ≡ Some c.in-Some.bid = ap (λ (n : ℕ). get_or t.bids n c.index-self-get.result) (sym c.get.ensures.value) ∙ c.in-Some.is in
     c.left_of.ensures ∙ owns setup past book kept c.args.agent c.index-self-get.result (Some c.in-Some.bid) le (sym at)

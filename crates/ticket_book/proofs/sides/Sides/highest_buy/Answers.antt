@@ -1,9 +1,6 @@
 use Rattle.std.proofs.Common.{◌≡◌, ◌≤◌, ℕ, List, map, get_or, sym, ap, ◌∙◌, subst}
-use Rattle.tac_base.specs.declared.units.Unit.{Unit as ShownUnit}
-use Rattle.tac_base.specs.declared.limits.TheConstants.{BID_PRICE}
-use Rattle.auction_rules.specs.Board.{highest_buy}
+use Rattle.ticket_book.specs.{Unit as ShownUnit, BID_PRICE, highest_buy, SortedSides, both}
 use Rattle.auction_rules.proofs.Quotes.{quotes_within}
-use Rattle.ticket_book.specs.Sides.{SortedSides, both}
 use Rattle.ticket_book.proofs.Sided.{sides_of, highest_is}
 use Rattle.ticket_book.proofs.sides.Sides.highest_buy.Goals as goal
 

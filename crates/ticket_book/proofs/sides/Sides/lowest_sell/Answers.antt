@@ -1,9 +1,6 @@
 use Rattle.std.proofs.Common.{◌≡◌, ◌≤◌, ℕ, List, map, get_or, sym, ap, ◌∙◌, subst}
-use Rattle.tac_base.specs.declared.units.Unit.{Unit as ShownUnit}
-use Rattle.tac_base.specs.declared.limits.TheConstants.{BID_PRICE}
-use Rattle.auction_rules.specs.Board.{lowest_sell}
+use Rattle.ticket_book.specs.{Unit as ShownUnit, BID_PRICE, lowest_sell, SortedSides, both}
 use Rattle.auction_rules.proofs.Quotes.{quotes_within}
-use Rattle.ticket_book.specs.Sides.{SortedSides, both}
 use Rattle.ticket_book.proofs.Sided.{sides_of, lowest_is}
 use Rattle.ticket_book.proofs.sides.Sides.lowest_sell.Goals as goal
 

@@ -1,5 +1,4 @@
-use Rattle.std.proofs.Common.{ℕ, ◌<◌, ◌++◌, [], ◌∷◌, sym, ap, ◌∙◌, subst}
-use Rattle.std.specs.Prelude.{◌==◌, count_by, sum_by}
+use Rattle.std.proofs.Common.{ℕ, ◌<◌, ◌++◌, [], ◌∷◌, sym, ap, ◌∙◌, subst, ◌==◌, count_by, sum_by}
 use Rattle.ticket_book.specs.Sides.{SortedSides, both}
 use Rattle.ticket_book.proofs.Placing.{room, buy_placed, sell_placed, buy_kept, sell_kept}
 use Rattle.ticket_book.proofs.sides.Sides.put.Goals as goal

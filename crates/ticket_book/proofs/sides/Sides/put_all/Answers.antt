@@ -1,6 +1,4 @@
-use Rattle.std.proofs.Common.{◌≡◌, ◌<◌, ℕ, take, sym, subst, arith}
-use Rattle.std.specs.Prelude.{◌==◌, cond, count_by}
-use Rattle.std.proofs.lemmas.List.{length-take}
+use Rattle.std.proofs.Common.{◌≡◌, ◌<◌, ℕ, take, sym, subst, arith, ◌==◌, cond, count_by, length-take}
 use Rattle.std.proofs.lemmas.List.Sums.{sum_by-append, count_by-le-length}
 use Rattle.auction_rules.specs.declared.units.BidUnit.{BidUnit}
 use Rattle.ticket_book.specs.Sides.{both}

@@ -1,9 +1,5 @@
-use Rattle.std.proofs.Common.{◌≡◌, List, Some, sym, ap, ◌∙◌, subst}
-use Rattle.std.specs.Prelude.{true, false, not, filter}
-use Rattle.tac_base.specs.declared.units.Unit.{Unit as ShownUnit}
-use Rattle.auction_rules.specs.Units.{same_unit}
-use Rattle.auction_rules.specs.TicketMatch.{not_taken}
-use Rattle.ticket_book.specs.Sides.{SortedSides, IsSideSorted, is_same, both}
+use Rattle.std.proofs.Common.{◌≡◌, List, Some, sym, ap, ◌∙◌, subst, true, false, not, filter}
+use Rattle.ticket_book.specs.{Unit as ShownUnit, same_unit, not_taken, SortedSides, IsSideSorted, is_same, both}
 use Rattle.ticket_book.proofs.Sorting.{sorted_filter}
 use Rattle.ticket_book.proofs.Sided.{sides_of, buy_taken, sell_taken}
 use Rattle.ticket_book.proofs.Placing.{sides_less}

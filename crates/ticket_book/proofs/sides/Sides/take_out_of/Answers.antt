@@ -1,5 +1,4 @@
-use Rattle.std.proofs.Common.{◌≡◌, ℕ, List, sym, ap, ◌∙◌, subst}
-use Rattle.std.specs.Prelude.{true, false, not, ◌==◌, filter}
+use Rattle.std.proofs.Common.{◌≡◌, ℕ, List, sym, ap, ◌∙◌, subst, true, false, not, ◌==◌, filter}
 use Rattle.tac_base.specs.declared.units.Unit.{Unit as ShownUnit}
 use Rattle.ticket_book.specs.Sides.{SortedSides, IsSideSorted, both, others}
 use Rattle.ticket_book.proofs.Sorting.{sorted_filter}

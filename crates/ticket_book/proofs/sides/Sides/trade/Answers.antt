@@ -1,15 +1,9 @@
-use Rattle.std.proofs.Common.{◌≡◌, ◌≤◌, List, ◌++◌, length, sym, ap, ◌∙◌, subst, arith}
-use Rattle.std.specs.Prelude.{◌==◌, not, count_by, sum_by}
-use Rattle.std.specs.List.{All}
+use Rattle.std.proofs.Common.{◌≡◌, ◌≤◌, List, ◌++◌, length, sym, ap, ◌∙◌, subst, arith, ◌==◌, not, count_by, sum_by, All}
 use Rattle.std.proofs.lemmas.List.Elements.{All-from_recursion, recursion_from_All}
 use Rattle.std.proofs.lemmas.List.Sums.{length-filter, count_by-le-length}
-use Rattle.tac_base.specs.declared.limits.TheConstants.{BID_PRICE}
-use Rattle.auction_rules.specs.declared.units.BidUnit.{BidUnit}
-use Rattle.auction_rules.specs.Units.{units_of, among, without}
-use Rattle.auction_rules.specs.TicketMatch.{ticket_gone}
-use Rattle.auction_rules.proofs.Standing.{each-filter}
-use Rattle.ticket_book.specs.Sides.{both, others}
-use Rattle.ticket_book.proofs.Matched.{bid_owned, none_among_others}
+use Rattle.ticket_book.specs.{BID_PRICE, BidUnit, units_of, among, without, ticket_gone, both, others}
+use Rattle.auction_rules.proofs.Standing.{each-filter, bid_owned}
+use Rattle.ticket_book.proofs.Matched.{none_among_others}
 use Rattle.ticket_book.proofs.sides.Sides.trade.Goals as goal
 
 -- what is left of the new units

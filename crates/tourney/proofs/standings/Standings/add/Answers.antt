@@ -1,12 +1,7 @@
-use Rattle.std.proofs.Common.{◌≡◌, ◌+◌, ◌<◌, ◌≤◌, ℕ, List, ◌∷◌, [], length, take, get_or, unsigned_abs, true, ap, sym, subst, ◌∙◌, length-append}
-use Rattle.std.specs.List.{flat_map}
-use Rattle.tac_base.specs.Goods.{agents}
-use Rattle.game_text.specs.Games.{GameFile}
-use Rattle.log_text.specs.LoggedGames.{LoggedGame}
-use Rattle.game_text.specs.SeatWords.{are_distinct}
-use Rattle.tourney.specs.Standings.{result_of}
-use Rattle.tourney.specs.Tallies.{Kept, with_results, result_if_counts, most_score}
-use Rattle.tourney.proofs.Growing.{agents_more, agent_at, all_agents, game_more}
+use Rattle.std.proofs.Common.{◌≡◌, ◌+◌, ◌<◌, ◌≤◌, ℕ, List, ◌∷◌, [], length, take, get_or, unsigned_abs, true, ap, sym, subst, ◌∙◌, length-append, flat_map}
+use Rattle.tourney.specs.{agents, GameFile, LoggedGame, are_distinct, result_of, Kept, with_results, result_if_counts, most_score}
+use Rattle.tac_base.proofs.Agents.{agent_at}
+use Rattle.tourney.proofs.Growing.{agents_more, all_agents, game_more}
 use Rattle.tourney.proofs.Ranges.{IsCounted, none_counted, agent_counted}
 use Rattle.tourney.proofs.Scores.{result_small}
 use Rattle.tourney.proofs.standings.Standings.add.Goals as goal

@@ -1,5 +1,4 @@
-use Rattle.std.proofs.Common.{◌≡◌, take}
-use Rattle.std.specs.List.{flat_map}
+use Rattle.std.proofs.Common.{◌≡◌, take, flat_map}
 use Rattle.tourney.specs.Tallies.{with_results, result_if_counts}
 use Rattle.tourney.proofs.Ranges.{IsCounted}
 use Rattle.tourney.proofs.standings.Standings.add.Given as goal

@@ -1,8 +1,7 @@
 use Rattle.std.proofs.Common.{rules, ◌<◌, List, [], ◌∷◌, ◌++◌, length, sym, subst, arith, vec_capacity}
 use Rattle.turn_lock.specs.Part.{part}
 use Rattle.trade_ledger.specs.declared.cash_calls.CashEntry.{CashEntry}
-use Rattle.trade_ledger.specs.CashHistory.{cash_cap}
-use Rattle.trade_ledger.specs.CashKeeping.{IsWithin, IsCashSound}
+use Rattle.trade_ledger.specs.{cash_cap, IsWithin, IsCashSound}
 use Rattle.trade_ledger.proofs.CashSteps.{few_entries, room_for, within_all, sound_snoc}
 use Rattle.trade_ledger.proofs.cash_book.CashBookKept.act.Goals as goal
 

@@ -1,9 +1,7 @@
-use Rattle.std.proofs.Common.{rules, ◌≡◌, ℕ, [], ◌∷◌, sym, ap, ◌∙◌, subst, List, slice_index, Some}
-use Rattle.std.specs.Prelude.{Result, IfOk}
+use Rattle.std.proofs.Common.{rules, ◌≡◌, ℕ, [], ◌∷◌, sym, ap, ◌∙◌, subst, List, slice_index, Some, Result, IfOk}
 use Rattle.tac_base.specs.declared.numbers.OutOfRange.{OutOfRange}
 use Rattle.atomic_table.specs.Table.{opening}
-use Rattle.turn_lock.specs.TurnRule.{Turning, own_at_first}
-use Rattle.turn_lock.specs.Steps.{fresh_pass}
+use Rattle.turn_lock.specs.{Turning, own_at_first, fresh_pass}
 use Rattle.turn_lock.specs.Passes.{start_of}
 use Rattle.turn_lock.proofs.Places.{each_snoc}
 use Rattle.turn_lock.proofs.TurnSteps.{begins}

@@ -1,8 +1,7 @@
 use Rattle.std.proofs.Common.{◌≡◌, ℕ, ◌≤◌, [], length, slice_index, vec_capacity, Some}
 use mathlib.Core.Option.{some}
 use lib.ListN.{get_elem?}
-use Rattle.turn_lock.specs.TurnRule.{own_view}
-use Rattle.turn_lock.specs.Steps.{fresh_pass}
+use Rattle.turn_lock.specs.{own_view, fresh_pass}
 use Rattle.turn_lock.specs.Passes.{passes_of, returned_to, start_of}
 use Rattle.turn_lock.proofs.lock.TurnLock.begin.Given as goal
 

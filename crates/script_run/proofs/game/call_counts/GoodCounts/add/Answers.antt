@@ -1,5 +1,4 @@
-use Rattle.std.proofs.Common.{rules, ◌+◌, ◌<◌, length, get_or, ◌∙◌}
-use Rattle.std.specs.Prelude.{◌==◌}
+use Rattle.std.proofs.Common.{rules, ◌+◌, ◌<◌, length, get_or, ◌∙◌, ◌==◌}
 use Rattle.script_run.proofs.Counted.{count_set, one_if}
 use Rattle.script_run.proofs.game.call_counts.GoodCounts.add.Goals as goal
 

@@ -1,12 +1,6 @@
 use Rattle.std.proofs.Common.{◌≡◌, ℕ, ◌<◌, List, ◌++◌, length, reverse, set, sym, ap, ◌∙◌, subst}
-use Rattle.auction_rules.specs.Setup.{Setup}
-use Rattle.auction_rules.specs.History.{Entry}
-use Rattle.auction_rules.specs.Legal.{cap, entries_of, entry_of}
-use Rattle.auction_core.specs.declared.entries.Struck.{Struck}
+use Rattle.script_run.specs.{Setup, Entry, cap, entries_of, entry_of, Struck, due_post, setup_of, past_at, called, SeenGame, setups_of, state_of}
 use Rattle.auction_rules.proofs.Histories.{entry_caller}
-use Rattle.trade_ledger.specs.Posts.{due_post}
-use Rattle.auction_core.specs.Setups.{setup_of}
-use Rattle.script_run.specs.{past_at, called, SeenGame, setups_of, state_of}
 use Rattle.script_run.proofs.OpenGames.{IsFound, found, room_there, one_past, one_setup, position_is, same_setups, called_is}
 use Rattle.script_run.proofs.game.open_game.OpenGame.call.Goals as goal
 

@@ -1,7 +1,5 @@
 use Rattle.std.proofs.Common.{ap, ◌∙◌}
-use Rattle.auction_rules.specs.Board.{board}
-use Rattle.auction_core.specs.Setups.{setup_of}
-use Rattle.script_run.specs.{past_at, SeenGame}
+use Rattle.script_run.specs.{board, setup_of, past_at, SeenGame}
 use Rattle.script_run.proofs.OpenGames.{found, board_is}
 use Rattle.script_run.proofs.game.open_game.OpenGame.quote.Goals as goal
 

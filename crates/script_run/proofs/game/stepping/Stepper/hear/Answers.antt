@@ -1,6 +1,7 @@
 use Rattle.std.proofs.Common.{arith, refl}
 use Rattle.std.proofs.lemmas.Result.{err_from_is_err_and}
-use Rattle.script_run.proofs.LineParts.{cut_bytes, cut_part, one_part_only}
+use Rattle.text_forms.proofs.BlockSteps.{cut_whole}
+use Rattle.script_run.proofs.LineParts.{cut_part, one_part_only}
 use Rattle.script_run.proofs.SteppedLines.{hears_all, hears_bad, hears_more}
 use Rattle.script_run.proofs.game.stepping.Stepper.hear.Goals as goal
 
@@ -14,7 +15,7 @@ loop-part-preserved c =
     let ended = c.in_ok-end_line.ensures in
     record {
       hears = hears_more c.args.self.now c.loop-part.self _ c.args.piece.now rest part was.hears refl refl c.join.ensures (cut_part rest part after c.in-Some.ensures.parts)
-          after (cut_bytes rest part after c.in-Some.ensures.parts) c.end_line.new.self ended.line;
+          after (cut_whole rest part after c.in-Some.ensures.parts) c.end_line.new.self ended.line;
       number = omega (arith, was.number, length, ended.number);
       room = omega (arith, was.room, length, ended.len, ended.capacity);
       capacity = omega (arith, was.capacity, ended.capacity);
@@ -28,7 +29,7 @@ returns-in_err-end_line-clause-lines c game given written s =
     let after = c.in-Some.after.now in
     rw (p.1, p.2)
     (hears_bad c.args.self.now c.loop-part.self _ c.args.piece.now rest part c.loop-part.invariant.hears refl refl c.join.ensures (cut_part rest part after c.in-Some.ensures.parts)
-    after (cut_bytes rest part after c.in-Some.ensures.parts) c.end_line.new.self c.in_err-end_line.field-0.0 c.in_err-end_line.ensures.line game given written s)
+    after (cut_whole rest part after c.in-Some.ensures.parts) c.end_line.new.self c.in_err-end_line.field-0.0 c.in_err-end_line.ensures.line game given written s)
 
 pub returns-clause-lines : goal.returns-clause-lines
 returns-clause-lines c game given written s =

@@ -1,11 +1,7 @@
-use Rattle.std.proofs.Common.{rules, ◌≡◌, List, sym, ap, ◌∙◌}
-use Rattle.std.specs.Prelude.{Result, Ok}
-use Rattle.tac_base.specs.declared.bids.Point.{Point}
+use Rattle.std.proofs.Common.{rules, ◌≡◌, List, sym, ap, ◌∙◌, Result, Ok}
+use Rattle.script_run.specs.{Point, Request, RequestFault, call_turn, turn}
 use Rattle.tac_base.specs.declared.calls.Call.TheVariants as calls
-use Rattle.line_protocol.specs.declared.asking.Request.{Request}
 use Rattle.line_protocol.specs.declared.asking.Request.TheVariants as requests
-use Rattle.line_protocol.specs.declared.asking.RequestFault.{RequestFault}
-use Rattle.script_run.specs.GameStates.{call_turn, turn}
 use Rattle.script_run.proofs.game.table.Table.answer.Goals as goal
 
 pub returns-in-Ok-Bid-clause-answered : goal.returns-in-Ok-Bid-clause-answered

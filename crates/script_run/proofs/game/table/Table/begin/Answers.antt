@@ -1,5 +1,4 @@
-use Rattle.std.proofs.Common.{sym, subst}
-use Rattle.std.specs.Prelude.{replicate}
+use Rattle.std.proofs.Common.{sym, subst, replicate}
 use Rattle.script_run.specs.{GameState, AreCounted}
 use Rattle.script_run.proofs.Tables.{counted_opening}
 use Rattle.script_run.proofs.game.table.Table.begin.Goals as goal

@@ -1,8 +1,5 @@
 use Rattle.std.proofs.Common.{rules, ◌≡◌, ℕ, ◌<◌, ◌≤◌, length, sym, ap, ◌∙◌, subst, arith}
-use Rattle.game_text.specs.Games.{GameFile}
-use Rattle.turn_lock.specs.Part.{part}
-use Rattle.trade_ledger.specs.CashHistory.{cash_cap}
-use Rattle.script_run.specs.{GameState, call_turn, called, SeenGame, AreCounted, count_at}
+use Rattle.script_run.specs.{GameFile, part, cash_cap, GameState, call_turn, called, SeenGame, AreCounted, count_at}
 use Rattle.script_run.proofs.Counted.{by}
 use Rattle.script_run.proofs.Tables.{call_room, counted_call, answered_call}
 use Rattle.script_run.proofs.game.table.Table.call.Goals as goal

@@ -1,12 +1,5 @@
 use Rattle.std.proofs.Common.{rules, ◌≡◌, ℕ, ◌+◌, ◌<◌, ◌≤◌, List, drop, length, sym, ap, ◌∙◌, subst}
-use Rattle.tac_base.specs.declared.calls.Call.{Call}
-use Rattle.game_text.specs.Games.{GameFile}
-use Rattle.tac_base.specs.Goods.{clock}
-use Rattle.auction_rules.specs.Legal.{cap, entries_of}
-use Rattle.turn_lock.specs.Part.{part}
-use Rattle.trade_ledger.specs.CashHistory.{cash_cap}
-use Rattle.game_text.specs.Schedule.{calls_at}
-use Rattle.script_run.specs.{GameState, past_at, called, clocked, SeenGame, AreCounted, HasClockRoom}
+use Rattle.script_run.specs.{Call, GameFile, clock, cap, entries_of, part, cash_cap, calls_at, GameState, past_at, called, clocked, SeenGame, AreCounted, HasClockRoom}
 use Rattle.script_run.proofs.Counted.{by}
 use Rattle.script_run.proofs.Tables.{ClockStep, clock_step, none_left}
 use Rattle.script_run.proofs.game.table.Table.clock_call.Goals as goal

@@ -1,9 +1,6 @@
 use Rattle.std.proofs.Common.{rules, sym, ap, ◌∙◌, subst, ◌≤◌, ℕ, List, drop, length, arith}
-use Rattle.tac_base.specs.declared.calls.Call.{Call}
-use Rattle.game_text.specs.Games.{GameFile}
-use Rattle.game_text.specs.Schedule.{calls_at}
-use Rattle.script_run.specs.{clocked, SeenGame, HasClockRoom}
-use Rattle.script_run.proofs.Tables.{drop_all}
+use Rattle.std.proofs.lemmas.List.{drop_all}
+use Rattle.script_run.specs.{Call, GameFile, calls_at, clocked, SeenGame, HasClockRoom}
 use Rattle.script_run.proofs.game.table.Table.clock_calls.Goals as goal
 
 pub clock_call-requires-clause-tick : goal.clock_call-requires-clause-tick
@@ -20,5 +17,5 @@ returns-clause-state c =
     let game = c.args.self.now.game in
     let few : length (calls_at game c.args.tick) ≤ 20 =
     subst (λ (g : GameFile). length (calls_at g c.args.tick) ≤ 20) (c.game.ensures ∙ ap (λ (v : SeenGame). v.game) c.self.view_is) (c.schedule_law.ensures.few c.args.tick low high) in
-    ap (λ (l : List (ℕ × Call)). clocked game l c.loop-n.self.state) (sym (drop_all (calls_at game c.args.tick) c.loop-n.n (omega arith)))
+    ap (λ (l : List (ℕ × Call)). clocked game l c.loop-n.self.state) (sym (drop_all c.loop-n.n (calls_at game c.args.tick) (omega arith)))
     ∙ c.loop-n.invariant.same

@@ -1,5 +1,4 @@
-use Rattle.std.proofs.Common.{rules, ◌≡◌, ℕ, ◌+◌, ◌<◌, ◌≤◌, [], ◌∷◌, ◌++◌, length, get_or, set, sym, ◌∙◌, subst, slice_index}
-use Rattle.std.specs.Prelude.{◌==◌}
+use Rattle.std.proofs.Common.{rules, ◌≡◌, ℕ, ◌+◌, ◌<◌, ◌≤◌, [], ◌∷◌, ◌++◌, length, get_or, set, sym, ◌∙◌, subst, slice_index, ◌==◌}
 use Rattle.game_text.specs.Games.{GameFile}
 use Rattle.script_run.specs.{GameState, reading_of, AreCounted}
 use Rattle.script_run.proofs.Counted.{count_set, one_if}

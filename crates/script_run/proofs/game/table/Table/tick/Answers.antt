@@ -1,8 +1,5 @@
 use Rattle.std.proofs.Common.{rules, ℕ, ◌≤◌, sym, subst}
-use Rattle.game_text.specs.Games.{GameFile}
-use Rattle.game_text.specs.Schedule.{calls_at}
-use Rattle.clock_events.specs.Laws.{tick_calls_of}
-use Rattle.script_run.specs.{GameState, AreCounted, HasClockRoom}
+use Rattle.script_run.specs.{GameFile, calls_at, tick_calls_of, GameState, AreCounted, HasClockRoom}
 use Rattle.script_run.proofs.Tables.{counted_tick, tick_room}
 use Rattle.script_run.proofs.game.table.Table.tick.Goals as goal
 

@@ -1,7 +1,6 @@
 use Rattle.std.proofs.Common.{ℕ, ap, ◌∙◌}
-use Rattle.game_text.specs.Games.{GameFile}
+use Rattle.script_run.specs.Prelude.{GameFile, setup_of}
 use Rattle.game_text.specs.QuietGames.{quiet_game}
-use Rattle.auction_core.specs.Setups.{setup_of}
 use Rattle.script_run.proofs.hotel.run.HotelRun.new.Goals as goal
 
 pub returns : goal.returns

@@ -1,5 +1,4 @@
-use Rattle.std.proofs.Common.{◌≡◌, refl, inl, inr, sym, ◌∙◌, ap}
-use Rattle.std.specs.Prelude.{position, Some}
+use Rattle.std.proofs.Common.{◌≡◌, refl, inl, inr, sym, ◌∙◌, ap, position, Some}
 use Rattle.tac_io.specs.FileList.{is_named, content_of, file_left}
 use Rattle.tac_io.proofs.FilesInMemory.{content_of-Some, content_of-None}
 use Rattle.tac_io.proofs.memory.files.MemFilesFiles.select.Goals as goal
