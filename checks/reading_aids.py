@@ -9,6 +9,7 @@ from definitions import ROOT, Definition, Definitions, Target
 from reading_guides import (
     BACK,
     BACK_MINUTES,
+    BY_ROWS,
     CAUSE_ROWS,
     FRONT,
     GOING_BACK,
@@ -21,6 +22,7 @@ from reading_guides import (
     SKIPS,
     SPELLED,
     SPELLED_RATE,
+    TEXTS,
 )
 from reading_rows import ROWS, Lemmas, Row
 from reading_text import Rows, anchor_of, line_count, link, target_of
@@ -75,12 +77,14 @@ def times_table(parts: Dict[str, Tuple[int, int, float]], front_words: int) -> L
             f" {SKIPS[heading]} |"
         )
     text.append(f"| {BACK} | | | {BACK_MINUTES} | {SKIPS[BACK]} |")
-    total = round(front + sum(minutes for _, _, minutes in parts.values()) + BACK_MINUTES)
-    text.append(
-        f"| **All** | {sum(lines for lines, _, _ in parts.values()):,} |"
-        f" {sum(needed for _, needed, _ in parts.values()):,} |"
-        f" {total}, which is {total // 60} h {total % 60:02} | |"
-    )
+    for what, left_out in (("**All**", set()), (f"**{BY_ROWS}**", TEXTS)):
+        kept = [part for heading, part in parts.items() if heading not in left_out]
+        total = round(front + sum(minutes for _, _, minutes in kept) + BACK_MINUTES)
+        text.append(
+            f"| {what} | {sum(lines for lines, _, _ in kept):,} |"
+            f" {sum(needed for _, needed, _ in kept):,} |"
+            f" {total}, which is {total // 60} h {total % 60:02} | |"
+        )
     return text
 
 

@@ -120,8 +120,8 @@ EXAMPLE_TEXTS = [
 EXAMPLE_END = """\
 Two inbound seats make no trip, so the greatest utility is 0; with -600 dollars and no ticket short
 the score is 0 - 600 - 200 * 0 = -600. The lines of the log follow from `first_lines`,
-`auction_text`, `cash_text` and `score_line`. A run of `tac play` with these three requests wrote
-the same lines from `auction 0 55` on."""
+`auction_text`, `cash_text` and `score_line`. A run of `tac play` with the requests of these three
+turns wrote the same lines from `auction 0 55` on."""
 
 HOW_TO_READ = """\
 1. Read the table, the picture and the example above, and skim the key.
