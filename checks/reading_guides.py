@@ -33,7 +33,7 @@ SPELLED = {
 }
 # Chapters of texts, and what is left without them.
 TEXTS = {"Requests and replies as lines", "The log"}
-BY_ROWS = "All but the two chapters of texts, of which you trust the worked rows"
+BY_ROWS = "Without the two chapters of texts, of requests and replies and of the log"
 # Symbols or words a minute, and what comes on top for going back.
 RULE_RATE, SPELLED_RATE, ROW_RATE, PROSE_RATE, GOING_BACK = 95, 150, 150, 220, 8 / 7
 

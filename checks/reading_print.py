@@ -35,8 +35,8 @@ class Marks(NamedTuple):
 
 
 def type_lines(one: CodeType) -> List[str]:
-    """A type: what contracts see of it if that is something else, and otherwise its fields or
-    variants, without attributes."""
+    """A type: what contracts see of it if that is something else, and otherwise its comment and its
+    fields or variants, without attributes."""
     if one.value:
         return [f"{one.name} appears as {one.value}"]
     with open(one.file, encoding="utf-8") as source:
@@ -46,8 +46,14 @@ def type_lines(one: CodeType) -> List[str]:
         for place in range(one.line - 1, len(lines))
         if lines[place].startswith("}") or lines[place].endswith(";")
     )
+    above = one.line - 1
+    while lines[above - 1].startswith(("///", "#[")):
+        above -= 1
+    about = [each for each in lines[above : one.line - 1] if each.startswith("///")]
     shown = [each for each in lines[one.line - 1 : end + 1] if not each.lstrip().startswith("#[")]
-    return shown if any("///" in each for each in shown) else [" ".join(" ".join(shown).split())]
+    if not any("///" in each for each in shown):
+        shown = [" ".join(" ".join(shown).split())]
+    return about + shown
 
 
 def types_by_chapter(
@@ -78,7 +84,7 @@ def shared_constructors(
     owners: Dict[str, List[str]] = {"None": ["Option"], "Some": ["Option"]}
     for one in types:
         lines = [] if one.value else type_lines(one)
-        if lines and lines[0].startswith("pub enum"):
+        if any(line.startswith("pub enum") for line in lines):
             text = re.sub(r"///[^\n]*", "", "\n".join(lines))
             inner = text[text.index("{") + 1 : text.rindex("}")]
             for name in re.findall(r"\b[A-Z]\w*", re.sub(r"\{[^{}]*\}|\([^()]*\)", "", inner)):
