@@ -262,12 +262,10 @@ def print_chapters(
                 print("\n".join(comment_of(module.file, one) + one.lines) + "\n")
                 for place, row in places:
                     if place == target:
-                        print_row(definitions, row, lemmas, shown, told)
+                        print_row(row, lemmas, shown, told)
 
 
-def print_row(
-    definitions: Definitions, row: Row, lemmas: Lemmas, shown: Names, told: Set[Helper]
-) -> None:
+def print_row(row: Row, lemmas: Lemmas, shown: Names, told: Set[Helper]) -> None:
     """Prints a worked row: the words, and what is computed. A helper of the row's file stands above
     the first row that uses it; `told` has those that were printed."""
     tried = ", ".join(f"`{target_of(full)[1]}`" for full in row.tries)

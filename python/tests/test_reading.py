@@ -1,4 +1,4 @@
-"""What the check of the definitions makes of a module, and of the numbers of a worked row."""
+"""What the check of the definitions makes of a module, of worked rows, and of their order."""
 
 import contextlib
 import io
@@ -6,14 +6,14 @@ import sys
 import tempfile
 import unittest
 from pathlib import Path
-from typing import List
 
 sys.path.insert(0, str(Path(__file__).resolve().parents[2] / "checks"))
 
-from definitions import Definitions, Module  # noqa: E402
+from definitions import Definitions, Module, Target  # noqa: E402
 from reading_aids import cases_without_row, skipped_of  # noqa: E402
-from reading_print import print_worked, rows_elsewhere, rows_through  # noqa: E402
-from reading_rows import Lemmas, numbers_of  # noqa: E402
+from reading_order import backward, chapters_of, nearest_rows, row_places  # noqa: E402
+from reading_print import Names, names_here, print_row  # noqa: E402
+from reading_rows import ROWS, Lemmas, Row, numbers_of  # noqa: E402
 
 SOURCE = """\
 -- Doubles.
@@ -34,21 +34,28 @@ all ns = do
 """
 
 
-def unused(text: str) -> List[str]:
-    """The imports without a use of a module of this text."""
-    with tempfile.TemporaryDirectory() as folder:
-        file = Path(folder) / "Doubles.antt"
+class Modules(unittest.TestCase):
+    def module(self, text: str) -> Module:
+        """A module of this text; its file is there until the test is over."""
+        folder = tempfile.TemporaryDirectory()
+        self.addCleanup(folder.cleanup)
+        file = Path(folder.name) / "Doubles.antt"
         file.write_text(text, encoding="utf-8")
-        return Module("tac_base", "Doubles", str(file)).unused_imports()
+        return Module("tac_base", "Doubles", str(file))
 
-
-class UnusedImports(unittest.TestCase):
-    def test_names_operators_and_aliases(self) -> None:
-        self.assertEqual(unused(SOURCE), ["◌-◌", "get_elem?", "goods"])
+    def test_unused_names_operators_and_aliases(self) -> None:
+        self.assertEqual(self.module(SOURCE).unused_imports(), ["◌-◌", "get_elem?", "goods"])
 
     def test_names_that_are_passed_on(self) -> None:
         text = "pub use Rattle.a.specs.B.{c}\nuse Rattle.a.specs.B.{d}\n"
-        self.assertEqual(unused(text), ["d"])
+        self.assertEqual(self.module(text).unused_imports(), ["d"])
+
+    def test_blocks_of_mutual_are_told_apart(self) -> None:
+        text = (
+            "abbrev mutual\n  pub even : ℕ → Bool\n  even n = odd n\n\n  pub odd : ℕ → Bool\n"
+            "  odd n = even n\n\nabbrev pub alone : ℕ\nalone = 1\n"
+        )
+        self.assertEqual(self.module(text).mutual, {"even": 1, "odd": 1})
 
 
 class Numbers(unittest.TestCase):
@@ -64,21 +71,94 @@ class Statements(unittest.TestCase):
 
     def test_helpers_come_before_those_that_use_them(self) -> None:
         helpers = Lemmas().helpers("auction_rules/Rows:falling_price_reaches_a_bid")
-        texts = ["\n".join(helper) for helper in helpers]
-        place = {
-            name: next(at for at, text in enumerate(texts) if f"abbrev {name} :" in text)
-            for name in ("played", "run", "buy", "falling")
-        }
-        self.assertLess(place["played"], place["run"])
-        self.assertLess(place["buy"], place["falling"])
+        names = [name for _, name in helpers]
+        self.assertLess(names.index("played"), names.index("run"))
+        self.assertLess(names.index("buy"), names.index("falling"))
+
+    def test_helpers_of_another_file(self) -> None:
+        helpers = Lemmas().helpers("worked_rows/LoggedLinks:ended_by_its_end")
+        self.assertIn(("worked_rows/Vouched", "words"), helpers)
+        self.assertIn(("worked_rows/LoggedLinks", "two_lines"), helpers)
+
+    def test_fields_and_texts_are_no_helpers(self) -> None:
+        helpers = Lemmas().helpers("worked_rows/Sessions:board_is_not_shorter")
+        self.assertNotIn(("worked_rows/Sessions", "bid"), helpers)
 
     def test_no_such_lemma(self) -> None:
         self.assertEqual(Lemmas().statement("worked_rows/Cash:nothing"), [])
         self.assertEqual(Lemmas().helpers("worked_rows/Cash:nothing"), [])
 
 
+def row_of(lemma: str) -> Row:
+    """The worked row of a lemma."""
+    return next(row for row in ROWS if lemma in row.lemmas)
+
+
+class Order(unittest.TestCase):
+    """Where definitions and rows stand."""
+
+    FAULT: Target = ("tac_base.specs.Bids", "fault_of")
+    JUDGED: Target = ("bid_strings.specs.BidForm", "judged")
+    CROSSES: Target = ("auction_rules.specs.TicketMatch", "crosses")
+    PAST: Target = ("auction_rules.specs.Legal", "past_of")
+    definitions: Definitions
+
+    @classmethod
+    def setUpClass(cls) -> None:
+        cls.definitions = Definitions()
+
+    def test_a_definition_stands_in_the_chapter_that_needs_it(self) -> None:
+        rows = {self.FAULT[0]: ["buys_of", "fault_of"], self.JUDGED[0]: ["judged"]}
+        chapters = chapters_of(self.definitions, rows)
+        self.assertEqual(
+            chapters["Goods, bids, calls and replies"], {self.FAULT[0]: ["buys_of"]}
+        )
+        self.assertEqual(
+            list(chapters["Requests and replies as lines"].items()),
+            [(self.FAULT[0], ["fault_of"]), (self.JUDGED[0], ["judged"])],
+        )
+
+    def test_what_is_used_before_it_stands(self) -> None:
+        self.assertEqual(backward(self.definitions, [self.FAULT, self.JUDGED]), [])
+        self.assertEqual(len(backward(self.definitions, [self.JUDGED, self.FAULT])), 1)
+
+    def test_a_row_stands_below_the_last_that_it_names(self) -> None:
+        order = [self.FAULT, self.JUDGED]
+        places = row_places(self.definitions, order, [], set(), Lemmas())
+        self.assertIn(
+            (self.JUDGED, row_of("bid_strings/Worked:faults_of_points_in_their_order")), places
+        )
+
+    def test_words_of_the_preamble_do_not_count(self) -> None:
+        lemmas, row = Lemmas(), row_of("auction_rules/Rows:equal_prices_trade")
+        helpers = set(lemmas.helpers(row.lemmas[0]))
+        for preamble, place in ((set(), self.PAST), (helpers, self.CROSSES)):
+            places = row_places(
+                self.definitions, [self.CROSSES, self.PAST], [], preamble, lemmas
+            )
+            self.assertIn((place, row), places)
+
+    def test_rows_of_a_part_beside_stand_there(self) -> None:
+        self.assertEqual(
+            row_places(self.definitions, [self.CROSSES], [self.CROSSES], set(), Lemmas()), []
+        )
+
+    def test_nearest_row_if_it_is_not_the_next(self) -> None:
+        lemmas = Lemmas()
+        size = ("tac_base.specs.Bids", "size_of")
+        kind = ("tac_base.specs.Kinds", "kind_of")
+        places = [
+            (kind, row_of("auction_rules/Rows:last_and_first_goods_of_each_kind")),
+            (self.JUDGED, row_of("bid_strings/Worked:faults_of_points_in_their_order")),
+        ]
+        order = [size, kind, self.FAULT, self.JUDGED]
+        self.assertEqual(
+            nearest_rows(self.definitions, order, places, lemmas), {size: self.JUDGED}
+        )
+
+
 class Printed(unittest.TestCase):
-    """What stands below a definition, and which cases have no row."""
+    """What stands above and below a definition, and which cases have no row."""
 
     SERVED = "agent_gate.specs.Served"
     definitions: Definitions
@@ -87,16 +167,27 @@ class Printed(unittest.TestCase):
     def setUpClass(cls) -> None:
         cls.definitions = Definitions()
 
-    def test_rows_stand_at_the_first_that_they_try(self) -> None:
-        rows = {self.SERVED: ["EndsBy", "IsUsedUp"]}
-        self.assertEqual(rows_elsewhere(rows, (self.SERVED, "IsUsedUp")), ["EndsBy"])
-        self.assertEqual(rows_elsewhere(rows, (self.SERVED, "EndsBy")), [])
+    def test_helpers_of_one_name_are_shown_with_their_files(self) -> None:
+        lemmas = Lemmas()
+        rows = [
+            row_of("worked_rows/Logs:trades_are_posted_with_their_nets"),
+            row_of("worked_rows/Sessions:each_line_is_asked_and_answered_once"),
+        ]
+        names = Names(lemmas, rows, {"offer"})
+        self.assertEqual(names.shown["worked_rows/Logs", "bid"], "Logs.bid")
+        self.assertEqual(names.shown["worked_rows/Logs", "offer"], "Logs.offer")
+        self.assertEqual(names.shown["worked_rows/Sessions", "turns"], "turns")
+        line = 'f = record { bid = 0; codes "bid" ∷ bid ∷ [] }'
+        self.assertEqual(
+            names.renamed("worked_rows/Sessions", [line]),
+            ['f = record { bid = 0; codes "bid" ∷ Sessions.bid ∷ [] }'],
+        )
 
-    def test_rows_that_lead_to_what_none_tries(self) -> None:
-        rows, lemmas = {self.SERVED: ["EndsBy", "pieces_of"]}, Lemmas()
-        reached = (self.SERVED, "pieces_of")
-        self.assertEqual(rows_elsewhere(rows, reached), [])
-        self.assertEqual(rows_through(self.definitions, rows, reached, lemmas), ["EndsBy"])
+    def test_types_of_names_that_several_have(self) -> None:
+        module = self.definitions.modules["packages.specs.Packages"]
+        told = names_here(self.definitions, module, ["is_package"], {"None": ["Option", "Package"]})
+        self.assertEqual(told, ["-- Names of `Package`: `None`."])
+        self.assertEqual(names_here(self.definitions, module, ["is_package"], {}), [])
 
     def test_what_may_be_left_out_takes_what_it_alone_uses(self) -> None:
         start = [("tacd.specs.Service", "ServeAllows")]
@@ -105,13 +196,19 @@ class Printed(unittest.TestCase):
         self.assertLessEqual({"IsNoGameFile", "game_refusal"}, skipped)
         self.assertFalse({"HasNoGame", "ServesGame", "IsLogOf"} & skipped)
 
-    def test_what_no_chapter_has_is_printed_once(self) -> None:
-        shown, told = io.StringIO(), set()
-        tried = ("auction_rules.specs.Refusals", "refusal")
+    def test_a_helper_is_printed_once(self) -> None:
+        lemmas, told = Lemmas(), set()
+        rows = [
+            row_of("worked_rows/Logs:reading_sums_the_posts_before_it"),
+            row_of("worked_rows/Logs:totals_of_the_book"),
+        ]
+        names = Names(lemmas, rows, set())
+        shown = io.StringIO()
         with contextlib.redirect_stdout(shown):
-            print_worked(self.definitions, {}, tried, Lemmas(), told)
-        self.assertEqual(shown.getvalue().count("abbrev pub past_of :"), 1)
-        self.assertIn("-- Row: After a closing", shown.getvalue())
+            for row in rows:
+                print_row(row, lemmas, names, told)
+        self.assertEqual(shown.getvalue().count("abbrev book :"), 1)
+        self.assertIn("-- Row of `cash_reply_of`: ", shown.getvalue())
 
     def test_cases_are_counted_one_by_one(self) -> None:
         lemmas, rows = Lemmas(), {self.SERVED: ["EndsBy"]}
