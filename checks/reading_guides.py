@@ -13,8 +13,8 @@ For the chapters that it read they give 210 minutes, and it estimated 209.
 Eight such readers estimated earlier versions. Without rows and guides they said 5 h 14 and 6 h 04;
 with them 4 h 57, then 4 h 43, 4 h 14 and 3 h 59; and for the version before this one 4 h 00 and
 4 h 13. In the copies of the first six, three definitions had been made wrong, and each reader found
-all three; the last three of them would have needed ten minutes less without. The goal is three
-hours.
+all three; the last three of them would have needed about ten minutes less without. The goal is
+three hours.
 
 The column "for code 0" leaves out the definitions with the sign °: what only other outcomes use,
 and what a certificate is. The headline does not need them, and the minutes are without them."""
