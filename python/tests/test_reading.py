@@ -70,7 +70,7 @@ class Statements(unittest.TestCase):
         self.assertIn(": Matched", said[0])
 
     def test_helpers_come_before_those_that_use_them(self) -> None:
-        helpers = Lemmas().helpers("auction_rules/Rows:falling_price_reaches_a_bid")
+        helpers = Lemmas().helpers("worked_rows/Auctions:falling_price_reaches_a_bid")
         names = [name for _, name in helpers]
         self.assertLess(names.index("played"), names.index("run"))
         self.assertLess(names.index("buy"), names.index("falling"))
@@ -126,11 +126,11 @@ class Order(unittest.TestCase):
         order = [self.FAULT, self.JUDGED]
         places = row_places(self.definitions, order, [], set(), Lemmas())
         self.assertIn(
-            (self.JUDGED, row_of("bid_strings/Worked:faults_of_points_in_their_order")), places
+            (self.JUDGED, row_of("worked_rows/Bids:faults_of_points_in_their_order")), places
         )
 
     def test_words_of_the_preamble_do_not_count(self) -> None:
-        lemmas, row = Lemmas(), row_of("auction_rules/Rows:equal_prices_trade")
+        lemmas, row = Lemmas(), row_of("worked_rows/Auctions:equal_prices_trade")
         helpers = set(lemmas.helpers(row.lemmas[0]))
         for preamble, place in ((set(), self.PAST), (helpers, self.CROSSES)):
             places = row_places(
@@ -148,8 +148,8 @@ class Order(unittest.TestCase):
         size = ("tac_base.specs.Bids", "size_of")
         kind = ("tac_base.specs.Kinds", "kind_of")
         places = [
-            (kind, row_of("auction_rules/Rows:last_and_first_goods_of_each_kind")),
-            (self.JUDGED, row_of("bid_strings/Worked:faults_of_points_in_their_order")),
+            (kind, row_of("worked_rows/Auctions:last_and_first_goods_of_each_kind")),
+            (self.JUDGED, row_of("worked_rows/Bids:faults_of_points_in_their_order")),
         ]
         order = [size, kind, self.FAULT, self.JUDGED]
         self.assertEqual(
