@@ -423,7 +423,7 @@ IN_WORDS: Dict[str, Tuple[str, str]] = {
     "tac_commands": ("FORMATS", "Exit statuses and refusals"),
     "tac_commands.Cash": ("GAME", "Cash"),
     "tacd": ("PROOFS", "The headline: a game over links"),
-    "draw_maker": ("FORMATS", "Made games"),
+    "draw_maker": ("FORMATS", "Generated games"),
     "good_worth": ("FORMATS", "What a unit is worth"),
     "log_audit": ("FORMATS", "The audit of a log"),
     "link_audit": ("FORMATS", "The audit of a link"),

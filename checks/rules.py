@@ -222,7 +222,7 @@ RULES = [
           "tacd/serve_tests:the_calls_of_lapsed_ticks_are_made"]),
     Rule("The schedule",
          "the order in which the hotels close",
-         ["FORMATS/Game file", "FORMATS/Made games"],
+         ["FORMATS/Game file", "FORMATS/Generated games"],
          ["game_text/ClosingOrders:IsOrder", "game_text/Schedule:hotel_calls",
           "draw_maker/ClosingOrders:made_order"],
          ["clock_events/calls:hotel_call", "game_text/closing_orders:order_of",
