@@ -333,7 +333,7 @@ class Board:
         self._log = (place / "log").open("wb")
         self._lobby = children.start(
             [sys.executable, str(TOP / "tools" / "lobby"), str(game), str(self._agents), str(pace),
-             "--page", str(self.port), "--after", "5", "--journal", str(place / "journal")],
+             "--page", str(self.port), "--journal", str(place / "journal")],
             stdin=subprocess.DEVNULL, stdout=self._log, stderr=subprocess.DEVNULL)
         wait_for("the page's port", lambda: _listens(self.port))
         self._tabs = {look: look.tab(browser, f"http://127.0.0.1:{self.port}/") for look in LOOKS}
