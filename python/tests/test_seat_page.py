@@ -193,6 +193,32 @@ class Served(Case):
         self.assertEqual(self.seat.phase, "over")
         self.assertFalse(self.ask("bid", page=page, good=9, points=[[1, 70]])[1]["done"])
 
+    def test_the_solver_is_asked_once_for_the_result_and_no_page_waits_for_it(self) -> None:
+        page, may_answer = self.open(), threading.Event()
+
+        def solve(*_: Any) -> Dict[str, Any]:
+            may_answer.wait(MOST)
+            return {"total": 7}
+
+        with mock.patch("geesefuton.playing.seat_page.counsel", side_effect=solve) as counsel:
+            self.end()
+            self.assertIsNone(self.state(page)["result"])
+            self.assertFalse(self.table.is_told.is_set())
+            may_answer.set()
+            until = time.monotonic() + MOST
+            while self.state(page)["result"] is None and time.monotonic() < until:
+                pass  # a state is waited for
+            self.assertEqual(self.state(page)["result"], {"total": 7})
+            self.assertEqual(counsel.call_count, 1)
+        self.assertTrue(self.table.is_told.is_set())
+
+    def test_without_a_solver_there_is_no_result(self) -> None:
+        page = self.open()
+        self.table.has_advice = False
+        self.end()
+        self.assertNotIn("result", self.state(page))
+        self.assertTrue(self.table.is_told.is_set())
+
     def test_links_of_one_address_are_limited(self) -> None:
         links = [http.client.HTTPConnection("127.0.0.1", self.site.server_address[1], timeout=MOST)
                  for _ in range(MOST_EACH)]

@@ -17,7 +17,7 @@ import time
 from http.server import BaseHTTPRequestHandler
 from pathlib import Path
 from socketserver import TCPServer, ThreadingMixIn
-from typing import Any, Dict, List, Optional, Tuple
+from typing import Any, Callable, Dict, List, Optional, Tuple
 
 from geesefuton.playing.answers import fault_of
 from geesefuton.playing.counsel import counsel
@@ -100,6 +100,34 @@ class Pages:
             self._playing = page
 
 
+class Ending:
+    """What the solver says of the end of a game. It is asked once, and no page waits long for it.
+
+    Args:
+        ask: Asks it.
+    """
+
+    def __init__(self, ask: Callable[[], Dict[str, Any]]) -> None:
+        self._ask = ask
+        self._told: Dict[str, Any] = {"result": None}
+        self._thread = threading.Thread(target=self._solve, daemon=True)
+        self._thread.start()
+
+    def _solve(self) -> None:
+        told: Dict[str, Any] = {}
+        try:
+            with contextlib.suppress(Refused):
+                told["result"] = self._ask()
+        finally:
+            self._told = told
+
+    def told(self) -> Dict[str, Any]:
+        """The `result`, which is None while the solver is at work; nothing if it cannot be asked.
+        """
+        self._thread.join(WAIT)
+        return self._told
+
+
 class Table:
     """A seat at its address, and the pages that are open there.
 
@@ -111,8 +139,9 @@ class Table:
     def __init__(self, seat: Seat, has_advice: bool) -> None:
         self.seat, self.pages, self.has_advice = seat, Pages(), has_advice
         self.token = "".join(secrets.choice(LETTERS) for _ in range(TOKEN))
-        self.is_told = threading.Event()  # that the game is over
-        self._solving = threading.Lock()
+        self.is_told = threading.Event()  # that the game is over, and the result if there is one
+        self._solving, self._lock = threading.Lock(), threading.Lock()
+        self._ending: Optional[Ending] = None
 
     def answer(self, what: str, given: Dict[str, Any]) -> Dict[str, Any]:
         """Answers a request of a page.
@@ -149,11 +178,20 @@ class Table:
         after = given.get("after")
         state = self.seat.state(after if isinstance(after, int) else -1, WAIT)
         told: Dict[str, Any] = {**state, "plays": self.pages.plays(page), "advice": self.has_advice}
-        if state["phase"] == "over":
-            self.is_told.set()
-            with contextlib.suppress(Refused):
-                told["result"] = self._advice({})
+        ending = self._ending_of(state["phase"])
+        if ending is not None:
+            told.update(ending.told())
+            if told.get("result", "none") is not None:
+                self.is_told.set()
         return told
+
+    def _ending_of(self, phase: str) -> Optional[Ending]:
+        with self._lock:
+            if phase != "over":
+                self._ending = None
+            elif self._ending is None:
+                self._ending = Ending(lambda: self._advice({}))
+            return self._ending
 
     def _ask(self, what: str, given: Dict[str, Any]) -> Dict[str, Any]:
         if what == "again":
