@@ -36,6 +36,7 @@ MOST = 120.0  # seconds that a page may take to show something, on a busy machin
 USED = ("button", "spinbutton", "checkbox", "radio", "link", "textbox", "dialog")
 AGENTS = ("planner", "trader", "baseline", "planner", "trader", "baseline", "planner", "watcher")
 JOURNAL = TOP / "python" / "tests" / "data" / "lobby.journal"
+SETTLED = 1.0  # seconds after which the rows of the standings are in their places
 LEAST, LARGE = 18.0, 24.0  # px of 720: of all texts, and of those that matter
 MATTERS = "#tick, .left div, .row .name, .row .score, .event p:first-child, .join p"
 FOCUSED = "document.activeElement.getAttribute('aria-label') || document.activeElement.innerText " \
@@ -344,6 +345,8 @@ class Board:
         most = MOST + TICKS * self._pace / 1000  # a slow game has its ticks later
         for look, tab in self._tabs.items():
             wait_for(f"{pattern} at {look}", lambda: tab.sees(pattern), most)
+        time.sleep(SETTLED)
+        for look, tab in self._tabs.items():
             tab.picture(self._folder / f"{name}-{look}.png")
             size, text = tab.value(SMALLEST)
             large = tab.value(SMALL_ONES % MATTERS)
