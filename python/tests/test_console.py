@@ -57,31 +57,31 @@ class Commands(test_relay.Case):
         self.connect(b"hello seat1\n")
         self.turns()
         self.assertEqual(self.who(1),
-                         "seat1 is here from 127.0.0.1, and another link asks for its seat")
+                         "seat1 is here from 127.0.0.1, and another link waits for its seat")
         self.console.obey("without seat5")
-        self.assertEqual((self.who(4), self.who(5)), ("seat4 is missing", "seat5 is over"))
+        self.assertEqual((self.who(4), self.who(5)), ("seat4 is missing", "seat5 has finished"))
 
     def test_who_came_from_another_address(self) -> None:
         link = self.relay.links[0]
         link.source = "10.0.0.9"
-        self.assertIn("from 10.0.0.9, another address than 127.0.0.1", self.who(0))
+        self.assertIn("from 10.0.0.9, but first came from 127.0.0.1", self.who(0))
 
     def test_a_link_that_is_ended_may_reconnect(self) -> None:
-        self.assertEqual(self.console.obey("end seat1"), "the link of seat1 is ended")
+        self.assertEqual(self.console.obey("end seat1"), "closed the link of seat1")
         self.assertTrue(self.has_ended(self.agents[1]))
         self.connect(b"hello seat1\n")
         self.turn_until_told(events.Rejoined)
 
     def test_an_address_that_is_banned(self) -> None:
         self.assertEqual(self.console.obey("ban 127.0.0.1"),
-                         "no link from 127.0.0.1 is taken; 2 ended")
+                         "banned 127.0.0.1; links closed: 2")
         self.assertTrue(self.has_ended(self.connect(b"hello seat1\n")))
         self.assertEqual(self.of(events.Rejoined), [])
-        with self.assertRaisesRegex(NotDone, "banned are: 10.0.0.1 127.0.0.1$"):
+        with self.assertRaisesRegex(NotDone, "banned addresses: 10.0.0.1 127.0.0.1$"):
             self.console.obey("ban 10.0.0.1")
             self.console.obey("allow 10.0.0.2")
         self.assertEqual(self.console.obey("allow 127.0.0.1"),
-                         "links from 127.0.0.1 are taken again")
+                         "127.0.0.1 is no longer banned")
         self.connect(b"hello seat1\n")
         self.turn_until_told(events.Rejoined)
 
@@ -101,17 +101,16 @@ class Commands(test_relay.Case):
                                      (1, "::FFFF:10.0.0.9", "10.0.0.9")):
             self.relay.links[link].source = plain
             self.assertEqual(self.console.obey(f"ban {written}"),
-                             f"no link from {plain} is taken; 1 ended")
+                             f"banned {plain}; links closed: 1")
             self.assertTrue(self.has_ended(self.agents[link]))
             self.assertEqual(self.console.obey(f"allow {written}"),
-                             f"links from {plain} are taken again")
+                             f"{plain} is no longer banned")
 
     def test_a_ban_of_another_address_ends_nobody(self) -> None:
         self.relay.links[1].source = "10.0.0.9"
         self.connect(b"hel")  # a link that has no seat yet
         self.turns()
-        self.assertEqual(self.console.obey("ban 10.0.0.9"), "no link from 10.0.0.9 is taken; 1 "
-                         "ended")
+        self.assertEqual(self.console.obey("ban 10.0.0.9"), "banned 10.0.0.9; links closed: 1")
         self.assertFalse(self.has_ended(self.agents[0]))
         self.assertTrue(self.has_ended(self.agents[1]))
         self.assertEqual(len(self.relay.links), 2)
@@ -128,20 +127,25 @@ class Commands(test_relay.Case):
     def test_a_seat_may_keep_its_word_and_have_that_of_nobody(self) -> None:
         for word in ("seat1", "red7k", "seat1"):
             self.assertEqual(self.console.obey(f"word seat1 {word}"),
-                             "seat1 is taken by its new word from now on")
-        with self.assertRaisesRegex(NotDone, "of another seat"):
+                             "seat seat1 is now taken by its new word")
+        with self.assertRaisesRegex(NotDone, "another seat's word"):
             self.console.obey("word seat2 seat1")
 
     def test_what_cannot_be_done(self) -> None:
-        for line, told in (("dance", "'dance' is no command; `help` tells them"),
-                           ("end", "`end SEAT` is due"), ("end 9", "no seat is called 9"),
-                           ("end seat4", "no link has a seat that is called seat4"),
-                           ("word seat1 seat2", "seat2 is the word of another seat"),
-                           ("word 1 R", "R is no seat word: 1 to 16 of a to z and 0 to 9 are due"),
-                           ("allow 10.0.0.1", "10.0.0.1 is not banned; banned are: none"),
-                           ("ban seat1", "seat1 is no address; `who` tells those of the agents"),
-                           ("allow 10.0.0", "10.0.0 is no address; `who` tells those of the "
-                            "agents")):
+        for line, told in (("dance", "unknown command 'dance'; type `help` for the list"),
+                           ("end", "expected `end SEAT`"),
+                           ("end 9", "there is no seat 9: give a seat's word, or its number 0 to "
+                            "7"),
+                           ("end seat4", "seat seat4 has no link"),
+                           ("word seat1 seat2", "seat2 is another seat's word: choose a different "
+                            "one"),
+                           ("word 1 R", "R is not a seat word: use 1 to 16 letters a to z and "
+                            "digits"),
+                           ("allow 10.0.0.1", "10.0.0.1 is not banned; banned addresses: none"),
+                           ("ban seat1", "seat1 is not an address; `who` shows the agents' "
+                            "addresses"),
+                           ("allow 10.0.0", "10.0.0 is not an address; `who` shows the agents' "
+                            "addresses")):
             with self.assertRaisesRegex(NotDone, "^" + told.replace("|", ".") + "$"):
                 self.console.obey(line)
 

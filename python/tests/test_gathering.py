@@ -105,7 +105,7 @@ class Hosting(Case):
         told = [event.text for event in host.of(events.Answered)]
         self.assertEqual(told[:8], [f"{word} is missing" for word in WORDS])
         self.assertTrue(told[8].startswith("who: "), told[8])
-        self.assertEqual([event.text for event in host.of(events.Warned)][:1], ["`who` is due"])
+        self.assertEqual([event.text for event in host.of(events.Warned)][:1], ["expected `who`"])
 
     def test_how_long_pages_stay_after_the_game(self) -> None:
         for stays in (False, True):

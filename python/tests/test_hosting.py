@@ -190,7 +190,7 @@ class Signals(Case):
         lobby_command._Signals(self.lobby, self.teller)
         self.assertFalse(self.take(signal.SIGHUP, 1.0) or self.teller.say.called)
         self.assertFalse(self.take(signal.SIGINT, 1.0))
-        self.assertIn("waiting 30 s for seat0 seat4; Enter", self.teller.say.call_args[0][0])
+        self.assertIn("waiting 30 s for seat0 seat4; press Enter", self.teller.say.call_args[0][0])
         self.lobby.end_links.assert_not_called()
         self.assertFalse(self.take(signal.SIGINT, 2.0))
         self.lobby.end_links.assert_called_once_with()
@@ -239,7 +239,7 @@ class Journals(Case):
         file = lobby_command._default_journal(Path("my.game"), teller)
         assert file is not None
         self.assertEqual(file.resolve().parent, self.folder)
-        self.assertIn("no journal can be made", teller.say.call_args[0][0])
+        self.assertIn("cannot create the journal", teller.say.call_args[0][0])
         with mock.patch("os.open", side_effect=OSError(30, "Read-only file system")):
             self.assertIsNone(lobby_command._default_journal(Path("my.game"), teller))
 
@@ -362,16 +362,16 @@ class Pages(Case):
             made, told = self.lobby(None, journal=given and Path(given)), mock.Mock()
             made._control.phase = phase
             self.assertEqual(made._stop(told), 130)
-            self.assertIn("there is no log", told.warn.call_args[0][0])
+            self.assertIn("stopped, without a log", told.warn.call_args[0][0])
             self.assertEqual("my.journal > " in told.warn.call_args[0][0], due)
             finished = told.emit.call_args[0][0]
             self.assertEqual((finished.status, finished.log), (130, None))
 
     def test_the_page_needs_a_port_of_its_own(self) -> None:
         port = free_port()
-        with self.assertRaisesRegex(LobbyError, f"port {port}: the page needs another port"):
+        with self.assertRaisesRegex(LobbyError, f"port {port} is for the .*: choose another"):
             Lobby(LobbySettings(GAME, port, 5, None, page=port))
-        with self.assertRaisesRegex(LobbyError, f"port {port}: the page needs another port"):
+        with self.assertRaisesRegex(LobbyError, f"port {port} is for the .*: choose another"):
             Lobby(LobbySettings(GAME, free_port(), 5, None, page=port, by_hand=port))
 
     def test_its_port_has_to_be_free(self) -> None:
@@ -382,14 +382,14 @@ class Pages(Case):
     def test_the_game_goes_on_without_it(self) -> None:
         self.assertEqual(self.page().fault(), "")
         page = self.page(1)
-        self.assertRegex(page.fault(), "page has ended, exit status 1; the game goes")
+        self.assertRegex(page.fault(), "page ended with exit status 1; the game goes")
         self.assertEqual(page.fault(), "")  # it is told once
 
     def test_one_that_ran_for_a_while_is_started_again(self) -> None:
         page = self.page(1, start=20.0)
         with mock.patch("geesefuton.hosting.page_process.STEADY", 0.0):
             for _ in range(2):
-                self.assertRegex(page.fault(), "page had ended, exit status 1, and is started agai")
+                self.assertRegex(page.fault(), "page ended with exit status 1, and was restarted")
         self.assertIn("the game goes on without it", page.fault())
         words = [call.args[0] for call in self.children.start.call_args_list]
         self.assertEqual(len(words), 3)
@@ -412,7 +412,7 @@ class Pages(Case):
 
     def test_a_journal_that_cannot_be_made(self) -> None:
         made = self.lobby(None, journal=self.folder / "none" / "my.journal")
-        with self.assertRaisesRegex(LobbyError, "no journal can be made: .*No such file"):
+        with self.assertRaisesRegex(LobbyError, "cannot create the journal .*No such file"):
             made._open_journal(self.folder, self.fail)
 
 

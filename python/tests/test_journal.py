@@ -102,7 +102,7 @@ class Reader(unittest.TestCase):
             file.write_text("\n".join(LINES[:20]) + '\n{"tick":')
             self.assertEqual(read_journal(file).lines, 20)
             file.write_text("")
-            with self.assertRaisesRegex(JournalError, "no first line"):
+            with self.assertRaisesRegex(JournalError, "lacks the first line"):
                 read_journal(file)
 
     def test_errors_name_the_line(self) -> None:
@@ -284,8 +284,8 @@ class Keeping(unittest.TestCase):
                 journal.tell(tick=0, t=0)
             journal.close()
         self.assertEqual(self.warned, [
-            f"the disk does not keep the journal {self.file} (Input/output error): the game goes "
-            "on, and a loss of power may cost more than its last second"])
+            f"cannot sync the journal {self.file} to disk (Input/output error): the game goes on, "
+            "but a power failure may lose more than its last second"])
         self.assertEqual(threads, [threading.main_thread()])  # that of the game
         self.assertTrue(journal.is_whole)
 

@@ -432,7 +432,7 @@ class Serving(unittest.TestCase):
         self.journal.write_text("hey\n")
         status, text = told()
         self.assertEqual((status, text.count("\n")), (1, 1))
-        self.assertIn(f"live: {self.journal}: line 1 is none of a journal", text)
+        self.assertIn(f"live: {self.journal}: line 1 is not a journal line", text)
         self.journal.write_text("\n".join(LINES) + "\n")
         with socket.create_server(("", self.port)):
             status, text = told()

@@ -181,7 +181,7 @@ class InTheGame(Case):
             self.assertEqual(host.end()["seat2"], End.LEFT)
         self.assertEqual([event.word for event in host.of(events.Waived)],
                          ["seat3", "seat1", "seat2"])
-        self.assertIn("`help` tells them", host.of(events.Warned)[0].text)
+        self.assertIn("`help` for the list", host.of(events.Warned)[0].text)
 
     def test_a_reply_is_in_the_journal_before_it_is_passed_on(self) -> None:
         host = Host(self.folder, pace=1000)

@@ -41,7 +41,8 @@ class BeforeTheGame(Case):
         self.assertEqual([silent[0].line(), silent[1].line()], ["", ""])
         host.hurry()
         host.end()
-        self.assertIn("200 links have sent no line", [event.why for event in host.of(events.Lost)])
+        self.assertIn("200 links had not sent a first line",
+                      [event.why for event in host.of(events.Lost)])
 
     def test_one_that_goes_may_come_again(self) -> None:
         host = Host(self.folder, start=None, pace=1000)

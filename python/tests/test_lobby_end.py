@@ -94,7 +94,7 @@ class TheEnd(Case):
             host = Host(self.folder, pace=2, start=0, linger=0)
             host.end()
         self.assertEqual(host.status, 137)
-        self.assertIn("makes a log of the journal", host.of(events.Warned)[-1].text)
+        self.assertIn("to make a log from the journal", host.of(events.Warned)[-1].text)
         self.assertEqual(read_journal(self.folder / "my.journal").status, 137)
 
     def test_a_server_that_fails_at_once(self) -> None:
@@ -194,8 +194,8 @@ class TheEnd(Case):
         self.assertEqual(list(self.folder.iterdir()), [])
 
     def test_what_is_told_of_a_log_that_is_lost(self) -> None:
-        for is_whole, due in ((True, "this makes it again: "),
-                              (False, "this makes one of what the journal has: ")):
+        for is_whole, due in ((True, "to make it again: "),
+                              (False, "to make one from what the journal has: ")):
             with mock.patch("geesefuton.hosting.log_files.keep",
                             return_value=log_files.Kept("the disk is full", None)), \
                     mock.patch.object(Journal, "is_whole", is_whole):

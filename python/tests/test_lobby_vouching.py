@@ -104,7 +104,7 @@ class Vouching(Case):
             with mock.patch.object(program, "vouch", side_effect=fault):
                 host, finished = self.play(journal=self.folder / f"{number}.journal")
             self.assertEqual((host.status, finished.vouched), (0, ()))
-            self.assertIn("whether the log is right about the lobby's links is not known: ",
+            self.assertIn("cannot compare the log with the lobby's links: ",
                           self.warnings(host))
 
 

@@ -62,7 +62,7 @@ class Keeping(Case):
     def test_a_copy_never_replaces_a_file(self) -> None:
         beside = self.folder / "my.log"
         beside.write_bytes(b"older\n")
-        self.assertEqual(keep(LOG, None, beside), Kept("there is none", self.folder / "my-2.log"))
+        self.assertEqual(keep(LOG, None, beside), Kept("it is closed", self.folder / "my-2.log"))
         self.assertEqual(self.files(), {"my.log": b"older\n", "my-2.log": LOG})
 
     def test_the_output_itself_is_not_copied(self) -> None:
@@ -157,7 +157,7 @@ class Elsewhere(Case):
         for change in (mock.patch("tempfile.mkstemp", side_effect=OSError(28, "full")),
                        mock.patch("os.write", side_effect=OSError(28, "full"))):
             with change:
-                self.assertEqual(keep(LOG, None, None), Kept("there is none", None))
+                self.assertEqual(keep(LOG, None, None), Kept("it is closed", None))
             self.assertEqual(self.files(), {})
 
 

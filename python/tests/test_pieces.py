@@ -110,14 +110,14 @@ class Joined(unittest.TestCase):
             found = first_difference(own, whole, WELCOME)
             self.assertEqual(found is None, is_due, welcome)
         self.assertEqual(found, Difference("red, welcome",
-                                           "it is not that of this seat in this game"))
+                                           "it is not the welcome of this seat in this game"))
 
     def test_what_is_told(self) -> None:
         for lines, replies, due in (
-                ("a", "1", "the seat's link has no such line as 'b'"),
-                ("ax", "12", "'b' was asked, and the seat's link has 'x'"),
+                ("a", "1", "the seat's link does not have the line 'b'"),
+                ("ax", "12", "the agent sent 'b', the seat's link has 'x'"),
                 ("ab", "1", "the seat's link has no reply to 'b'"),
-                ("ab", "13", "'b' was answered '2', and by the seat's link '3'"),
+                ("ab", "13", "the agent got '2' for 'b', the seat's link has '3'"),
                 ("abc", "123", "no record has 'c'")):
             found = first_difference(pieces(("ab", "12")), link(lines, replies), WELCOME)
             assert found is not None
@@ -172,7 +172,7 @@ class Files(unittest.TestCase):
         self.assertRaises(FileNotFoundError, read_piece, stems_of(self.folder)[0])
         for text in (b"", b"half"):
             (self.folder / "red7k.said").write_bytes(text)
-            self.assertRaisesRegex(RecordError, "red7k.said has no whole line", read_piece,
+            self.assertRaisesRegex(RecordError, "red7k.said has no complete line", read_piece,
                                    self.folder / "red7k")
 
     def test_a_greeting_that_is_none(self) -> None:

@@ -44,11 +44,11 @@ class Telling(unittest.TestCase):
             asks(0, "hm"), told(0, "no syntax", 704)]
 
     def test_how_the_game_ended(self) -> None:
-        more = "the scores are those of a game in which nobody asks anything more"
+        more = "the scores assume that nobody asks anything more"
         for lines, due in (
                 (self.HEAD, f"the journal ends after tick 7 of 54; 2 calls; {more}"),
-                ([*self.HEAD, '{"over":0,"t":800}'], "the game came to its end; 2 calls"),
-                ([*self.HEAD, '{"over":6,"t":800}'], "the game came to its end; 2 calls"),
+                ([*self.HEAD, '{"over":0,"t":800}'], "the game was played to its end; 2 calls"),
+                ([*self.HEAD, '{"over":6,"t":800}'], "the game was played to its end; 2 calls"),
                 ([*self.HEAD, '{"over":137,"t":800}'],
                  f"the server failed (137) after tick 7 of 54; 2 calls; {more}"),
                 (LINES[:4], "the game had not begun")):
@@ -65,8 +65,8 @@ class Telling(unittest.TestCase):
             f"  without a reply, in the log: {first}: bid 21 ((1 5))",
             f"  without a reply, left out: {third}: bid 22 ((1 5))",
             f"  without a reply, left out: {fourth}: own 22",
-            "  nobody can know whether those left out were made; with them (--pending) scores "
-            f"change: {third} -1"]))
+            "  the journal does not show whether those left out were made; with them (--pending) "
+            f"scores change: {third} -1"]))
         self.assertEqual([row.score for row in read_log(self.log.read_bytes()).scores],
                          [0, -1, 0, -1, 0, 0, 0, 0])
         status, text = self.run_it(lines, "--pending")
@@ -88,16 +88,16 @@ class Telling(unittest.TestCase):
         lines = [*self.HEAD, asks(1, "own 21"), told(1, "@0 own 4 ()")]
         status, text = self.run_it(lines)
         self.assertEqual((status, text[1:]),
-                         (1, ["! 1 own 21: it was told @0 own 4 (), and now @0 own 0 ()"]))
+                         (1, ["! 1 own 21: replied @0 own 4 (), and now @0 own 0 ()"]))
         self.assertEqual(read_log(self.log.read_bytes()).kind, "play")
 
     def test_a_journal_of_no_game_leaves_no_log(self) -> None:
         lines = [*self.HEAD, asks(1, "own 20"), told(1, "@0 own 0 ()")]
         status, text = self.run_it(lines)
         self.assertEqual((status, text), (
-            1, [f"recover: {self.folder / 'journal'}: two replies have position 0 of good 20"]))
+            1, [f"recover: {self.folder / 'journal'}: two replies have position 0 for good 20"]))
         status, text = self.run_it(["hey"])
-        self.assertEqual((status, len(text), "line 1 is none of a journal" in text[0]),
+        self.assertEqual((status, len(text), "line 1 is not a journal line" in text[0]),
                          (1, 1, True))
         none = self.folder / "none"
         self.assertEqual(refusal("hosting.recover_command", none),
@@ -152,7 +152,7 @@ class WithTheProgram(unittest.TestCase):
         other = LINES[reply].replace(f"own {had}", f"own {had + 1}")
         (self.folder / "other").write_text("\n".join([*LINES[:reply], other, *LINES[reply + 1:]])
                                            + "\n")
-        told = f"3 own 22: it was told @0 own {had + 1} (), and now @0 own {had} ()"
+        told = f"3 own 22: replied @0 own {had + 1} (), and now @0 own {had} ()"
         log, faults = Recovery(read_journal(self.folder / "other"), self.player).log()
         self.assertEqual((self.audit(log), faults), ("sound", [told]))
         done = subprocess.run([sys.executable, str(TOP / "tools/recover"), "other"], text=True,
@@ -175,7 +175,7 @@ class WithTheProgram(unittest.TestCase):
         played = program.play(self.folder / "other.game", self.folder / "my.script")
         self.assertEqual(played[played.index("taclog 1"):], done.stdout)
         for words, text in ((["nowhere"], "nowhere: No such file"),
-                            (["other.game"], "line 1 is none of a journal"),
+                            (["other.game"], "line 1 is not a journal line"),
                             (["cut", "--script", "no/where"], "no/where: No such file")):
             done = run(*words)
             self.assertEqual((done.returncode, "Traceback" in done.stderr), (1, False))

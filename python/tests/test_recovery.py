@@ -244,7 +244,7 @@ class Making(unittest.TestCase):
     def test_replies_of_which_no_request_can_be_the_cause(self) -> None:
         reader = journal(asks(1, "bid 20 ((1 50))"), asks(2, "quote 20"),
                          told(2, "@1 quote 60 0 open"))
-        with self.assertRaisesRegex(RecoveryError, "good 20: no way .* the 1 requests"):
+        with self.assertRaisesRegex(RecoveryError, "good 20: its 1 requests .* cannot be placed"):
             self.make(reader)
         reader = journal(asks(2, "own 20"), told(2, "@3 own 0 ()"), asks(2, "own 20"))
         with self.assertRaisesRegex(RecoveryError, "good 20"):
@@ -300,7 +300,7 @@ class Making(unittest.TestCase):
         reader = journal(asks(1, "own 20"), told(1, "@0 own 3 ()"), asks(2, "cash"),
                          told(2, "@0 cash -70"), asks(2, "own 20"), told(2, "@1 own 0 ()"))
         log, faults = self.make(reader).log()
-        self.assertEqual(faults, ["1 own 20: it was told @0 own 3 (), and now @0 own 0 ()"])
+        self.assertEqual(faults, ["1 own 20: replied @0 own 3 (), and now @0 own 0 ()"])
         self.assertEqual(called(log)["auction 20 3"], ["1 own", "2 own", "8 close"])
 
     def test_requests_without_a_reply_are_not_compared(self) -> None:

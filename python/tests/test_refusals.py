@@ -19,7 +19,7 @@ class Counting(unittest.TestCase):
             self.assertIsNone(self.refusals.add(111.0, "h", text))
         self.assertEqual(self.refusals.due(119.9), [])
         self.assertEqual(self.refusals.due(120.0),
-                         ["2 more links from h took no seat, the last: four"])
+                         ["2 more links from h took no seat; the last: four"])
         self.assertEqual(self.refusals.due(130.0), [])
         self.assertEqual(self.refusals.add(130.0, "h", "five"), "five")
 

@@ -562,7 +562,7 @@ class Strangers(Case):
 
     def test_one_that_goes_without_a_line_is_told(self) -> None:
         self.connect(b"hello").close()
-        self.assertEqual(self.turn_until_told(events.Lost)[0].why, "it ended without a line")
+        self.assertEqual(self.turn_until_told(events.Lost)[0].why, "it ended before its first line")
         self.assertEqual(self.of(events.Departed), [])
 
     def test_the_eldest_goes_if_there_are_too_many(self) -> None:
@@ -634,7 +634,7 @@ class Strangers(Case):
         for _ in range(2):
             self.relay.pass_time(time.monotonic() + UNREAD + 1)
         event, = self.of(events.Warned)
-        self.assertIn("seat0 has not read what it was sent", event.text)
+        self.assertIn("seat0 has not read its replies", event.text)
 
     def test_one_that_has_read_all_is_not_told_of(self) -> None:
         self.overfill()
@@ -658,7 +658,7 @@ class Strangers(Case):
                 self.assertEqual(len(self.of(events.Warned)), int(number >= 2))
             self.ask(1, b"own 5\n", b"@0 own 0 ()\n")
         event, = self.of(events.Warned)
-        self.assertRegex(event.text, "seat0 has sent 3 lines; beyond 65,536 it is not answered")
+        self.assertRegex(event.text, "seat0 has sent 3 lines; it gets no replies beyond 65,536")
 
 
 if __name__ == "__main__":

@@ -121,7 +121,7 @@ class Folders(Case):
             for words, told in ((["--folder", self.place], "is no folder of a practice room"),
                                 (["--house", "nobody.py"], "there is no file nobody.py"),
                                 (["--slips", "slips.txt"], "--slips needs --teams"),
-                                (["--page", "7000"], "the page needs another port"),
+                                (["--page", "7000"], "choose another for the page"),
                                 (["--folder", self.path, "--teams", tac], "is no team")):
                 status, text = refusal("practice.room_command", *words)
                 self.assertEqual((status > 0, text.count("\n")), (True, 1), text)

@@ -175,11 +175,11 @@ class Pages(unittest.TestCase):
         self.assertEqual([shown for *_, shown in self.shown], [ROOM])
 
     def test_a_journal_that_is_none_is_told(self) -> None:
-        Live.fault = JournalError("line 1 is none of a journal")
+        Live.fault = JournalError("line 1 is not a journal line")
         self.board(self.journal("0001.journal"))
         self.run_it(4.0)
         self.assertEqual(self.told, [f"room: {self.place / '0001.journal'} cannot be shown: line 1 "
-                                     "is none of a journal"])
+                                     "is not a journal line"])
         self.assertEqual([shown for *_, shown in self.shown], [ROOM])
 
     def test_a_file_that_is_not_there_yet_is_told_and_waited_for(self) -> None:

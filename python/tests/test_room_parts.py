@@ -185,7 +185,7 @@ class Boards(Case):
         made.show(None, [], {})
         self.process.poll.return_value = self.process.returncode = 3
         self.assertEqual(made.show(None, [], {}),
-                         "the page had ended, exit status 3, and is started again")
+                         "the page ended with exit status 3, and was restarted")
         self.children.end.assert_called_once_with(self.process)
         self.assertEqual(self.children.start.call_count, 2)
 

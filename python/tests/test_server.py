@@ -58,7 +58,7 @@ class Strangers(Case):
         self.check_game(host)
         self.assertFalse(file.exists())
         warned, = host.of(events.Warned)
-        self.assertRegex(warned.text, "has not started at its port .*stranger.*another port")
+        self.assertRegex(warned.text, "did not start at its port .*outsider.*another port")
 
     def test_a_stranger_with_a_seats_word_at_the_servers_port_does_not_get_the_seat(self) -> None:
         file = self.stranger("hello seat3\n")
@@ -66,7 +66,7 @@ class Strangers(Case):
         self.check_game(host)
         self.assertFalse(file.exists())
         warned, = host.of(events.Warned)
-        self.assertRegex(warned.text, "asked for seat 3: the lobby was sent 'refused taken'")
+        self.assertRegex(warned.text, "asked for seat 3: the lobby got 'refused taken'")
 
     def test_a_stranger_with_a_wrong_first_line_is_no_fault(self) -> None:
         self.stranger("GET / HTTP/1.1\n")
@@ -81,7 +81,7 @@ class Strangers(Case):
         host.end()
         self.assertEqual((host.status, host.of(events.Began)), (server.TAKEN, []))
         self.assertEqual(len(host.of(events.Warned)), TRIES)
-        self.assertIn("no more ports are tried", host.of(events.Warned)[-1].text)
+        self.assertIn("giving up", host.of(events.Warned)[-1].text)
 
     def test_somebody_elses_server_at_the_port_is_left_alone(self) -> None:
         self.set(FAKE_LATE="0.3")  # so that the lobby finds the other one listening
@@ -134,7 +134,7 @@ class Strangers(Case):
         host = Host(self.folder, pace=2, start=0, linger=0, journal=self.folder / "other.journal")
         host.end()
         warned, = host.of(events.Warned)
-        self.assertIn("did not have all eight seats of the server, but 0 1 2 5 6 7", warned.text)
+        self.assertIn("did not have all eight seats of the server (it had 0 1 2 5 6 7)", warned.text)
 
 
 class Ticks(Case):
@@ -163,9 +163,9 @@ class Heads(unittest.TestCase):
         self.assertEqual(fault_of_head(b""), "")
         moved = [f"link {number + 1} seated {number}" for number in range(8)]
         self.assertEqual(fault_of_head(head("link 0 lost", *moved)), "")
-        self.assertIn("but 1 0 2 3 4 5 6 7:", fault_of_head(
+        self.assertIn("(it had 1 0 2 3 4 5 6 7)", fault_of_head(
             head("link 0 seated 1", "link 1 seated 0", *seated[2:])))
-        self.assertIn("but none:", fault_of_head(head()))
+        self.assertIn("(it had none)", fault_of_head(head()))
 
     def test_a_first_line_is_not_taken_away(self) -> None:
         ours, theirs = socket.socketpair()
@@ -261,7 +261,7 @@ class Signals(Case):
         with mock.patch("geesefuton.hosting.page_process.page_words", return_value=words):
             host = Host(self.folder, start=None, page=free_port())
             warned, = host.wait(events.Warned)
-            self.assertIn("the page has ended, exit status 7", warned.text)
+            self.assertIn("the page ended with exit status 7", warned.text)
             self.assertIs(host.lobby.phase, Phase.GATHERING)
             host.lobby.interrupt()
             host.end()
@@ -281,7 +281,7 @@ class Signals(Case):
         self.wait_for(script, "tick 54")
         script.send_signal(signal.SIGINT)
         self.assertRegex(self.wait_for(script, "ctrl-C"),
-                         r"waiting (199|200) s for seat0; Enter or ctrl-C ends now")
+                         r"waiting (199|200) s for seat0; press Enter or ctrl-C to end now")
         return script
 
     def check_end(self, script: "subprocess.Popen[bytes]") -> None:

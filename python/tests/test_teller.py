@@ -46,11 +46,11 @@ class Texts(unittest.TestCase):
             events.Ended(0.0, 1, "seat1", End.HUNG, 17), events.Finished(0.0, 130, None),
             events.Finished(0.0, 6, "my.log")), [
             "seat1 is here from 10.0.0.7; missing: seat0 seat2 seat3 seat4 seat5 seat6 seat7",
-            "seat1 went away, and may reconnect",
+            "seat1 lost its link, and may reconnect",
             "seat3 is here from 10.0.0.6; missing: seat0 seat1 seat2 seat4 seat5 seat6 seat7",
             "seat1 is back, from 10.0.0.8",
             "seat4 is here from 10.0.0.5; missing: seat0 seat2 seat5 seat6 seat7",
-            "seat2 is not waited for",
+            "no longer waiting for seat2",
             "the game begins without seat0 seat2 seat3 seat4 seat5 seat6 seat7",
             "tick 6 of 54; lines: seat0 0 seat1 1 seat2 2 seat3 3 seat4 4 seat5 5 seat6 6 seat7 7",
             "mind the gap", "seat1 still had its link long after the last tick, 17 lines",
@@ -68,9 +68,9 @@ class Texts(unittest.TestCase):
         told = texts_of(*(events.Ended(0.0, 2, "seat2", reason, 3) for reason in End))
         self.assertEqual(dict(zip(End, told)), {
             End.LEFT: "seat2 has left, 3 lines",
-            End.GONE: "seat2 went away and did not reconnect, 3 lines",
+            End.GONE: "seat2 lost its link and did not reconnect, 3 lines",
             End.HUNG: "seat2 still had its link long after the last tick, 3 lines",
-            End.ABSENT: "seat2 never came, 3 lines",
+            End.ABSENT: "seat2 never connected, 3 lines",
             End.REFUSED: "seat2 sent only lines that were refused, 3 lines"})
 
     def test_ticks_are_told_every_six(self) -> None:
@@ -102,22 +102,22 @@ class Texts(unittest.TestCase):
 
         told = texts_of(refused(20), refused(25), refused(26, "i"), refused(27, "h", "syntax"),
                         refused(29.9), refused(30), events.Lost(31, "k", "it sent no line"),
-                        refused(39), events.Lost(45, "i", "it ended without a line"))
+                        refused(39), events.Lost(45, "i", "it ended before its first line"))
         self.assertEqual(told, [
-            "refused taken to h, which said 'hello seat1'",
-            "refused taken to i, which said 'hello seat1'",
-            "3 more links from h took no seat, the last: refused taken to h, which said "
+            "refused h as taken: it sent 'hello seat1'",
+            "refused i as taken: it sent 'hello seat1'",
+            "3 more links from h took no seat; the last: refused h as taken: it sent "
             "'hello seat1'",
-            "a link from k is gone: it sent no line",
-            "2 more links from h took no seat, the last: refused taken to h, which said "
+            "lost a link from k: it sent no line",
+            "2 more links from h took no seat; the last: refused h as taken: it sent "
             "'hello seat1'",
-            "a link from i is gone: it ended without a line"])
+            "lost a link from i: it ended before its first line"])
 
     def test_a_flood_of_guesses_and_connects_is_a_few_lines(self) -> None:
         flood: List[Event] = []
         for number in range(2000):
             flood.append(events.Refused(number / 100, "h", "wrongword", f"hello word{number}"))
-            flood.append(events.Lost(number / 100, "h", "it ended without a line"))
+            flood.append(events.Lost(number / 100, "h", "it ended before its first line"))
             flood.append(events.Lost(number / 100, f"10.0.{number % 250}.{number // 250}", "none"))
         told = texts_of(*flood)
         self.assertLess(len(told), 200)

@@ -314,7 +314,7 @@ class Crowds(Case):
         with mock.patch.object(loop, "sock_accept", sock_accept), \
                 mock.patch("geesefuton.hosting.viewers.AGAIN", 0.01):
             self.assertEqual(self.run_it(work), "HTTP/1.1 200 OK")
-        self.assertEqual(self.told, ["live: no viewer can be taken: Too many open files"])
+        self.assertEqual(self.told, ["live: cannot accept a viewer: Too many open files"])
 
     def test_the_systems_limit_of_open_files_is_kept(self) -> None:
         for soft, due in ((256, 200), (128, 80), (50, 2), (1 << 20, 200),

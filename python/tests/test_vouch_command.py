@@ -141,15 +141,15 @@ class Printed(Case):
         del self.others.said[3]
         self.write_journal(["own 16", "quote 8", "own 5"], REPLIES)
         self.assertEqual(self.vouch(self.mine, "--journal", self.journal), (1, [
-            f"{RED}: unvouched: red7k.2, line 1: 'cash' was asked, and the seat's link has "
+            f"{RED}: unvouched: red7k.2, line 1: the agent sent 'cash', the seat's link has "
             "'own 5'", "vouched: 0 of 1"], ""))
 
     def test_pieces_alone_are_not_enough(self) -> None:
         self.record("red7k", LINES[:2], REPLIES[:1])
         self.record("red7k.2", LINES[2:], REPLIES[2:])
         self.assertEqual(self.vouch(self.mine), (1, [], (
-            f"vouch: {RED} has 2 records, none of which is the whole session: --published FOLDER "
-            "or --journal J is due\n")))
+            f"vouch: {RED} has 2 records, none of the whole session: add --published FOLDER or "
+            "--journal J\n")))
 
     def test_records_of_several_seats_and_of_none(self) -> None:
         self.record("a", LINES, REPLIES)
@@ -176,7 +176,7 @@ class Printed(Case):
         self.record("red7k", ['{"do":"cash"}'], ['{"at":0,"cash":0}'])
         self.assertEqual(self.vouch(self.mine, "--json")[2], "")
         self.assertEqual(self.vouch(self.mine)[2],
-                         "vouch: lines look like JSON objects: --json may be due\n")
+                         "vouch: the lines look like JSON objects: try --json\n")
         self.assertEqual(self.others.forms, ["json"] * 9 + ["words"])
 
 
@@ -190,10 +190,10 @@ class BadInput(Case):
 
     def test_words(self) -> None:
         for words, due in (
-                ([], "MINE, --journal or --published is due"),
+                ([], "give MINE, --journal or --published"),
                 (["--publish", "x"], "--publish needs --journal"),
                 (["--journal", "x", "--published", "y"],
-                 "--journal has what --published has: name one of them"),
+                 "give --journal or --published, not both"),
                 (["--journal", "x", "--seat", "y"], "--seat needs MINE")):
             self.assertEqual(self.refused(*words), f"{due} (--help tells more)")
 
@@ -214,13 +214,13 @@ class BadInput(Case):
     def test_journals(self) -> None:
         self.write_journal(LINES, REPLIES, text=GAME.named([f"x{at}" for at in range(8)]).text())
         self.assertEqual(self.refused("--journal", self.journal),
-                         "my.journal is the journal of another game than my.game")
+                         "my.journal is not the journal of the game my.game")
         self.journal.write_text(json.dumps(HEAD) + "\n")
         self.assertEqual(self.refused("--journal", self.journal),
                          "my.journal: the game had not begun")
         for text in ("", "x\n"):
             self.journal.write_text(text)
-            self.assertIn("none of a journal" if text else "no first line",
+            self.assertIn("not a journal line" if text else "lacks the first line",
                           self.refused("--journal", self.journal))
 
     def test_records_that_are_empty(self) -> None:
@@ -230,8 +230,8 @@ class BadInput(Case):
         self.record("red7k", LINES, REPLIES)
         for side in ("said", "asked"):
             (self.mine / f"red7k.{side}").write_text("")
-            self.assertEqual(self.refused(self.mine), f"mine/red7k.{side} has no whole line, so it "
-                             "is no record of a link")
+            self.assertEqual(self.refused(self.mine), f"mine/red7k.{side} has no complete line, "
+                             "so it is not a record of a link")
 
     def test_seats_that_are_not_there(self) -> None:
         self.record("red7k", LINES, REPLIES)
@@ -250,7 +250,7 @@ class BadInput(Case):
     def test_a_folder_that_has_files(self) -> None:
         self.record("red7k", LINES, REPLIES)
         self.assertEqual(self.refused("--journal", self.journal, "--publish", self.mine),
-                         "mine has files: name a new folder")
+                         "mine is not empty: name a new folder")
 
     @unittest.skipUnless(os.path.exists("/dev/full"), "there is no file that takes nothing")
     def test_full_disks(self) -> None:

@@ -1,4 +1,4 @@
-"""What the host can say on the lobby's terminal, a line for each command."""
+"""The host's commands on the lobby's terminal, one a line."""
 
 from __future__ import annotations
 
@@ -39,16 +39,17 @@ class Console:
         self._relay, self._control = relay, control
         self._homes: Dict[int, str] = {}  # the address from which each seat's agent came first
         self._commands: Dict[str, Command] = {
-            "who": Command("", "who is here, from where, and who is silent", self._who),
-            "begin": Command("", "begins the game now, as an empty line does", self._go_on),
-            "without": Command("SEAT", "waits for that agent no longer", self._waive),
-            "end": Command("SEAT", "ends the seat's link; its agent may reconnect", self._end),
-            "ban": Command("ADDRESS", "ends the address's links, and takes no more", self._ban),
-            "allow": Command("ADDRESS", "takes links from the address again", self._allow),
-            "word": Command("SEAT WORD", "the seat is taken by this word from now on", self._word),
-            "finish": Command("", "after the last tick: waits for nobody any longer", self._go_on),
+            "who": Command("", "shows which agents are here, from where, and which are silent",
+                           self._who),
+            "begin": Command("", "begins the game now; an empty line does the same", self._go_on),
+            "without": Command("SEAT", "stops waiting for this agent", self._waive),
+            "end": Command("SEAT", "closes the seat's link; its agent may reconnect", self._end),
+            "ban": Command("ADDRESS", "closes the address's links and accepts no more", self._ban),
+            "allow": Command("ADDRESS", "accepts links from the address again", self._allow),
+            "word": Command("SEAT WORD", "changes the word that takes the seat", self._word),
+            "finish": Command("", "after the last tick: stops waiting for agents", self._go_on),
             "stop": Command("", "stops the game at once, without a log", self._stop),
-            "help": Command("", "tells these commands", self._help),
+            "help": Command("", "lists these commands", self._help),
         }
 
     def obey(self, line: str) -> str:
@@ -62,9 +63,9 @@ class Console:
                                         else "finish"]
         known = self._commands.get(name)
         if known is None:
-            raise NotDone(f"{name!r} is no command; `help` tells them")
+            raise NotDone(f"unknown command {name!r}; type `help` for the list")
         if len(words) != len(known.words.split()):
-            raise NotDone(f"`{_usage(name, known)}` is due")
+            raise NotDone(f"expected `{_usage(name, known)}`")
         return known.run(*words)
 
     def note_homes(self) -> None:
@@ -82,14 +83,14 @@ class Console:
         """What is known of a seat's agent."""
         link = self._link(seat)
         if link is None:
-            return f"{seat.word} {'is over' if seat.state is State.OVER else 'is missing'}"
+            return f"{seat.word} {'has finished' if seat.state is State.OVER else 'is missing'}"
         text = f"{seat.word} is here from {link.source}"
         home, silent = self._homes[seat.number], time.monotonic() - seat.heard
         if home != link.source:
-            text += f", another address than {home}"
+            text += f", but first came from {home}"
         if seat.playing and silent >= SILENT:
             text += f", silent for {silent:.0f} s"
-        return text + (", and another link asks for its seat" if seat.heir is not None else "")
+        return text + (", and another link waits for its seat" if seat.heir is not None else "")
 
     def _go_on(self) -> str:
         self._control.go_on()
@@ -106,9 +107,9 @@ class Console:
     def _end(self, word: str) -> str:
         link = self._link(self._seat(word))
         if link is None:
-            raise NotDone(f"no link has a seat that is called {word}")
+            raise NotDone(f"seat {word} has no link")
         self._relay.fail(link)
-        return f"the link of {word} is ended"
+        return f"closed the link of {word}"
 
     def _ban(self, text: str) -> str:
         address = _address(text)
@@ -116,24 +117,24 @@ class Console:
         links = [link for link in self._relay.links.values() if link.source == address]
         for link in links:
             self._relay.fail(link)
-        return f"no link from {address} is taken; {len(links)} ended"
+        return f"banned {address}; links closed: {len(links)}"
 
     def _allow(self, text: str) -> str:
         address = _address(text)
         if address not in self._relay.banned:
             banned = " ".join(sorted(self._relay.banned)) or "none"
-            raise NotDone(f"{address} is not banned; banned are: {banned}")
+            raise NotDone(f"{address} is not banned; banned addresses: {banned}")
         self._relay.banned.remove(address)
-        return f"links from {address} are taken again"
+        return f"{address} is no longer banned"
 
     def _word(self, name: str, word: str) -> str:
         seat, seats = self._seat(name), self._relay.seats
         if not is_seat_word(word):
-            raise NotDone(f"{word} is no seat word: 1 to 16 of a to z and 0 to 9 are due")
+            raise NotDone(f"{word} is not a seat word: use 1 to 16 letters a to z and digits")
         if seats.keys.get(word, seat.number) != seat.number:
-            raise NotDone(f"{word} is the word of another seat")
+            raise NotDone(f"{word} is another seat's word: choose a different one")
         seats.change_word(seat.number, word)
-        return f"{seat.word} is taken by its new word from now on"
+        return f"seat {seat.word} is now taken by its new word"
 
     def _help(self) -> str:
         return "\n".join(f"{_usage(name, known)}: {known.does}"
@@ -144,7 +145,7 @@ class Console:
         numbers = {str(seat.number): seat for seat in seats.seats}
         seat = seats.by_word(name) or numbers.get(name)
         if seat is None:
-            raise NotDone(f"no seat is called {name}")
+            raise NotDone(f"there is no seat {name}: give a seat's word, or its number 0 to 7")
         return seat
 
     def _link(self, seat: Seat) -> Optional[OuterLink]:
@@ -160,7 +161,7 @@ def _address(text: str) -> str:
     try:
         return plain_address(text)
     except ValueError:
-        raise NotDone(f"{text} is no address; `who` tells those of the agents") from None
+        raise NotDone(f"{text} is not an address; `who` shows the agents' addresses") from None
 
 
 def _usage(name: str, known: Command) -> str:

@@ -1,4 +1,4 @@
-"""How far a hosted game is, and what is asked of it from outside."""
+"""The phase of a hosted game, and the requests to stop it or go on."""
 
 from __future__ import annotations
 
@@ -13,10 +13,10 @@ STOPPED = 130  # the exit status of a game that was ended before its time
 class Phase(enum.Enum):
     """How far a game is."""
 
-    GATHERING = "agents are waited for"
-    STARTING = "the server is being started"
+    GATHERING = "waiting for agents"
+    STARTING = "starting the server"
     PLAYING = "the ticks pass"
-    ENDING = "the last tick has passed, and agents that have not left are waited for"
+    ENDING = "the last tick has passed; waiting for agents that have not left"
     SHOWING = "the log is written, and the page shows the last scores"
 
 

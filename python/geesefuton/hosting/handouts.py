@@ -1,7 +1,7 @@
-"""What a page of a game hands out to whoever writes an agent: how to join, and a starter of one
-file for each of three languages, with the address of the game filled in.
+"""What a game's page hands out to authors of agents: how to join, and a one-file starter in each of
+three languages, with the address of the game filled in.
 
-The page fills the seat word in by itself, in the browser: it is a password, and is not sent here.
+The browser fills in the seat word: it is a password, and is not sent here.
 """
 
 from __future__ import annotations

@@ -1,4 +1,4 @@
-"""A game that is being hosted, as a way of serving it sees it.
+"""A game that is being hosted, as a `Serving` sees it.
 
 A lobby gathers the agents, and then lets a `Serving` play the game: it answers the sessions that
 it gives the relay, and lets time pass by `HostedGame.turn`. `ClockServer` is the one with a clock.

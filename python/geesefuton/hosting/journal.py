@@ -1,6 +1,6 @@
 """The journal of a game: what the lobby writes while the game runs, so that nothing is lost.
 
-A journal is a text of JSON objects, one a line (docs/FORMATS.md, "The journal of a game").
+A journal is a text with one JSON object a line (docs/FORMATS.md, "The journal of a game").
 
     {"journal":1,"at":SECONDS,"pace":MS,"form":"words","game":TEXT}   the first line
     {"here":A,"from":SOURCE}   {"gone":A}   {"without":A}             links come and go
@@ -10,10 +10,10 @@ A journal is a text of JSON objects, one a line (docs/FORMATS.md, "The journal o
     {"end":A,"why":WHY,"t":MS}                                        a session is over
     {"over":STATUS,"t":MS}                                            the server has ended
 
-A reply is written before it is passed on, with all lines before it. So whoever knows a reply finds
-it here, and each line that had a part in it before it. What a process has written survives its end
-by SIGKILL. A loss of power may cost what was written in the last second or so, where the system's
-`fsync` waits for the disk, as that of Linux does.
+The lobby writes a reply, with all lines before it, before it passes it on. So each reply that an
+agent has got is here, after every line that affected it. What the lobby has written survives even
+SIGKILL. A power failure may lose the last second or so, if the system's `fsync` waits for the disk,
+as it does on Linux.
 """
 
 from __future__ import annotations
@@ -131,14 +131,14 @@ class Journal:
 
     def _give_up(self, fault: OSError) -> None:
         self._number = None
-        self._warn(f"the journal {self.file} takes no more ({why(fault)}): the game goes on "
-                   "without it")
+        self._warn(f"cannot write the journal {self.file} ({why(fault)}): the game goes on without "
+                   "it")
 
     def _tell_loss(self) -> None:
         if self._loss is not None and not self._is_loss_told:
             self._is_loss_told = True
-            self._warn(f"the disk does not keep the journal {self.file} ({why(self._loss)}): the "
-                       "game goes on, and a loss of power may cost more than its last second")
+            self._warn(f"cannot sync the journal {self.file} to disk ({why(self._loss)}): the game "
+                       "goes on, but a power failure may lose more than its last second")
 
     def _sync_folder(self) -> None:
         """Puts the file's name onto the disk."""
@@ -263,7 +263,7 @@ class JournalReader:
         """Adds a piece of a journal that ends with a line.
 
         Raises:
-            JournalError: A line is none of a journal.
+            JournalError: A line is not a journal line.
         """
         for line in text.split("\n"):
             if not line:
@@ -272,11 +272,11 @@ class JournalReader:
             try:
                 what = json.loads(line)
                 if (self.lines == 1) != ("journal" in what):
-                    raise ValueError("the first line, and no other, says `journal`")
+                    raise ValueError("`journal` belongs in the first line, and in no other")
                 self._add(what)
             except (ValueError, KeyError, IndexError, TypeError, AttributeError,
                     GameError, ReplyError) as fault:
-                raise JournalError(f"line {self.lines} is none of a journal: {fault}") from None
+                raise JournalError(f"line {self.lines} is not a journal line: {fault}") from None
 
     def copy(self) -> "JournalReader":
         """What is known now, for a reader that works while more is added."""
@@ -327,7 +327,7 @@ class JournalReader:
 
     def _head(self, what: Dict[str, Any]) -> None:
         if what["journal"] != VERSION:
-            raise ValueError(f"the form's version is {what['journal']}, not {VERSION}")
+            raise ValueError(f"its version is {what['journal']}, not {VERSION}")
         self.text, self.game = what["game"], read_game(what["game"])
         self.schedule = Schedule(self.game)
         self.form, self.pace, self.at = what["form"], what["pace"], what["at"]
@@ -344,7 +344,7 @@ class JournalReader:
         if call.at is not None:
             call.asked = asked_by(asking, self.form)
             if call.asked is None:
-                raise ValueError("a line that asks nothing has a reply with a position")
+                raise ValueError("a line that made no call has a reply with a position")
         self.calls.append(call)
 
 
@@ -359,6 +359,6 @@ def read_journal(file: Path) -> JournalReader:
     text = file.read_bytes().decode("latin-1")
     reader.read(text[:text.rfind("\n") + 1])
     if reader.game is None:
-        raise JournalError("it has no first line of a journal")
+        raise JournalError("it lacks the first line of a journal")
     return reader
 

@@ -1,5 +1,5 @@
-"""What `tac vouch` says of links by their bytes: of one link, and of all links of the lobby to its
-server by the journal of the game."""
+"""What `tac vouch` says of a link by its bytes, and of all links of the lobby to its server by the
+game's journal."""
 
 from __future__ import annotations
 

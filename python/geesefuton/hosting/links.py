@@ -1,7 +1,7 @@
 """The links from outside: to agents, and to strangers that have no seat.
 
-A link is *parting* once it was sent its last line: it has a moment to end its side, and is closed
-then. Lines of it that were passed on to the server and have no reply yet are *owed* to it.
+A link is *parting* once it was sent its last line: it has a moment to end its side, and is then
+closed. Its *owed* lines were passed on to the server and have no reply yet.
 """
 
 from __future__ import annotations

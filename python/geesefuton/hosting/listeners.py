@@ -1,4 +1,4 @@
-"""Who listens at a port of this machine, where the system tells."""
+"""Which process listens at a port of this machine, if the system shows it."""
 
 from __future__ import annotations
 

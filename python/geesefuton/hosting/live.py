@@ -1,18 +1,18 @@
-"""Shows a running game on a page: it reads the journal that the lobby writes, and serves one page
-to any number of viewers.
+"""Shows a running game on a page: reads the journal that the lobby writes, and serves one page to
+any number of viewers.
 
-The lobby starts it for `--page PORT`. It is a process of its own, reads only the journal, and runs
-at a lower priority, so neither it nor a viewer slows the game. Once a tick, and once a second at
-most, it runs `tac play` on the game so far, and finds the worth of each agent's best plan: from its
-holdings, the cost of missing goods at current prices, and the dollars that it has paid. When the
-game is over it sends all viewers the scores, and they keep them.
+The lobby starts this command for `--page PORT`. It is a process of its own, reads only the journal,
+and runs at a lower priority, so neither it nor a viewer slows the game. Once a tick, and at most
+once a second, it runs `tac play` on the game so far, and computes the worth of each agent's best
+plan from its holdings, the cost of missing goods at current prices, and the dollars that it has
+paid. When the game is over it sends the scores to all viewers, whose pages keep them.
 
 With --late TICKS the page shows at once only what each agent can ask itself: published prices,
-closed auctions, the time, and who is here. Scores, trades, numbers of requests and
-standing bids are shown as they were TICKS before, or after the game if TICKS is 54. With --late 0
-all is shown at once: then no agent may see the page. Seat words are passwords: the page calls an
-agent by the letters before the digits of its word, if these differ, or by its number, and with
---names by its word.
+closed auctions, the time, and which agents are here. It shows scores, trades, numbers of requests
+and standing bids as they were TICKS before, or after the game if TICKS is 54. With --late 0 it
+shows everything at once: then no agent may see the page. Seat words are passwords: the page calls
+an agent by the letters before the digits of its word, if these differ between agents, and
+otherwise by its number. With --names it shows the words.
 """
 
 from __future__ import annotations
@@ -261,24 +261,24 @@ async def _run_until_signal(given: argparse.Namespace, journal: BinaryIO, player
 def _arguments() -> argparse.Namespace:
     parser = Parser("live", __doc__)
     add = parser.add_argument
-    add("journal", type=Path)
+    add("journal", type=Path, help="the journal of the game")
     add("port", type=whole(1, 65535), help="the port of the page, 1 to 65535")
     add("--late", type=whole(0, TICKS), default=6, metavar="TICKS",
-        help="how many ticks later what agents cannot ask is shown; 6, and 54 is after the game, 0 "
-             "at once")
+        help="show what agents cannot ask this many ticks late; 0: at once, 54: after the game "
+             "(default: 6)")
     add("--names", action="store_true",
-        help="call agents by their seat words, which are passwords")
+        help="show agents by their seat words, which are passwords")
     add("--agents", type=whole(1, 65535), metavar="PORT",
-        help="the port for agents, which the page shows before the game")
+        help="show this port, for agents, before the game")
     add("--json", action="store_true",
-        help="agents speak JSON objects: the page hands out no starters, which speak words")
+        help="agents send JSON objects: hand out no starters, which send words")
     add("--start", type=seconds, metavar="SECONDS",
-        help="the time until the game begins by itself, which the page counts down")
+        help="count down this time until the game begins by itself")
     add("--until-over", action="store_true",
         help="end once the game is over, or a pipe at standard input is closed, and viewers have "
-             "the scores; otherwise the page stays until ctrl-C")
+             "the scores (default: stay until ctrl-C)")
     add("--stay", action="store_true",
-        help="with --until-over: read no more once the game is over, and stay until ctrl-C")
+        help="with --until-over: stop reading once the game is over, and stay until ctrl-C")
     return parser.parse_args()
 
 

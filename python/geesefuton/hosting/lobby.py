@@ -1,8 +1,8 @@
-"""Hosts a game for agents on other machines: it stands between them and the server.
+"""Hosts a game for agents on other machines, as a relay between them and the server.
 
-Agents connect to the lobby's port as to the server. Once all are there it lets a `Serving` play the
-game, by default a server with a clock at a port of its own, and passes lines on. All that happens
-is written into a journal while it happens; the log is written in the end, also to a file beside it.
+Agents connect to the lobby's port as if it were the server's. Once all are there, a `Serving` plays
+the game, by default a server with a clock at a port of its own, and the lobby passes lines on. It
+writes everything into a journal as it happens, and at the end the log, also to a file beside it.
 """
 
 from __future__ import annotations
@@ -147,9 +147,9 @@ class Lobby:
         try:
             journal = Journal(file, lambda text: emit(events.Warned(time.time(), text)))
         except FileExistsError:
-            raise LobbyError(f"{file} is there already, and a journal is a new file") from None
+            raise LobbyError(f"{file} already exists: name a new file for the journal") from None
         except OSError as fault:
-            raise LobbyError(f"no journal can be made: {file}: {why(fault)}") from None
+            raise LobbyError(f"cannot create the journal {file}: {why(fault)}") from None
         journal.head(given.pace, given.form, self._text)
         return journal
 
@@ -196,9 +196,9 @@ class Lobby:
             game.relay.pass_time(time.monotonic())
 
     def _stop(self, game: HostedGame) -> int:
-        text = "stopped: there is no log"
+        text = "stopped, without a log"
         if self.settings.journal and self.is_playing:
-            text += f"; this makes one of the journal: {recovery_line(self.settings.journal)}"
+            text += f"; to make one from the journal: {recovery_line(self.settings.journal)}"
         game.warn(text)
         game.emit(events.Finished(time.time(), STOPPED, None))
         return STOPPED
@@ -208,22 +208,22 @@ class Lobby:
         given, journal = self.settings, game.relay.journal
         has_begun, is_served = game.relay.started is not None, status in (program.OK, program.CLOCK)
         if not is_served and has_begun and given.journal:
-            game.warn("the server failed; this makes a log of the journal: "
+            game.warn("the server failed; to make a log from the journal: "
                       f"{recovery_line(given.journal)}")
         beside = given.journal.with_suffix(".log") if given.journal else None
         kept = log_files.keep(b"".join(game.log), given.log, beside)
         vouched = _vouching(game) if is_served and given.vouches else ()
         if not all(map(is_vouched, vouched)):
             status = program.UNSOUND
-            game.warn("the log is not right about each link of the lobby to the server, so it may "
-                      "not be what was played: keep its files, and do not count its scores")
+            game.warn("the log does not match each link of the lobby to the server, so it may not "
+                      "be what was played: keep its files, and do not count its scores")
         if kept.fault is not None and is_served:
             status = FULL
             where = f"the log is in {kept.file}" if kept.file else "the log is lost"
             if not kept.file and journal and given.journal:
-                made = "it again" if journal.is_whole else "one of what the journal has"
-                where += f", and this makes {made}: {recovery_line(given.journal)}"
-            game.warn(f"the output of the log took no more ({kept.fault}): {where}")
+                made = "it again" if journal.is_whole else "one from what the journal has"
+                where += f"; to make {made}: {recovery_line(given.journal)}"
+            game.warn(f"cannot write the log to its output ({kept.fault}): {where}")
         file = str(kept.file) if kept.file else None
         game.emit(events.Finished(time.time(), status, file, vouched))
         return status
@@ -241,7 +241,7 @@ def _vouching(game: HostedGame) -> Tuple[str, ...]:
         return audit_journal(journal.file, file, log, game.folder, VOUCHING)
     except (JournalError, OSError, program.ProgramError) as fault:
         told = why(fault) if isinstance(fault, OSError) else str(fault)
-        game.warn(f"whether the log is right about the lobby's links is not known: {told}")
+        game.warn(f"cannot compare the log with the lobby's links: {told}")
     return ()
 
 
@@ -256,7 +256,7 @@ def _check_pages(settings: LobbySettings) -> None:
         if port is not None:
             if port in taken:
                 other = "game" if port == settings.port else "other page"
-                raise LobbyError(f"port {port}: the page needs another port than the {other}")
+                raise LobbyError(f"port {port} is for the {other}: choose another for the page")
             taken.add(port)
             _listen(port).close()
 

@@ -1,20 +1,21 @@
 """The command `lobby`: hosts a game for agents on other machines.
 
-Agents connect to the port as to the server. The lobby shows who is there and who is missing. Once
-all are there it starts the server on a port of its own, and passes lines on. An agent whose link
-ends may reconnect with its word, before the game and in it, and gets the welcome again; one that
-is missing when the game begins may come late. A while after the last tick the lobby ends the links
-that are left, so that the log is written whatever an agent does.
+Agents connect to the port as if it were the server's. The lobby shows which agents are there and
+which are missing. Once all are there it starts the server on a port of its own, and passes lines
+on. An agent whose link ends may reconnect with its word, before the game and during it, and gets
+the welcome again; an agent that is missing when the game begins may join late. A while after the
+last tick the lobby closes the remaining links, so that the log is written whatever an agent does.
 
-The lobby writes all that happens into a journal at once: however the game ends, `recover` makes a
-log of it. The log is written to standard output, and to a file beside the journal. Then `tac vouch`
-compares it with what the lobby passed on for each seat, by the journal: `vouched 8 of 8`.
+The lobby writes everything into a journal as it happens: `recover` makes a log from it even if the
+lobby was killed. At the end the lobby writes the log to standard output and to a file beside the
+journal. Then `tac vouch` compares the log with what the lobby passed on for each seat, by the
+journal: `vouched 8 of 8`.
 
-The lobby reads commands from standard input: an empty line begins the game without those who are
-missing, and after the last tick ends it without those who have not left; `without WORD` does not
-wait for that one any longer. Lines that begin with `!` report errors. The exit status is that
-of the server, 9 if the log is not right about what was passed on for each seat, and 4 if standard
-output took no more.
+The lobby reads commands from standard input: `help` lists them. An empty line begins the game
+without the missing agents, or after the last tick ends it without waiting for those that have not
+left; `without WORD` stops waiting for one agent. Lines that begin with `!` report errors. The exit
+status is that of the server, 9 if the log does not match what was passed on for each seat, and 4 if
+the log could not be written to standard output.
 """
 
 from __future__ import annotations
@@ -44,35 +45,35 @@ AGAIN = 5.0  # seconds within which a second ctrl-C stops the game
 def _arguments() -> argparse.Namespace:
     parser = Parser("lobby", __doc__)
     add = parser.add_argument
-    add("game", type=Path)
+    add("game", type=Path, help="the game file")
     add("port", type=whole(1, 65535), help="the port for agents, 1 to 65535")
     add("pace", type=whole(1, 60000), help="milliseconds from tick to tick, 1 to 60000")
-    add("form", nargs="?", choices=["json"], help="agents speak JSON objects in place of words")
+    add("form", nargs="?", choices=["json"], help="let agents send JSON objects instead of words")
     add("--start", type=seconds, metavar="SECONDS",
-        help="begin after this time without those who are missing; they may come late; default: "
-             "wait for all")
+        help="begin after this time without the missing agents, which may join late (default: wait "
+             "for all)")
     add("--after", type=seconds, default=30.0, metavar="SECONDS",
-        help="how long after the last tick links are ended; 30")
+        help="close the remaining links this long after the last tick (default: 30)")
     add("--patience", type=seconds, default=30.0, metavar="SECONDS",
-        help="how long to wait for the first line of a link; 30")
+        help="wait this long for the first line of a link (default: 30)")
     add("--silence", type=seconds, default=SILENCE, metavar="SECONDS",
-        help="how long an agent's link is silent before it gives way to another one with its "
-             f"word, if two ticks are no longer; {SILENCE:g}")
+        help="let another link with the same word take the seat once the agent's link has been "
+             f"silent this long, or for two ticks if these are longer (default: {SILENCE:g})")
     add("--journal", type=Path, metavar="FILE",
-        help="the journal, a new file; by default GAME-DATE.journal beside the log")
+        help="write the journal to this new file (default: GAME-DATE.journal beside the log)")
     add("--page", type=whole(1, 65535), metavar="PORT",
         help="show the game on a page at this port, for a projector")
     add("--by-hand", type=whole(1, 65535), metavar="PORT",
-        help="let persons play in their browsers: show addresses of pages at this port, one for "
-             "each seat, as text, and as QR codes if `qrencode` is installed; an agent may take "
-             "any seat whose page nobody has opened")
+        help="let people play in their browsers: print the address of a page for each seat at this "
+             "port, also as a QR code if `qrencode` is installed; an agent may take any seat whose "
+             "page nobody has opened")
     add("--no-advice", action="store_true",
-        help="the pages of --by-hand cannot ask the solver")
+        help="do not let the pages of --by-hand ask the solver")
     add("--late", type=whole(0, TICKS), default=6, metavar="TICKS",
-        help="how many ticks later the page shows what agents cannot ask: scores, trades, standing "
-             "bids; 6, and 54 is after the game, 0 at once")
+        help="show what agents cannot ask (scores, trades, standing bids) this many ticks late; 0: "
+             "at once, 54: after the game (default: 6)")
     add("--names", action="store_true",
-        help="the page calls agents by their seat words, which are passwords")
+        help="show agents by their seat words, which are passwords")
     return parser.parse_intermixed_args()  # `json` may stand after an option too
 
 
@@ -109,7 +110,7 @@ def _default_journal(game: Path, teller: Teller) -> Optional[Path]:
             os.remove(file)
             return file
         except OSError as fault:
-            teller.say(f"no journal can be made: {file}: {why(fault)}")
+            teller.say(f"cannot create the journal {file}: {why(fault)}")
     return None
 
 
@@ -133,8 +134,8 @@ class _Signals:
         if phase in (Phase.PLAYING, Phase.ENDING) and number == signal.SIGHUP:
             return
         if phase is Phase.PLAYING and number == signal.SIGINT and self._is_first():
-            self._teller.say("ctrl-C: the game goes on; once more within five seconds, and it is "
-                             "stopped")
+            self._teller.say("ctrl-C: the game goes on; press ctrl-C again within five seconds to "
+                             "stop it")
         elif phase is Phase.ENDING and not self._is_ended:
             self._end(number)
         else:
@@ -154,7 +155,7 @@ class _Signals:
             self._is_ending = True
             left, words = self._lobby.waits_for()
             self._teller.say(f"ctrl-C: waiting {left:.0f} s for {' '.join(words) or 'the server'}; "
-                             "Enter or ctrl-C ends now, with the log")
+                             "press Enter or ctrl-C to end now, with the log")
             return
         self._is_ended = True
         self._lobby.end_links()

@@ -1,6 +1,6 @@
-"""Where the log of a game goes: to the output that was asked for, and to a file beside the journal,
-so that a full disk or a pipe whose reader has gone does not lose it; if neither takes it, to a file
-where temporary files stand."""
+"""Where the log of a game goes: to the chosen output and to a file beside the journal, so that a
+full disk or a pipe whose reader has gone does not lose it; if both fail, to the folder of temporary
+files."""
 
 from __future__ import annotations
 
@@ -55,7 +55,7 @@ def keep(log: bytes, target: Target, beside: Optional[Path]) -> Kept:
         if _write(log, copy) is not None:
             copy.unlink(missing_ok=True)
             copy = None
-    fault = "there is none" if target is None else _write(log, target)
+    fault = "it is closed" if target is None else _write(log, target)
     if fault is None and isinstance(target, Path):
         return Kept(None, target)
     if fault is not None and copy is None and not isinstance(target, Path):

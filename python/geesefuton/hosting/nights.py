@@ -1,8 +1,8 @@
 """The hotel nights of a running game, from the calls that its journal has.
 
-Each call is worked through once, when it comes. A position that no call has is taken for the
-clock's once the clock may have called. Where a late reply shows that it was an agent's, that night
-is worked through again.
+Each call is worked through once, when it arrives. A position without a call is taken for the
+clock's once the clock may have called. If a late reply shows that the position was an agent's, that
+night is worked through again.
 """
 
 from __future__ import annotations

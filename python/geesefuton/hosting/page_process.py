@@ -1,7 +1,7 @@
-"""The process of the live page that the lobby starts, again if it has ended.
+"""The process of the live page, which the lobby starts, and restarts if it ends.
 
-It has a pipe for its standard input, and knows by the end of that pipe that the game is over, also
-if its journal has no end, as on a full disk.
+Its standard input is a pipe, whose end tells it that the game is over, even if its journal has no
+end, as on a full disk.
 """
 
 from __future__ import annotations
@@ -55,9 +55,9 @@ class SideProcess:
         if self._again and time.monotonic() - self._began >= STEADY:
             self.end()
             self._start([*self._again])
-            return f"{self._name} had ended, exit status {status}, and is started again"
+            return f"{self._name} ended with exit status {status}, and was restarted"
         self._is_told = True
-        return f"{self._name} has ended, exit status {status}; the game goes on without it"
+        return f"{self._name} ended with exit status {status}; the game goes on without it"
 
     def is_running(self) -> bool:
         """Whether the process has not ended."""
@@ -118,7 +118,8 @@ def page_words(settings: LobbySettings, journal: Path) -> List[str]:
     return [sys.executable, "-m", "geesefuton.hosting.live", str(journal), str(settings.page),
             "--late", str(settings.late), "--until-over", "--agents", str(settings.port)] \
         + (["--start", str(settings.start)] if settings.start is not None else []) \
-        + ["--json"] * (settings.form == "json") + ["--names"] * settings.names + ["--stay"] * settings.stays
+        + ["--json"] * (settings.form == "json") + ["--names"] * settings.names \
+        + ["--stay"] * settings.stays
 
 
 def seats_words(settings: LobbySettings, words: List[str], port: int) -> List[str]:

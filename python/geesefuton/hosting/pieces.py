@@ -1,12 +1,12 @@
 """The records of an agent that has lost its link: the pieces of its session, joined by the bytes of
 the one link that the lobby kept for its seat.
 
-Each piece has what the agent sent on one of its links, and what came there. Some of the last lines
-of a piece have no reply: the link ended first, and nobody knows how many of these the lobby still
-passed on. The bytes of the seat's link tell. They are those of the agent if they are, piece by
-piece, the lines that have a reply, with these replies, and then first ones of the lines that have
-none. The lobby is not believed there: `tac vouch` judges the same bytes by the log, so wrong ones
-fail the one or the other.
+Each piece has what the agent sent on one of its links, and what it received there. Some of the last
+lines of a piece may have no reply: the link ended first, and only the bytes of the seat's link show
+how many of these lines the lobby still passed on. The bytes are the agent's if they consist, piece
+by piece, of the lines that have a reply, with these replies, and then of the first few of the lines
+that have none. The lobby need not be trusted: `tac vouch` compares the same bytes with the log, so
+wrong bytes fail one comparison or the other.
 """
 
 from __future__ import annotations
@@ -74,7 +74,7 @@ def read_piece(stem: Path) -> Piece:
         file = stem.with_name(stem.name + suffix)
         sides.append(file.read_bytes())
         if b"\n" not in sides[-1]:
-            raise RecordError(f"{file} has no whole line, so it is no record of a link")
+            raise RecordError(f"{file} has no complete line, so it is not a record of a link")
     return Piece(stem.name, LinkBytes(*sides))
 
 
@@ -114,7 +114,8 @@ def first_difference(pieces: Sequence[Piece], link: LinkBytes, welcome: bytes
     for piece in pieces:
         if not welcome.startswith(b"".join(line + b"\n" for line in
                                            _lines_of(piece.link.said)[:WELCOME])):
-            return Difference(f"{piece.name}, welcome", "it is not that of this seat in this game")
+            return Difference(f"{piece.name}, welcome",
+                              "it is not the welcome of this seat in this game")
         own = _Session(piece.link)
         matches = {start: _match(own, whole, start) for start in reached}
         if all(match.fault for match in matches.values()):
@@ -149,7 +150,7 @@ class _Match(NamedTuple):
 def _match(own: _Session, whole: _Session, start: int) -> _Match:
     count = len(own.replies)
     if count > len(own.lines):
-        return _Match(len(own.lines), f"no line was asked for the reply {_shown(own.replies[-1])}")
+        return _Match(len(own.lines), f"it has no line for the reply {_shown(own.replies[-1])}")
     pairs = zip(own.lines, own.replies)
     for number, (line, reply) in enumerate(pairs):
         fault = _fault(line, reply, whole, start + number)
@@ -166,13 +167,13 @@ def _match(own: _Session, whole: _Session, start: int) -> _Match:
 def _fault(line: bytes, reply: bytes, whole: _Session, place: int) -> str:
     """What is wrong with an answered line and its place in the seat's link; "" if nothing is."""
     if place >= len(whole.lines):
-        return f"the seat's link has no such line as {_shown(line)}"
+        return f"the seat's link does not have the line {_shown(line)}"
     if whole.lines[place] != line:
-        return f"{_shown(line)} was asked, and the seat's link has {_shown(whole.lines[place])}"
+        return f"the agent sent {_shown(line)}, the seat's link has {_shown(whole.lines[place])}"
     if place >= len(whole.replies):
         return f"the seat's link has no reply to {_shown(line)}"
     if whole.replies[place] != reply:
-        return (f"{_shown(line)} was answered {_shown(reply)}, and by the seat's link "
+        return (f"the agent got {_shown(reply)} for {_shown(line)}, the seat's link has "
                 f"{_shown(whole.replies[place])}")
     return ""
 

@@ -1,9 +1,9 @@
-"""What the live page shows of a game: what each agent's best plan is worth at the prices of that
-time, the trades and who asks; and how much of it agents may see.
+"""What the live page shows of a game: the worth of each agent's best plan at current prices, the
+trades, and the numbers of requests; and how much of it agents may see.
 
-A plan counts what an agent holds, what is still to be bought for its trips at the prices that it
-is shown, and what it has paid. It knows nothing of later prices and closings. What only one agent
-can know is shown some ticks later.
+A plan counts what an agent holds, what it still has to buy for its trips at the prices shown, and
+what it has paid. It ignores later prices and closings. The page shows what only one agent can know
+some ticks late.
 """
 
 from __future__ import annotations

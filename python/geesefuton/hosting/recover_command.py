@@ -1,14 +1,14 @@
-"""Makes the log of a game from the journal that the lobby wrote, however the game ended.
+"""Makes the log of a game from the journal that the lobby wrote, even if the lobby was killed.
 
-It makes a game script of the journal, and lets `tac play` play it, as if nobody had asked anything
-after the last known call.
+It turns the journal into a game script, and has `tac play` play it, as if no agent had asked
+anything after the last known call.
 
-A request that had no reply yet is left out, unless the replies of others show that it was made.
-Nobody can know whether the others were made: with --pending they are asked after all the rest, and
-the command reports each score that this changes.
+It leaves out a request that had no reply yet, unless the replies of others show that it was made.
+For the other requests the journal does not show whether they were made: with --pending they come
+after all others. The command reports each score that this changes.
 
-Each reply is compared with what `tac play` answers. It reports a difference, and the exit status
-is then 1. Readings of cash are placed near where they were, and are not compared.
+It compares each reply with the answer of `tac play`, and reports each difference; the exit status
+is then 1. It places readings of cash near where they were, and does not compare them.
 """
 
 from __future__ import annotations
@@ -30,11 +30,11 @@ from geesefuton.records.logs import read_scores
 def _arguments() -> argparse.Namespace:
     parser = Parser("recover", __doc__)
     add = parser.add_argument
-    add("journal", type=Path)
+    add("journal", type=Path, help="the lobby's journal")
     add("--pending", action="store_true",
-        help="requests without a reply are asked too, after all others")
-    add("--script", type=Path, metavar="FILE", help="write the script here, too")
-    add("--game", type=Path, metavar="FILE", help="write the game file here, too")
+        help="also make the requests without a reply, after all others")
+    add("--script", type=Path, metavar="FILE", help="also write the script to this file")
+    add("--game", type=Path, metavar="FILE", help="also write the game file to this file")
     return parser.parse_args()
 
 
@@ -42,12 +42,12 @@ def _summary(reader: JournalReader) -> str:
     assert reader.game is not None
     calls = sum(call.at is not None and asked_of(call).keyword != "quote" for call in reader.calls)
     if reader.status in (program.OK, program.CLOCK):
-        return f"the game came to its end; {calls} calls"
+        return f"the game was played to its end; {calls} calls"
     if not reader.has_begun:
         return "the game had not begun"
     ends = "the journal ends" if reader.status is None else f"the server failed ({reader.status})"
-    return (f"{ends} after tick {reader.tick} of {TICKS}; {calls} calls; the scores are those of a "
-            "game in which nobody asks anything more")
+    return (f"{ends} after tick {reader.tick} of {TICKS}; {calls} calls; the scores assume that "
+            "nobody asks anything more")
 
 
 def _scores_of(log: str) -> List[int]:
@@ -67,7 +67,7 @@ def _tell_pending(reader: JournalReader, recovery: Recovery, player: Player, log
     changed = [f"{word} {there - here:+}"
                for word, here, there in zip(words, _scores_of(log), _scores_of(other))
                if here != there]
-    tell("  nobody can know whether those left out were made; with them (--pending) "
+    tell("  the journal does not show whether those left out were made; with them (--pending) "
          + (f"scores change: {', '.join(changed)}" if changed else "no score changes"))
 
 

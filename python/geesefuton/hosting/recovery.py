@@ -1,14 +1,14 @@
-"""Makes a game script of the journal that the lobby wrote, however the game ended.
+"""Makes a game script from the journal that the lobby wrote, even if the lobby was killed.
 
-A reply has the position of its entry in the history of its auction. The positions that no reply has
-are the clock's, whose calls are fixed by the game file, so each call is put after and before the
-right tick. Auctions do not touch one another, so it is enough that in each of them the calls come
-in the order of their positions. After the last call that is known nobody does anything more, and
-the clock makes its remaining calls.
+A reply has the position of its entry in the history of its auction. The positions without a reply
+are the clock's, whose calls the game file fixes, so each call is put between the right ticks.
+Auctions do not affect one another, so it is enough that in each of them the calls come in the order
+of their positions. After the last known call no agent does anything more, and the clock makes its
+remaining calls.
 
 A request that had no reply yet is left out, unless the replies of others show that it was made:
-then a history has one position more than the clock's calls fill. It is put where all replies and
-quotes come out as they were told. Readings of cash are put near where they were.
+then a history has one position more than the clock's calls fill. The request is put where all
+replies and quotes come out as they were recorded. Readings of cash are put near where they were.
 """
 
 from __future__ import annotations
@@ -85,7 +85,7 @@ class KnownHistory:
         """Adds an answered call."""
         assert call.at is not None
         if call.at in self.calls:
-            raise RecoveryError(f"two replies have position {call.at} of good {self.good}")
+            raise RecoveryError(f"two replies have position {call.at} for good {self.good}")
         self.calls[call.at] = call
 
     def cut(self, tick: int) -> None:
@@ -124,7 +124,7 @@ class KnownHistory:
             if at < self.length() and at not in self.calls:
                 clocks += 1
                 if clocks > len(self._ticks):
-                    raise RecoveryError(f"position {at} of good {self.good} is neither the "
+                    raise RecoveryError(f"position {at} for good {self.good} is neither the "
                                         "clock's nor in a reply")
 
     def guesses(self, tick: int) -> Iterator[Guess]:
@@ -306,7 +306,7 @@ class Recovery:
         """The log, and a text for each reply that is not as it was told."""
         script = self.script()
         told, log = self._player.play(self._reader.text, script.text)
-        return log, [f"{call.agent} {asked_of(call).text}: it was told {call.reply}, and now {line}"
+        return log, [f"{call.agent} {asked_of(call).text}: replied {call.reply}, and now {line}"
                      for call, line in differences(script, told)]
 
     def _place(self, call: Exchange) -> None:
@@ -346,8 +346,8 @@ class Recovery:
                 calls = known[history.good]
                 if not any(history.guess(calls, guess) for guess in guesses[history.good]):
                     count = sum(map(len, history.pending.values()))
-                    raise RecoveryError(f"good {history.good}: no way was found to place the "
-                                        f"{count} requests without a reply")
+                    raise RecoveryError(f"good {history.good}: its {count} requests without a reply"
+                                        " cannot be placed")
             script = script_of(item for history in histories for item in history.items(quotes=True))
             told, _ = self._player.play(self._reader.text, script.text)
             wrong = {asked_of(call).good for call, _ in differences(script, told)}

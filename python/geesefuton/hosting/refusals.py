@@ -1,4 +1,5 @@
-"""Counts links that took no seat, by their addresses, so that a flood of them is a few lines."""
+"""Counts links that took no seat by their addresses, so that the lobby reports a flood in a few
+lines."""
 
 from __future__ import annotations
 
@@ -59,7 +60,7 @@ class Refusals:
                     del self._counts[source]
                     continue
                 told.append(known.last if known.count == 1 else
-                            f"{known.count} more links from {source} took no seat, the last: "
+                            f"{known.count} more links from {source} took no seat; the last: "
                             f"{known.last}")
                 self._counts[source] = _Count(at)
         return told

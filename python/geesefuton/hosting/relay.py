@@ -1,10 +1,11 @@
 """Passes lines on between agents and the server, all in one thread.
 
-An agent's lines go to the server one at a time: the next one once the one before is answered. So at
-any moment at most one line of each agent has no reply, and a journal that breaks off leaves little
-to guess. Replies are always read, written into the journal, and then sent to the link whose line
-they answer, or to nobody if that has ended: never to another link that has the seat by now. A line
-without its end is not passed on, and of one that is too long only as much as makes it too long.
+An agent's lines go to the server one at a time, each after the reply to the line before. So at any
+moment at most one line of each agent has no reply, and a journal that breaks off leaves little to
+guess. The relay reads every reply, writes it into the journal, and sends it to the link whose line
+it answers, or drops it if that link has ended: it never goes to another link that has taken the
+seat since. An incomplete line is not passed on, and of a line that is too long, only the part that
+makes it too long.
 """
 
 from __future__ import annotations
@@ -94,7 +95,7 @@ class Relay:
                 if mask & selectors.EVENT_READ:
                     self._read(link)
             except Exception as fault:  # it costs one agent its link, and not all of them the game
-                self._warn(f"a link is ended after an error: {fault!r}")
+                self._warn(f"closed a link after an error: {fault!r}")
                 self.fail(link)
         self._deliver()
 
@@ -114,8 +115,8 @@ class Relay:
                 self._lose(link, f"it sent no line for {self._patience:g} seconds")
             elif link.seat and link.stuck and now - link.stuck > UNREAD and not link.is_told:
                 link.is_told = True
-                self._warn(f"{link.seat.word} has not read what it was sent for {UNREAD:g} seconds;"
-                           " nothing more is asked for it until it does")
+                self._warn(f"{link.seat.word} has not read its replies for {UNREAD:g} seconds; its "
+                           "requests wait until it does")
         self._deliver()
 
     def _watch(self, link: OuterLink | Session) -> None:
@@ -155,7 +156,7 @@ class Relay:
             return link.close()
         strangers = [other for other in self.links.values() if other.is_stranger()]
         if len(strangers) >= MOST_STRANGERS:
-            self._lose(strangers[0], f"{MOST_STRANGERS} links have sent no line")
+            self._lose(strangers[0], f"{MOST_STRANGERS} links had not sent a first line")
         try:
             guest = OuterLink(next(self._numbers), link, source)
         except OSError:  # it has gone already
@@ -212,7 +213,7 @@ class Relay:
         if link.parting is not None:
             return self._watch(link) if link.held else self._drop(link)
         if seat is None:
-            return self._lose(link, "it ended without a line")
+            return self._lose(link, "it ended before its first line")
         if seat.holder == link.number and (link.has_line() or link.owed or link.held):
             self._do(seat, seat.stop(time.monotonic()))
             return self._watch(link)
@@ -273,7 +274,7 @@ class Relay:
             try:
                 self._act(seat, action, link)
             except Exception as fault:
-                self._warn(f"an error about {seat.word}: {fault!r}")
+                self._warn(f"an error at seat {seat.word}: {fault!r}")
                 if link is not None:
                     self.fail(link)
 
@@ -319,7 +320,7 @@ class Relay:
                 try:
                     self._write(link)
                 except Exception as fault:
-                    self._warn(f"a link is ended after an error: {fault!r}")
+                    self._warn(f"closed a link after an error: {fault!r}")
                     self.fail(link)
 
     def _write(self, link: OuterLink | Session) -> None:
@@ -419,8 +420,8 @@ class Relay:
         session.asked.append(link)
         session.passed += 1
         if session.passed == NEAR_MOST:
-            self._warn(f"{seat.word} has sent {NEAR_MOST:,} lines; beyond {MOST_LINES:,} it is not "
-                       "answered")
+            self._warn(f"{seat.word} has sent {NEAR_MOST:,} lines; it gets no replies beyond "
+                       f"{MOST_LINES:,}")
         link.owed += 1
         session.held += line + b"\n"
         self._write(session)

@@ -1,17 +1,18 @@
-"""Who may have which seat: admission, reconnecting, and the end of a seat, without sockets.
+"""Which link has which seat: admission, reconnecting, and the end of a seat, without sockets.
 
-A *seat* is one of the eight places of a game, taken by its word; a link has it, or none. An *heir*
-is a second link with the word of a seat that a link has: it waits until that one is known to be
-live, or gone. A link is known by a number. Each thing that happens to a seat is a method, which
-gives back what is to be done about it; `Seat` is a small machine whose states are those of `State`.
+A *seat* is one of the eight places of a game. A link takes it by its word; at any time at most one
+link has it. An *heir* is a second link with the word of a taken seat: it waits until the first link
+proves to be live or gone. Links are known by numbers. Each event of a seat is a method, which
+returns the actions to take; `Seat` is a small state machine with the states of `State`.
 
-Before the game an agent whose link ends leaves its seat free. In the game its session at the
+Before the game an agent whose link ends leaves its seat free. During the game its session at the
 server is kept, so the agent may reconnect with the same word until the last tick, and a seat whose
-agent never came waits for it. A link that has gone silent without an end, as when a machine loses
-its network, cannot be told from one that thinks. So a second link with its word becomes the heir.
-If the first one speaks, the heir is refused. If it says nothing for long in the game, the heir
-takes the seat. Before the game nothing has to be said: there the heir takes the seat only once the
-first link has ended, as one does whose machine is gone, and otherwise is refused after a while.
+agent never connected waits for it. A link that has gone silent without an end, as when a machine
+loses its network, cannot be told from a link whose agent is thinking. So a second link with its
+word becomes the heir. If the first link sends a line, the heir is refused. If it stays silent for
+long during the game, the heir takes the seat. Before the game agents need not send anything: then
+the heir takes the seat only once the first link has ended, as it does if its machine is gone, and
+otherwise is refused after a while.
 """
 
 from __future__ import annotations

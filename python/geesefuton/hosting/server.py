@@ -1,10 +1,10 @@
-"""The server of a game by the clock: `tac serve`, whose eight seats are taken by the lobby.
+"""The server of a game by the clock: `tac serve`, whose eight seats the lobby takes.
 
-The server listens on every address, and whoever reaches its port before the lobby could hold the
+The server listens on every address. A link that reached its port before the lobby could hold up the
 start by saying nothing, or take a seat. So the lobby asks for all seats at once, at a server of its
-own, and the game counts as started only once all eight are welcomed. Otherwise that server is ended
-and another port is tried; no agent has been passed on by then. The head of the log says who had the
-seats in the end.
+own, and counts the game as started only once all eight are welcomed. Otherwise it ends that server
+and tries another port; it has not passed on any agent by then. The head of the log shows which
+links had the seats.
 """
 
 from __future__ import annotations
@@ -68,8 +68,8 @@ class ClockServer:
                 break
             is_last = number + 1 == TRIES
             if start.fault:
-                game.warn(f"the server has not started at its port {start.port}: {start.fault}; "
-                          + ("no more ports are tried" if is_last else "another port is tried"))
+                game.warn(f"the server did not start at its port {start.port}: {start.fault}; "
+                          + ("giving up" if is_last else "trying another port"))
             if not is_last:
                 start.close()
         return start
@@ -130,7 +130,7 @@ class ServerStart:
                 return
         except OSError:
             if self._settles():  # otherwise it has ended by itself
-                self.fault = "it ended a link of the lobby"
+                self.fault = "it closed a link of the lobby"
         if self.fault:
             self._game.children.end(self.process)
             self.fault_status = TAKEN
@@ -204,12 +204,12 @@ class ServerStart:
             for seat, answer in enumerate(answers):
                 if answer is not None and answer != f"welcome {seat}".encode():
                     told = answer.decode("ascii", "replace")[:40]
-                    self.fault = f"somebody else asked for seat {seat}: the lobby was sent {told!r}"
+                    self.fault = f"another link asked for seat {seat}: the lobby got {told!r}"
                     return False
             if None not in answers:
                 return True
             if time.monotonic() >= deadline:
-                self.fault = f"a stranger's link holds it up ({WELCOMING:g} seconds)"
+                self.fault = f"an outsider's link held it up for {WELCOMING:g} seconds"
                 return False
             self._game.turn(STEP)
         return False
@@ -238,8 +238,8 @@ def fault_of_head(log: bytes) -> str:
     seated = [int(match[1]) for match in map(_SEATED.fullmatch, lines) if match]
     if seated == list(range(SEATS)):
         return ""
-    return ("by the head of the log the lobby did not have all eight seats of the server, but "
-            f"{' '.join(map(str, seated)) or 'none'}: check whether a stranger played")
+    return ("by the head of the log the lobby did not have all eight seats of the server (it had "
+            f"{' '.join(map(str, seated)) or 'none'}): check whether an outsider played")
 
 
 def _answers(port: int) -> bool:

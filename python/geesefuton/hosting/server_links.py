@@ -1,7 +1,7 @@
 """The bytes of the lobby's own links to its server, one for each seat, as its journal has them.
 
-The journal has each line that was passed on to the server, and each reply that came. The greeting
-and the ten lines of the welcome are not in it, and follow from the game file.
+The journal has each line that the lobby passed on to the server, and each reply. It does not have
+the greeting and the ten lines of the welcome, which follow from the game file.
 """
 
 from __future__ import annotations

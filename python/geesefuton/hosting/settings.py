@@ -1,4 +1,4 @@
-"""What a lobby is told of its game."""
+"""The settings of a lobby."""
 
 from __future__ import annotations
 

@@ -1,4 +1,4 @@
-"""Tells the host in lines of text what happens in a lobby."""
+"""Reports the events of a lobby to the host, in lines of text."""
 
 from __future__ import annotations
 
@@ -76,15 +76,15 @@ class Teller:
             return [f"{event.word} is back, from {event.source}"]
         if isinstance(event, events.Departed):
             self._here.discard(event.word)
-            return [f"{event.word} went away, and may reconnect"]
+            return [f"{event.word} lost its link, and may reconnect"]
         if isinstance(event, events.Refused):
-            return self._refused(event.at, event.source, f"refused {event.answer} to "
-                                 f"{event.source}, which said {event.line!r}")
+            return self._refused(event.at, event.source, f"refused {event.source} as "
+                                 f"{event.answer}: it sent {event.line!r}")
         if isinstance(event, events.Lost):
             return self._refused(event.at, event.source,
-                                 f"a link from {event.source} is gone: {event.why}")
+                                 f"lost a link from {event.source}: {event.why}")
         if isinstance(event, events.Waived):
-            return [f"{event.word} is not waited for"]
+            return [f"no longer waiting for {event.word}"]
         if isinstance(event, events.Began):
             missing = [word for word in self._words if self._words.index(word) not in event.seats]
             late = f" without {' '.join(missing)}" if missing else ""
@@ -115,8 +115,8 @@ class Teller:
 FAULTS = (events.Refused, events.Lost, events.Warned, events.Departed)
 ENDS = {
     End.LEFT: "has left",
-    End.GONE: "went away and did not reconnect",
+    End.GONE: "lost its link and did not reconnect",
     End.HUNG: "still had its link long after the last tick",
-    End.ABSENT: "never came",
+    End.ABSENT: "never connected",
     End.REFUSED: "sent only lines that were refused",
 }

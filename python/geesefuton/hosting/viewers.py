@@ -1,8 +1,8 @@
-"""Serves the live page and its states: to screens, and to whoever else can reach the port.
+"""Serves the live page and its states, to screens and to anybody else who can reach the port.
 
-Each link costs the process an open file. So there are at most `MOST_VIEWERS` links, and `MOST_EACH`
-of one address. A link that has asked nothing yet gives way to a new one once there are so many, and
-has to send its first byte within `FIRST` seconds.
+Each link costs the process an open file. So there are at most `MOST_VIEWERS` links, and at most
+`MOST_EACH` from one address. At that number, a link that has asked nothing yet gives way to a new
+one. A link must send its first byte within `FIRST` seconds.
 """
 
 from __future__ import annotations
@@ -125,7 +125,7 @@ class Viewers:
             try:
                 taken, source = await loop.sock_accept(listener)
             except OSError as fault:  # such as too many open files
-                self._faults.tell("live: no viewer can be taken", why(fault))
+                self._faults.tell("live: cannot accept a viewer", why(fault))
                 await asyncio.sleep(AGAIN)
                 continue
             self._admit(_Link(taken, source[0]))
@@ -178,7 +178,7 @@ class Viewers:
         path = words[1].split(b"?")[0] if len(words) > 1 else b""
         if is_refused:
             await _send(writer, f"503 Service Unavailable\r\nRefresh: {REFRESH}", "text/plain",
-                        b"too many viewers; this asks again by itself\n")
+                        b"too many viewers; this page retries by itself\n")
         elif words[0] == b"GET" and path == b"/":
             await _send(writer, "200 OK", "text/html; charset=utf-8", self.page)
         elif words[0] == b"GET" and path == b"/state":

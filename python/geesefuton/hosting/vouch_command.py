@@ -1,20 +1,20 @@
-"""The command `vouch`: whether a log is right about links, by what was asked and said on them.
+"""The command `vouch`: checks whether a log is right about links, by the bytes sent on them.
 
     vouch GAME LOG --journal J              the lobby's link of each seat
     vouch GAME LOG mine                     an agent's own records (AGENT_RECORD=mine)
-    vouch GAME LOG mine --published FOLDER  the same where the agent reconnected
+    vouch GAME LOG mine --published FOLDER  the same if the agent reconnected
 
-It prints a line for each, and last how many are vouched for, such as `vouched: 8 of 8`. The exit
-status is 0 only if all of them are. The log is audited first.
+It audits the log first. Then it prints a line for each link, and last how many are vouched, such as
+`vouched: 8 of 8`. The exit status is 0 only if all of them are.
 
-MINE is a folder of records, or the stem of one, such as mine/red7k of mine/red7k.asked and
-mine/red7k.said. A single record of a seat is given to `tac vouch`. Several are the pieces of a
-session in which the agent reconnected: then the bytes of the one link that the lobby kept for the
-seat are given to `tac vouch`, and compared with the pieces line by line. The host publishes these
-bytes with --publish FOLDER, for each seat a file WORD.asked and WORD.said; with its game file and
-the log they have nothing that is not known after the game.
+MINE is a folder of records, or the stem of one, such as mine/red7k for mine/red7k.asked and
+mine/red7k.said. If a seat has a single record, `tac vouch` judges it. Several records are the
+pieces of a session in which the agent reconnected: then `tac vouch` judges the bytes of the one
+link that the lobby kept for the seat, and the command compares the pieces with these bytes line by
+line. The host publishes the bytes with --publish FOLDER, as two files WORD.asked and WORD.said for
+each seat. Beside the game file and the log, they reveal nothing new after the game.
 
-A folder may have records of several seats. Of several games it may not: name the records of one.
+A folder may have records of several seats, but of one game only: otherwise name the records.
 """
 
 from __future__ import annotations
@@ -34,8 +34,7 @@ from geesefuton.hosting.server_links import LinkBytes, server_links
 from geesefuton.processes import Children, Output, command, tell
 from geesefuton.records.games import Game, read_game, welcome
 
-PIECES = "{} has {} records, none of which is the whole session: --published FOLDER or --journal " \
-         "J is due"
+PIECES = "{} has {} records, none of the whole session: add --published FOLDER or --journal J"
 
 
 class VouchError(Exception):
@@ -45,27 +44,27 @@ class VouchError(Exception):
 def _arguments() -> argparse.Namespace:
     parser = Parser("vouch", __doc__)
     add = parser.add_argument
-    add("game", type=Path, metavar="GAME")
-    add("log", type=Path, metavar="LOG")
+    add("game", type=Path, metavar="GAME", help="the game file")
+    add("log", type=Path, metavar="LOG", help="the log of the game")
     add("mine", type=Path, nargs="*", metavar="MINE",
         help="a folder of records, or the stem of one")
-    add("--journal", type=Path, metavar="J", help="the lobby's journal of this game")
+    add("--journal", type=Path, metavar="J", help="judge by the lobby's journal of this game")
     add("--published", type=Path, metavar="FOLDER",
-        help="what the host published of the lobby's links")
+        help="judge by the bytes of the lobby's links that the host published")
     add("--publish", type=Path, metavar="FOLDER",
         help="write the bytes of the lobby's links into this new folder")
     add("--json", action="store_true",
-        help="agents spoke JSON objects in place of words; a journal has that itself")
+        help="read the records as JSON objects instead of words; a journal says so itself")
     add("--seat", metavar="WORD",
-        help="the records are of the seat with this word in the game file, where the host gave the "
-             "agent another one")
+        help="take the records for those of the seat with this word in the game file, if the host "
+             "gave the agent another word")
     given = parser.parse_intermixed_args()
     if given.journal and given.published:
-        parser.error("--journal has what --published has: name one of them")
+        parser.error("give --journal or --published, not both")
     if given.publish and not given.journal:
         parser.error("--publish needs --journal")
     if not (given.mine or given.journal or given.published):
-        parser.error("MINE, --journal or --published is due")
+        parser.error("give MINE, --journal or --published")
     if given.seat is not None and not given.mine:
         parser.error("--seat needs MINE")
     return given
@@ -104,7 +103,7 @@ class _Judge:
         """What `tac vouch` says of a link."""
         said = audit_link(link, self._given.game, self._given.log, self.form, self._folder)
         if self.form == "words" and not is_vouched(said) and b"\n{" in link.asked:
-            self.hint = "lines look like JSON objects: --json may be due"
+            self.hint = "the lines look like JSON objects: try --json"
         return said
 
     def links(self) -> List[LinkBytes]:
@@ -124,7 +123,7 @@ class _Judge:
             return []
         reader = read_journal(journal)
         if reader.text != self.text:
-            raise VouchError(f"{journal} is the journal of another game than {self._given.game}")
+            raise VouchError(f"{journal} is not the journal of the game {self._given.game}")
         if not reader.has_begun:
             raise VouchError(f"{journal}: the game had not begun")
         self.form = reader.form
@@ -205,7 +204,7 @@ def _publish(folder: Path, words: Sequence[str], links: List[LinkBytes]) -> None
     """
     folder.mkdir(parents=True, exist_ok=True)
     if any(folder.iterdir()):
-        raise VouchError(f"{folder} has files: name a new folder")
+        raise VouchError(f"{folder} is not empty: name a new folder")
     for word, link in zip(words, links):
         for suffix, data in zip((ASKED, SAID), link):
             file = Output(folder / f"{word}{suffix}")
