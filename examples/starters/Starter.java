@@ -286,7 +286,7 @@ public final class Starter {
       } catch (Lost again) {
         fault = new Over(again.getMessage());
       } catch (IOException again) {
-        String what = "no link to " + host + " at port " + port + ": " + again.getMessage();
+        String what = "cannot connect to " + host + " at port " + port + ": " + again.getMessage();
         fault = lost == null ? new Hopeless(what) : new Over(what);
         if (lost != null && again instanceof ConnectException) {
           throw new Over(lost.getMessage()); // the game has ended
@@ -314,7 +314,7 @@ public final class Starter {
     while (true) {
       Link link = seat(host, port, word, lost);
       if (lost != null) {
-        System.err.printf("%s; connected again after %.1f seconds%n", lost.getMessage(),
+        System.err.printf("%s; reconnected after %.1f seconds%n", lost.getMessage(),
             (System.nanoTime() - begun) / 1e9);
       }
       try {

@@ -188,7 +188,7 @@ async function seat(LinkOf, host, port, word, lost) {
       text = fault.message;
       if (fault instanceof Hopeless) throw fault;
       if (!(fault instanceof Lost)) {
-        text = `no link to ${host} at port ${port}: ${fault.code ?? fault.message}`;
+        text = `cannot connect to ${host} at port ${port}: ${fault.code ?? fault.message}`;
         if (lost && fault.code === "ECONNREFUSED") throw new Over(lost.message); // it has ended
         if (!lost) Kind = Hopeless;
       }
@@ -209,7 +209,7 @@ async function game(playing, LinkOf, host, port, word, pause) {
   for (let lost = null, begun = 0; ;) {
     const link = await seat(LinkOf, host, port, word, lost);
     if (lost) {
-      console.error(`${lost.message}; connected again after ${(now() - begun).toFixed(1)} seconds`);
+      console.error(`${lost.message}; reconnected after ${(now() - begun).toFixed(1)} seconds`);
     }
     try {
       await playing(link, pause);

@@ -174,7 +174,7 @@ def seat(host, port, word, lost):
         except Lost as again:
             fault = str(again)
         except OSError as again:
-            fault = f"no link to {host} at port {port}: {again.strerror or again}"
+            fault = f"cannot connect to {host} at port {port}: {again.strerror or again}"
             if lost and isinstance(again, ConnectionRefusedError):
                 raise Over(str(lost)) from None  # the game has ended
             kind = Over if lost else Hopeless
@@ -195,7 +195,7 @@ def game(host, port, word, pause):
         link = seat(host, port, word, lost)
         if lost:
             passed = time.monotonic() - begun
-            print(f"{lost}; connected again after {passed:.1f} seconds", file=sys.stderr)
+            print(f"{lost}; reconnected after {passed:.1f} seconds", file=sys.stderr)
         try:
             play(link, pause)
             link.quit()

@@ -1,4 +1,4 @@
-"""What stands around `tac`, the game server: lobby, tournaments, reports, and links for agents.
+"""The tools around `tac`, the game server: lobby, tournaments, reports, and links for agents.
 
 Nothing here is proved. The package starts the program `tac` and reads what it writes. It needs
 Python 3.9 or later on Linux or macOS, and nothing else.

@@ -1,4 +1,4 @@
-"""The command line of an agent: where it plays, and the numbers that it plays by."""
+"""The command line of an agent: the server and seat, and the agent's own numbers."""
 
 import argparse
 import ast
@@ -18,18 +18,19 @@ def agent_parser(what: str) -> argparse.ArgumentParser:
     """
     raw = argparse.RawDescriptionHelpFormatter
     parser = argparse.ArgumentParser(description=what, formatter_class=raw)
-    parser.add_argument("host")
-    parser.add_argument("port", type=int)
+    parser.add_argument("host", help="the host of the server or the lobby")
+    parser.add_argument("port", type=int, help="its port for agents")
     parser.add_argument("word", help="the seat word of the agent")
     # A session has 65,536 lines: with a pause of two seconds they last for the slowest game.
     parser.add_argument("--pause", type=seconds, default=2.0, metavar="SECONDS",
-                        help="the time between two rounds of requests; a tick or less is good")
+                        help="wait this long between rounds of requests, best at most a tick "
+                             "(default: 2)")
     parser.add_argument("--seed", type=int, default=os.environ.get("AGENT_SEED"),
-                        help="the number from which the agent draws, if it draws; default: the "
-                             "variable AGENT_SEED, and without it anew each time")
+                        help="draw random numbers from this seed (default: the variable "
+                             "AGENT_SEED, or a new seed each time)")
     parser.add_argument("--set", action="append", default=[], metavar="NAME=VALUE",
-                        help="play with another value of a number, or of several in brackets, that "
-                             "the agent's file names in capitals; may be given again")
+                        help="change a number, or several in brackets, that the agent's file names "
+                             "in capitals; may be repeated")
     return parser
 
 
@@ -53,11 +54,11 @@ def _change(parser: argparse.ArgumentParser, names: Dict[str, Any], text: str) -
     kinds = next((kinds for kinds in ((int, float), (tuple, list)) if name.isupper()
                   and isinstance(names.get(name), kinds)), None)
     if kinds is None:
-        parser.error(f"--set {text}: the agent's file names no number {name} in capitals")
+        parser.error(f"--set {text}: the agent's file has no number {name} in capitals")
     try:
         value = ast.literal_eval(written)
     except (ValueError, SyntaxError):
         value = None
     if not isinstance(value, kinds):
-        parser.error(f"--set {text}: a value like the one of {name} is due")
+        parser.error(f"--set {text}: expected a value of the same kind as {name}")
     names[name] = value

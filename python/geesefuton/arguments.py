@@ -9,15 +9,15 @@ MOST_SECONDS = 1e6
 
 
 class Parser(argparse.ArgumentParser):
-    """A parser that takes no abbreviations, and tells an error in one line."""
+    """A parser that takes no abbreviations, and reports an error in one line."""
 
     def __init__(self, name: str, description: str) -> None:
         super().__init__(prog=name, description=description, allow_abbrev=False,
                          formatter_class=argparse.RawDescriptionHelpFormatter)
 
     def error(self, message: str) -> NoReturn:
-        """Tells an error, and ends with status 2."""
-        tell(f"{self.prog}: {message} (--help tells more)")
+        """Reports an error, and ends with status 2."""
+        tell(f"{self.prog}: {message} (see --help)")
         self.exit(2)
 
 
@@ -26,7 +26,7 @@ def whole(least: int, most: int = 1 << 30) -> Callable[[str], int]:
     def read(text: str) -> int:
         if not (text.isascii() and text.isdigit()) or not least <= int(text) <= most:
             due = f"of {least} or more" if most == 1 << 30 else f"from {least} to {most}"
-            raise argparse.ArgumentTypeError(f"a number {due} is due, not {text!r}")
+            raise argparse.ArgumentTypeError(f"expected a number {due}, not {text!r}")
         return int(text)
     return read
 
@@ -38,5 +38,5 @@ def seconds(text: str) -> float:
     except ValueError:
         value = -1.0
     if not 0 <= value <= MOST_SECONDS:
-        raise argparse.ArgumentTypeError(f"a number of seconds is due, not {text!r}")
+        raise argparse.ArgumentTypeError(f"expected a number of seconds, not {text!r}")
     return value

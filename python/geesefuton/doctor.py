@@ -1,4 +1,4 @@
-"""What is installed, and what is at hand on this machine: `geesefuton version` and `doctor`."""
+"""The commands `version` and `doctor`: what is installed, and what this machine lacks."""
 
 import hashlib
 import json
@@ -104,7 +104,7 @@ Finding = Tuple[bool, str]  # whether it is as it should be, and a line that say
 def _system() -> Finding:
     is_due = platform.system() == "Linux" and platform.machine() in ("x86_64", "AMD64")
     return is_due, f"platform: {_platform()}" + ("" if is_due else (
-        "; the program runs on x86-64 Linux: host there, agents run anywhere"))
+        "; the program needs x86-64 Linux: host games there; agents run anywhere"))
 
 
 def _library() -> Finding:
@@ -131,13 +131,13 @@ def _runs() -> Finding:
         return False, f"program runs: no: {fault}"
     is_due = made.startswith("tac 1\n")
     return is_due, ("program runs: yes" if is_due else
-                    "program runs: no: it makes no game; is it GNU's tac? Set TAC to the right one")
+                    "program runs: no: it makes no game; is it GNU tac? Set TAC to the right file")
 
 
 def _hash() -> Finding:
     told = provenance()
     if told is None:
-        return True, "hash: nothing to compare with, since this is no release"
+        return True, "hash: nothing to compare with, since this is not a release"
     try:
         digest = hash_of(program.find())
     except (program.ProgramError, OSError):
@@ -160,8 +160,8 @@ def _ports() -> Finding:
         try:
             probe.bind(("", PORT))
         except OSError as fault:
-            return False, (f"port {PORT}: {fault.strerror}; take another, such as {free_port()} "
-                           f"(`ss -ltnp` shows who has it)")
+            return False, (f"port {PORT}: {fault.strerror}; use another, such as {free_port()} "
+                           f"(`ss -ltnp` shows which process has it)")
     return True, f"port {PORT}: free"
 
 
@@ -184,16 +184,16 @@ def _files() -> Finding:
     try:
         import resource
     except ImportError:
-        return True, "open files: no limit is known here"
+        return True, "open files: the limit is unknown"
     soft, _ = resource.getrlimit(resource.RLIMIT_NOFILE)
     return soft < 0 or soft >= 256, f"open files: {soft} at most" + (
-        "" if soft < 0 or soft >= 256 else ": `ulimit -n 1024` before the lobby")
+        "" if soft < 0 or soft >= 256 else ": run `ulimit -n 1024` before the lobby")
 
 
 def _folder() -> Finding:
     is_due = os.access(".", os.W_OK)
-    return is_due, "this folder: can be written" if is_due else (
-        "this folder: cannot be written: logs and journals need one that can")
+    return is_due, "this folder: writable" if is_due else (
+        "this folder: not writable: use one that is, for logs and journals")
 
 
 FINDINGS = (_system, _library, _file, _runs, _hash, _python, _ports, _addresses, _files, _folder)
@@ -205,9 +205,9 @@ def main() -> int:
 
 
 def _doctor() -> int:
-    Parser("doctor", "Says what this machine has and lacks, and how to get what is missing.\n"
+    Parser("doctor", "Checks what this machine has and lacks, and how to get what is missing.\n"
            "The exit status is 1 if something is missing.").parse_args()
     findings = [look() for look in FINDINGS]
-    status = _print("doctor", [f"{'ok  ' if is_due else 'MEND'} {text}"
+    status = _print("doctor", [f"{'ok  ' if is_due else 'FIX '} {text}"
                                for is_due, text in findings])
     return status or int(not all(is_due for is_due, _ in findings))

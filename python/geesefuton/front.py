@@ -1,6 +1,6 @@
-"""The command `geesefuton`: every program of the package under one word.
+"""Runs the programs of the package, and the proved program `tac`.
 
-`geesefuton WORD --help` describes one of those below, but for `tac`, which ends as it does alone.
+`geesefuton WORD --help` describes a program. `tac` gets its words unchanged.
 """
 
 import importlib
@@ -31,23 +31,24 @@ PROGRAMS: Dict[str, Program] = {
     "lobby": Program("geesefuton.hosting.lobby_command",
                      "hosts a game for agents on other machines"),
     "room": Program("geesefuton.practice.room_command",
-                    "a practice room: game after game, with standings"),
+                    "runs a practice room: game after game, with standings"),
     "live": Program("geesefuton.hosting.live", "shows a hosted game on a page"),
-    "recover": Program("geesefuton.hosting.recover_command", "makes a log of a lobby's journal"),
+    "recover": Program("geesefuton.hosting.recover_command", "makes a log from a lobby's journal"),
     "vouch": Program("geesefuton.hosting.vouch_command",
-                     "says whether a log is right about links"),
+                     "checks whether a log is right about links"),
     "seat": Program("geesefuton.playing.seat_command", "lets a person play a seat in a browser"),
     "report": Program("geesefuton.experiments.report_command",
                       "makes a page of a game, or of the games of a tournament"),
-    "tournament": Program("geesefuton.experiments.tournament", "plays many games of some agents"),
+    "tournament": Program("geesefuton.experiments.tournament",
+                          "plays many games between agents, and compares them"),
     "profiles": Program("geesefuton.experiments.profiles",
-                        "plays all profiles of some strategies"),
+                        "plays every profile of some strategies"),
     "data": Program("geesefuton.experiments.data_command",
                     "writes a tournament's games as tables"),
-    "doctor": Program("geesefuton.doctor", "checks this machine for what is needed"),
+    "doctor": Program("geesefuton.doctor", "checks that this machine has what is needed"),
     "version": Program("geesefuton.doctor", "shows the version, the program and its hash"),
 }
-TAC = "passes its words to the proved program"
+TAC = "runs the proved program with these words"
 
 
 def _epilog() -> str:
@@ -83,7 +84,7 @@ def _main() -> int:
     if word == "--version":
         word = "version"
     if word not in PROGRAMS:
-        tell(f"geesefuton: there is no program {word!r} (--help lists them)")
+        tell(f"geesefuton: unknown program {word!r} (--help lists them)")
         return 2
     sys.argv = [word, *words]
     status: int = getattr(importlib.import_module(PROGRAMS[word].module),

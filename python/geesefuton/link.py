@@ -5,13 +5,13 @@
         print(link.quote(8).ask, link.own(8), link.cash())
         link.quit()
 
-Agents speak lines of words, or JSON objects where the server was started so: `Link.greet` takes
-the form, and the calls are the same. `ask` takes and gives lines of words in either form.
+Agents send lines of words, or JSON objects if the server was started that way: `Link.greet` takes
+the form, and the calls are the same. `ask` takes and returns lines of words in either form.
 
-A link that is lost, since it ends or a reply takes longer than its limit, is connected again, as
-the lobby allows (docs/HOSTING.md). What was asked is asked again, but for a bid: it may have been
-admitted, and to bid twice may buy twice. So a lost bid raises `Unanswered`, and `own` tells what
-came of it.
+If the link is lost, because it ends or a reply takes longer than its limit, the agent reconnects,
+as the lobby allows (docs/HOSTING.md), and repeats its request. The exception is a bid: it may have
+been admitted, and bidding twice may buy twice. So a lost bid raises `Unanswered`, and `own` shows
+whether it was admitted.
 
 With the variable AGENT_RECORD a link keeps its bytes (`geesefuton.link_record`).
 """
@@ -172,7 +172,7 @@ class Link:
                 has ended.
         """
         if self.address is None:
-            raise LinkError(f"{self.word}: where the server is was not told")
+            raise LinkError(f"{self.word}: the address of the server is not known")
         fault, deadline = "", time.monotonic() + within
         while True:
             self.close()
@@ -213,7 +213,7 @@ class Link:
                 raise
             is_over = isinstance(fault.__context__, ConnectionRefusedError)
             raise LinkError(str(lost if is_over or self.address is None else fault)) from None
-        tell(f"{lost}; connected again after {time.monotonic() - begun:.1f} seconds")
+        tell(f"{lost}; reconnected after {time.monotonic() - begun:.1f} seconds")
 
     def line(self) -> str:
         """The next line that the server sends, without its line end.
@@ -360,13 +360,13 @@ def _prepare(stream: socket.socket, limit: Optional[float]) -> None:
 
 
 def _no_link(host: str, port: int, fault: OSError) -> str:
-    return f"no link to {host} at port {port}: {fault.strerror or fault}"
+    return f"cannot connect to {host} at port {port}: {fault.strerror or fault}"
 
 
 def _connect(host: str, port: int) -> socket.socket:
     """A connection to the server, which may still be starting."""
     if not 1 <= port <= 65535:  # otherwise the system takes the rest of a division by 65536
-        raise Hopeless(f"no link to {host} at port {port}: ports are 1 to 65535")
+        raise Hopeless(f"cannot connect to {host} at port {port}: ports are 1 to 65535")
     deadline = time.monotonic() + PATIENCE
     while True:
         try:
@@ -428,8 +428,8 @@ def run(what: str, play: Callable[[Link, float], None]) -> None:
     """
     parser = agent_parser(what)
     parser.add_argument("--again", action="store_true",
-                        help="ask for a seat in the next game after each, until there is no server "
-                             f"for {PATIENCE} seconds")
+                        help="after each game ask for a seat in the next one, until no server has "
+                             f"listened for {PATIENCE} seconds")
     given = parser.parse_args()
     host, port, word, pause = begin(parser, given)
     told = ""
@@ -444,7 +444,7 @@ def run(what: str, play: Callable[[Link, float], None]) -> None:
                 sys.exit(str(fault))
             if str(fault) != told:
                 told = str(fault)
-                tell(f"{told}; a seat in the next game is asked for")
+                tell(f"{told}; asking for a seat in the next game")
         if not given.again:
             return
         time.sleep(NEXT)

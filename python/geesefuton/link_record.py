@@ -1,10 +1,10 @@
-"""What an agent keeps of its link, if the variable AGENT_RECORD names a folder: the bytes that it
-sent, and those that it was sent.
+"""An agent's record of its link, if the variable AGENT_RECORD names a folder: the bytes that it
+sent, and those that it received.
 
 A link that has its seat gets two new files in the folder, `WORD.asked` and `WORD.said` with its
-seat word, or `WORD.2.asked` and `WORD.2.said` where one of them is there already, and so on. A line
-is written before it is sent, so WORD.asked has what the agent tried to send; and what came is
-written before the agent sees it. A link that was refused leaves no files.
+seat word, or `WORD.2.asked` and `WORD.2.said` if one of them exists already, and so on. A line is
+written before it is sent, so WORD.asked has what the agent tried to send; a reply is written before
+the agent sees it. A link that was refused leaves no files.
 """
 
 import io

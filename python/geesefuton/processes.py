@@ -1,5 +1,5 @@
-"""Processes and folders that are gone once the script that made them has ended, however it ends;
-signals; and output that tells closed pipes and full disks."""
+"""Processes and folders that do not outlive the script that made them, even if it is killed;
+signals; and output that reports closed pipes and full disks."""
 
 import contextlib
 import errno
@@ -123,7 +123,7 @@ class Children:
             place = told.readline().decode().rstrip("\n")
         if not place:
             self.close()
-            raise OSError(errno.ENOSPC, "no folder can be made", tempfile.gettempdir())
+            raise OSError(errno.ENOSPC, "cannot create a folder", tempfile.gettempdir())
         self._groups = Path(place, "groups")
         self._files = Path(place, "files")
 

@@ -1,7 +1,7 @@
 """The file of tac, and its commands as calls.
 
-The file is the one that the environment variable TAC names. Without it, it is the one that a
-release has in the package, or crates/tacd/out/tacd of the clone that the package stands in.
+The environment variable TAC names the file. Without it, the file is the one that a release has in
+the package, or crates/tacd/out/tacd of the clone that contains the package.
 """
 
 import atexit
@@ -76,7 +76,7 @@ def examples() -> Path:
     for folder in (package.parents[1] / "examples", package / "examples"):
         if (folder / "agents").is_dir():
             return folder
-    raise ProgramError("there is no folder of examples: install the package again, or run it from "
+    raise ProgramError("the folder of examples is missing: reinstall the package, or run it from "
                        "a clone")
 
 
@@ -97,7 +97,8 @@ def find() -> str:
     file = shutil.which(name)
     if file is None:
         if os.path.isfile(name):
-            raise ProgramError(f"{name} is no program: chmod +x it, or set TAC to the file of tac")
+            raise ProgramError(f"{name} is not executable: chmod +x it, or set TAC to the file of "
+                               "tac")
         raise ProgramError(f"there is no program {name}: build it (README, The proved program), "
                            "or set TAC to the file of tac")
     # A name with a slash is taken from here, so that it holds in any folder.
@@ -208,7 +209,8 @@ def _end_running() -> None:
 def why_not_run(file: str, fault: OSError) -> str:
     """Why the system cannot run the file of tac, and what to do."""
     if fault.errno == errno.ENOEXEC:
-        return f"{file} is no program of this system: tac runs on x86-64 Linux; set TAC to its file"
+        return f"{file} is not a program for this system: tac needs x86-64 Linux; set TAC to its " \
+               "file"
     if fault.errno == errno.ENOENT and os.path.exists(file):
         return f"{file} needs the GNU C library (glibc), which this system does not have"
     return f"{file} cannot be run: {fault.strerror}"
@@ -224,7 +226,7 @@ def ended(command: str, status: int, line: str) -> ProgramError:
     """
     if status == 1 and not line:  # words that are no command are answered by a line
         return ProgramError(f"tac {command} did not start: it needs glibc 2.34 or later "
-                            "(`ldd --version` tells yours), or TAC names another program", status)
+                            "(`ldd --version` shows yours), or TAC names another program", status)
     told = ": ".join(part for part in (MEANINGS.get(status, ""), line[:100]) if part)
     return ProgramError(f"tac {command} ended with exit status {status}"
                         + (f" ({told})" if told else ""), status, line)

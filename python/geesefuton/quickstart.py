@@ -1,7 +1,7 @@
 """Plays a game of eight small agents over links, and shows their output and the scores.
 
-It uses the proved program if it is built, or the file that the variable TAC names, and otherwise
-the toolchain's quick run.
+It uses the file that the variable TAC names, or else the proved program if it is built, or else the
+toolchain's quick run.
 """
 
 import os
@@ -19,11 +19,11 @@ from geesefuton.records.logs import LogError, read_scores
 
 PACE = 150  # milliseconds between the 54 ticks
 AGENTS = ["planner"] * 4 + ["trader"] * 3 + ["watcher"]
-MISSING = """. To build it, or to run it at once, takes the toolchain, Rattle, and there is no \
-command `rt` in PATH (its page is START-HERE.md in its folder, looked for in /opt/rattle); with a \
-program that was built elsewhere: TAC=/path/to/tac ./quickstart"""
-PROVED = "That was the program {}: one file that stands alone."
-QUICK = """That was a quick run, which proves nothing. The proved program: \
+MISSING = """. A build or a quick run needs the toolchain, Rattle, but there is no command `rt` in \
+PATH (see START-HERE.md in its folder, such as /opt/rattle); with a program that was built \
+elsewhere: TAC=/path/to/tac ./quickstart"""
+PROVED = "The server was the program {}, a single file."
+QUICK = """This was a quick run, which proves nothing. To build the proved program, run \
 (cd crates/tacd && rt run -- make 42), and then ./quickstart again."""
 
 
@@ -43,7 +43,7 @@ def start_server(children: Children, place: Path, port: int,
         clone = program.top()
         if clone is None or not shutil.which("rt"):
             raise program.ProgramError(f"{fault}{MISSING}") from None
-        out.write("The server is built for a quick run; it takes a minute or so, and longer on a "
+        out.write("Building the server for a quick run: this takes about a minute, longer on a "
                   "busy machine.\n")
         first = (program.examples() / "first.game").read_text()
         game.write_text("".join(line for line in first.splitlines(keepends=True)
@@ -80,9 +80,9 @@ def play(children: Children, out: Output) -> int:
             time.sleep(0.05)  # a quick run is built first
         processes += [start_agent(children, place, port, seat) for seat in range(len(AGENTS))]
         try:
-            status = f"with exit status {server.wait(most)}"
+            status = f"ended with exit status {server.wait(most)}"
         except subprocess.TimeoutExpired:
-            status = "only because it was out of time"
+            status = f"did not end within {most} seconds"
         return show(place, status, told, out)
     finally:
         for process in processes:
@@ -99,7 +99,7 @@ def start_agent(children: Children, place: Path, port: int,
 
 
 def show(place: Path, status: str, told: str, out: Output) -> int:
-    """Shows what the agents say and the scores, and gives the exit status.
+    """Shows the agents' output and the scores, and gives the exit status.
 
     Args:
         place: The folder of what was printed.
@@ -113,10 +113,10 @@ def show(place: Path, status: str, told: str, out: Output) -> int:
     except LogError:
         tell((log[:200] + ((place / "told").read_bytes() if (place / "told").exists() else b""))
              .decode("utf-8", "replace").rstrip())
-        tell(f"quickstart: the server ended {status}, and there are no scores")
+        tell(f"quickstart: the server {status}, so there are no scores")
         return 1
     time.sleep(0.5)  # the agents print their last lines
-    out.write("What the agents say:\n")
+    out.write("The agents' output:\n")
     for seat in range(len(AGENTS)):
         out.write((place / f"agent{seat}").read_bytes())
     out.write("The scores (agent, best total, cash, tickets short, score):\n")

@@ -20,18 +20,18 @@ class Numbers(unittest.TestCase):
         for text in ("3", "7", "65535"):
             self.assertEqual(whole(3, 65535)(text), int(text))
         for text in ("2", "65536", "-4", "+4", "4.0", " 4", "4 ", "", "x", "0x4", "1_0", "\u0664"):
-            self.assertIn(f"from 3 to 65535 is due, not {text!r}",
+            self.assertIn(f"a number from 3 to 65535, not {text!r}",
                           self.refused(whole(3, 65535), text))
 
     def test_whole_numbers_without_a_limit(self) -> None:
         self.assertEqual([whole(0)("0"), whole(0)("123456789")], [0, 123456789])
-        self.assertIn("of 1 or more is due, not '0'", self.refused(whole(1), "0"))
+        self.assertIn("a number of 1 or more, not '0'", self.refused(whole(1), "0"))
 
     def test_seconds(self) -> None:
         for text, value in (("0", 0.0), ("0.25", 0.25), ("30", 30.0), ("1000000", 1e6)):
             self.assertEqual(seconds(text), value)
         for text in ("-1", "-0.1", "1000001", "nan", "inf", "x", "", "1s"):
-            self.assertIn(f"seconds is due, not {text!r}", self.refused(seconds, text))
+            self.assertIn(f"a number of seconds, not {text!r}", self.refused(seconds, text))
 
 
 class Parsers(unittest.TestCase):
@@ -48,7 +48,7 @@ class Parsers(unittest.TestCase):
 
     def test_errors_are_one_line_and_status_2(self) -> None:
         self.assertEqual(self.ended("--number", "10"), (2, [
-            "name: argument --number: a number from 1 to 9 is due, not '10' (--help tells more)"
+            "name: argument --number: expected a number from 1 to 9, not '10' (see --help)"
         ], ""))
 
     def test_words_are_not_abbreviated(self) -> None:

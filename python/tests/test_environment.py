@@ -78,9 +78,9 @@ class Arguments(unittest.TestCase):
     def test_shipped_agents_need_no_clone_but_their_folder(self) -> None:
         with mock.patch.object(program, "top", return_value=None):  # as in an unpacked archive
             Environment(rivals={"seat1": "baseline"}).close()
-        missing = mock.Mock(side_effect=ProgramError("there is no folder of examples"))
+        missing = mock.Mock(side_effect=ProgramError("the folder of examples is missing"))
         with mock.patch.object(program, "examples", missing):
-            with self.assertRaisesRegex(ValueError, "no folder of examples"):
+            with self.assertRaisesRegex(ValueError, "folder of examples is missing"):
                 Environment(rivals={"seat1": "baseline"})
 
     def test_without_a_game_nobody_plays(self) -> None:

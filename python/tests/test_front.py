@@ -47,8 +47,8 @@ class Front(unittest.TestCase):
         file.chmod(0o755)
         done = self.run_front("tac", "make", "1", tac=str(file))
         self.assertEqual((done.returncode, done.stdout), (1, ""))
-        self.assertEqual(done.stderr, f"geesefuton: {file} is no program of this system: tac runs "
-                         "on x86-64 Linux; set TAC to its file\n")
+        self.assertEqual(done.stderr, f"geesefuton: {file} is not a program for this system: tac "
+                         "needs x86-64 Linux; set TAC to its file\n")
 
     def test_help_lists_the_programs_in_a_screenful(self) -> None:
         done = self.run_front("--help")
@@ -60,7 +60,7 @@ class Front(unittest.TestCase):
     def test_an_unknown_word(self) -> None:
         done = self.run_front("lobbby")
         self.assertEqual((done.returncode, done.stderr),
-                         (2, "geesefuton: there is no program 'lobbby' (--help lists them)\n"))
+                         (2, "geesefuton: unknown program 'lobbby' (--help lists them)\n"))
 
     def test_each_program_tells_its_help(self) -> None:
         for word in front.PROGRAMS:
@@ -175,7 +175,7 @@ class Doctor(unittest.TestCase):
         self.assertIn("not the released one, whose hash is 000", self.tell(is_doctor=False)[1])
         status, text = self.tell(is_doctor=True)
         self.assertEqual(status, 1)
-        self.assertIn("MEND hash: differs from the released one: unpack or install it again", text)
+        self.assertIn("FIX  hash: differs from the released one: unpack or install it again", text)
 
     def test_doctor_has_ten_lines(self) -> None:
         self.released(doctor.hash_of(self.tac))
@@ -186,17 +186,17 @@ class Doctor(unittest.TestCase):
 
     def test_another_program_than_tac(self) -> None:
         fake_program(self.place, "echo something")
-        self.assertIn("MEND program runs: no: it makes no game; is it GNU's tac?",
+        self.assertIn("FIX  program runs: no: it makes no game; is it GNU tac?",
                       self.tell(is_doctor=True)[1])
 
     def test_an_old_library(self) -> None:
         with mock.patch("platform.libc_ver", lambda: ("glibc", "2.31")):
-            self.assertIn("MEND C library: glibc 2.31; the program needs glibc 2.34 or later",
+            self.assertIn("FIX  C library: glibc 2.31; the program needs glibc 2.34 or later",
                           self.tell(is_doctor=True)[1])
 
     def test_the_status_is_0_only_if_nothing_is_missing(self) -> None:
         for findings, due in (([(True, "a"), (True, "b")], (0, "ok   a\nok   b\n")),
-                              ([(False, "a"), (True, "b")], (1, "MEND a\nok   b\n"))):
+                              ([(False, "a"), (True, "b")], (1, "FIX  a\nok   b\n"))):
             looks = [lambda found=found: found for found in findings]
             with mock.patch.object(doctor, "FINDINGS", looks):
                 self.assertEqual(self.tell(is_doctor=True), due)
@@ -204,7 +204,7 @@ class Doctor(unittest.TestCase):
     def test_what_each_look_finds(self) -> None:
         with socket.create_server(("", 0)) as taken, \
                 mock.patch.object(doctor, "PORT", taken.getsockname()[1]):
-            self.check(doctor._ports, False, f"port {doctor.PORT}: Address already in use; take "
+            self.check(doctor._ports, False, f"port {doctor.PORT}: Address already in use; use "
                        "another, such as ")
         with mock.patch.object(doctor, "PORT", free_port()):
             self.check(doctor._ports, True, f"port {doctor.PORT}: free")
@@ -226,7 +226,8 @@ class Doctor(unittest.TestCase):
                 self.check(doctor._python, is_due, "Python: ")
         for may_write in (False, True):
             with mock.patch("os.access", return_value=may_write):
-                self.check(doctor._folder, may_write, "this folder: can")
+                self.check(doctor._folder, may_write,
+                           f"this folder: {'' if may_write else 'not '}writable")
         with mock.patch("socket.socket.connect", side_effect=OSError):
             self.check(doctor._addresses, False, "addresses: none but this machine's own")
         with mock.patch.dict(os.environ, {"TAC": str(self.place / "none")}):

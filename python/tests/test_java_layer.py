@@ -73,7 +73,7 @@ class Lost(unittest.TestCase):
         bid, *after = self.after_the_loss(game)
         self.assertEqual(after[:3], ["hello red", f"own {bid.split()[1]}", bid])
         self.assertEqual(len(told), 1)
-        self.assertRegex(told[0], "^agent: the link was closed; connected again after [0-9.]+ s")
+        self.assertRegex(told[0], "^agent: the link was closed; reconnected after [0-9.]+ s")
 
     def test_a_lost_bid_that_was_admitted_is_not_made_again(self) -> None:
         game = Game("bid ", "", True)
@@ -88,7 +88,7 @@ class Lost(unittest.TestCase):
         at = game.heard.index("quote 20")
         self.assertEqual(game.heard[at + 1:at + 3], ["hello red", "quote 20"])
         self.assertEqual(len(told), 1)
-        self.assertRegex(told[0], "^agent: no reply in time; connected again after [0-9.]+ s")
+        self.assertRegex(told[0], "^agent: no reply in time; reconnected after [0-9.]+ s")
 
 
 if __name__ == "__main__":

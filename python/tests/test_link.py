@@ -129,11 +129,12 @@ class Greeting(unittest.TestCase):
             with self.assertRaises(LinkError) as caught:
                 Link.greet("127.0.0.1", port, "red")
         self.assertEqual(str(caught.exception),
-                         f"no link to 127.0.0.1 at port {port}: Connection refused")
-        with self.assertRaisesRegex(LinkError, "no link to nowhere.invalid"):
+                         f"cannot connect to 127.0.0.1 at port {port}: Connection refused")
+        with self.assertRaisesRegex(LinkError, "cannot connect to nowhere.invalid"):
             Link.greet("nowhere.invalid", 7000, "red")
         for port in (70000, 65536, 0, -1):
-            with self.assertRaisesRegex(LinkError, f"no link to 127.0.0.1 at port {port}: ports"):
+            with self.assertRaisesRegex(LinkError,
+                                        f"cannot connect to 127.0.0.1 at port {port}: ports"):
                 Link.greet("127.0.0.1", port, "red")
 
     def test_every_port_is_tried(self) -> None:
@@ -252,7 +253,7 @@ class Lost(unittest.TestCase):
                 self.assertEqual(server.heard, ["hello red\n"] * 2 + [line + "\n"])
                 self.assertEqual(len(agent.clients), 8)
         self.assertEqual(len(self.told), 4)
-        self.assertRegex(self.told[0], "^red: the link was closed; connected again after [0-9.]+ s")
+        self.assertRegex(self.told[0], "^red: the link was closed; reconnected after [0-9.]+ s")
 
     def test_a_reply_has_its_time(self) -> None:
         links = [WELCOME, ["@1 own 1 ()"], None], [WELCOME, ["@2 own 1 ()"]]
@@ -350,7 +351,7 @@ class Lost(unittest.TestCase):
         with Link(ours, ours.makefile("rb"), "red") as agent:
             theirs.close()
             self.assertRaisesRegex(LinkError, "^red: the link was closed$", agent.cash)
-            self.assertRaisesRegex(LinkError, "was not told", agent.rejoin)
+            self.assertRaisesRegex(LinkError, "is not known", agent.rejoin)
         self.assertEqual(ours.fileno(), -1)
 
     def test_the_limit_is_that_of_the_call_or_of_the_variable(self) -> None:
@@ -365,7 +366,7 @@ class Lost(unittest.TestCase):
                     self.assertEqual((agent.limit, agent.stream.gettimeout()), (due, due))
                 server.join()
         with mock.patch.dict(os.environ, {"AGENT_LIMIT": "soon"}):
-            self.assertRaisesRegex(LinkError, "AGENT_LIMIT: a number of seconds", Link.greet,
+            self.assertRaisesRegex(LinkError, "AGENT_LIMIT: expected a number of seconds", Link.greet,
                                    "127.0.0.1", 7000, "red")
 
 
@@ -549,10 +550,10 @@ class Arguments(unittest.TestCase):
                          [1.0, (30, 0), -3])
         setting("SHADE=2")
         self.assertEqual(names["SHADE"], 2)
-        for text, why in (("SHAED=1", "names no number SHAED in capitals"), ("play=1", "no number"),
-                          ("WORD=1", "no number WORD"), ("SHADE", "like the one of SHADE is due"),
-                          ("SHADE=", "is due"), ("SHADE=high", "is due"), ("=1", "no number"),
-                          ("SHADE=(1, 2)", "is due"), ("MARGINS=3", "like the one of MARGINS")):
+        for text, why in (("SHAED=1", "has no number SHAED in capitals"), ("play=1", "no number"),
+                          ("WORD=1", "no number WORD"), ("SHADE", "the same kind as SHADE"),
+                          ("SHADE=", "expected"), ("SHADE=high", "expected"), ("=1", "no number"),
+                          ("SHADE=(1, 2)", "expected"), ("MARGINS=3", "the same kind as MARGINS")):
             told = io.StringIO()
             with mock.patch("sys.stderr", told), self.assertRaises(SystemExit) as caught:
                 setting(text)

@@ -133,14 +133,14 @@ class Commands(unittest.TestCase):
     def test_a_file_that_is_no_program(self) -> None:
         (self.place / "text").write_text("x")
         self.set({"TAC": str(self.place / "text")})
-        self.assertIn("is no program: chmod +x it", str(self.refused("make", 1)))
+        self.assertIn("is not executable: chmod +x it", str(self.refused("make", 1)))
 
     def test_a_program_that_cannot_be_run(self) -> None:
         file = self.place / "bad"
         file.write_bytes(b"\x00\x01\x02")
         file.chmod(0o755)
         self.set({"TAC": str(file)})
-        self.assertIn("bad is no program of this system: tac runs on x86-64 Linux",
+        self.assertIn("bad is not a program for this system: tac needs x86-64 Linux",
                       str(self.refused("make", 1)))
 
     def test_a_signal_while_the_process_is_made_leaves_none_behind(self) -> None:

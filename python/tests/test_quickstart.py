@@ -69,8 +69,8 @@ class Playing(unittest.TestCase):
         first, rest = written.split("The scores (agent, best total, cash, tickets short, score):\n")
         names = ["planner.py"] * 4 + ["trader.py"] * 3 + ["watcher.py"]
         self.assertEqual(first.splitlines(), [
-            "What the agents say:", *(f"{name} seat{seat} --pause 0.1"
-                                      for seat, name in enumerate(names))])
+            "The agents' output:", *(f"{name} seat{seat} --pause 0.1"
+                                     for seat, name in enumerate(names))])
         scores = [line for line in SERVED_LOG.read_text().splitlines()
                   if line.startswith("score ")]
         self.assertEqual(rest.splitlines()[:8], scores)
@@ -85,7 +85,7 @@ class Playing(unittest.TestCase):
         status, written, told = self.play("echo fault links; exit 5")
         self.assertEqual((status, written), (1, ""))
         self.assertEqual(told, ["fault links", "quickstart: the server ended with exit status 5, "
-                                               "and there are no scores"])
+                                               "so there are no scores"])
 
 
 if __name__ == "__main__":

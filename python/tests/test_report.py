@@ -297,7 +297,7 @@ class Command(unittest.TestCase):
     def test_words_that_are_wrong(self) -> None:
         status, text = refusal("records.report", "--cs", SERVED_GAME, SERVED_LOG)
         self.assertEqual(status, 2)
-        self.assertEqual(text, "report: unrecognized arguments: --cs (--help tells more)\n")
+        self.assertEqual(text, "report: unrecognized arguments: --cs (see --help)\n")
 
     def test_it_runs_from_a_clone(self) -> None:
         done = subprocess.run([str(TOP / "tools" / "report"), "--help"], stdout=subprocess.PIPE,

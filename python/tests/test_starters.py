@@ -112,7 +112,7 @@ class Starters:
         heard = self.played({"bid 7": ""})
         told, asked = heard.pop(), FIRST[:FIRST.index("own 7") + 2]
         self.case().assertEqual(heard, ["hello red", *asked, "hello red", *FIRST, *LAST])
-        self.case().assertRegex(told, "^red: the link was closed; connected again after [0-9.]+ s")
+        self.case().assertRegex(told, "^red: the link was closed; reconnected after [0-9.]+ s")
 
     def test_a_reply_has_its_time_and_a_taken_seat_is_asked_for_again(self) -> None:
         server = SeatServer()
@@ -130,7 +130,7 @@ class Starters:
         asked = FIRST[:FIRST.index("own 8") + 1]
         self.case().assertEqual(server.heard, ["hello red", *asked, "hello red", "hello red",
                                                *FIRST, *LAST])
-        self.case().assertRegex(done.stderr, "^red: no reply within 3 seconds; connected again "
+        self.case().assertRegex(done.stderr, "^red: no reply within 3 seconds; reconnected "
                                 "after [0-9.]+ seconds\n$")
 
     def test_what_cannot_be_mended_ends_it_with_a_line(self) -> None:
@@ -201,7 +201,7 @@ class InJson(unittest.TestCase):
         server.join()
         self.assertEqual(done.returncode, 0, done.stderr)
         self.assertRegex(done.stderr,
-                         "^red: the link was closed; connected again after [0-9.]+ seconds\n$")
+                         "^red: the link was closed; reconnected after [0-9.]+ seconds\n$")
         heard = [line.rstrip("\n") for line in server.heard]
         self.assertEqual(heard, ["hello red", ASKED[0], "hello red", *ASKED])
 

@@ -52,7 +52,7 @@ class Commands(unittest.TestCase):
         self.refused("seeds are at most", "--seed", "18446744073709551613", "sh")  # of four deals
         for words in (["--start", "x"], ["--after", "-1"], ["--start", "nan"],
                       ["--patience", "x"]):
-            self.refused("a number of seconds is due", *words)
+            self.refused("expected a number of seconds", *words)
 
     def test_turns(self) -> None:
         for turns in ("0", "1001", "x"):

@@ -195,7 +195,7 @@ class BadInput(Case):
                 (["--journal", "x", "--published", "y"],
                  "give --journal or --published, not both"),
                 (["--journal", "x", "--seat", "y"], "--seat needs MINE")):
-            self.assertEqual(self.refused(*words), f"{due} (--help tells more)")
+            self.assertEqual(self.refused(*words), f"{due} (see --help)")
 
     def test_files_that_are_not_there(self) -> None:
         absent = "No such file or directory"

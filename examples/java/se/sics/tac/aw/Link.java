@@ -79,7 +79,7 @@ final class Link {
         return new Link(host, port);
       } catch (IOException | IllegalArgumentException e) { // the latter of a port out of range
         if (!(e instanceof ConnectException) || System.nanoTime() > deadline) {
-          throw new IOException("no link to " + place + ": " + e.getMessage());
+          throw new IOException("cannot connect to " + place + ": " + e.getMessage());
         }
         if (!told) {
           System.err.println("agent: nobody listens on " + place + " yet; two minutes of tries");
@@ -206,7 +206,7 @@ final class Link {
         open();
         List<String> lines = welcome(isSeated ? TRY : 0);
         if (lines.size() == WELCOME) {
-          System.err.printf("agent: %s; connected again after %.1f seconds%n", lost.getMessage(),
+          System.err.printf("agent: %s; reconnected after %.1f seconds%n", lost.getMessage(),
               (System.nanoTime() - begun) / 1e9);
           return lines;
         }
