@@ -168,7 +168,8 @@ class Reading(Case):
         table = self.out / "trades.csv"
         text = table.read_text()
         for broken, why in ((text.replace("tick", "tack", 1), "line 1 is not the head"),
-                            (text + "1,2\n", "is no row"), (text + "x" + text[-30:], "is no row")):
+                            (text + "1,2\n", "is not a row"),
+                            (text + "x" + text[-30:], "is not a row")):
             table.write_text(broken)
             with self.assertRaisesRegex(DataError, why):
                 read_data(self.out)
@@ -193,8 +194,8 @@ class Reading(Case):
 class Refusals(Case):
     def test_what_is_no_run(self) -> None:
         (self.folder / "run.json").unlink()
-        self.assertEqual(self.data(), (1, f"data: {self.folder}: it is no folder of a tournament's "
-                                          "run\n"))
+        self.assertEqual(self.data(), (1, f"data: {self.folder}: it is not the folder of a "
+                                          "tournament's run\n"))
         self.assertFalse(self.out.exists())
         shutil.rmtree(self.folder)
         self.assertEqual(self.data()[0], 2)
@@ -204,7 +205,7 @@ class Refusals(Case):
         (self.out / "mine").write_text("mine")
         status, text = self.data()
         self.assertEqual((status, text.count("\n")), (2, 1))
-        self.assertIn("has mine: name a new folder", text)
+        self.assertIn("has mine): name a new folder", text)
         self.assertEqual(sorted(file.name for file in self.out.iterdir()), ["mine"])
 
     def test_games_that_cannot_be_read_are_named_and_the_others_go_on(self) -> None:
@@ -225,7 +226,7 @@ class Refusals(Case):
         (games / "first-1.0.script").write_text("tick\n" * 3)
         status, text = self.data()
         self.assertEqual(status, 1)
-        self.assertIn("10.0.log: it has other scores than the run's rows\n", text)
+        self.assertIn("10.0.log: its scores differ from the run's rows\n", text)
         self.assertIn("first-1.0.script: good 1 has no call of the clock at tick 1\n", text)
 
     def test_a_journal_without_a_call_of_the_log(self) -> None:
@@ -239,7 +240,7 @@ class Refusals(Case):
                                 if number not in (place, answer)))
         status, text = self.data()
         self.assertEqual(status, 1)
-        self.assertRegex(text, r"10.0.journal: entry \d+ of good 9 is not in it\n$")
+        self.assertRegex(text, r"10.0.journal: it lacks entry \d+ of good 9\n$")
 
     def test_a_full_disk(self) -> None:
         with mock.patch("os.write", side_effect=OSError(28, "No space left on device")):

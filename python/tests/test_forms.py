@@ -21,7 +21,7 @@ class Texts(unittest.TestCase):
         lines = [" ".join(line.split()) for line in text.splitlines()]
         self.assertIn("a 200 +- 381 200 +- 381 100 - 0 of 4", lines)
         self.assertIn("c 7 +- ?* - 100 - 1 of 1: 1 absent", lines)
-        self.assertIn("* with seats that nobody took, by the scores of their logs", lines)
+        self.assertIn("* includes seats that nobody took, with the scores of their logs", lines)
         self.assertNotIn("*", as_text(summarize(SWAPPED)))
         self.assertIn("a less b 40 +- 254 - 2 0.295 0.500", lines)
         self.assertNotIn("a less c", text)
@@ -110,8 +110,8 @@ class Texts(unittest.TestCase):
                          {"turns2": 2, "unrepeatable2": 1, "served": 1})
         former = [row("1", 0, 0, "a", 5, kind=Kind.FORMER_TURNS)]
         self.assertEqual(as_text(summarize(former)).split("\n")[1],
-                         "in turns by the former order, in which seat 0 was always first: 1 game "
-                         "that can be repeated")
+                         "in turns in the former order, with seat 0 always first: 1 game that can "
+                         "be repeated")
 
     def test_several_pairs_have_a_column_by_holm(self) -> None:
         rows = [row(str(deal), 0, seat, agent, score + deal * (seat + 1) % 3)
@@ -121,8 +121,8 @@ class Texts(unittest.TestCase):
         self.assertEqual(lines[7], "difference, by games mean Holm adjusted for the draw deals p "
                                    "(Student) p (Wilcoxon)")
         self.assertRegex(lines[8], r"^a less b 40 \+- \d+ \+- \d+ - 4 0\.000 0\.125$")
-        self.assertEqual(lines[11], "Holm: intervals that allow for the 3 comparisons; 0 lies "
-                                    "outside where they tell a difference")
+        self.assertEqual(lines[11], "Holm: intervals that allow for the 3 comparisons; one "
+                                    "without 0 shows a difference")
         pair, value = summary.differences[0], json.loads(as_json(summary))["differences"][0]
         self.assertEqual((value["holm_half"], value["student_p"], value["wilcoxon_p"]),
                          (pair.holm, pair.student, pair.wilcoxon))
@@ -136,10 +136,10 @@ class Texts(unittest.TestCase):
         assert pair.score is not None and pair.needed is not None
         self.assertEqual(pair.needed, deals_to_detect(pair.score, 100))
         lines = [" ".join(line.split()) for line in as_text(summary).splitlines()]
-        self.assertTrue(lines[-3].endswith("p (Wilcoxon) games to tell 100"))
+        self.assertTrue(lines[-3].endswith("p (Wilcoxon) games to detect 100"))
         self.assertTrue(lines[-2].endswith(f" 0.500 {2 * pair.needed}"))
-        self.assertEqual(lines[-1], "a difference of 100 dollars is told in 80 % of experiments "
-                                    "with so many games, if they spread as these do")
+        self.assertEqual(lines[-1], "with so many games, 80 % of experiments detect a difference "
+                                    "of 100 dollars, if scores vary as in these")
         self.assertEqual(json.loads(as_json(summary))["differences"][0]["deals_needed"],
                          pair.needed)
         self.assertEqual(list(csv.DictReader(io.StringIO(as_csv(summary))))[2]["deals_needed"],

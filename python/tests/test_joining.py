@@ -38,40 +38,40 @@ class Differences(unittest.TestCase):
 
     def test_kinds(self) -> None:
         for kind, way in ((Kind.SERVED, "by the clock"),
-                          (Kind.FORMER_TURNS, "in turns by the former order"),
-                          (Kind.FORMER_UNREPEATABLE, "in turns by the former order")):
-            self.told(f"its games are {way}, and not in turns", source("b.csv", 3, kind=kind))
+                          (Kind.FORMER_TURNS, "in turns in the former order"),
+                          (Kind.FORMER_UNREPEATABLE, "in turns in the former order")):
+            self.told(f"its games are {way}, not in turns", source("b.csv", 3, kind=kind))
 
     def test_settings(self) -> None:
-        self.told("turns is 20 and not 40",
+        self.told("turns is 20, not 40",
                   source("b.csv", 3, settings=SETTINGS.replace("turns=40", "turns=20")))
-        self.told("agents is mine+planner*7 and not mine+planner",
+        self.told("agents is mine+planner*7, not mine+planner",
                   source("b.csv", 3, settings=SETTINGS.replace("planner", "planner*7")))
-        self.told("the settings of one of them are not known, as in files of earlier versions",
+        self.told("the settings of one of them are unknown, as in files of earlier versions",
                   source("b.csv", 3, settings=""))
         lines = differences(source("a.csv", 1), source("b.csv", 2, settings=SETTINGS.replace(
             "turns=40 rooms=16..16", "turns=20 rooms=3..6")))
         self.assertEqual([line.rpartition(": ")[2] for line in lines],
-                         ["turns is 20 and not 40", "rooms is 3..6 and not 16..16"])
+                         ["turns is 20, not 40", "rooms is 3..6, not 16..16"])
 
     def test_files_of_agents(self) -> None:
         other = source("b.csv", 3)
         changed = [replace(row, files="cccc") if row.agent == "mine" else row for row in other.rows]
-        self.told("the files or words of mine are others", Source("b.csv", changed))
+        self.told("the files or words of mine differ", Source("b.csv", changed))
 
     def test_agents_of_earlier_files(self) -> None:
         first = source("a.csv", 1, settings="", files="")
-        self.told("its games have 1 of mine, 7 of planner, and not 4 of mine, 4 of planner",
+        self.told("its games have 1 of mine, 7 of planner, not 4 of mine, 4 of planner",
                   source("b.csv", 2, seats=1, settings="", files=""), first)
-        self.told("its agents are planner, and not mine, planner",
+        self.told("its agents are planner, not mine, planner",
                   source("b.csv", 2, settings="", files="", agent="planner"), first)
 
     def test_games_that_are_there_twice(self) -> None:
         first = source("a.csv", 1, 2, 3)
         self.assertEqual(joined([first, source("b.csv", 3, 4)])[1],
-                         ["b.csv has, as a.csv has, game 3.0"])
+                         ["b.csv and a.csv both have game 3.0"])
         self.assertEqual(joined([first, source("b.csv", 2, 3)])[1],
-                         ["b.csv has, as a.csv has, game 2.0 and 1 more"])
+                         ["b.csv and a.csv both have game 2.0 and 1 more"])
         self.assertEqual(joined([first, first])[1], ["a.csv has twice game 1.0 and 2 more"])
         self.assertEqual(twice([Source("a.csv", [*first.rows, first.rows[8]])]),
                          ["a.csv has twice game 2.0"])
@@ -118,7 +118,7 @@ class Pools(unittest.TestCase):
 
     def test_a_pool_has_no_game_twice(self) -> None:
         self.assertEqual(pooled([source("a.csv", 1), source("b.csv", 1)])[1],
-                         ["b.csv has, as a.csv has, game 1.0"])
+                         ["b.csv and a.csv both have game 1.0"])
 
 
 class Reading(unittest.TestCase):
@@ -161,7 +161,7 @@ class Reading(unittest.TestCase):
         for path, text in ((self.place / "none.csv", "none.csv: No such file or directory"),
                            (TOP / "README.md", "is not the head of a tournament's CSV"),
                            (self.write("empty.csv"), "empty.csv: it has no games"),
-                           (self.place, "it is no folder of a tournament's run")):
+                           (self.place, "it is not the folder of a tournament's run")):
             read, told = read_source(path)
             self.assertIsNone(read)
             self.assertEqual(len(told), 1)
@@ -170,11 +170,11 @@ class Reading(unittest.TestCase):
     def test_runs_within_a_folder_are_named(self) -> None:
         self.folder("part-1-of-2", 1)
         self.assertEqual(read_source(self.place), (None, [
-            f"{self.place}: it is no folder of a tournament's run; part-1-of-2 in it is"]))
+            f"{self.place}: it is not the folder of a tournament's run, but contains part-1-of-2"]))
         self.folder("part-2-of-2", 2)
         self.assertEqual(read_source(self.place), (None, [
-            f"{self.place}: it is no folder of a tournament's run; part-1-of-2, part-2-of-2 in it "
-            "are"]))
+            f"{self.place}: it is not the folder of a tournament's run, but contains part-1-of-2, "
+            "part-2-of-2"]))
 
     def test_a_half_written_row_is_left_out_with_its_game(self) -> None:
         folder = self.folder("run", 1, 2)
@@ -184,7 +184,7 @@ class Reading(unittest.TestCase):
         assert read is not None
         self.assertEqual({row.deal for row in read.rows}, {"1"})
         self.assertEqual(len(told), 2)
-        self.assertIn("game 2.0 has 7 rows and not 8; its game is left out", told[1])
+        self.assertIn("game 2.0 has 7 rows, not 8; its game is left out", told[1])
 
     def test_the_others_go_on_and_the_status_is_1(self) -> None:
         bad = self.place / "bad.csv"
@@ -198,8 +198,8 @@ class Reading(unittest.TestCase):
         files = [self.write("a.csv", 1, 2), self.write("b.csv", 2, kind=Kind.SERVED)]
         told = self.joined(*files)
         self.assertEqual((told[0], len(told)), ("1", 3))
-        self.assertTrue(told[1].endswith(f"b.csv has, as {files[0]} has, game 2.0"))
-        self.assertIn("its games are by the clock, and not in turns", told[2])
+        self.assertTrue(told[1].endswith(f"b.csv and {files[0]} both have game 2.0"))
+        self.assertIn("its games are by the clock, not in turns", told[2])
         self.assertFalse((self.place / "s.txt").exists())
         status, text = refusal("experiments.tournament", "--pool", "--summary",
                                self.place / "s.txt", "--join", *files)
@@ -215,7 +215,7 @@ class Reading(unittest.TestCase):
         new = self.write("new.csv", 3)
         told = self.joined(self.place / "a.csv", new)
         self.assertEqual(told[0], "1")
-        self.assertIn("its games are in turns, and not in turns by the former order", told[1])
+        self.assertIn("its games are in turns, not in turns in the former order", told[1])
         self.assertIn("as in files of earlier versions", told[2])
 
 

@@ -257,7 +257,7 @@ class Matches(unittest.TestCase):
         self.assertIs(self.play(turns=1).kind, Kind.UNREPEATABLE)
         self.assertEqual(self.notes().split("\n"), [
             f"agent{seat} at seat {seat} (red{seat}) was passed over in {count} turns, so the game "
-            "is not one that can be repeated" for seat, count in ((2, 17), (6, 1))])
+            "cannot be repeated" for seat, count in ((2, 17), (6, 1))])
 
     def test_agents_that_fail_are_told_with_what_they_printed_last(self) -> None:
         self.lobby.ends = [End.GONE, End.HUNG, End.ABSENT, End.ABSENT, End.LEFT, End.GONE,
@@ -269,11 +269,11 @@ class Matches(unittest.TestCase):
                           "played"])
         told = self.notes().split("\n")
         self.assertEqual(told, [
-            "agent0 at seat 0 (red0) counts as crashed: ended with status 3; it printed last: last",
+            "agent0 at seat 0 (red0) counts as crashed: ended with status 3; its last line: last",
             "agent1 at seat 1 (red1) counts as hung: was still running 0.3 seconds after its game, "
             "and was stopped",
             "agent2 at seat 2 (red2) counts as absent: ended without taking its seat",
-            "agent3 at seat 3 (red3) counts as crashed: was ended by signal 9",
+            "agent3 at seat 3 (red3) counts as crashed: was killed by signal 9",
             "agent4 at seat 4 (red4) ended with status 4",
             "agent5 at seat 5 (red5) left before the last tick, without `quit`",
             "agent6 at seat 6 (red6) counts as refused"][:len(told)])
@@ -296,7 +296,7 @@ class Matches(unittest.TestCase):
         self.assertEqual([told for told in self.sent if isinstance(told, events.Ticked)],
                          self.lobby.lines)
         self.assertEqual([told["tick"] for told in self.events_of("ticked")], [36, 37, 54])
-        self.assertIn("agent1 at seat 1 (red1) did not quit in time, and its link was ended",
+        self.assertIn("agent1 at seat 1 (red1) did not quit in time, and its link was closed",
                       self.notes())
 
     def test_an_agent_that_ignores_signals_is_ended_too(self) -> None:
@@ -310,7 +310,7 @@ class Matches(unittest.TestCase):
         self.play("seq 1 1000")
         text = (self.place / "7.0.out.red0").read_text()
         self.assertLess(len(text), 1100)
-        self.assertTrue(text.startswith("[2893 bytes are left out]\n") and text.endswith("1000\n"))
+        self.assertTrue(text.startswith("[2893 bytes left out]\n") and text.endswith("1000\n"))
         self.patch("geesefuton.experiments.match.MOST_PRINTED", 8)
         self.lobby.ends = [End.GONE] * 8
         self.assertIs(self.play("seq 1 100000; exit 1").outcomes[0], Outcome.CRASHED)
@@ -342,7 +342,7 @@ class Matches(unittest.TestCase):
 
     def test_signals_are_told_by_their_number(self) -> None:
         self.play(f"kill -{int(signal.SIGSEGV)} $$")
-        self.assertIn(f"was ended by signal {int(signal.SIGSEGV)}", self.notes())
+        self.assertIn(f"was killed by signal {int(signal.SIGSEGV)}", self.notes())
         self.assertTrue(sys.executable)
 
 

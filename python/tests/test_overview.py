@@ -137,7 +137,7 @@ class Games(Case):
     def test_the_command(self) -> None:
         done = run("experiments.report_command", "--over", self.folder / "games")
         self.assertEqual((done.returncode, done.stdout, done.stderr), (
-            1, "", f"report: {self.folder}/games: it is no folder of a tournament's run\n"))
+            1, "", f"report: {self.folder}/games: it is not the folder of a tournament's run\n"))
         for words in (("--over", self.folder, "my.game"), ("--over", self.folder, "--csv"), (),
                       ("a",)):
             self.assertEqual(refusal("records.report", *words)[0], 2)

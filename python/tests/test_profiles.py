@@ -118,7 +118,7 @@ class Commands(unittest.TestCase):
         self.assertRegex(text, r"\n1\. +0\.667 +0\.333 +20 of 20\n")
         # Over the deals a payoff is 20 +- 10 more than one deal's, 24.8 by 4.30 times 5.77.
         self.assertRegex(text, r"\n8\+0 +62 \+- 25 +-\n7\+1 +58 \+- 25 +69 \+- 25\n")
-        self.assertIn("Other deals would most likely give the same.", text)
+        self.assertIn("Other deals would most likely give the same equilibria.", text)
         value = json.loads((self.out / "payoffs.json").read_text())
         self.assertEqual((value["players"], len(value["profiles"])), ({"all": 8}, 9))
         self.assertEqual(len((self.out / "payoffs.nfg").read_text().split("\n")), 4 + 256 + 1)
@@ -182,32 +182,32 @@ class Commands(unittest.TestCase):
 
     def test_a_single_deal_tells_no_equilibrium(self) -> None:
         text, told = self.run_profiles("--games", "1")
-        self.assertIn("A single deal shows nothing of them: play more.", text)
+        self.assertIn("A single deal cannot be resampled: play more.", text)
         self.assertIn("+- ?", text)
 
     def test_what_does_not_belong_together_is_refused(self) -> None:
         self.run_profiles("--part", "1/2")
-        self.refused("it has a run: --resume goes on with it", "--part", "1/2")
-        self.refused("its run was begun otherwise: rotations is 9 and not 4; players is 8 and not "
-                     "2", "--players", "8")
-        self.refused("its run was begun otherwise: agents is dove+owl and not dove+hawk",
+        self.refused("it has a run: continue it with --resume", "--part", "1/2")
+        self.refused("its run began differently: rotations is 9, not 4; players is 8, not 2",
+                     "--players", "8")
+        self.refused("its run began differently: agents is dove+owl, not dove+hawk",
                      agents=("dove.py", "owl.py"))
-        self.refused("turns is 40 and not set", "--turns", "40")
+        self.refused("turns is 40, not set", "--turns", "40")
         self.refused("there is no file owl2.py", agents=("dove.py", "owl2.py"))
         hawk = self.place / "hawk.py"
         hawk.write_text("import os\n")
-        self.refused("the files or words of hawk are others", "--part", "1/2", "--resume")
+        self.refused("the files or words of hawk differ", "--part", "1/2", "--resume")
         hawk.write_text("pass\n")
         tac, self.tac = self.tac, fake_program(self.place, f"cat '{SERVED_GAME}' # another")
-        self.refused("begun otherwise: tac is")
+        self.refused("began differently: tac is")
         self.tac = tac
         (self.out / "part-1-of-2" / "run.json").write_text("{}")
-        self.refused("its run.json is not that of a tournament")
+        self.refused("its run.json is not of a tournament")
 
     def test_a_folder_of_something_else_is_refused(self) -> None:
         self.out.mkdir()
         (self.out / "thesis.txt").write_text("mine")
-        self.refused("it is no folder of profiles: it has thesis.txt")
+        self.refused("it is not a folder of profiles: it has thesis.txt")
 
     def test_a_game_that_two_parts_have_is_refused(self) -> None:
         self.run_profiles("--part", "1/2")
@@ -215,7 +215,7 @@ class Commands(unittest.TestCase):
         copy.mkdir()
         for name in ("run.json", "scores.csv"):
             (copy / name).write_bytes((self.out / "part-1-of-2" / name).read_bytes())
-        self.refused("has, as")
+        self.refused("both have game")
 
     def test_a_part_that_is_being_written(self) -> None:
         self.run_profiles("--part", "1/2")
@@ -228,11 +228,12 @@ class Commands(unittest.TestCase):
             os.close(number)
 
     def test_words_that_are_refused(self) -> None:
-        for told, words in (("a part is I/N", ["--part", "3/2"]), ("a part is", ["--part", "x"]),
+        for told, words in (("expected a part I/N", ["--part", "3/2"]),
+                            ("expected a part", ["--part", "x"]),
                             ("invalid choice", ["--players", "3"])):
             self.refused(told, *words)
         for agents in (("dove.py",), ("dove.py", "dove.py"), ("dove.py", "hawk.py", "dove.py")):
-            self.refused("two or more strategies are due, each named once", agents=agents)
+            self.refused("name two or more strategies, each once", agents=agents)
 
     def test_a_tournament_does_not_sum_it_up(self) -> None:
         self.run_profiles()

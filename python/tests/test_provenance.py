@@ -70,8 +70,8 @@ class Settings(unittest.TestCase):
         self.assertEqual(read_settings(""), {})
         self.assertEqual(unlike(settings, read_settings(text)), [])
         self.assertEqual(unlike(settings, {"turns": "20", "rooms": "3..6", "pace": "9"}),
-                         ["turns is 20 and not 40", "live is not set and not true",
-                          "pace is 9 and not set"])
+                         ["turns is 20, not 40", "live is not set, not true",
+                          "pace is 9, not set"])
 
     def test_names(self) -> None:
         self.assertEqual(names_text(["a", "b", "b", "a"]), "a+b*2+a")

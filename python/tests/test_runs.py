@@ -110,8 +110,8 @@ class Folders(unittest.TestCase):
         cases: List[Tuple[str, List[str], List[Tuple[str, int]]]] = [
                 (whole[:-5], ["was half written", "game 2.0 has 7 rows"], [("1", 0)]),
                 (whole + "3,0,0,mi", ["was half written"], [("1", 0), ("2", 0)]),
-                (whole.replace("2,0,3,mine,103", "2,0,3,mine,?"), ["is no row", "2.0 has 7 rows"],
-                 [("1", 0)]),
+                (whole.replace("2,0,3,mine,103", "2,0,3,mine,?"),
+                 ["is not a row", "2.0 has 7 rows"], [("1", 0)]),
                 (whole + text_of(rows_of(("2", 0))), ["2.0 has 16 rows"], [("1", 0)]),
                 ("deal,rota", [], []), ("", [], [])]
         for text, told, left in cases:
@@ -137,16 +137,16 @@ class Folders(unittest.TestCase):
 
     def test_a_run_is_gone_on_with_only_if_that_is_said(self) -> None:
         self.begin().end(0, 0, [])
-        self.refused("it has a run: --resume goes on with it")
+        self.refused("it has a run: continue it with --resume")
 
     def test_another_run_is_refused_with_its_difference(self) -> None:
         self.begin(is_resumed=True).end(0, 0, [])  # there is nothing yet to go on with
-        self.refused("its run was begun otherwise: turns is 20 and not 40", is_resumed=True,
+        self.refused("its run began differently: turns is 20, not 40", is_resumed=True,
                      settings={"turns": 20, "rooms": "16..16"})
         other = replace(MINE, files={"mine.py": "01"})
-        self.refused("begun otherwise: the files or words of mine are others", is_resumed=True,
+        self.refused("began differently: the files or words of mine differ", is_resumed=True,
                      agents={"mine": other})
-        self.refused("turns is 41 and not 40; the files or words of mine are others",
+        self.refused("turns is 41, not 40; the files or words of mine differ",
                      is_resumed=True, agents={"mine": replace(MINE, words=["mine.py", "-x"])},
                      settings={"turns": 41, "rooms": "16..16"})
 
@@ -154,12 +154,12 @@ class Folders(unittest.TestCase):
         self.out.mkdir(parents=True)
         (self.out / "thesis.txt").write_text("mine")
         for is_resumed in (False, True):
-            self.refused("it is no folder of a tournament: it has thesis.txt",
+            self.refused("it is not the folder of a tournament: it has thesis.txt",
                          is_resumed=is_resumed)
         (self.out / "run.json").write_text("{}")
-        self.refused("its run.json is not that of a tournament", is_resumed=True)
+        self.refused("its run.json is not of a tournament", is_resumed=True)
         (self.out / "run.json").write_text("no JSON")
-        self.refused("its run.json is not that of a tournament", is_resumed=True)
+        self.refused("its run.json is not of a tournament", is_resumed=True)
         for file in self.out.iterdir():
             file.unlink()
         self.begin().end(0, 0, [])
@@ -274,9 +274,9 @@ class Killed(unittest.TestCase):
 
     def test_words_that_do_not_go_together(self) -> None:
         with mock.patch.dict(os.environ, {"TAC": self.tac}):
-            for told, words in (("--resume goes on with the run of a folder", ["--resume"]),
-                                ("--keep is not for it", ["--out", str(self.out), "--keep", "x"]),
-                                ("--pool is for --join", ["--pool"])):
+            for told, words in (("--resume needs --out", ["--resume"]),
+                                ("leave --keep out", ["--out", str(self.out), "--keep", "x"]),
+                                ("--pool needs --join", ["--pool"])):
                 status, text = refusal("experiments.tournament", *words, "sh")
                 self.assertEqual((status, text.count("\n")), (2, 1))
                 self.assertIn(told, text)

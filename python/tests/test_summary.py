@@ -246,7 +246,7 @@ class Rows(unittest.TestCase):
         self.assertEqual(read_rows(text, "x"), [row("1", 0, 0, "a", 110, kind=Kind.FORMER_TURNS)])
         both = text + csv_of([HEAD]) + text_of(SWAPPED[:1])
         self.assertEqual(len(read_rows(both, "x")), 2)
-        with self.assertRaisesRegex(ResultsError, "line 4 is no row"):
+        with self.assertRaisesRegex(ResultsError, "line 4 is not a row"):
             read_rows(both.replace(",,,0,,", ""), "x")
 
     def test_each_end_and_each_kind_has_its_word(self) -> None:

@@ -149,7 +149,7 @@ class Playing(unittest.TestCase):
     def test_what_games_tell_is_passed_on_and_their_settings_reach_them(self) -> None:
         self.play(games=1, rotations=1)
         self.assertIn("game 1.0: b json 7 1.5 2.5", self.told)
-        self.assertIn("game 1.0: refused syntax to a link that said 'HELLO'", self.told)
+        self.assertIn("game 1.0: refused a link as syntax: it sent 'HELLO'", self.told)
         self.assertIn("game 1.0: a warning", self.told)
 
     def test_folders_of_games_are_removed_or_kept(self) -> None:
@@ -175,14 +175,14 @@ class Playing(unittest.TestCase):
             with mock.patch("geesefuton.experiments.deals.made_deal", side_effect=made):
                 played = self.play(games=3, rotations=1)
             self.assertEqual([row.seat for row in self.rows()], list(range(8)))
-            self.assertEqual(played.report.lost, [f"no more games are played: {told}"])
+            self.assertEqual(played.report.lost, [f"stopped playing games: {told}"])
 
     def test_a_game_that_takes_too_long_is_ended(self) -> None:
         self.patch("geesefuton.experiments.plan.MARGIN", -3.0)
         began = time.monotonic()
         made = self.play(games=2, rotations=1, at_once=1, fault="hang", game="1.0")
         self.assertLess(time.monotonic() - began, 30)
-        self.assertIn("game 1.0 is lost: it took longer than its ticks and all waiting",
+        self.assertIn("game 1.0 is lost: it took longer than its ticks and all its waits",
                       made.report.lost)
 
     def test_a_game_that_has_ended_is_not_late_because_nobody_looked(self) -> None:
@@ -227,7 +227,7 @@ class Playing(unittest.TestCase):
         rest = self.place / "scores.rest.csv"
         self.assertEqual(read_rows(rest.read_text(), "rest"), made.report.all_rows())
         self.assertEqual(self.rescued, "/dev/full: No space left on device; 16 lines were not "
-                                       f"written, and are in {rest}")
+                                       f"written; they are in {rest}")
         self.assertEqual(free_name(rest), self.place / "scores.rest.2.csv")
 
     def test_a_reader_that_goes_away_loses_no_game(self) -> None:
@@ -245,7 +245,7 @@ class Playing(unittest.TestCase):
             made = self.play(1, 1, out=Output("/dev/full"))
             self.assertEqual(read_rows((self.place / name).read_text(), name),
                              made.report.all_rows())
-            self.assertTrue(self.rescued.endswith(f"8 lines were not written, and are in "
+            self.assertTrue(self.rescued.endswith(f"8 lines were not written; they are in "
                                                          f"{name}"))
 
     def test_as_many_games_at_once_as_asked(self) -> None:

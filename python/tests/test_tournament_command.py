@@ -57,11 +57,11 @@ class Commands(unittest.TestCase):
     def test_turns(self) -> None:
         for turns in ("0", "1001", "x"):
             self.refused("a number", "--turns", turns, "sh")
-        self.refused("--pace is for games by the clock", "--turns", "5", "--pace", "100", "sh")
-        self.refused("--patience is for games in turns", "--patience", "3", "sh")
+        self.refused("--pace is for games with a clock", "--turns", "5", "--pace", "100", "sh")
+        self.refused("--patience needs --turns", "--patience", "3", "sh")
 
     def test_deals(self) -> None:
-        self.refused("rooms are", "--rooms", "0..3")
+        self.refused("expected rooms", "--rooms", "0..3")
         self.refused("/nowhere/my.game: No such file", "--game", "/nowhere/my.game")
         self.refused("line 3: a line `tac` is due", "--game", TOP / "README.md")
         self.refused("for made games", "--game", SERVED_GAME, "--live")
@@ -92,14 +92,14 @@ class Commands(unittest.TestCase):
         self.refused("File exists", "--keep", SERVED_GAME, "sh")
 
     def test_summaries(self) -> None:
-        self.refused("the name ends with", "--summary", "x.html", "sh")
+        self.refused("expected a name ending in", "--summary", "x.html", "sh")
 
     def test_a_plan(self) -> None:
         parser = make_parser("")
         with mock.patch("geesefuton.experiments.plan.tell") as tell:
             plan = read_plan(parser, parser.parse_args(["sh", "cat", "--games", "3"]))
             self.assertEqual((plan.games, plan.rotations), (4, 2))
-            self.assertIn("4 games are played", tell.call_args[0][0])
+            self.assertIn("playing 4 games", tell.call_args[0][0])
             for words, games, rotations in ((["sh", "cat", "ls"], 4, 1),
                                             (["sh", "cat", "--no-swap"], 4, 1),
                                             (["sh", "cat", "ls", "--swap"], 6, 3),

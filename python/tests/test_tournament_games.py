@@ -100,7 +100,7 @@ class Real(unittest.TestCase):
                                                           "hung": 1, "refused": 1})
             self.assertTrue((place / "kept" / "1.0.log").read_text().startswith("taclog 1\n"))
             self.assertTrue(re.search("failing at seat [0-7] .failingb. counts as crashed: ended "
-                                      "with status 1; it printed last: ValueError: before the game",
+                                      "with status 1; its last line: ValueError: before the game",
                                       done.stderr))
 
     def test_it_runs_from_a_clone(self) -> None:

@@ -1,8 +1,8 @@
-"""Means and differences with 95 % intervals, by Student and, for several at once, by Holm; their
-adjustment by regression, and how many values tell a difference.
+"""Means and differences with 95 % intervals (Student's, and Holm's for several at once), their
+adjustment by regression, and the number of values that a difference needs.
 
-Intervals are Student's: values are taken to be independent and about normal, which means of many
-seats are, and few values make a wide interval. Nothing is approximated by the normal distribution.
+Intervals are Student's: they take values to be independent and approximately normal, as means over
+many seats are. Few values make a wide interval. Nothing is approximated by the normal distribution.
 """
 
 import functools

@@ -1,7 +1,6 @@
-"""What a seat's draw has that tells of its score: its luck, its clients' nights, and flights' first
-prices.
+"""The covariates of a seat's score: its luck, its clients' nights, and the flights' first prices.
 
-They are computed from the game file alone, so that no agent changes them.
+They are computed from the game file alone, so that no agent can change them.
 """
 
 from dataclasses import dataclass

@@ -1,16 +1,16 @@
-"""The command `data`: writes the games of a tournament as tables of CSV.
+"""The command `data`: writes the games of a tournament as CSV tables.
 
     tournament --turns 40 --games 20 --out runs/1 mine.py theirs.py
     data runs/1 tables
 
-FOLDER is that of a run (`tournament --out`), and OUT a new folder. It gets the tables `games`,
-`deals`, `goods`, `quotes`, `bids`, `trades`, `cash`, `scores` and `trips`, and `schema.json` with
-the version of their form, which is written last (docs/FORMATS.md, "The tables of a tournament").
-Each call has its tick. `geesefuton.records.data.read_data` reads the tables back, and any program
-that reads CSV.
+FOLDER is the folder of a run (`tournament --out`), and OUT a new folder, for the tables `games`,
+`deals`, `goods`, `quotes`, `bids`, `trades`, `cash`, `scores` and `trips`. `schema.json`, written
+last, has the version of their form (docs/FORMATS.md, "The tables of a tournament"). Each call has
+its tick. `geesefuton.records.data.read_data` reads the tables back, as does any program that reads
+CSV.
 
-A game whose files are missing or do not belong together is named, and the others go on. The exit
-status is 0 if all games are there.
+The command reports a game whose files are missing or do not belong together, and goes on with the
+others. The exit status is 0 if it wrote all games.
 """
 
 import os
@@ -183,7 +183,7 @@ def _make(parser: Parser, folder: Path) -> None:
     except OSError as fault:
         parser.error(f"{folder}: {why(fault)}")
     if names:
-        parser.error(f"{folder} has {names[0]}: name a new folder")
+        parser.error(f"{folder} is not empty (it has {names[0]}): name a new folder")
 
 
 def _main() -> int:
@@ -192,7 +192,7 @@ def _main() -> int:
     parser.add_argument("out", type=Path, metavar="OUT", help="a new folder for the tables")
     given = parser.parse_args()
     if not given.folder.is_dir():
-        parser.error(f"{given.folder} is no folder")
+        parser.error(f"{given.folder} is not a folder")
     source, told = read_source(given.folder)
     if source is not None:
         _make(parser, given.out)

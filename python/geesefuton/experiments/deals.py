@@ -1,8 +1,8 @@
 """The deals of a tournament, and which agent has which seat.
 
-A deal is what is fixed before a game: clients, tickets, flights, and the order of the hotels. Where
-seats are swapped, each deal is played as often as there are agents, and each time every seat has
-the next agent. So each agent plays each client of the deal once.
+A deal is what is fixed before a game: clients, tickets, flights, and the order of the hotels. If
+seats are swapped, each deal is played once for each agent, and each time every seat has the next
+agent. So each agent plays each client of the deal once.
 """
 
 from dataclasses import dataclass
@@ -75,10 +75,10 @@ def read_rooms(text: str) -> Tuple[int, int]:
     """
     ends = text.split("..")
     if not all(end.isascii() and end.isdigit() for end in ends) or len(ends) > 2:
-        raise DealError(f"rooms are a number or two with `..` between, as 3..6, not {text!r}")
+        raise DealError(f"expected rooms as a number or a range such as 3..6, not {text!r}")
     low, high = int(ends[0]), int(ends[-1])
     if not 1 <= low <= high <= MOST_ROOMS:
-        raise DealError(f"rooms are from 1 to {MOST_ROOMS}, the least first, not {text}")
+        raise DealError(f"expected rooms from 1 to {MOST_ROOMS}, the least first, not {text}")
     return low, high
 
 

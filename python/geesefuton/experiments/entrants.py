@@ -1,4 +1,4 @@
-"""The agents of a tournament: what runs them, and their names."""
+"""The agents of a tournament: their commands and names."""
 
 import os
 import re
@@ -55,8 +55,8 @@ def read_entrant(command: str) -> Entrant:
     else:
         found = shutil.which(first)
         if found is None and Path(first).is_file():
-            raise EntrantError(f"{first} is no program: chmod +x it, or say what runs it, "
-                               f"as 'java -jar {first}'")
+            raise EntrantError(f"{first} is not executable: chmod +x it, or give a command that "
+                               f"runs it, such as 'java -jar {first}'")
         if found is None:
             raise EntrantError(f"there is no program {first}")
         run = [os.path.abspath(found)]

@@ -1,11 +1,11 @@
 """Symmetric equilibria of symmetric games, from payoffs alone.
 
-In a symmetric game each player chooses one of the same strategies, and its payoff depends on its
-own choice and on how many of the others chose each strategy. A mixture gives each strategy a share.
-Its regret is the most that a player would gain by a single strategy while the others draw from the
-mixture; a mixture without regret is a symmetric equilibrium.
+In a symmetric game all players choose from the same strategies, and a player's payoff depends on
+its own choice and on how many of the others chose each strategy. A mixture gives each strategy a
+share. Its regret is the most that a player would gain by a single strategy while the others draw
+from the mixture; a mixture without regret is a symmetric equilibrium.
 
-Payoffs are given by deals: a sample is the payoffs of one deal, for each strategy a payoff beside
+Payoffs come deal by deal: a sample is the payoffs of one deal, for each strategy a payoff against
 each of `counts_of(players - 1, strategies)`.
 """
 

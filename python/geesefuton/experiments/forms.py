@@ -52,7 +52,7 @@ def _kinds(summary: Summary) -> List[str]:
     """How the games were played, if some of them were in turns."""
     lines = []
     for name, kinds in (("in turns", (Kind.TURNS, Kind.UNREPEATABLE)),
-                        ("in turns by the former order, in which seat 0 was always first",
+                        ("in turns in the former order, with seat 0 always first",
                          (Kind.FORMER_TURNS, Kind.FORMER_UNREPEATABLE))):
         turns, broken = (summary.kinds.get(kind, 0) for kind in kinds)
         if turns + broken:
@@ -66,7 +66,7 @@ def _of_pairs(pairs: Sequence[Difference], summary: Summary) -> List[List[str]]:
     are_many, detect = len(pairs) > 1, summary.detect
     rows = [["difference, " + ("by clients that both had" if summary.swapped else "by games"),
              "mean", *(["Holm"] if are_many else []), ADJUSTED, "deals", "p (Student)",
-             "p (Wilcoxon)", *([f"games to tell {detect:g}"] if detect else [])]]
+             "p (Wilcoxon)", *([f"games to detect {detect:g}"] if detect else [])]]
     for pair in pairs:
         holm = "?" if pair.holm is None else f"+- {pair.holm:.0f}"
         games = "?" if pair.needed is None else str(
@@ -82,11 +82,11 @@ def _below_pairs(pairs: Sequence[Difference], summary: Summary) -> List[str]:
     """What is said below the table of pairs."""
     lines = []
     if len(pairs) > 1:
-        lines.append(f"Holm: intervals that allow for the {len(pairs)} comparisons; 0 lies outside "
-                     "where they tell a difference")
+        lines.append(f"Holm: intervals that allow for the {len(pairs)} comparisons; one without 0 "
+                     "shows a difference")
     if summary.detect:
-        lines.append(f"a difference of {summary.detect:g} dollars is told in {100 * POWER:g} % of "
-                     "experiments with so many games, if they spread as these do")
+        lines.append(f"with so many games, {100 * POWER:g} % of experiments detect a difference of "
+                     f"{summary.detect:g} dollars, if scores vary as in these")
     return lines
 
 
@@ -101,7 +101,7 @@ def as_text(summary: Summary) -> str:
              for standing in summary.standings]
     lines += columns(rows)
     if any(standing.untaken for standing in summary.standings):
-        lines.append(f"{MARK} with seats that nobody took, by the scores of their logs")
+        lines.append(f"{MARK} includes seats that nobody took, with the scores of their logs")
     pairs = [pair for pair in summary.differences if pair.score]
     if pairs:
         lines += ["", *columns(_of_pairs(pairs, summary)), *_below_pairs(pairs, summary)]

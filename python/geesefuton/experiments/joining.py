@@ -1,8 +1,8 @@
-"""Joins what several tournaments wrote, if it belongs together.
+"""Joins the results of several tournaments, if they belong together.
 
 Results belong together if their games were played in the same way, with the same settings, by the
-same agents with the same files, and no game is there twice. Otherwise the differences are told, and
-nothing is summarized; as pools, each group that belongs together has a name of its own.
+same agents with the same files, and no game occurs twice. Otherwise the differences are reported,
+and nothing is summarized; as pools, each group that belongs together has a name of its own.
 """
 
 from collections import Counter
@@ -16,8 +16,8 @@ from geesefuton.experiments.runs import SCORES, RunError, is_run, read_scores
 from geesefuton.processes import why
 
 WAYS = {Kind.SERVED: "by the clock", Kind.TURNS: "in turns", Kind.UNREPEATABLE: "in turns",
-        Kind.FORMER_TURNS: "in turns by the former order",
-        Kind.FORMER_UNREPEATABLE: "in turns by the former order"}
+        Kind.FORMER_TURNS: "in turns in the former order",
+        Kind.FORMER_UNREPEATABLE: "in turns in the former order"}
 OF_DEALS = ("game", "rooms", "live", "endow")  # the settings that make a seed's deal another
 
 
@@ -50,8 +50,8 @@ def read_source(path: Path) -> Tuple[Optional[Source], List[str]]:
         if path.is_dir():
             if not is_run(path):
                 within = sorted(each.name for each in path.iterdir() if is_run(each))
-                hint = f"; {', '.join(within)} in it {'are' if within[1:] else 'is'}"
-                return None, [f"{path}: it is no folder of a tournament's run"
+                hint = f", but contains {', '.join(within)}"
+                return None, [f"{path}: it is not the folder of a tournament's run"
                               f"{hint if within else ''}"]
             found = read_scores(path)
             rows, told = found.rows, [f"{path / SCORES}: {text}; its game is left out"
@@ -79,7 +79,7 @@ def _unlike_kinds(first: Source, other: Source) -> List[str]:
     ways, others = ({WAYS[row.kind] for row in source.rows} for source in (first, other))
     if ways == others:
         return []
-    return [f"its games are {' and '.join(sorted(others))}, and not {' and '.join(sorted(ways))}"]
+    return [f"its games are {' and '.join(sorted(others))}, not {' and '.join(sorted(ways))}"]
 
 
 def _unlike_settings(first: Source, other: Source) -> List[str]:
@@ -87,8 +87,7 @@ def _unlike_settings(first: Source, other: Source) -> List[str]:
     for our in sorted(ours):
         for their in sorted(theirs):
             if our != their and not (our and their):
-                return ["the settings of one of them are not known, as in files of earlier "
-                        "versions"]
+                return ["the settings of one of them are unknown, as in files of earlier versions"]
             if our != their:
                 return unlike(read_settings(our), read_settings(their))
     return []
@@ -108,12 +107,12 @@ def _unlike_agents(first: Source, other: Source) -> List[str]:
         return []
     ours, theirs = ({row.agent for row in source.rows} for source in (first, other))
     if ours != theirs:
-        return [f"its agents are {', '.join(sorted(theirs))}, and not {', '.join(sorted(ours))}"]
+        return [f"its agents are {', '.join(sorted(theirs))}, not {', '.join(sorted(ours))}"]
     ours_seats, their_seats = _seats(first), _seats(other)
     if len(ours_seats) == len(their_seats) == 1 and ours_seats != their_seats:
         own, their = (", ".join(f"{count} of {agent}" for agent, count in sorted(next(iter(seats))))
                       for seats in (ours_seats, their_seats))
-        return [f"its games have {their}, and not {own}"]
+        return [f"its games have {their}, not {own}"]
     return []
 
 
@@ -121,7 +120,7 @@ def _unlike_files(first: Source, other: Source) -> List[str]:
     files: Dict[str, Set[str]] = {}
     for row in [*first.rows, *other.rows]:
         files.setdefault(row.agent, set()).add(row.files)
-    return [f"the files or words of {agent} are others" for agent, digests in files.items()
+    return [f"the files or words of {agent} differ" for agent, digests in files.items()
             if len(digests) > 1]
 
 
@@ -137,7 +136,7 @@ def twice(sources: Sequence[Source]) -> List[str]:
             seen.setdefault(key, source.name)
     lines = []
     for (first, other), games in told.items():
-        where = f"{other} has, as {first} has," if first != other else f"{first} has twice"
+        where = f"{other} and {first} both have" if first != other else f"{first} has twice"
         many = len(set(games))
         lines.append(f"{where} game {games[0]}" + (f" and {many - 1} more" if many > 1 else ""))
     return lines

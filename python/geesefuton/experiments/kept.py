@@ -1,8 +1,8 @@
 """The games that a tournament's run has kept in its folder, with the ticks of their calls.
 
-A log has no times. A game in turns has its script, and one by the clock its journal, in which each
-line stands between two ticks of the lobby's clock, and each call of an auction between two of the
-clock's. Runs of earlier versions kept neither: then the ticks are those that the log tells.
+A log has no times. A game in turns keeps its script, and a game by the clock its journal, in which
+each line lies between two ticks of the lobby's clock, and each call of an auction between two calls
+of the clock. Runs of earlier versions kept neither: then the ticks come from the log.
 """
 
 from collections import defaultdict
@@ -104,7 +104,7 @@ def read_kept(folder: Path, rows: Sequence[Row]) -> KeptGame:
         file = base / f"{name_of(rows)}.log"
         log = read_log(file.read_bytes())
         if [row.score for row in rows] != [score.score for score in log.scores]:
-            raise KeptError(f"{file}: it has other scores than the run's rows")
+            raise KeptError(f"{file}: its scores differ from the run's rows")
         for source in ("script", "journal"):
             file = base / f"{name_of(rows)}.{source}"
             if file.exists():
@@ -158,9 +158,9 @@ def _placed(known: KnownHistory, log: Log, schedule: Schedule) -> List[int]:
             call = replace(known.pending[entry.caller].pop(0), at=position)
             known.calls[position] = call
         if (CLOCK if call is None else call.agent) != entry.caller:
-            raise JournalError(f"entry {position} of good {known.good} is not in it")
+            raise JournalError(f"it lacks entry {position} of good {known.good}")
     if len(history) != len(known.calls) + len(clock):
-        raise JournalError(f"the log has not all calls of good {known.good}")
+        raise JournalError(f"the log lacks calls of good {known.good}")
     ticks = {call.at: tick for tick, call in known.items(quotes=False)}
     of_clock = iter(clock)
     return [ticks[position] if position in ticks else next(of_clock)

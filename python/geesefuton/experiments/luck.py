@@ -1,7 +1,7 @@
-"""How lucky a seat's draw is: what its clients' best trips are worth at fixed prices.
+"""The luck of a seat's draw: the worth of its clients' best trips at fixed prices.
 
-It is computed from the game file alone, so that no agent changes it. A tournament uses it to tell
-how much of a mean is owed to the clients that an agent happened to get.
+It is computed from the game file alone, so that no agent can change it. A tournament uses it to
+show how much of a mean is due to the clients that an agent happened to get.
 """
 
 from typing import Dict, List, Tuple

@@ -1,9 +1,9 @@
 """One game of a tournament, in a process of its own.
 
-The process is started with the number of a connection's file: it is sent a `Job` there, and sends
-back events of the lobby, notes, and in the end a `Result`. It hosts the game with a `Lobby`, in
-turns by a `TurnServer`, and starts the agents, each in a process group of its own that ends with
-it.
+The process is started with the file descriptor of a connection. It receives a `Job` there, and
+sends back events of the lobby, notes, and at the end a `Result`. It hosts the game with a `Lobby`
+(in turns, with a `TurnServer`), and starts the agents, each in a process group of its own that does
+not outlive it.
 """
 
 import hashlib
@@ -76,11 +76,11 @@ def outcome_of(reason: End, exited: Exit, was_refused: bool, was_asking: bool) -
 def _how(exited: Exit, reason: Optional[End]) -> str:
     """How an agent ended, if that is to be told; else ""."""
     if reason is End.HUNG and not exited.is_stopped:
-        return "did not quit in time, and its link was ended"
+        return "did not quit in time, and its link was closed"
     if exited.is_stopped:
         return f"was still running {LEAVE:g} seconds after its game, and was stopped"
     if exited.status < 0:
-        return f"was ended by signal {-exited.status}"
+        return f"was killed by signal {-exited.status}"
     if exited.status:
         return f"ended with status {exited.status}"
     if reason is End.GONE:
@@ -231,7 +231,7 @@ class Match:
         for seat, count in enumerate(passed):
             if count:
                 self._send(Note(f"{self._name(seat)} was passed over in {count} turns, so the game "
-                                "is not one that can be repeated"))
+                                "cannot be repeated"))
         kind = Kind.UNREPEATABLE if any(passed) else Kind.TURNS
         return Result(scores, tuple(outcomes), kind=kind)
 
@@ -262,7 +262,7 @@ class Match:
         text += ": ".join(part for part in told if part)
         printed = self._printed(seat).read_bytes()[-2000:].decode("utf-8", "replace").strip()
         last = printed.split("\n")[-1][:120]
-        self._send(Note(text + (f"; it printed last: {last}" if last else "")))
+        self._send(Note(text + (f"; its last line: {last}" if last else "")))
 
     def _shorten(self, seat: int) -> None:
         """Keeps only the last bytes of what an agent printed, if it is much."""
@@ -272,7 +272,7 @@ class Match:
             with file.open("rb") as printed:
                 printed.seek(size - MOST_KEPT)
                 last = printed.read()
-            file.write_bytes(f"[{size - MOST_KEPT} bytes are left out]\n".encode() + last)
+            file.write_bytes(f"[{size - MOST_KEPT} bytes left out]\n".encode() + last)
 
 
 def main() -> int:

@@ -1,7 +1,7 @@
-"""What a tournament and the process of one of its games tell each other.
+"""The messages between a tournament and the process of one of its games.
 
-These values stand apart from what plays a game (`match.py`), which a tournament does not load: each
-of its games has a process of its own.
+They are separate from the code that plays a game (`match.py`), which a tournament does not load:
+each of its games has a process of its own.
 """
 
 from __future__ import annotations

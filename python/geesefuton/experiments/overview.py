@@ -1,5 +1,5 @@
-"""What the games of a run have in common: the parts of scores, prices over the ticks, how many of
-the units that agents asked for they got, and how far all that is from the best there was."""
+"""An overview of the games of a run: the parts of scores, prices over the ticks, how many of the
+units that agents asked for they got, and how far the scores are from the best possible ones."""
 
 from collections import defaultdict
 from statistics import mean

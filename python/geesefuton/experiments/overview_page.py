@@ -101,7 +101,7 @@ def _quartiles(values: Sequence[float]) -> Tuple[float, float, float]:
 
 
 def _tickets(overview: Overview) -> Iterator[str]:
-    yield "<h2>Ticket prices</h2><p>Units traded in a game, in the mean, and what each cost.</p>"
+    yield "<h2>Ticket prices</h2><p>Mean number of units traded a game, and the price of each.</p>"
     if not any(overview.trades.values()):
         yield "<p>No ticket was traded.</p>"
         return
@@ -120,8 +120,8 @@ def _tickets(overview: Overview) -> Iterator[str]:
 
 
 def _fills(overview: Overview) -> Iterator[str]:
-    yield ("<h2>Units asked for, and got</h2><p>A bid asks for the units that it has more than "
-           "stood there of its agent before. The bars show which part of them traded.</p>")
+    yield ("<h2>Units asked for, and got</h2><p>A bid asks for the units by which it exceeds its "
+           "agent's standing units there. The bars show what share of them traded.</p>")
     rates, rows = {}, []
     for agent in overview.order():
         fills = [overview.fills[agent].get(side, Fill()) for side in SIDES]
@@ -135,10 +135,10 @@ def _fills(overview: Overview) -> Iterator[str]:
 
 
 def _errors(overview: Overview) -> Iterator[str]:
-    yield ("<h2>Errors of predicted room prices</h2><p>By how many dollars three predictions of a "
-           "night's closing price are wrong, in the mean over the nights that are open after a "
-           "tick: its quote of the tick, the mean closing price of that night in the games of "
-           "other deals, and the quote with its mean rise there.</p>")
+    yield ("<h2>Errors of predicted room prices</h2><p>The mean error in dollars of three "
+           "predictions of a night's closing price, over the nights that are open after a tick: "
+           "the quote at the tick, the mean closing price of that night in the games of other "
+           "deals, and the quote plus its mean rise in those games.</p>")
     errors = overview.errors()
     most = max([1.0, *(error for each in errors.values() for error in each if error is not None)])
     high, charts = round_up(most, 50), []
@@ -158,10 +158,10 @@ def _whole(number: Optional[float]) -> str:
 
 
 def _distances(overview: Overview) -> Iterator[str]:
-    yield ("<h2>The distance to the best plan at closing prices</h2><p>By how much a seat's score "
-           "is less than its best plan is worth, if that bought all it lacks at the last prices of "
-           "flights and rooms and the mean prices of tickets. Below 0 it did better, as by seats "
-           "that became dearer later.</p>")
+    yield ("<h2>The distance to the best plan at closing prices</h2><p>How far a seat's score is "
+           "below the worth of its best plan, if the plan bought what it lacks at the last prices "
+           "of flights and rooms and the mean prices of tickets. A score with a distance below 0 "
+           "is better, for example because flights became dearer later.</p>")
     rows: List[List[Cell]] = []
     for agent in overview.order():
         each = overview.distances[agent]
@@ -172,10 +172,10 @@ def _distances(overview: Overview) -> Iterator[str]:
 
 
 def _efficiencies(overview: Overview) -> Iterator[str]:
-    yield ("<h2>Efficiency over the 64 clients</h2><p>What all trips of a game are worth, less all "
-           "seats at the flights' first prices and 200 for each ticket short, of the most that is "
-           "known that its 64 clients might have had of its rooms and tickets. No allocation is "
-           "worth more than the bound.</p>")
+    yield ("<h2>Efficiency over the 64 clients</h2><p>The worth of all trips of a game, less the "
+           "cost of all seats at the flights' first prices and 200 for each ticket short, as a "
+           "share of the best known allocation of its rooms and tickets to its 64 clients. No "
+           "allocation is worth more than the bound.</p>")
     tables = overview.efficiencies
     rates = {agents: [100 * each.had / each.best for each in tables[agents] if each.best]
              for agents in sorted(tables)}
@@ -186,5 +186,5 @@ def _efficiencies(overview: Overview) -> Iterator[str]:
         rows.append([html.escape(agents), len(games), f"<b>{mean(each or [0]):.0f} %</b>",
                      f"{min(each, default=0):.0f} %", f"{max(each, default=0):.0f} %",
                      *(f"{mean(values):.0f}" for values in zip(*games))])
-    yield table(["agents", "games", "mean", "least", "most", "they had", "might have had", "bound"],
+    yield table(["agents", "games", "mean", "least", "most", "worth", "best known", "bound"],
                 rows, (0,))

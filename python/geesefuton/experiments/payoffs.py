@@ -1,9 +1,9 @@
 """The payoffs of strategies in games of eight seats, and the files that hold them.
 
-A profile says how many of the seats have each strategy. In the full game a strategy's payoff beside
-seven rivals is that of the profile with all eight. In the deviation-preserving reduction there are
-2 or 4 players: a player is one seat, and its 1 or 3 rivals stand for seven seats, in the same
-shares. So what a single seat gains by another strategy is that of the full game.
+A profile says how many of the seats have each strategy. In the full game a strategy's payoff
+against seven opponents is its payoff in the profile of all eight. In the deviation-preserving
+reduction there are 2 or 4 players: a player is one seat, and its 1 or 3 opponents stand for seven
+seats, in the same shares. So a single seat gains as much by another strategy as in the full game.
 """
 
 import json

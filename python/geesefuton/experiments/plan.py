@@ -1,4 +1,4 @@
-"""What a tournament is asked for, read from its command line."""
+"""The plan of a tournament, read from its command line."""
 
 import argparse
 import hashlib
@@ -29,7 +29,7 @@ LINGER, LINGER_IN_TURNS = 5.0, 30.0  # seconds
 
 @dataclass(frozen=True)
 class Plan:
-    """What a tournament is asked for.
+    """The plan of a tournament.
 
     Attributes:
         entrants: The agents.
@@ -96,7 +96,8 @@ def _rooms(text: str) -> Tuple[int, int]:
 
 def _summary_file(text: str) -> Path:
     if Path(text).suffix not in FORMS:
-        raise argparse.ArgumentTypeError(f"the name ends with {', '.join(FORMS)}, not {text}")
+        raise argparse.ArgumentTypeError(f"expected a name ending in {', '.join(FORMS)}, "
+                                         f"not {text}")
     return Path(text)
 
 
@@ -110,62 +111,67 @@ def add_playing(parser: Parser, games: str) -> None:
     add = parser.add_argument
     add("--games", type=whole(1), default=4, metavar="N", help=games)
     add("--seed", type=whole(0, MOST_SEED), default=1, metavar="N",
-        help="the seed of the first deal; 1")
+        help="make the first deal from this seed (default: 1)")
     add("--rooms", type=_rooms, metavar="N..M",
-        help="the rooms of each hotel night, drawn by the seed, as 3..6; default: 16")
-    add("--live", action="store_true", help="hotel prices move with each bid")
+        help="draw the rooms of each hotel night from this range, such as 3..6 (default: 16)")
+    add("--live", action="store_true", help="let hotel prices move with each bid")
     add("--endow", choices=(CLASSIC,),
-        help="tickets at first: clumped as in the original game, as remembered; default: 0 to 2 of "
-             "each")
-    add("--game", type=Path, metavar="FILE", help="play this game file in place of made games")
-    add("--at-once", type=whole(1), default=2, metavar="N", help="how many games at a time; 2")
+        help="endow tickets in clumps, as in the original game (docs/GAME.md; default: 0 to 2 of "
+             "each)")
+    add("--game", type=Path, metavar="FILE", help="play this game file instead of made games")
+    add("--at-once", type=whole(1), default=2, metavar="N",
+        help="play this many games at a time (default: 2)")
     add("--pace", type=whole(1, 60000), metavar="MILLISECONDS",
-        help=f"from tick to tick; {PACE}")
+        help=f"the time from tick to tick (default: {PACE})")
     add("--turns", type=whole(1, MOST_TURNS), default=0, metavar="R",
-        help="no clock: each agent has R turns between two ticks, and makes one request in each")
+        help="play without a clock: each agent has R turns between two ticks, with one request in "
+             "each")
     add("--patience", type=seconds, metavar="SECONDS",
-        help="in turns: how long an agent is silent before it is passed over; "
-             f"{PATIENCE:g}")
-    add("--json", action="store_true", help="agents speak JSON objects in place of words")
+        help="in turns: pass an agent over after it has been silent this long (default: "
+             f"{PATIENCE:g})")
+    add("--json", action="store_true", help="let agents send JSON objects instead of words")
     add("--start", type=seconds, default=20.0, metavar="SECONDS",
-        help="how long a game waits for its agents; 20")
+        help="wait this long for the agents of a game (default: 20)")
     add("--after", type=seconds, metavar="SECONDS",
-        help=f"how long after the last tick links are ended; {LINGER:g}, in turns "
-             f"{LINGER_IN_TURNS:g}")
+        help=f"close the remaining links this long after the last tick (default: {LINGER:g}, in "
+             f"turns {LINGER_IN_TURNS:g})")
     add("--resume", action="store_true",
-        help="with --out: play what FOLDER lacks, if it was begun with the same words and files")
+        help="with --out: play what FOLDER lacks, if its run began with the same words and files")
 
 
 def make_parser(description: Optional[str]) -> Parser:
-    """The words of the command, which the description explains."""
+    """The parser of the command, whose help begins with the description."""
     parser = Parser("tournament", description or "")
     add = parser.add_argument
     add("agents", nargs="*", metavar="AGENT",
-        help="default: planner, trader and watcher of examples/agents, in a clone")
-    add_playing(parser, "how many games; 4. With swapped seats a multiple of the number of agents")
+        help="a Python file, a program, or a command in quotes (default in a clone: planner, "
+             "trader and watcher of examples/agents)")
+    add_playing(parser, "play this many games, with swapped seats a multiple of the number of "
+                        "agents (default: 4)")
     add("--swap", action=argparse.BooleanOptionalAction, default=None,
-        help="play each deal once for each agent, with other seats each time; on for two agents")
+        help="play each deal once for each agent, with other seats each time (default for two "
+             "agents)")
     add("--keep", type=Path, metavar="FOLDER",
-        help="where to keep game files, logs, what was asked and printed, and events")
+        help="keep game files, logs, scripts or journals, the agents' output and events here")
     add("--out", type=Path, metavar="FOLDER",
-        help="where the run stands: run.json with all that it was played with, scores.csv with the "
-             "lines of each game as it ends, and the files of games")
+        help="keep the run here: run.json with the settings and files, scores.csv with the lines "
+             "of each game as it ends, and the files of the games")
     add("--summary", type=_summary_file, action="append", default=[], metavar="FILE",
-        help="a file for the summary: .txt, .csv or .json; may be given again")
+        help="also write the summary to this file, .txt, .csv or .json; may be repeated")
     add("--detect", type=whole(1), metavar="DOLLARS",
-        help="say how many games show such a difference between two agents")
+        help="estimate how many games detect such a difference between two agents")
     add("--join", type=Path, nargs="+", metavar="FOLDER",
-        help="play nothing, and summarize what earlier tournaments wrote, folders or CSV, if all "
-             "belongs together")
+        help="play nothing, and summarize the folders or CSV files of earlier tournaments, if they "
+             "belong together")
     add("--pool", action="store_true",
-        help="with --join: compare what does not belong together, each pool by its own name")
+        help="with --join: compare results that do not belong together, each pool by its own name")
     return parser
 
 
 def _default_agents(parser: Parser) -> List[str]:
     clone = program.top()
     if clone is None:
-        parser.error("which agents? Each is a Python file, a program, or a command in quotes")
+        parser.error("name the agents: each is a Python file, a program, or a command in quotes")
     return [f"'{clone / 'examples' / 'agents' / name}.py'" for name in AGENTS]
 
 
@@ -184,7 +190,7 @@ def read_plan(parser: Parser, given: argparse.Namespace) -> Plan:
     rotations = len(entrants) if swap else 1
     games = -(-given.games // rotations) * rotations
     if games != given.games:
-        tell(f"{games} games are played, so that each deal is played {rotations} times")
+        tell(f"playing {games} games, so that each deal is played {rotations} times")
     if given.seed + games // rotations - 1 > MOST_SEED:
         parser.error(f"seeds are at most {MOST_SEED}")
     linger = LINGER_IN_TURNS if given.turns else LINGER
@@ -223,12 +229,12 @@ def _refuse(parser: Parser, given: argparse.Namespace) -> None:
     if given.game and (given.rooms or given.live or given.endow):
         parser.error("--rooms, --live and --endow are for made games, not for a game file")
     if given.turns and given.pace is not None:
-        parser.error("--pace is for games by the clock, and --turns for those without")
+        parser.error("--pace is for games with a clock, and --turns for games without one")
     if given.patience is not None and not given.turns:
-        parser.error("--patience is for games in turns: see --turns")
+        parser.error("--patience needs --turns")
     if given.resume and not given.out:
-        parser.error("--resume goes on with the run of a folder: see --out")
+        parser.error("--resume needs --out")
     if given.out and given.keep:
-        parser.error("--out keeps the games' files in its folder, so --keep is not for it")
+        parser.error("--out already keeps the games' files: leave --keep out")
     if given.pool:
-        parser.error("--pool is for --join")
+        parser.error("--pool needs --join")

@@ -1,17 +1,18 @@
-"""Plays every profile of a game between strategies, and looks for symmetric equilibria.
+"""Plays every profile of a game between strategies, and searches for symmetric equilibria.
 
     profiles baseline.py 'baseline.py --set SHADE=1.0' --games 40 --turns 40 --out FOLDER
 
 A strategy is an agent, as in a tournament. A profile says how many of the eight seats have each
-strategy. Every profile is played on the same deals, and each deal moves the seats on. With
+strategy. Every profile is played on the same deals, and each deal rotates the seats. With
 --players 8 these are all profiles; with 2 or 4 those of the deviation-preserving reduction, in
-which a player is one seat, and its rivals stand for the other seven.
+which a player is one seat, and its opponents stand for the other seven.
 
-FOLDER keeps the games, as a tournament's --out does: --resume goes on after a stop, and more
---games play more. With --part I/N only the I-th of N parts is played, on any machine that has
-FOLDER; the same command without --part takes what the parts played, and plays what they lack. It
-writes payoffs.csv, payoffs.json and payoffs.nfg, and prints payoffs, a seat's gain by another
-strategy, and the symmetric equilibria with how often each occurs in resamples of the deals.
+FOLDER keeps the games, like a tournament's --out: --resume continues after a stop, and a larger
+--games adds games. With --part I/N the command plays only the I-th of N parts, on any machine that
+has FOLDER; the same command without --part takes the games of the parts, and plays the missing
+ones. It writes payoffs.csv, payoffs.json and payoffs.nfg, and prints payoffs, a seat's gain by
+another strategy, and the symmetric equilibria, each with its number of occurrences in resamples of
+the deals.
 
 The exit status is 0 if every game was scored and everything was written, 1 if not, and 128 plus
 the signal's number if a signal stopped it.
@@ -47,7 +48,7 @@ MOST_TOLD = 8  # equilibria
 def _part(text: str) -> Tuple[int, int]:
     match = re.fullmatch(r"([0-9]{1,6})/([0-9]{1,6})", text, re.ASCII)
     if match is None or not 1 <= int(match[1]) <= int(match[2]):
-        raise argparse.ArgumentTypeError(f"a part is I/N, with I from 1 to N, not {text!r}")
+        raise argparse.ArgumentTypeError(f"expected a part I/N, with I from 1 to N, not {text!r}")
     return int(match[1]), int(match[2])
 
 
@@ -55,10 +56,11 @@ def _make_parser() -> Parser:
     parser = Parser("profiles", __doc__ or "")
     add = parser.add_argument
     add("agents", nargs="+", metavar="AGENT", help="the strategies, two or more")
-    add_playing(parser, "how many games of each profile, each with a deal of its own; 4")
+    add_playing(parser, "play each profile this many times, on a deal of its own each time "
+                        "(default: 4)")
     add("--players", type=int, choices=PLAYERS, default=PLAYERS[0],
-        help="8 for all profiles, fewer for the reduced game; 2")
-    add("--out", type=Path, required=True, metavar="FOLDER", help="the folder of the games")
+        help="8 for all profiles, fewer for the reduced game (default: 2)")
+    add("--out", type=Path, required=True, metavar="FOLDER", help="keep the games in this folder")
     add("--part", type=_part, metavar="I/N", help="play only this part of the games")
     parser.set_defaults(swap=False, keep=None, summary=[], detect=None, pool=False)
     return parser
@@ -70,7 +72,7 @@ def _plan_of(parser: Parser, given: argparse.Namespace) -> Plan:
     given.out = given.out / f"part-{part}-of-{parts}"
     plan = read_plan(parser, given)
     if len(plan.agents) < max(2, len(plan.entrants)):
-        parser.error("two or more strategies are due, each named once")
+        parser.error("name two or more strategies, each once")
     profiles = profiles_of(len(plan.entrants), given.players)
     lineups = [[entrant for entrant, count in zip(plan.entrants, profile) for _ in range(count)]
                for profile in profiles]
@@ -87,7 +89,7 @@ def _others(parser: Parser, folder: Path, plan: Plan) -> List[Source]:
     names = sorted(os.listdir(folder)) if folder.is_dir() else []
     for name in (name for name in names if name[0] != "." and name not in FILES):
         if not PART.fullmatch(name):
-            parser.error(f"--out {folder}: it is no folder of profiles: it has {name}")
+            parser.error(f"--out {folder}: it is not a folder of profiles: it has {name}")
         if name == own or not is_run(folder / name):
             continue
         try:
@@ -129,15 +131,15 @@ def _of_equilibria(payoffs: Payoffs) -> List[str]:
     more = len(findings.equilibria) - MOST_TOLD
     lines += [f"and {more} more"] if more > 0 else []
     if not findings.resamples:
-        return [*columns(rows), *lines, "", "A single deal shows nothing of them: play more."]
+        return [*columns(rows), *lines, "", "A single deal cannot be resampled: play more."]
     rows.append(["any other", *[""] * len(payoffs.names),
                  f"{findings.others} of {findings.resamples}"])
     rows.append(["90 % of all shares lie in", *(f"{low:.2f} to {high:.2f}"
                                             for low, high in findings.shares), ""])
-    verdict = ("Other deals would most likely give the same." if findings.are_known else
-               "NOT KNOWN from these deals which equilibria there are: play more.")
+    verdict = ("Other deals would most likely give the same equilibria." if findings.are_known else
+               "NOT KNOWN: these deals do not settle which equilibria there are; play more.")
     return [*columns(rows), *lines, "", f"An equilibrium of a resample counts as one of these "
-            f"where their shares differ by at most {NEAR:g}.", verdict]
+            f"if their shares differ by at most {NEAR:g}.", verdict]
 
 
 def _text_of(payoffs: Payoffs, rows: Sequence[Row]) -> str:
@@ -149,7 +151,7 @@ def _text_of(payoffs: Payoffs, rows: Sequence[Row]) -> str:
     samples = payoffs.samples()
     alone = [tuple(float(place == other) for other in range(len(names)))
              for place in range(len(names))]
-    gained = [["a seat among others that all have", *(f"gains by {name}" for name in names)]]
+    gained = [["a seat whose opponents all have", *(f"gains by {name}" for name in names)]]
     gained += [[name, *map(_gain_text, gains(payoffs.players, samples, mixture))]
                for name, mixture in zip(names, alone)]
     failed = Counter(row.agent for row in rows if row.end is not Outcome.PLAYED)
@@ -169,7 +171,7 @@ def _write(folder: Path, payoffs: Payoffs) -> List[str]:
     for name, form in FILES.items():
         text, file, new = form(payoffs), folder / name, folder / f".{name}.new"
         if not text:
-            tell(f"profiles: {file} is not written: it would have too many outcomes")
+            tell(f"profiles: skipped {file}: it would have too many outcomes")
             continue
         out = Output(new)
         out.write(text)
@@ -202,7 +204,7 @@ def _main() -> int:
     if status > 128:
         return status  # it was stopped
     if given.part and given.part[1] > 1:
-        tell("profiles: the same command without --part takes what all parts played")
+        tell("profiles: the same command without --part takes the games of all parts")
         return status
     rows += own
     payoffs = Payoffs([entrant.name for entrant in plan.entrants], given.players, rows)
@@ -213,7 +215,7 @@ def _main() -> int:
         out = Output(1)
         out.write(_text_of(payoffs, rows))
         if out.fault:
-            failed.append(f"what was found was not written to {out.name}: {out.fault}")
+            failed.append(f"the results were not written to {out.name}: {out.fault}")
     for text in failed:
         tell(f"profiles: {text}")
     return status or (1 if failed else 0)

@@ -1,8 +1,8 @@
-"""What was played with: the settings and the files by which results can be compared.
+"""The provenance of results: the settings and files that decide whether they can be compared.
 
 Results of two tournaments belong together only if their settings, the program, the package and the
-files of each agent are the same. So each row has its settings as a text, and the beginning of the
-SHA-256 of its agent's files.
+files of each agent are the same. So each row has its settings as a text, and the first digits of
+the SHA-256 of its agent's files.
 """
 
 import ast
@@ -133,7 +133,7 @@ def read_settings(text: str) -> Dict[str, str]:
 def unlike(ours: Mapping[str, object], theirs: Mapping[str, object]) -> List[str]:
     """What differs in their settings from ours, each in a few words."""
     names: Iterable[str] = dict.fromkeys([*ours, *theirs])
-    return [f"{name} is {theirs.get(name, 'not set')} and not {ours.get(name, 'set')}"
+    return [f"{name} is {theirs.get(name, 'not set')}, not {ours.get(name, 'set')}"
             for name in names if str(ours.get(name)) != str(theirs.get(name))]
 
 

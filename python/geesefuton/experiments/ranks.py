@@ -1,7 +1,7 @@
-"""Wilcoxon's signed-rank test: whether values lie about 0, by their ranks alone.
+"""Wilcoxon's signed-rank test: whether values are centred on 0, by their ranks alone.
 
-It takes them to be symmetric about their middle and not to be normal, so a few values that are far
-out weigh no more than others.
+It assumes that values are symmetric about their middle, but not that they are normal, so a few
+outliers weigh no more than other values.
 """
 
 import math

@@ -14,7 +14,7 @@ from geesefuton.records import report
 def over(folder: Path) -> Tuple[str, List[str]]:
     """The page of a folder, "" if it has no games, and its faults, each in a line."""
     if not folder.is_dir():
-        return "", [f"{folder} is no folder"]
+        return "", [f"{folder} is not a folder"]
     source, told = read_source(folder)
     if source is None:
         return "", told

@@ -129,6 +129,6 @@ def read_rows(text: str, name: str) -> List[Row]:
                 raise ValueError
             rows.append(read_row(words))
         except ValueError:
-            raise ResultsError(f"{name}: line {number} is no row: {','.join(words)[:60]!r}") \
+            raise ResultsError(f"{name}: line {number} is not a row: {','.join(words)[:60]!r}") \
                 from None
     return rows

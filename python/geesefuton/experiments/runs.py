@@ -1,10 +1,10 @@
-"""The folder of a run that can be stopped at any time, and gone on with.
+"""The folder of a run that can be stopped at any time and resumed.
 
-FOLDER/run.json says what was played with: the settings, the SHA-256 of the program, the package and
-each agent's files, and for each run its words, machine, load and times. FOLDER/scores.csv has the
-rows of each game, appended as it ends; FOLDER/games has the games' files. A run that goes on plays
-the games that scores.csv lacks. A row that was half written, as on a full disk, is told, taken out
-with its game, and the game is played again.
+FOLDER/run.json has the settings, the SHA-256 of the program, the package and each agent's files,
+and for each run its words, machine, load and times. FOLDER/scores.csv has the rows of each game,
+appended as it ends; FOLDER/games has the games' files. A resumed run plays the games that
+scores.csv lacks. A row that was half written, as on a full disk, is reported and removed with its
+game, and the game is played again.
 """
 
 import csv
@@ -96,14 +96,14 @@ def read_scores(folder: Path) -> Found:
                 raise ValueError
             row = read_row(words)
         except ValueError:
-            found.told.append(f"line {number} is no row: {','.join(words)[:60]!r}")
+            found.told.append(f"line {number} is not a row: {','.join(words)[:60]!r}")
         else:
             games.setdefault(row.game, []).append(row)
     for (deal, rotation), rows in games.items():
         if sorted(row.seat for row in rows) == list(range(SEATS)):
             found.rows += rows
         else:
-            found.told.append(f"game {deal}.{rotation} has {len(rows)} rows and not {SEATS}")
+            found.told.append(f"game {deal}.{rotation} has {len(rows)} rows, not {SEATS}")
     return found
 
 
@@ -125,11 +125,11 @@ def compare(folder: Path, plan: Plan) -> Dict[str, Any]:
                                                 for agent in value["agents"]}
         differences = unlike(settings, plan.settings)
     except (ValueError, LookupError, TypeError, AttributeError):
-        raise RunError(f"its {RUN} is not that of a tournament of this version") from None
-    differences += [f"the files or words of {name} are others" for name, agent in
+        raise RunError(f"its {RUN} is not of a tournament of this version") from None
+    differences += [f"the files or words of {name} differ" for name, agent in
                     plan.agents.items() if digests.get(name, agent.digest) != agent.digest]
     if differences:
-        raise RunError("its run was begun otherwise: " + "; ".join(differences))
+        raise RunError("its run began differently: " + "; ".join(differences))
     return value
 
 
@@ -206,9 +206,9 @@ class RunFolder:
         except FileNotFoundError:
             return False
         if names and RUN not in names:
-            raise RunError(f"it is no folder of a tournament: it has {names[0]}, and no {RUN}")
+            raise RunError(f"it is not the folder of a tournament: it has {names[0]}, but no {RUN}")
         if names and not is_resumed:
-            raise RunError("it has a run: --resume goes on with it; or name another folder")
+            raise RunError("it has a run: continue it with --resume, or name another folder")
         return bool(names)
 
     def _locked(self) -> int:

@@ -1,9 +1,9 @@
-"""What a tournament says of its agents: means, differences of pairs, and what did not play.
+"""The summary of a tournament: means, differences of pairs, and seats that did not play.
 
 Means, their order and the pairs are over all seats of an agent, each with the score of its log. So
-an agent gains nothing by failing where it does badly. Beside them stand the mean of the seats that
-played to the end, and how many did not, by their reason. The unit of every interval is a deal,
-since games of one deal are alike: an agent's value of a deal is the mean over its seats there.
+an agent gains nothing by failing where it does badly. The summary also has the mean of the seats
+that played to the end, and how many did not, by reason. The unit of every interval is a deal, since
+games of one deal are alike: an agent's value for a deal is the mean over its seats there.
 """
 
 from collections import Counter, defaultdict

@@ -2,29 +2,29 @@
 
     tournament --games 20 --keep games mine.py examples/agents/planner.py > scores.csv
 
-An agent is a Python file, a program, or a command in quotes, such as 'java -jar theirs.jar'. It is
-run with the words HOST PORT WORD --pause SECONDS, like those of examples/agents. Each game goes
-through a lobby, so an agent that fails or hangs costs only its own seat.
+An agent is a Python file, a program, or a command in quotes, such as 'java -jar theirs.jar'. The
+command runs it with the words HOST PORT WORD --pause SECONDS, like the agents of examples/agents.
+Each game goes through a lobby, so an agent that fails or hangs costs only its own seat.
 
-With --turns R there is no clock: in each turn an agent gets one request answered, and each has R
-turns between two ticks. So agents whose requests depend only on what they received, such as those
-of examples/agents, play the same games for the same seed on any machine, busy or not. They are run
-with --pause 0, and draw from the variable AGENT_SEED. An agent that is silent for --patience
-seconds is passed over, and its game is marked as `unrepeatable2`.
+With --turns R there is no clock: in each turn an agent gets one request answered, and each agent
+has R turns between two ticks. So agents whose requests depend only on what they received, such as
+those of examples/agents, play the same games for the same seed on any machine, busy or not. They
+run with --pause 0, and draw random numbers from the seed in the variable AGENT_SEED. An agent that
+is silent for --patience seconds is passed over, and its game is marked as `unrepeatable2`.
 
 A deal has the clients, the tickets, the flights and the order of the hotels of a game. Two agents
 play each deal twice, with swapped seats, so that both have the same clients; with --swap any number
 of agents play each deal once for each of them.
 
-The line of a seat says how its game went: `played`, or `absent`, `crashed`, `hung`, `refused`. At
-the end the summary has each agent's mean over all its seats with a 95 % interval, that of the seats
-that played to the end, how many did not, and the difference of each pair. Failures are
+The line of a seat says how its game went: `played`, or `absent`, `crashed`, `hung`, `refused`. The
+summary at the end has each agent's mean over all its seats with a 95 % interval, the mean over the
+seats that played to the end, how many did not, and the difference of each pair. Failures are
 reported as they happen.
 
 With --out FOLDER the run is kept in a folder: scores.csv gains the rows of each game as the game
-ends, and run.json has the settings, the agents and their files. With --resume it goes on after any
-stop, and plays the games that are missing. --join FOLDER .. summarizes
-several, if they were played in the same way by the same agents.
+ends, and run.json has the settings, the agents and their files. With --resume the run continues
+after any stop, and plays the missing games. --join FOLDER .. summarizes several runs, if they were
+played in the same way by the same agents.
 
 The exit status is 0 if every game was scored and everything was written, 1 if not, and 128 plus
 the signal's number if a signal stopped it.
@@ -154,9 +154,9 @@ class Tournament:
             table = next(waiting, None)
             return None if table is None else self._begin(children, number, table)
         except (DealError, program.ProgramError) as fault:
-            self.report.lose(f"no more games are played: {fault}")
+            self.report.lose(f"stopped playing games: {fault}")
         except OSError as fault:
-            self.report.lose(f"no more games are played: {why(fault)}")
+            self.report.lose(f"stopped playing games: {why(fault)}")
         return None
 
     def _begin(self, children: Children, number: int, table: Table) -> Running:
@@ -197,7 +197,7 @@ class Tournament:
             elif isinstance(message, Note):
                 self._say(game, message.text)
             elif isinstance(message, events.Refused):
-                self._say(game, f"refused {message.answer} to a link that said {message.line!r}")
+                self._say(game, f"refused a link as {message.answer}: it sent {message.line!r}")
             elif isinstance(message, events.Warned):
                 self._say(game, message.text)
             elif isinstance(message, events.Ticked) and self._plan.turns:
@@ -210,7 +210,7 @@ class Tournament:
         # A game whose messages were not read yet, as after ctrl-Z, may have ended in time.
         if (game.result is None and time.monotonic() > game.deadline
                 and not game.connection.poll()):
-            game.result = Result(fault="it took longer than its ticks and all waiting")
+            game.result = Result(fault="it took longer than its ticks and all its waits")
         return game.result is not None
 
     def _finish(self, game: Running) -> None:
@@ -277,7 +277,7 @@ def _join(names: Sequence[Path], are_pools: bool, summaries: Sequence[Path],
         source, lines = read_source(name)
         if source and "players" in read_settings(source.rows[0].settings):
             source = None
-            lines.append(f"{name}: it has the games of profiles: see that command")
+            lines.append(f"{name}: it has the games of profiles: use the command profiles")
         sources += [source] if source else []
         told += lines
     rows, refused = (pooled if are_pools else joined)(sources)
@@ -373,7 +373,7 @@ def play_in_folder(parser: Parser, plan: Plan, elsewhere: AbstractSet[Tuple[str,
     try:
         folder.end(status, scored, report.lost)
     except OSError as fault:
-        report.lose(f"{plan.out}: how the run ended was not written: {why(fault)}")
+        report.lose(f"{plan.out}: cannot write how the run ended: {why(fault)}")
         status = status or 1
     return status, folder.rows + report.all_rows(), report.lost
 

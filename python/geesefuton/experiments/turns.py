@@ -1,13 +1,13 @@
-"""A game in turns: agents, unchanged ones over the same protocol, are answered one after another.
+"""A game in turns: unchanged agents over the same protocol get their requests answered in turn.
 
-There is no clock, and no server at a port. In a turn one request of each agent is asked, one after
-the other, and each turn begins one seat later (`records.order`); there are so many of them between
-two ticks. One process of `tac step` answers them all. An agent that takes its time is waited for:
-only if it says nothing for very long, `patience`, is it passed over, and so at each turn until it
-speaks again.
+There is no clock, and no server at a port. In each turn every agent gets one request answered, seat
+after seat, and each turn begins one seat later (`records.order`); the number of turns between two
+ticks is fixed. One process of `tac step` answers all requests. Slow agents are waited for: only an
+agent that sends nothing for a long time, `patience`, is passed over, and then in each turn until it
+sends a line again.
 
-So agents whose requests follow from what they were sent play the same game on any machine, busy or
-not, as long as nobody is passed over.
+So agents whose requests depend only on what they received play the same game on any machine, busy
+or not, as long as no agent is passed over.
 """
 
 from __future__ import annotations

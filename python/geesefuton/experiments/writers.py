@@ -1,4 +1,4 @@
-"""Where the rows of games are written to, as the games end or in their order."""
+"""Writers of the rows of games, as the games end or in order."""
 
 from pathlib import Path
 from typing import Dict, List
@@ -42,7 +42,7 @@ class AppendedRows:
             rest = Output(file)
             rest.write(csv_of([HEAD]) + text_of(self._unwritten))
             rest.close()
-            text += (f", and are in {file}" if rest.fault is None
+            text += (f"; they are in {file}" if rest.fault is None
                      else f", nor to {file}: {rest.fault}")
         return text
 
