@@ -93,9 +93,9 @@ class Player:
         self.tab.call("Input.insertText", text="7")
         self.tab.tap("dialog button.main", "uy")
         until = time.monotonic() + 3
-        while not self.tab.sees("16 units at most") and time.monotonic() < until:
+        while not self.tab.sees("at most 16 units") and time.monotonic() < until:
             time.sleep(0.05)
-        self._note("a refusal says why", self.tab.sees("16 units at most"))
+        self._note("a refusal says why", self.tab.sees("at most 16 units"))
         self.tab.tap("dialog button", "^Close$")
 
     def _note(self, what: str, is_seen: bool) -> None:

@@ -61,7 +61,8 @@ class Answers(unittest.TestCase):
 
     def test_points_that_cannot_be_written(self) -> None:
         rows: List[Tuple[Points, Optional[str]]] = [
-            ((), "A bid is for 1 unit at least."), (((1, 99999),), None), (((-99999, 0),), None),
+            ((), "A bid must be for at least 1 unit."),
+            (((1, 99999),), None), (((-99999, 0),), None),
             (((1, 100000),), "whole numbers"), (((100000, 1),), "whole numbers"),
             (((1, -1),), "whole numbers")]
         for points, due in rows:

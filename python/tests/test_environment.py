@@ -88,7 +88,7 @@ class Arguments(unittest.TestCase):
         self.assertEqual((environment.agents, environment.num_agents, environment.max_num_agents),
                          ([], 0, 8))
         self.assertEqual(environment.possible_agents, [f"seat{seat}" for seat in range(8)])
-        self.assertRaisesRegex(ActionError, "no game is played", environment.step, {})
+        self.assertRaisesRegex(ActionError, "no game has begun", environment.step, {})
         self.assertEqual((environment.log, environment.script, environment.game), (None, "", ""))
         self.assertEqual(environment.render(), "tick 0 of 54\n")
         self.assertIs(environment.unwrapped, environment)
@@ -112,7 +112,7 @@ class Arguments(unittest.TestCase):
                     agent = environment.agents[0]
                     self.assertRaises(ProgramError, environment.step, {agent: ["own 8"]})
                     self.assertEqual(environment.agents, [])
-                    self.assertRaisesRegex(ActionError, "no game is played", environment.step, {})
+                    self.assertRaisesRegex(ActionError, "no game has begun", environment.step, {})
         with mock.patch.dict(os.environ, {"TAC": "/nowhere/tac"}):
             self.assertRaises(ProgramError, Environment(FIRST).reset)
             self.assertRaises(ProgramError, Environment().reset)
@@ -129,7 +129,7 @@ class Arguments(unittest.TestCase):
                                      environment.possible_agents)
                 environment.reset()
                 for each in copies:
-                    self.assertRaisesRegex(TypeError, "that plays a game", each, environment)
+                    self.assertRaisesRegex(TypeError, "with a running game", each, environment)
                 self.assertEqual(environment.num_agents, 8)
 
     def test_spaces_are_the_same_at_each_call(self) -> None:
@@ -214,7 +214,7 @@ class Steps(unittest.TestCase):
         self.assertEqual(breaks, dict.fromkeys(self.agents, False))
         self.assertEqual(observations[buyer]["tick"], TICKS)
         self.assertEqual(self.environment.agents, [])
-        self.assertRaisesRegex(ActionError, "no game is played", self.environment.step, {})
+        self.assertRaisesRegex(ActionError, "no game has begun", self.environment.step, {})
         assert self.environment.log is not None
         with tempfile.TemporaryDirectory() as folder:
             game = Path(folder, "game")

@@ -15,7 +15,7 @@ from geesefuton.hosting.link_audit import summary
 from tests.test_lobby import WORDS, Agent, Case, Host
 
 HEAD = ",".join(["serve", *(f"link {seat} seated {seat}" for seat in range(8))])
-WRONG = "not right about each link"
+WRONG = "does not match each link"
 
 
 class Vouching(Case):

@@ -93,5 +93,6 @@ class Games(Case):
         self.assertEqual((steps, len(rewards)), (108, 8))
 
     def test_a_seat_of_a_rival_is_not_free(self) -> None:
-        self.assertRaisesRegex(ValueError, "no rival may have 'seat1'", self.numeric.Seat, "seat1",
+        self.assertRaisesRegex(ValueError, "'seat1' must be a seat without a rival",
+                               self.numeric.Seat, "seat1",
                                rivals={"seat1": "planner"})

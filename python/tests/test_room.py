@@ -90,15 +90,15 @@ class Folders(Case):
         with self.assertRaisesRegex(FolderError, "whose first seed is 3, not 4"):
             Folder(self.path, 4)
         (self.path / "0001.json").write_text('{"number": 1}')
-        with self.assertRaisesRegex(FolderError, "0001.json is no manifest"):
+        with self.assertRaisesRegex(FolderError, "0001.json is not the manifest"):
             Folder(self.path)
         (self.path / "room.json").write_text("runs")
-        with self.assertRaisesRegex(FolderError, "is not as a room writes it"):
+        with self.assertRaisesRegex(FolderError, "was not written by a room"):
             Folder(self.path)
         other = self.place / "other"
         other.mkdir()
         (other / "run.json").write_text("{}")
-        with self.assertRaisesRegex(FolderError, "has files, and is no folder of a practice room"):
+        with self.assertRaisesRegex(FolderError, "has files, but is not the folder"):
             Folder(other)
 
     def test_a_manifest_is_there_whole_or_not_at_all(self) -> None:
@@ -118,11 +118,11 @@ class Folders(Case):
         tac.write_text("#!\n")
         tac.chmod(0o755)
         with mock.patch.dict(os.environ, {"TAC": str(tac)}):
-            for words, told in ((["--folder", self.place], "is no folder of a practice room"),
+            for words, told in ((["--folder", self.place], "is not the folder of a practice room"),
                                 (["--house", "nobody.py"], "there is no file nobody.py"),
                                 (["--slips", "slips.txt"], "--slips needs --teams"),
                                 (["--page", "7000"], "choose another for the page"),
-                                (["--folder", self.path, "--teams", tac], "is no team")):
+                                (["--folder", self.path, "--teams", tac], "is not a team")):
                 status, text = refusal("practice.room_command", *words)
                 self.assertEqual((status > 0, text.count("\n")), (True, 1), text)
                 self.assertIn(told, text)
@@ -167,8 +167,8 @@ class Teams(Case):
     def test_what_are_no_teams(self) -> None:
         for text, told in (("", "0 teams"), ("a\nb\nc\nd\ne\nf\ng\nh\ni\n", "9 teams"),
                            ("Red\nred\n", "the same name"), ("a,x\nb,x\n", "the same word"),
-                           ("a,Not\n", "is no team"), ("\u00fc\n", "is no team"),
-                           ("a,b,c\n", "is no team")):
+                           ("a,Not\n", "is not a team"), ("\u00fc\n", "is not a team"),
+                           ("a,b,c\n", "is not a team")):
             with self.assertRaisesRegex(TeamsError, told):
                 self.read(text)
 
@@ -305,7 +305,7 @@ class Games(Case):
         self.until(lambda: room.poll() is not None)
         self.assertEqual(self.manifests()[0]["players"],
                          ["seat0", "", "house mine", "", "house mine", "", "house mine", ""])
-        self.assertIn("bad did not come for seat1: no luck", (self.place / "said").read_text())
+        self.assertIn("bad did not take seat1: no luck", (self.place / "said").read_text())
 
     def test_a_disk_that_takes_no_more_loses_no_game(self) -> None:
         told: List[str] = []
@@ -326,7 +326,7 @@ class Games(Case):
             with mock.patch("geesefuton.practice.folder.write_whole", write):
                 room.run()
             self.assertEqual(len(folder.finished), 1)
-        self.assertEqual(len([text for text in told if "cannot be kept" in text]), 1)
+        self.assertEqual(len([text for text in told if "cannot keep game" in text]), 1)
         self.assertEqual(self.manifests()[0]["players"].count("seat2"), 1)
 
     def test_the_page_has_the_standings_between_games_and_the_game_while_it_runs(self) -> None:

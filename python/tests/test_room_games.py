@@ -163,7 +163,7 @@ class Rooms(Case):
         games = self.kept.finished
         self.assertEqual([game.vouched for game in games], [said, other, ()])
         self.assertEqual([game.scores for game in games], [SCORES, (), SCORES])
-        fault = "its log is not right about each link: vouched 7 of 8 (seat7: unvouched line 4)"
+        fault = "its log does not match each link: vouched 7 of 8 (seat7: unvouched line 4)"
         self.assertEqual([game.fault for game in games], ["", fault, ""])
         self.assertIn(f"game 2 is lost: {fault}", self.told)
         self.assertTrue(self.lobbies.made[0].settings.vouches)
@@ -196,7 +196,7 @@ class Rooms(Case):
         self.room(games=2).run()
         self.assertEqual([game.number for game in self.kept.finished], [1, 2])
         self.assertEqual([text for text in self.told if "tried again" in text], [
-            f"{text}; the next game is tried again in 0.01 seconds" for text in
+            f"{text}; trying the next game again in 0.01 seconds" for text in
             ("port 7000: Address already in use", "Too many open files", "no program")])
 
     def test_what_fails_at_the_first_game_ends_the_room(self) -> None:
@@ -205,9 +205,9 @@ class Rooms(Case):
         self.assertEqual((self.told, self.kept.finished), ([], []))
 
     def test_a_page_that_fails_is_told(self) -> None:
-        self.board.show.return_value = "the page had ended"
+        self.board.show.return_value = "the page ended"
         self.play(whole(came(0)))
-        self.assertEqual(self.told[:2], ["the page had ended"] * 2)
+        self.assertEqual(self.told[:2], ["the page ended"] * 2)
 
     # The end of a room.
 
@@ -249,7 +249,7 @@ class Rooms(Case):
         self.lobbies.plays = [whole()]
         made.run()
         self.assertEqual(len(self.told), 1)
-        self.assertIn("cannot be kept in", self.told[0])
+        self.assertIn("cannot keep game", self.told[0])
 
     # Teams.
 

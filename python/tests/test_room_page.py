@@ -170,7 +170,7 @@ class Pages(unittest.TestCase):
     def test_a_game_that_cannot_be_shown_is_told_once_and_the_room_is(self) -> None:
         self.board("none.journal")
         self.run_it(4.0)
-        self.assertEqual(self.told, [f"room: {self.place / 'none.journal'} cannot be shown: No "
+        self.assertEqual(self.told, [f"room: cannot show {self.place / 'none.journal'}: No "
                                      "such file or directory"])
         self.assertEqual([shown for *_, shown in self.shown], [ROOM])
 
@@ -178,13 +178,13 @@ class Pages(unittest.TestCase):
         Live.fault = JournalError("line 1 is not a journal line")
         self.board(self.journal("0001.journal"))
         self.run_it(4.0)
-        self.assertEqual(self.told, [f"room: {self.place / '0001.journal'} cannot be shown: line 1 "
+        self.assertEqual(self.told, [f"room: cannot show {self.place / '0001.journal'}: line 1 "
                                      "is not a journal line"])
         self.assertEqual([shown for *_, shown in self.shown], [ROOM])
 
     def test_a_file_that_is_not_there_yet_is_told_and_waited_for(self) -> None:
         self.run_it(3.0, (1.0, self.board))
-        self.assertEqual(self.told, ["room: the page cannot be made: No such file or directory"])
+        self.assertEqual(self.told, ["room: cannot make the page: No such file or directory"])
         self.assertEqual(len(self.shown), 1)
 
 

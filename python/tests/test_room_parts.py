@@ -130,7 +130,7 @@ class Folders(Case):
         for text in ('{"room": 2, "seed": 1}', '{"room": 1, "seed": "1"}', '{"room": 1}', "[]"):
             (self.path / "room.json").write_text(text)
             for _ in range(2):  # the second one finds no lock
-                with self.assertRaisesRegex(FolderError, "room.json is not"):
+                with self.assertRaisesRegex(FolderError, "room.json does not describe"):
                     Folder(self.path)
         (self.path / "room.json").write_text('{"room": 1, "seed": 0}')
         self.assertEqual(self.folder(0).seed, 0)
@@ -193,7 +193,7 @@ class Boards(Case):
         made = self.board()
         made.show(None, ["a"], {})
         with mock.patch("os.replace", side_effect=OSError(28, "No space left on device")):
-            self.assertEqual(made.show(None, ["b"], {}), "the page cannot be told of the game: No "
+            self.assertEqual(made.show(None, ["b"], {}), "cannot update the page: No "
                              "space left on device")
         file = Path(self.children.start.call_args[0][0][3])
         self.assertEqual(json.loads(file.read_bytes())["names"], ["a"])
@@ -252,7 +252,7 @@ class Houses(Case):
         with mock.patch.object(house, "_last_line", lambda _: "no luck"):
             self.assertEqual(self.house.play(self.game), 6)
         self.assertEqual([call[0][0] for call in self.game.warn.call_args_list], [
-            f"the house agent {'ab'[seat % 2]} did not come for seat{seat}: no luck"
+            f"the house agent {'ab'[seat % 2]} did not take seat{seat}: no luck"
             for seat in (0, 1, 3, 4, 5, 6, 7)])
 
     def test_one_that_does_not_come_is_waited_for_a_while(self) -> None:
@@ -260,7 +260,7 @@ class Houses(Case):
         self.patch(house, "COMING", 0.05)
         self.assertEqual(self.house.play(self.game), 6)
         self.assertEqual(self.game.warn.call_count, 7)
-        self.assertIn("did not come for seat0 within 0.05 seconds",
+        self.assertIn("did not take seat0 within 0.05 seconds",
                       self.game.warn.call_args_list[0][0][0])
 
     def test_a_game_that_is_stopped_is_not_served(self) -> None:

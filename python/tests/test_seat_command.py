@@ -94,7 +94,8 @@ class SeatCommands(unittest.TestCase):
             port = taken.getsockname()[1]
             self.assertEqual(
                 refusal("playing.seat_command", "localhost", 7000, "red", "--page", port),
-                (1, f"seat: no page at 127.0.0.1, port {port}: Address already in use\n"))
+                (1, f"seat: cannot serve a page at 127.0.0.1, port {port}: Address already in "
+                    "use\n"))
 
     def test_words_that_are_wrong(self) -> None:
         for words in ((), ("localhost", 7000), ("localhost", 0, "red"),

@@ -146,7 +146,7 @@ class Served(Case):
                       {"good": 9, "points": [[1.5, 70]]}, {"good": 9, "points": ["1"]}):
             status, answer = self.ask("bid", page=page, **given)
             self.assertEqual((status, answer["done"]), (400, False), given)
-        self.assertIn("1 unit at least", self.ask("bid", page=page, good=9, points=[])[1]["text"])
+        self.assertIn("at least 1 unit", self.ask("bid", page=page, good=9, points=[])[1]["text"])
         self.assertEqual(self.fetch("POST", path, b"[]")[0], 400)
         self.assertEqual(self.fetch("POST", path, b"{")[0], 400)
         self.assertEqual(self.fetch("POST", path, b"[" * 4000)[0], 400)

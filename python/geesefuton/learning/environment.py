@@ -1,4 +1,4 @@
-"""A game in steps, for agents that learn: without real time, by PettingZoo's parallel interface.
+"""A game in steps, for agents that learn: without real time, with PettingZoo's parallel interface.
 
     with Environment() as environment:
         observations, infos = environment.reset(42)
@@ -7,12 +7,12 @@
             observations, rewards, terminations, truncations, infos = environment.step(actions)
 
 An action is a list of request lines as in docs/PROTOCOL.md; an agent without an action asks
-nothing. In each step the requests are asked seat by seat, and then a tick comes. No seat gains by
-its place: each step begins one seat later, and a game with a seat that is as if drawn
+nothing. Each step makes the requests seat by seat, and then a tick comes. No seat gains by its
+place: each step begins one seat later, and the first seat of a game is pseudorandom
 (`geesefuton.records.order`). An observation has
 
     tick        how many ticks have passed, 0 to 54
-    round       the round in this tick; with several rounds a tick, the tick comes after the last
+    round       the round in this tick; with several rounds a tick, the tick follows the last one
     quotes      of all 28 goods, each (bid, ask, closed)
     holdings    how many units of the 28 goods the agent has; below 0 it owes them
     cash        what it earned so far less what it paid, in dollars
@@ -99,14 +99,14 @@ class Environment(ParallelEnv):  # type: ignore[misc]
                  rounds: int = 1, rivals: Optional[Rivals] = None,
                  render_mode: Optional[str] = None) -> None:
         if render_mode not in (None, "ansi"):
-            raise ValueError(f"the render mode is 'ansi' or None, not {render_mode!r}")
+            raise ValueError(f"expected the render mode 'ansi' or None, not {render_mode!r}")
         if game is not None and (rooms is not None or live):
-            raise ValueError("rooms and live quotes are those of the game file")
+            raise ValueError("rooms and live quotes come from the game file: leave them out")
         if rooms is not None and not _are_rooms(rooms):
-            raise ValueError(f"rooms are two numbers from 1 to {MOST_ROOMS}, the least first, "
-                             f"not {rooms!r:.60}")
+            raise ValueError(f"expected rooms as two numbers from 1 to {MOST_ROOMS}, the least "
+                             f"first, not {rooms!r:.60}")
         if not isinstance(rounds, int) or not 1 <= rounds <= MOST_ROUNDS:
-            raise ValueError(f"rounds are a number from 1 to {MOST_ROUNDS}, not {rounds!r:.60}")
+            raise ValueError(f"expected rounds from 1 to {MOST_ROUNDS}, not {rounds!r:.60}")
         self.render_mode = render_mode
         self._given: Optional[Game] = None
         if game is not None:
@@ -281,16 +281,16 @@ class Environment(ParallelEnv):  # type: ignore[misc]
             ActionError: An action cannot be asked.
         """
         if self._market is None:
-            raise ActionError("no game is played: reset it first")
+            raise ActionError("no game has begun: call reset first")
         if not isinstance(actions, abc.Mapping):
-            raise ActionError(f"actions are a dictionary by agent, not {actions!r:.60}")
+            raise ActionError(f"expected actions as a dictionary by agent, not {actions!r:.60}")
         asked: Dict[int, List[str]] = {}
         for agent, requests in actions.items():
             seat = self._seats.get(agent)
             if seat is None:
                 raise ActionError(f"there is no agent {agent!r:.60}")
             if not isinstance(requests, (list, tuple)):
-                raise ActionError(f"the action of {agent} is a list of requests, "
+                raise ActionError(f"expected the action of {agent} as a list of requests, "
                                   f"not {requests!r:.60}")
             for request in requests:
                 _check(agent, request)
@@ -410,8 +410,8 @@ class Environment(ParallelEnv):  # type: ignore[misc]
 
     def __getstate__(self) -> Values:
         if self._market is not None:
-            raise TypeError("an environment that plays a game cannot be copied or pickled: "
-                            "clone() gives another one in the same game")
+            raise TypeError("an environment with a running game cannot be copied or pickled: use "
+                            "clone()")
         return self.__dict__
 
     def __str__(self) -> str:
@@ -435,7 +435,7 @@ def _rivals_by_seat(rivals: Rivals, words: Sequence[str]) -> Dict[int, Maker]:
         if word not in words:
             raise ValueError(f"there is no seat {word!r:.60}")
     if len(rivals) == SEATS:
-        raise ValueError("rivals at all seats leave none for an agent")
+        raise ValueError("rivals have all seats: leave one for an agent")
     return {words.index(word): maker_of(rival) for word, rival in rivals.items()}
 
 
@@ -450,7 +450,7 @@ def _seed(seed: Any) -> int:
     except TypeError:
         number = -1
     if not 0 <= number <= MOST_SEED:
-        raise ValueError(f"a seed is a number from 0 to {MOST_SEED}, not {seed!r:.60}")
+        raise ValueError(f"expected a seed from 0 to {MOST_SEED}, not {seed!r:.60}")
     return number
 
 
@@ -468,10 +468,10 @@ def _check(agent: str, request: Any) -> None:
         ActionError: It is none.
     """
     if not isinstance(request, str):
-        raise ActionError(f"a request of {agent} is a text, not {request!r:.60}")
+        raise ActionError(f"expected a request of {agent} as a text, not {request!r:.60}")
     try:
         is_line = request.isascii() and "\n" not in request or b"\n" not in request.encode()
     except UnicodeEncodeError:
         is_line = False
     if not is_line:
-        raise ActionError(f"{agent} may not ask {request!r:.60}")
+        raise ActionError(f"{agent} cannot ask {request!r:.60}")

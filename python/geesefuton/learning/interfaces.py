@@ -1,4 +1,4 @@
-"""The types of other libraries that environments have, where these are installed."""
+"""Base types of environments from other libraries, if these are installed."""
 
 from typing import Any, Optional
 

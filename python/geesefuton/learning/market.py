@@ -101,7 +101,7 @@ class Market:
             lines[seat] += 1
             size += 0 if _unasked(line) else _size(line) + 3  # with the seat and the line's end
         if max(lines) > MOST_LINES:
-            raise LimitError(f"{self.game.words[lines.index(max(lines))]} asks more than "
+            raise LimitError(f"{self.game.words[lines.index(max(lines))]} makes more than "
                              f"{MOST_LINES} requests")
         if size > MOST_BYTES:
             raise LimitError(f"a script has at most {MOST_BYTES:,} bytes")
@@ -137,7 +137,7 @@ class Market:
         self._exchange(b"", 0)
         log = self._process.finish()
         if [row[1] for row in score_rows(log)] != self.books.cash:
-            raise program.ProgramError("the log has other cash than the books")
+            raise program.ProgramError("the cash of the log differs from that of the books")
         return log
 
     def copied(self) -> Market:

@@ -1,26 +1,26 @@
-"""Games in steps in numbers, for learners that take arrays.
+"""Numeric games in steps, for learners that take arrays.
 
-`numpy` has to be installed, and for the spaces `gymnasium` (`pip install 'geesefuton[learn]'`).
-Where they are installed, `Seat` is an `Env` of Gymnasium, and `Seats` a `ParallelEnv` of
-PettingZoo.
+They need `numpy`, and for the spaces `gymnasium` (`pip install 'geesefuton[learn]'`). If Gymnasium
+and PettingZoo are installed, `Seat` is an `Env` of the one, and `Seats` a `ParallelEnv` of the
+other.
 
     environment = Seat(rivals=dict.fromkeys(SEATS[1:], "planner"))
     observation, info = environment.reset(seed=42)
     observation, reward, terminated, truncated, info = environment.step(action)
 
 **An observation** is an array of 155 numbers, each scaled to a size of about 1: the tick; the asks
-of all goods; the bids of the tickets; which hotel nights are closed; what the seat holds of each
-good; what its trips at the present prices lack of it (`geesefuton.learning.trips`); its cash; what
-these trips are worth; and six numbers for each client.
+of all goods; the bids of the tickets; which hotel nights are closed; the seat's units of each good;
+the units that its trips at current prices lack (`geesefuton.learning.trips`); its cash; the worth
+of these trips; and six numbers for each client.
 
-**An action** has a level for each of the 28 goods, 0 to 5; 0 leaves what stands. A flight's level
-above 0 buys the seats that the trips lack. A hotel night's level bids for all the rooms that they
-use 1, 25, 50, 100 or 200 dollars above the quote. A ticket's levels bid for one at 20, 50 or 80
-dollars, or offer one at 60 or 100.
+**An action** has a level for each of the 28 goods, 0 to 5; level 0 leaves the standing bid. A
+flight's level above 0 buys the seats that the trips lack. A hotel night's level bids for all the
+rooms that they use 1, 25, 50, 100 or 200 dollars above the quote. A ticket's levels bid for one at
+20, 50 or 80 dollars, or offer one at 60 or 100.
 
-**The reward** is by how much the score that the trips promise has grown, in thousands of dollars:
-what they are worth, and the cash. After the last step it is the score itself that counts; so the
-rewards of a game are its score less what was promised at first.
+**The reward** is the growth of the promised score, in thousands of dollars: the worth of the trips,
+plus the cash. After the last step the score itself counts; so the rewards of a game add up to its
+score less the score promised at first.
 """
 
 from __future__ import annotations
@@ -96,7 +96,7 @@ class View:
         """
         levels = [int(level) for level in action]
         if len(levels) != len(GOODS) or not all(0 <= level < LEVELS for level in levels):
-            raise ValueError(f"an action is {len(GOODS)} levels from 0 to {LEVELS - 1}")
+            raise ValueError(f"expected {len(GOODS)} levels from 0 to {LEVELS - 1}")
         asked = []
         for good, level in enumerate(levels):
             _, ask, is_closed = self._seen["quotes"][good]
@@ -232,7 +232,7 @@ class Seat(Env):  # type: ignore[misc]
     def __init__(self, agent: str = "seat0", **settings: Any) -> None:
         self._seats = Seats(**settings)
         if agent not in self._seats.possible_agents:
-            raise ValueError(f"no rival may have {agent!r:.60}, and it has to be a seat")
+            raise ValueError(f"{agent!r:.60} must be a seat without a rival")
         self.agent, self.render_mode = agent, self._seats.render_mode
 
     @property

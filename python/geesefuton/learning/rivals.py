@@ -64,7 +64,7 @@ class SeatLink:
         """
         reply = read_words(self.ask(f"own {good}"))
         if not isinstance(reply, Own):
-            raise ReplyError(f"own {good} is refused")
+            raise ReplyError(f"own {good} was refused")
         return reply
 
     def cash(self) -> int:
@@ -92,7 +92,7 @@ class Shipped:
 
     def __init__(self, name: str) -> None:
         if name not in SHIPPED:
-            raise ValueError(f"the agents {', '.join(SHIPPED)} are shipped, not {name!r:.60}")
+            raise ValueError(f"expected an agent of {', '.join(SHIPPED)}, not {name!r:.60}")
         try:
             program.examples()
         except program.ProgramError as fault:

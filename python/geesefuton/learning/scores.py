@@ -1,4 +1,4 @@
-"""What agents would score if nobody asked anything more."""
+"""The scores that agents would have if nobody asked anything more."""
 
 from typing import Dict, List, Tuple
 
@@ -33,6 +33,6 @@ class Scorer:
         if (seat, held) not in self._known:
             total = solve(held, self._game.clients[seat])
             if total is None:
-                raise program.ProgramError("the program does not solve an account")
+                raise program.ProgramError("the program did not solve an account")
             self._known[seat, held] = total
         return self._known[seat, held]

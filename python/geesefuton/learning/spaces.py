@@ -1,10 +1,10 @@
-"""What an agent may see and ask in a game in steps, as the spaces of `gymnasium`, which has to be
-installed for this module: `pip install 'geesefuton[learn]'`.
+"""The observations and actions of a game in steps, as spaces of `gymnasium`, which this module
+needs: `pip install 'geesefuton[learn]'`.
 
 An observation has the tick, the round in it, the quotes of the 28 goods, each a bid and an ask in
-dollars and whether the auction is closed, what the agent holds, its cash, what its clients want,
-and the replies to its requests. An action is a list of requests, lines of at most 512 bytes; what
-is none is answered `no syntax`.
+dollars and whether the auction is closed, the agent's holdings and cash, its clients' preferences,
+and the replies to its requests. An action is a list of requests, lines of at most 512 bytes; a line
+that is not a request is answered `no syntax`.
 """
 
 from typing import Any

@@ -5,10 +5,10 @@
         log = game.finish()
 
 The lines are those of a game script (docs/FORMATS.md). The process needs no guard: it ends once the
-pipe to it closes, which the system does however the script that started it ends.
+pipe to it closes, and the system closes the pipe even if the script that started it is killed.
 
-A game belongs to the process that began it. In a process that is forked from that one it is closed
-at once, which leaves the game itself alone, and no game can be copied or pickled.
+A game belongs to the process that began it. A process forked from that one closes its copy at once,
+without any effect on the game, and no game can be copied or pickled.
 """
 
 import fcntl
@@ -200,7 +200,7 @@ class Stepped:
         self.close()
 
     def __reduce__(self) -> NoReturn:
-        raise TypeError("a game of a process cannot be copied or pickled")
+        raise TypeError("a game with a process cannot be copied or pickled")
 
     def __del__(self) -> None:
         self.close()
@@ -255,7 +255,7 @@ def _spawn(file: str, words: List[str], moves: "List[tuple[int, int, int]]") -> 
         return os.posix_spawn(file, words, os.environb, file_actions=moves, setpgroup=0,
                               setsigdef=[signal.SIGPIPE])
     except OSError as fault:
-        raise ProgramError(f"the file of tac cannot be run: {fault.strerror}") from None
+        raise ProgramError(f"cannot run the file of tac: {fault.strerror}") from None
 
 
 def _last(text: bytes) -> str:

@@ -1,7 +1,9 @@
-"""Trips at given prices: what a seat still has to buy for its clients, and what that is worth.
+"""Trips at given prices: what a seat still has to buy for its clients, and what the trips are
+worth.
 
-The choice is greedy: each client in turn takes the trip that gains most, where what is held and
-left by those before it costs nothing. So it is quick, and often not the best one.
+The choice is greedy: each client in turn takes the trip that gains most, and goods that the seat
+holds and the clients before it did not use cost nothing. So the choice is quick, but often not the
+best.
 """
 
 from typing import List, NamedTuple, Sequence, Tuple

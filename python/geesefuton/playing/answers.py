@@ -1,5 +1,4 @@
-"""What the server answers, in a sentence for a person: what was done, or why not and what would be
-right."""
+"""The server's answers in a sentence for a person: what was done, or why not and what to do."""
 
 from __future__ import annotations
 
@@ -61,7 +60,7 @@ def answer_of(request: Request, reply: Reply, own: Optional[Own]) -> Answer:
     if isinstance(reply, No):
         fix = _fix(reply.below) if reply.below else None
         return Answer(False, _refusal(request, reply, own), fix)
-    return Answer(False, "The server gave an answer that is none to this.")
+    return Answer(False, "The server's answer does not fit this request.")
 
 
 def _taken(good: int, reply: Taken, own: Optional[Own]) -> str:
@@ -81,7 +80,7 @@ def _fix(below: Below) -> Optional[Tuple[int, int]]:
 
 def _below(below: Below) -> str:
     if below.price > MOST_PRICE:
-        return "The price there is 10000 dollars: no bid can beat it any more."
+        return "The price is 10000 dollars already: no bid can beat it."
     units = "1 room" if below.need == 1 else f"{below.need} rooms"
     offered = "none" if not below.offered else f"only {below.offered}"
     why = f", since you would win {below.need} now" if below.need > 1 else ""
@@ -100,24 +99,23 @@ def _refusal(request: Request, reply: No, own: Optional[Own]) -> str:
         return (f"You would buy from yourself: keep your buying prices below {min(sells)} dollars, "
                 "at which you sell.")
     if reply.reason == "closed":
-        return (f"{title_of(request.auction)} is closed: nothing can be bid or withdrawn there any "
-                "more.")
+        return f"{title_of(request.auction)} is closed: you cannot bid or withdraw there any more."
     return REASONS.get(reply.reason, "The server could not read this; reload the page.")
 
 
 FAULTS = {
-    1: "Units and prices are whole numbers of five digits at most.",
-    2: "A bid has 16 prices at most: bid with fewer.",
-    3: "A bid has 16 units at most, bought and sold together: bid for fewer.",
-    4: "A price is 1 to 10000 dollars.",
-    5: "A bid is for 1 unit at least.",
+    1: "Use whole numbers of at most five digits for units and prices.",
+    2: "A bid can have at most 16 prices: use fewer.",
+    3: "A bid can have at most 16 units, bought and sold together: use fewer.",
+    4: "A price must be 1 to 10000 dollars.",
+    5: "A bid must be for at least 1 unit.",
 }
 REASONS = {
-    "wrongcall": "A hotel bid cannot be withdrawn: replace it by a higher one, or wait for the "
+    "wrongcall": "A hotel bid cannot be withdrawn: replace it with a higher one, or wait for the "
                  "closing.",
-    "nobid": "Nothing of yours stands there: it was traded or withdrawn before.",
+    "nobid": "You have no bid there: it was traded or withdrawn before.",
     "sell": "Only tickets can be sold: bid to buy here.",
-    "spent": "This seat has made all of its 1024 calls there: nothing more can be bid there.",
+    "spent": "This seat has used all of its 1024 calls there: it cannot bid there any more.",
 }
 
 

@@ -1,5 +1,5 @@
-"""What the proved solver says of a seat: the best trips with what it holds, and what one unit more
-of each good is worth."""
+"""The proved solver's advice for a seat: the best trips with its holdings, and the worth of one
+more unit of each good."""
 
 from __future__ import annotations
 

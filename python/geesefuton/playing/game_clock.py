@@ -1,4 +1,4 @@
-"""The time of a game, as far as quotes tell it: docs/PROTOCOL.md, "How an agent knows the time"."""
+"""The time of a game, as far as quotes show it: docs/PROTOCOL.md, "How an agent knows the time"."""
 
 from __future__ import annotations
 

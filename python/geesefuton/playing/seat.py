@@ -1,8 +1,8 @@
-"""A seat for a person: what an agent knows of its game, and the bids that somebody else decides.
+"""A seat for a person: an agent's knowledge of its game, with bids that a person decides.
 
-A thread of its own speaks over the link. It takes orders, and between them it looks at all quotes.
-It asks `own` only where its units stand and the quote says that something was called since, and
-`cash` only after its holdings have changed: these calls are counted, and a quote is not.
+A thread of its own talks to the server. It takes orders, and between them it asks for all quotes.
+It asks `own` only where its units stand and the quote shows that a call was made since, and `cash`
+only after its holdings have changed: these count as calls, and a quote does not.
 """
 
 from __future__ import annotations
@@ -257,7 +257,7 @@ class Seat:
         """Looks at a quote."""
         quote = self._send(link, Request("quote", good))
         if not isinstance(quote, Quote):
-            raise LinkError(f"{link.word}: the quote of auction {good} is none")
+            raise LinkError(f"{link.word}: auction {good} has no quote")
         if quote.closed and good in HOTELS:
             self._closed.append((good, quote.ask))
         self._goods[good].quote = quote

@@ -1,14 +1,14 @@
-"""The command `seat`: a person plays a seat in a browser.
+"""The command `seat`: lets a person play a seat in a browser.
 
-It is an agent like any other, whose decisions come from a page. It prints the address of that page,
-which has a token made for it: without the address nobody sees or asks anything. The seat is taken
-once a browser opens its page, and until then its word is free for an agent. With several words it
+The command is an agent like any other, whose decisions come from a page. It prints the address of
+the page, which contains a fresh token: nobody can see or ask anything without the address. It takes
+the seat once a browser opens the page; until then an agent can take the seat. With several words it
 has a page for each seat. It reconnects a lost link.
 
-With --listen the pages are for browsers on other machines too, such as phones in the room, and if
-`qrencode` is installed their addresses are printed as QR codes as well. On request the pages show
-what the proved solver says of a seat, if the program is installed; --no-advice switches that off.
-The command stays until ctrl-C, also after the game, whose result the page shows.
+With --listen browsers on other machines can open the pages too, such as phones in the room, and if
+`qrencode` is installed the command also prints their addresses as QR codes. On request the pages
+show the advice of the proved solver, if the program is installed; --no-advice switches that off.
+The command runs until ctrl-C, also after the game, whose result the page shows.
 """
 
 from __future__ import annotations
@@ -37,20 +37,20 @@ GRACE = 1.0  # seconds for the other pages of a seat, and for what is being sent
 def _arguments() -> argparse.Namespace:
     parser = Parser("seat", __doc__)
     add = parser.add_argument
-    add("host", help="the game's host")
-    add("port", type=whole(1, 65535), help="its port")
+    add("host", help="the host of the server or the lobby")
+    add("port", type=whole(1, 65535), help="its port for agents")
     add("words", nargs="+", metavar="word", help="the seat word, or several for several seats")
     add("--page", type=whole(0, 65535), default=0, metavar="PORT",
-        help="the port of the page; by default one that is free")
+        help="serve the page at this port (default: a free one)")
     add("--listen", default="127.0.0.1", metavar="ADDRESS",
-        help="the address of this machine at which browsers of others reach the page, or 0.0.0.0 "
-             "for all; by default this machine alone does")
+        help="let browsers on other machines reach the page at this address of this machine, or "
+             "0.0.0.0 for all its addresses (default: this machine only)")
     add("--pace", type=whole(1, 60000), metavar="MILLISECONDS",
-        help="the time from tick to tick; by default it is measured")
-    add("--json", action="store_true", help="the game's agents speak JSON objects")
-    add("--no-advice", action="store_true", help="the page cannot ask the solver")
+        help="the time from tick to tick (default: measured)")
+    add("--json", action="store_true", help="send JSON objects instead of words")
+    add("--no-advice", action="store_true", help="do not let the page ask the solver")
     add("--until-over", action="store_true",
-        help="end once all games that were begun are over and their pages have the result")
+        help="end once all games that have begun are over and their pages have the result")
     return parser.parse_args()
 
 
@@ -104,7 +104,7 @@ def _main() -> int:
     try:
         site = Site((given.listen, given.page), tables)
     except OSError as fault:
-        tell(f"seat: no page at {given.listen}, port {given.page}: {why(fault)}")
+        tell(f"seat: cannot serve a page at {given.listen}, port {given.page}: {why(fault)}")
         return 1
     with site:
         threading.Thread(target=site.serve_forever, daemon=True).start()

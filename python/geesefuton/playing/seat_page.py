@@ -1,8 +1,8 @@
-"""Serves the pages of seats, each at an address with a token of its own: who does not know the
-token sees and asks nothing.
+"""Serves the pages of seats, each at an address with a token of its own: without the token nobody
+can see or ask anything.
 
-A seat may be open in several browsers, of which one plays. Each page that is opened gets a number,
-which all that it asks carries.
+A seat may be open in several browsers, but only one plays. Each opened page gets a number, which
+all its requests carry.
 """
 
 from __future__ import annotations
@@ -42,7 +42,7 @@ HEADERS = {
     "form-action 'none'; frame-ancestors 'none'"}
 STALE = "This page is stale: reload it."
 OTHER = "Another browser plays this seat: take it over first."
-NO_SEAT = "There is no seat at this address: look at its letters again, or ask for a new one.\n"
+NO_SEAT = "There is no seat at this address: check its letters, or ask for a new one.\n"
 
 
 class Refused(Exception):
@@ -235,7 +235,7 @@ def _points(value: Any) -> Points:
     pairs = value if isinstance(value, list) else []
     if not all(isinstance(pair, list) and len(pair) == 2 and all(map(_is_whole, pair))
                for pair in pairs):
-        raise Refused(400, "Units and prices are whole numbers.")
+        raise Refused(400, "Units and prices must be whole numbers.")
     return tuple((units, price) for units, price in pairs)
 
 
@@ -336,15 +336,15 @@ class _Handler(BaseHTTPRequestHandler):
         length = self.headers.get("Content-Length", "")
         if not (length.isascii() and length.isdigit()) or int(length) > MOST_BODY:
             self.close_connection = True
-            raise Refused(413, "The request is too long, or its length is not told.")
+            raise Refused(413, "The request is too long, or gives no length.")
         body = self.rfile.read(int(length))
         if self.headers.get_content_type() != "application/json":
-            raise Refused(415, "A request is JSON.")
+            raise Refused(415, "A request must be JSON.")
         with contextlib.suppress(ValueError, RecursionError):
             value = json.loads(body)
             if isinstance(value, dict):
                 return value
-        raise Refused(400, "A request is a JSON object.")
+        raise Refused(400, "A request must be a JSON object.")
 
     def _answer(self, status: int, value: Dict[str, Any]) -> None:
         text = json.dumps(value, separators=(",", ":")) + "\n"

@@ -1,7 +1,7 @@
-"""What the page of a room shows, and the process that shows it.
+"""The contents of a room's page, and the process that shows it.
 
-The room writes a file, and the page's process reads it now and then: so neither a page that hangs
-nor one that has ended holds the games.
+The room writes a file, and the page's process reads it now and then: so a page that hangs or has
+ended does not hold up the games.
 """
 
 from __future__ import annotations
@@ -45,7 +45,7 @@ class Board:
             os.replace(new, self._file)
             return self._start()
         except OSError as fault:
-            return f"the page cannot be told of the game: {why(fault)}"
+            return f"cannot update the page: {why(fault)}"
 
     def _start(self) -> str:
         """Starts the page's process, if it does not run."""
@@ -54,7 +54,7 @@ class Board:
             return ""
         if process is not None:
             self._children.end(process)
-            told = f"the page had ended, exit status {process.returncode}, and is started again"
+            told = f"the page ended with exit status {process.returncode}, and was restarted"
         path = os.pathsep.join(filter(None, [str(PACKAGE), os.environ.get("PYTHONPATH")]))
         self._process = self._children.start(
             page_words(self._file, self._page, self._late), stdin=subprocess.DEVNULL,

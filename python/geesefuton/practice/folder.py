@@ -1,8 +1,8 @@
-"""The folder of a practice room: the files of its games, and what each game came to.
+"""The folder of a practice room: the files of its games, and the outcome of each game.
 
-A game is finished once its manifest, `0001.json`, stands there: it is written last, under another
-name, and gets its own by one step once the disk has it. So whatever ends the room, a game has its
-whole manifest or none.
+A game is finished once it has its manifest, `0001.json`: the room writes it last, under another
+name, and renames it atomically once the disk has it. So even if the room is killed, a game has a
+complete manifest or none.
 """
 
 from __future__ import annotations
@@ -101,7 +101,7 @@ class Folder:
         path.mkdir(parents=True, exist_ok=True)
         names = {name for name in os.listdir(path) if name != LOCK and not name.endswith(NEW)}
         if names and ABOUT not in names:
-            raise FolderError(f"{path} has files, and is no folder of a practice room")
+            raise FolderError(f"{path} has files, but is not the folder of a practice room")
         self._lock = open(path / LOCK, "ab")
         try:
             fcntl.flock(self._lock, fcntl.LOCK_EX | fcntl.LOCK_NB)
@@ -152,10 +152,10 @@ class Folder:
     def _known_seed(self, seed: Optional[int]) -> int:
         about = self._read(self.path / ABOUT)
         if about.get("room") != VERSION or not isinstance(about.get("seed"), int):
-            raise FolderError(f"{self.path / ABOUT} is not that of a practice room")
+            raise FolderError(f"{self.path / ABOUT} does not describe a practice room")
         known: int = about["seed"]
         if seed not in (None, known):
-            raise FolderError(f"{self.path} is of a room whose first seed is {known}, not {seed}")
+            raise FolderError(f"{self.path} has a room whose first seed is {known}, not {seed}")
         return known
 
     def _read_finished(self) -> List[Finished]:
@@ -169,7 +169,7 @@ class Folder:
                 if len(game.players) != SEATS or len(game.scores) not in (0, SEATS):
                     raise ValueError
             except (KeyError, TypeError, ValueError):
-                raise FolderError(f"{file} is no manifest of a game") from None
+                raise FolderError(f"{file} is not the manifest of a game") from None
             games.append(game)
         return sorted(games, key=lambda game: game.number)
 
@@ -180,7 +180,7 @@ class Folder:
         except ValueError:
             what = None
         if not isinstance(what, dict):
-            raise FolderError(f"{file} is not as a room writes it")
+            raise FolderError(f"{file} was not written by a room")
         return what
 
 

@@ -1,7 +1,7 @@
-"""House agents: they take the seats that are empty when a game is to begin, and then it is served.
+"""House agents: they take the empty seats when a game is about to begin.
 
-Each takes its seat by a word that is made for it, so a guest with the seat's own word is never
-taken for it. Its process ends with the game.
+Each takes its seat by a word of its own, so a guest with the seat's word is never mistaken for it.
+Its process ends with the game.
 """
 
 from __future__ import annotations
@@ -85,13 +85,13 @@ class HouseServer:
             game.turn(LOOK)
             for agent in left:
                 if agent.seat.holder is None and agent.process.poll() is not None:
-                    game.warn(f"the house agent {agent.name} did not come for {agent.seat.word}: "
-                              + (_last_line(agent.printed) or "it said nothing"))
+                    game.warn(f"the house agent {agent.name} did not take {agent.seat.word}: "
+                              + (_last_line(agent.printed) or "it printed nothing"))
             left = [agent for agent in left
                     if agent.seat.holder is None and agent.process.poll() is None]
             if time.monotonic() > deadline:
                 for agent in left:
-                    game.warn(f"the house agent {agent.name} did not come for {agent.seat.word} "
+                    game.warn(f"the house agent {agent.name} did not take {agent.seat.word} "
                               f"within {COMING:g} seconds")
                 return
 

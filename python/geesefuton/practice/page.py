@@ -1,8 +1,8 @@
 """The page of a practice room: its standings between games, and each game while it runs.
 
 It reads a file that the room replaces (`board.py`), and stays at one port from game to game. A
-screen that is sent a state that its page does not show asks for the page again, so all follow by
-themselves. A game's final scores stay for a while, unless the next one begins.
+screen that receives a state that its page does not show reloads the page, so all screens follow by
+themselves. A game's final scores stay for a while, unless the next game begins.
 """
 
 from __future__ import annotations
@@ -82,7 +82,7 @@ class RoomPage:
         try:
             what: Dict[str, Any] = json.loads(self._file.read_bytes())
         except OSError as fault:
-            self._faults.tell("room: the page cannot be made", why(fault))
+            self._faults.tell("room: cannot make the page", why(fault))
             return None
         return what
 
@@ -124,7 +124,7 @@ class RoomPage:
                 await _end(tasks)
         except (JournalError, OSError) as fault:
             text = why(fault) if isinstance(fault, OSError) else str(fault)
-            self._faults.tell(f"room: {journal} cannot be shown", text)
+            self._faults.tell(f"room: cannot show {journal}", text)
 
 
 async def _end(tasks: "Sequence[asyncio.Future[None]]") -> None:

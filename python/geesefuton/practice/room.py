@@ -1,9 +1,9 @@
 """A practice room: game after game, each kept in a folder with its manifest.
 
-A game begins some seconds after its first guest, once house agents have the empty seats. After it
-its log is audited and kept, and the next game waits for guests at the same port. A game counts once
-its manifest is written; one that is stopped before leaves its journal, and the next has another
-number.
+A game begins some seconds after its first guest, once house agents have the empty seats. After the
+game the room audits and keeps its log, and the next game waits for guests at the same port. A game
+counts once its manifest is written; a game that is stopped earlier leaves its journal, and the next
+game has another number.
 """
 
 from __future__ import annotations
@@ -132,8 +132,8 @@ class Room:
             except (LobbyError, OSError, program.ProgramError) as fault:
                 if not count:
                     raise
-                self._tell(f"{why(fault) if isinstance(fault, OSError) else fault}; the next game "
-                           f"is tried again in {AGAIN:g} seconds")
+                self._tell(f"{why(fault) if isinstance(fault, OSError) else fault}; trying the "
+                           f"next game again in {AGAIN:g} seconds")
                 self._pause()
 
     def close(self, at_once: bool) -> str:
@@ -148,7 +148,7 @@ class Room:
         if lobby.phase is Phase.ENDING:
             lobby.end_links()
         elif lobby.phase is Phase.PLAYING and not at_once:
-            return "the room closes after this game; once more, and the game is stopped"
+            return "the room closes after this game; press ctrl-C again to stop the game now"
         else:
             self._is_stopped = True
             lobby.interrupt()
@@ -165,13 +165,13 @@ class Room:
         for lost in left:
             if lost not in self._left:
                 self._left.append(lost)
-                self._tell(f"game {lost} was stopped, and does not count; this makes its log: "
+                self._tell(f"game {lost} was stopped, and does not count; to make its log: "
                            f"{recovery_line(self._folder.file(lost, 'journal'))}")
         seed, words, keys = self._folder.seed + number - 1, self._words(number), self._keys(number)
         try:
             game = read_game(program.make(seed)).named(words).text()
         except GameError as fault:
-            raise program.ProgramError(f"the program made no game: {fault}") from None
+            raise program.ProgramError(f"the program did not make a game: {fault}") from None
         file = self._folder.file(number, "game")
         file.write_text(game, encoding="ascii")
         log, house = io.BytesIO(), HouseServer(self._given.house)
@@ -237,7 +237,7 @@ class Room:
             try:
                 keep_words(self._folder.path, changed)
             except OSError as fault:
-                self._tell(f"the new words are not kept: {why(fault)}")
+                self._tell(f"cannot keep the new words: {why(fault)}")
 
     def _finished(self, number: int, seed: int, guests: _Guests, status: int, game: str,
                   log: bytes) -> Finished:
@@ -248,7 +248,7 @@ class Room:
             if said != "sound" and status in (program.OK, program.CLOCK, program.UNSOUND):
                 fault = f"the audit says `{said}`"
             elif status == program.UNSOUND:
-                fault = f"its log is not right about each link: {summary(words, guests.vouched)}"
+                fault = f"its log does not match each link: {summary(words, guests.vouched)}"
             elif status not in (program.OK, program.CLOCK):
                 fault = f"exit status {status}"
             else:
@@ -273,8 +273,8 @@ class Room:
             except OSError as fault:
                 if told != why(fault):
                     told = why(fault)
-                    self._tell(f"game {game.number} cannot be kept in {self._folder.path}: {told}; "
-                               f"it is tried again each {AGAIN:g} seconds")
+                    self._tell(f"cannot keep game {game.number} in {self._folder.path}: {told}; "
+                               f"trying again every {AGAIN:g} seconds")
                 if self._is_stopped:
                     return
             time.sleep(AGAIN)

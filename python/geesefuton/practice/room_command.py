@@ -1,13 +1,13 @@
-"""The command `room`: a practice room, which plays game after game at one port.
+"""The command `room`: runs a practice room, which plays game after game at one port.
 
-Each game begins some seconds after its first guest; house agents take the seats that are empty. A
-guest that arrives later, or whose seat the house plays, is refused as `taken`, and plays the next
-game if it asks again, as `--agent-- HOST PORT WORD --again` does. A game counts once its log was
-audited and its manifest is in the folder. After a stop at any moment, even by `kill -9`, the
-same command goes on with the next game.
+Each game begins some seconds after its first guest; house agents take the empty seats. A guest that
+arrives later, or whose seat the house plays, is refused as `taken`, and plays the next game if it
+asks again, as `--agent-- HOST PORT WORD --again` does. A game counts once its log was audited and
+its manifest is in the folder. After a stop at any moment, even by `kill -9`, the same command
+continues with the next game.
 
 The page shows the standings between games, and each game while it runs. ctrl-C closes the room
-after the current game, a second one at once. `help` on the terminal lists commands.
+after the current game, a second ctrl-C at once. `help` on the terminal lists commands.
 """
 
 from __future__ import annotations
@@ -41,34 +41,37 @@ USUAL = "planner.py"  # of the examples
 def _arguments() -> argparse.Namespace:
     parser = Parser("room", __doc__.replace("--agent--", "python3 mine.py"))
     add = parser.add_argument
-    add("--port", type=whole(1, 65535), default=7000, help="the port for agents; 7000")
+    add("--port", type=whole(1, 65535), default=7000, help="the port for agents (default: 7000)")
     add("--page", type=whole(1, 65535), metavar="PORT",
-        help="the port of the page, for a projector")
+        help="show the room on a page at this port, for a projector")
     add("--pace", type=whole(1, 60000), default=1000, metavar="MILLISECONDS",
-        help="the time from tick to tick; 1000")
+        help="the time from tick to tick (default: 1000)")
     add("--wait", type=seconds, default=30.0, metavar="SECONDS",
-        help="how long after its first guest a game begins; 30")
+        help="begin a game this long after its first guest (default: 30)")
     add("--after", type=seconds, default=10.0, metavar="SECONDS",
-        help="how long after the last tick links are ended; 10")
+        help="close the remaining links this long after the last tick (default: 10)")
     add("--house", action="append", metavar="AGENT",
-        help="an agent for empty seats; given again, several in turn; '' for none; "
-             f"default: {USUAL} of the examples")
-    add("--folder", type=Path, default=Path("room"), help="where the games are kept; room")
+        help="let this agent take empty seats; if repeated, the agents take turns; '' for none "
+             f"(default: {USUAL} of the examples)")
+    add("--folder", type=Path, default=Path("room"),
+        help="keep the games in this folder (default: room)")
     add("--seed", type=whole(0), metavar="NUMBER",
-        help="the seed of the first game of a new folder; 1")
-    add("--games", type=whole(1), metavar="NUMBER", help="end after so many games")
+        help="make the first game of a new folder from this seed (default: 1)")
+    add("--games", type=whole(1), metavar="NUMBER", help="end after this many games")
     add("--teams", type=Path, metavar="FILE",
-        help="the teams, a CSV file of lines NAME or NAME,WORD; missing words are made, and kept")
+        help="read the teams from this CSV file of lines NAME or NAME,WORD; missing words are made "
+             "and kept")
     add("--slips", type=Path, metavar="FILE",
         help="write a slip for each team, with its word, as text or .html")
-    add("--address", help="the host's address on the slips and the page; default: this machine's")
+    add("--address",
+        help="show this address of the host on the slips and the page (default: this machine's)")
     add("--late", type=whole(0, TICKS), default=6, metavar="TICKS",
-        help="how many ticks later the page shows what agents cannot ask; 6")
+        help="show what agents cannot ask this many ticks late (default: 6)")
     given = parser.parse_args()
     if given.slips and not given.teams:
         parser.error("--slips needs --teams")
     if given.page == given.port:
-        parser.error(f"port {given.page}: the page needs another port than the games")
+        parser.error(f"port {given.page} is for the games: choose another for the page")
     return given
 
 
@@ -162,7 +165,7 @@ def _main() -> int:
                         Board(children, given.page, given.late, address), _say)
             signals = _Signals(room)
             if not house:
-                _say("there is no house agent: empty seats stay empty")
+                _say("no house agents: empty seats stay empty")
             room.run()
     except (EntrantError, FolderError, LobbyError, TeamsError) as fault:
         tell(f"room: {fault}")

@@ -1,4 +1,4 @@
-"""The teams of a class: their names, which all may see, and their words, which are passwords."""
+"""The teams of a class: their names, which are public, and their words, which are passwords."""
 
 from __future__ import annotations
 
@@ -56,18 +56,18 @@ def read_teams(file: Path, folder: Path) -> List[Team]:
     try:
         rows = [row for row in csv.reader(file.read_text("utf-8-sig").splitlines()) if any(row)]
     except (UnicodeDecodeError, csv.Error):
-        raise TeamsError(f"{file} is no CSV in UTF-8") from None
+        raise TeamsError(f"{file} is not a CSV file in UTF-8") from None
     if rows and [cell.strip().lower() for cell in rows[0]] in (["name"], ["name", "word"]):
         del rows[0]
     for row in rows:
         name, word = row[0].strip(), row[1].strip() if len(row) > 1 else ""
         key = re.sub("[^a-z0-9]", "", name.lower())[:16]
         if len(row) > 2 or not key or word and not is_seat_word(word):
-            raise TeamsError(f"{file}: {','.join(row)!r} is no team: a name with letters of a to z "
-                             "or digits, and perhaps a word of 1 to 16 of these, are due")
+            raise TeamsError(f"{file}: {','.join(row)!r} is not a team: give a name with letters a "
+                             "to z or digits, and optionally a word of 1 to 16 of these")
         teams.append(Team(name, key, word or known.get(key) or made_word()))
     if not 1 <= len(teams) <= SEATS:
-        raise TeamsError(f"{file} has {len(teams)} teams, and a game has 1 to {SEATS}")
+        raise TeamsError(f"{file} has {len(teams)} teams, but a game has 1 to {SEATS}")
     for what, values in (("name", [team.key for team in teams]),
                          ("word", [team.word for team in teams])):
         if len(set(values)) < len(values):
@@ -91,13 +91,13 @@ def _known_words(folder: Path) -> Dict[str, str]:
     except FileNotFoundError:
         return {}
     except ValueError:
-        raise TeamsError(f"{folder / WORDS} has no words of teams") from None
+        raise TeamsError(f"{folder / WORDS} does not have the words of teams") from None
     return words
 
 
 def slips_of(teams: Sequence[Team], address: str, port: int, is_html: bool) -> str:
     """A slip for each team, to be printed and cut, as text or HTML."""
-    slips = [(team.name, f"Your word is {team.word}: it is your password.",
+    slips = [(team.name, f"Your word is {team.word}: it is a password.",
               f"python3 mine.py {address} {port} {team.word} --again") for team in teams]
     if not is_html:
         rule = "- " * 36 + "\n"
