@@ -47,8 +47,8 @@ class Answers(unittest.TestCase):
                  "no bid 5", "no syntax"]
         told = [refusal(line, bid) for line in lines]
         self.assertEqual(len(set(told)), len(lines))
-        self.assertEqual(told[0], "Amusement park, night 1 is closed: nothing can be bid or "
-                                  "withdrawn there any more.")
+        self.assertEqual(told[0], "Amusement park, night 1 is closed: you cannot bid or "
+                                  "withdraw there any more.")
         self.assertIn("below 70 dollars", told[4])
 
     def test_an_answer_to_something_else(self) -> None:

@@ -162,7 +162,7 @@ class Reading(Case):
             self.assertEqual(list(columns[table]), list(kinds))
 
     def test_what_is_no_folder_of_tables(self) -> None:
-        with self.assertRaisesRegex(DataError, "it has no schema.json"):
+        with self.assertRaisesRegex(DataError, "it lacks schema.json"):
             read_data(self.folder)
         self.data()
         table = self.out / "trades.csv"

@@ -98,15 +98,15 @@ class Faults(unittest.TestCase):
     def test_first_line(self) -> None:
         for text in ("tac 3", "tac 2\r", "tac x"):
             self.refuse(self.changed(1, text), 1, "neither 1 nor 2")
-        self.refuse(self.changed(1, "tac"), 1, "1 words after it, not 0")
-        self.refuse(self.changed(1, "game"), 1, "a line `tac` is due")
+        self.refuse(self.changed(1, "tac"), 1, "expected 1 words after `tac`, not 0")
+        self.refuse(self.changed(1, "game"), 1, "expected a line `tac`")
 
     def test_words(self) -> None:
         for bad in ("Seat", "s" * 17, "a-b", ""):
-            self.refuse(self.changed(2, f"words {bad} b c d e f g h"), 2, "no seat word")
-            self.refuse(self.changed(2, f"words a b c d e f g {bad}"), 2, "no seat word")
+            self.refuse(self.changed(2, f"words {bad} b c d e f g h"), 2, "is not a seat word")
+            self.refuse(self.changed(2, f"words a b c d e f g {bad}"), 2, "is not a seat word")
         self.refuse(self.changed(2, "words a b c d e f g a"), 2, "equal")
-        self.refuse(self.changed(2, "words a b c d e f g"), 2, "8 words after it, not 7")
+        self.refuse(self.changed(2, "words a b c d e f g"), 2, "8 words after `words`, not 7")
         longest = self.changed(2, f"words {'s' * 16} b c d e f g h")
         self.assertEqual(read_game(longest).words[:2], ("s" * 16, "b"))
 
@@ -119,16 +119,16 @@ class Faults(unittest.TestCase):
         self.refuse(self.changed(3, "flight 0 300 31" + draws), 3, "from -10 to 30")
         self.refuse(self.changed(3, "flight 0 300 0" + " 0" * 52), 3, "56 words")
         self.refuse(self.changed(3, "flight 0 300 0" + " 0" * 52 + " 4294967296"), 3, "4294967295")
-        self.refuse(self.changed(3, "flight 0 300 0" + " 0" * 52 + " -1"), 3, "one spelling")
+        self.refuse(self.changed(3, "flight 0 300 0" + " 0" * 52 + " -1"), 3, "canonical form")
         for first, bound, draw in ((250, -10, 4294967295), (400, 30, 0)):
             text = self.changed(3, f"flight 0 {first} {bound}" + f" {draw}" * 53)
             self.assertEqual(read_game(text).flights[0], Flight(first, bound, (draw,) * 53))
 
     def test_spelling_of_numbers(self) -> None:
         for bad in ("01", "+1", "-0", "1.0", "", "x", "99999999999", "٣"):
-            self.refuse(self.changed(12, f"rooms {bad} 4 4 6 4 3 3 4"), 12, "one spelling")
-        self.refuse(self.changed(3, "flight 0 300 -0" + " 0" * 53), 3, "one spelling")
-        self.refuse(self.changed(12, "rooms -1 4 4 6 4 3 3 4"), 12, "one spelling")
+            self.refuse(self.changed(12, f"rooms {bad} 4 4 6 4 3 3 4"), 12, "canonical form")
+        self.refuse(self.changed(3, "flight 0 300 -0" + " 0" * 53), 3, "canonical form")
+        self.refuse(self.changed(12, "rooms -1 4 4 6 4 3 3 4"), 12, "canonical form")
 
     def test_hotels(self) -> None:
         self.refuse(self.changed(11, "close 8 9 10 11 12 13 14 14"), 11, "equal")
@@ -140,7 +140,7 @@ class Faults(unittest.TestCase):
     def test_seats(self) -> None:
         self.refuse(self.changed(14, "endow 0 17" + " 0" * 11), 14, "from 0 to 16")
         self.refuse(self.changed(15, "endow 0" + " 0" * 12), 15, "0 is not from 1 to 1")
-        self.refuse(self.changed(14, "endow 0 -1" + " 0" * 11), 14, "one spelling")
+        self.refuse(self.changed(14, "endow 0 -1" + " 0" * 11), 14, "canonical form")
         self.refuse(self.changed(22, "client 0 0 5 5 50 0 0 0"), 22, "from 1 to 4")
         self.refuse(self.changed(22, "client 0 0 1 2 49 0 0 0"), 22, "from 50 to 150")
         self.refuse(self.changed(23, "client 1 1 1 2 50 0 0 0"), 23, "1 is not from 0 to 0")
@@ -156,7 +156,7 @@ class Faults(unittest.TestCase):
     def test_ends(self) -> None:
         whole = canonical(text_of("first.game"))
         self.refuse(whole + "end\n", 85, "follows `end`")
-        self.refuse(whole[:-1], 84, "the text ends where a line `end` is due")
+        self.refuse(whole[:-1], 84, "expected a line `end`, but the text ends")
         self.refuse(whole + "#", 85, "no line end")
         self.refuse(whole.replace("end\n", ""), 84, "the text ends")
         self.refuse("", 1, "the text ends")

@@ -193,7 +193,7 @@ class Words(unittest.TestCase):
         for call, line, told in (("cash", "no spent", "red: cash: no spent"),
                                  ("own", "no spent", "red: own 3: no spent"),
                                  ("quote", "no auction", "red: quote 3: no auction"),
-                                 ("own", "hm", "red: 'hm' is no reply")):
+                                 ("own", "hm", "red: 'hm' is not a reply")):
             with seated(line) as (agent, _):
                 with self.assertRaises(LinkError) as caught:
                     agent.cash() if call == "cash" else getattr(agent, call)(3)

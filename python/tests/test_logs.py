@@ -107,7 +107,7 @@ class PlayedText(unittest.TestCase):
 
     def test_bad_reply_lines(self) -> None:
         text = PLAYED.read_text()
-        for line, why in (("0 @1 taken", "is no reply"), ("8 @1 done", "a reply line or"),
+        for line, why in (("0 @1 taken", "is not a reply"), ("8 @1 done", "a reply line or"),
                           ("", "a reply line or")):
             with self.assertRaises(LogError) as caught:
                 read_played(f"0 @0 done\n{line}\n{text}")
@@ -173,9 +173,9 @@ class Faults(unittest.TestCase):
             for line in lines:
                 self.accept(self.place(pattern), line)
         # So many entries would be read, if they came.
-        self.refuse(self.place("auction 1 "), "auction 1 8256", "of auction 1 is due",
+        self.refuse(self.place("auction 1 "), "auction 1 8256", "of auction 1, not",
                     self.place("auction 2 "))
-        self.refuse(self.place("cash "), "cash 238048", "an entry of the cash book is due",
+        self.refuse(self.place("cash "), "cash 238048", "expected an entry of the cash book",
                     self.place("sheet"))
 
     def test_what_numbers_of_a_line_mean(self) -> None:
@@ -204,15 +204,15 @@ class Faults(unittest.TestCase):
         self.assertIsNone(log.scores[1].packages[2])
 
     def test_first_lines(self) -> None:
-        self.refuse(1, "taclog 2", "the line `taclog 1` is due")
-        self.refuse(2, "served", "`play` or `serve` is due")
-        self.refuse(2, "play", "a line `auction 0 N` is due", 3)
+        self.refuse(1, "taclog 2", "expected the line `taclog 1`")
+        self.refuse(2, "served", "expected `play` or `serve`")
+        self.refuse(2, "play", "expected a line `auction 0 N`", 3)
 
     def test_links(self) -> None:
-        self.refuse(4, "link 2 seated 1", "link 1 is due, not 2")
-        self.refuse(4, "link 1 seated 8", "a line `link` is due")
-        self.refuse(4, "link 1 gone", "a line `link` is due")
-        self.refuse(4, "linked", "a line `link`, `end` or `missed` is due")
+        self.refuse(4, "link 2 seated 1", "expected link 1, not 2")
+        self.refuse(4, "link 1 seated 8", "expected a line `link`")
+        self.refuse(4, "link 1 gone", "expected a line `link`")
+        self.refuse(4, "linked", "expected a line `link`, `end` or `missed`")
         other = "\n".join(self.lines).replace("link 7 seated 7", "link 7 seated 7\nlink 8 lost")
         self.assertEqual(read_log(other + "\n").links[8], Verdict("lost"))
         many = "\n".join(f"link {number} taken" for number in range(8, 255))
@@ -220,21 +220,21 @@ class Faults(unittest.TestCase):
 
     def test_ends_and_lapsed_ticks(self) -> None:
         line = self.place("end ")
-        self.refuse(line, "end 0 gone", "a line `end` is due")
-        self.refuse(line, "end 8 quit", "a line `end` is due")
+        self.refuse(line, "end 0 gone", "expected a line `end`")
+        self.refuse(line, "end 8 quit", "expected a line `end`")
         missed = self.place("missed")
         self.refuse(missed, "missed 256", "0 to 255, not 256")
-        self.refuse(missed, "missed", "is due")
-        self.refuse(missed, "missed 0\nmissed 0", "a line `auction 0 N` is due", missed + 1)
+        self.refuse(missed, "missed", "expected")
+        self.refuse(missed, "missed 0\nmissed 0", "expected a line `auction 0 N`", missed + 1)
 
     def test_auctions(self) -> None:
         line = self.place("auction 1 ")
-        self.refuse(line, "auction 2 54", "a line `auction 1 N` is due")
+        self.refuse(line, "auction 2 54", "expected a line `auction 1 N`")
         self.refuse(line, "auction 1 8257", "0 to 8,256")
         entries = int(self.lines[line - 1].split()[2])
         after = self.place("auction 2 ")
-        self.refuse(line, f"auction 1 {entries - 1}", "a line `auction 2 N` is due", after - 1)
-        self.refuse(line, f"auction 1 {entries + 1}", f"entry {entries} of auction 1 is due", after)
+        self.refuse(line, f"auction 1 {entries - 1}", "expected a line `auction 2 N`", after - 1)
+        self.refuse(line, f"auction 1 {entries + 1}", f"entry {entries} of auction 1, not", after)
 
     def test_entries(self) -> None:
         line = self.place("8 update")
@@ -246,7 +246,7 @@ class Faults(unittest.TestCase):
         self.refuse(line, "8 update 1 4294967296 = done", "4,294,967,295")
         self.refuse(line, "8 update 1 0 = cash 5", "not the reply of an entry")
         self.refuse(line, "8 update 1 0 = quote 1 2 open", "not the reply of an entry")
-        self.refuse(line, "8 update 1 0 = fine", "is no reply")
+        self.refuse(line, "8 update 1 0 = fine", "is not a reply")
 
     def test_points(self) -> None:
         line = self.place("[0-7] bid")
@@ -254,7 +254,7 @@ class Faults(unittest.TestCase):
                          ("((1 0))", "1 to 10,000, not 0"), ("((1 10001))", "not 10,001"),
                          ("((17 5))", "not 17"), ("((9 5) (-8 5))", "not 17"),
                          ("(" + " ".join(["(1 5)"] * 17) + ")", "not 17"),
-                         ("((01 5))", "is due"), ("((1  5))", "is due"), ("(1 5)", "is due")):
+                         ("((01 5))", "expected"), ("((1  5))", "expected"), ("(1 5)", "expected")):
             self.refuse(line, f"0 bid {bad} = taken 0 0", why)
 
     def test_ranges_of_replies(self) -> None:
@@ -279,8 +279,8 @@ class Faults(unittest.TestCase):
         self.refuse(line, "trade 0 8 0 5", "1 to 16, not 0")
         self.refuse(line, "trade 0 8 17 5", "1 to 16, not 17")
         self.refuse(line, "trade 0 8 1 10001", "0 to 10,000")
-        self.refuse(line, "trade 9 8 1 5", "a trade is due")
-        self.refuse(line, "trade 0 8 1", "a trade is due")
+        self.refuse(line, "trade 9 8 1 5", "expected a trade")
+        self.refuse(line, "trade 0 8 1", "expected a trade")
         read_log("\n".join([*self.lines[:line - 1], *["trade 0 8 1 5"] * 128, *self.lines[line:],
                             ""]))
         self.refuse(line, "\n".join(["trade 0 8 1 5"] * 129), "more than 128", line + 128)
@@ -288,38 +288,38 @@ class Faults(unittest.TestCase):
     def test_the_cash_book(self) -> None:
         line = self.place("cash ")
         self.refuse(line, "cash 238049", "0 to 238,048")
-        self.refuse(line, "cash x", "is due")
+        self.refuse(line, "cash x", "expected")
         post = self.place("[0-8] post")
         self.refuse(post, "0 post 28 0 0 0 0 0 0 0 0 0 0", "0 to 27")
         self.refuse(post, "0 post 0 8256 0 0 0 0 0 0 0 0 0", "0 to 8,255")
         self.refuse(post, "0 post 0 0 2147483648 0 0 0 0 0 0 0 0", "a net of a post")
         self.refuse(post, "0 post 0 0 -2147483649 0 0 0 0 0 0 0 0", "a net of a post")
-        self.refuse(post, "0 post 0 0 0 0 0 0 0 0 0 0", "an entry of the cash book is due")
-        self.refuse(post, "8 read = 5", "an entry of the cash book is due")
-        self.refuse(post, "0 read = 1234567890123456789", "an entry of the cash book is due")
+        self.refuse(post, "0 post 0 0 0 0 0 0 0 0 0 0", "expected an entry of the cash book")
+        self.refuse(post, "8 read = 5", "expected an entry of the cash book")
+        self.refuse(post, "0 read = 1234567890123456789", "expected an entry of the cash book")
 
     def test_scores(self) -> None:
         line = self.place("score 1")
-        self.refuse(line, "score 2 0 -726 0 -726", "agent 1 is due, not 2")
+        self.refuse(line, "score 2 0 -726 0 -726", "expected agent 1, not 2")
         self.refuse(line, "score 1 14001 0 0 0", "0 to 14,000")
         self.refuse(line, "score 1 0 0 4294967296 0", "the tickets short")
-        self.refuse(line, "score 1 0 0 -1 0", "the score of agent 1 is due")
+        self.refuse(line, "score 1 0 0 -1 0", "expected the score of agent 1")
         self.refuse(self.place("sheet"), "memory", "memory was refused for the scores")
-        self.refuse(self.place("sheet"), "sheets", "the line `sheet` is due")
+        self.refuse(self.place("sheet"), "sheets", "expected the line `sheet`")
 
     def test_packages(self) -> None:
         line = self.place("package 1 2 ")
-        self.refuse(line, "package 2 2 none", "agent 1 is due, not 2")
-        self.refuse(line, "package 1 3 none", "client 2 is due, not 3")
+        self.refuse(line, "package 2 2 none", "expected agent 1, not 2")
+        self.refuse(line, "package 1 3 none", "expected client 2, not 3")
         self.refuse(line, "package 1 2 0 3 2 0 0 0", "no such package")
         self.refuse(line, "package 1 2 0 1 3 1 1 0", "no such package")
         self.refuse(line, "package 1 2 0 1 3 3 0 0", "no such package")
-        self.refuse(line, "package 1 2 2 1 3 0 0 0", "is due")
+        self.refuse(line, "package 1 2 2 1 3 0 0 0", "expected")
 
     def test_certificates(self) -> None:
         line = self.place("cert 1 ")
         leaf = "leaf" + " 0" * 28
-        self.refuse(line, "cert 2 1", "agent 1 is due, not 2")
+        self.refuse(line, "cert 2 1", "expected agent 1, not 2")
         self.refuse(line, f"cert 1 2\n{leaf}", "the certificate ends before its last line")
         self.refuse(line, "cert 1 0", "goes on after its 0 lines")
         self.refuse(line, "cert 1 100000", "lines, and")
@@ -339,8 +339,8 @@ class Faults(unittest.TestCase):
         self.refuse_text(text + "end\n", count + 1, "a line follows the end")
         self.refuse_text(text + "x", count + 1, "a line follows the end")
         self.refuse_text(text[:-1], count, "has no line end")
-        self.refuse_text("\n".join(self.lines[:30]) + "\n", 31, "the text ends where")
-        self.refuse_text("", 1, "the text ends where")
+        self.refuse_text("\n".join(self.lines[:30]) + "\n", 31, "but the text ends")
+        self.refuse_text("", 1, "but the text ends")
         for cut in (18, 60, 400, 640, 715, 722, 729):
             self.refuse_text("\n".join(self.lines[:cut]) + "\n", cut + 1, "")
 
@@ -350,7 +350,7 @@ class Faults(unittest.TestCase):
 
     def test_other_bytes(self) -> None:
         line = self.place("8 update")
-        self.refuse(line, "8 update 1 0 = done\r", "is no reply")
+        self.refuse(line, "8 update 1 0 = done\r", "is not a reply")
         with self.assertRaises(LogError) as caught:
             read_log(b"taclog 1\n\xff\n")
         self.assertEqual(caught.exception.line, 2)
@@ -363,7 +363,7 @@ class Faults(unittest.TestCase):
     def test_a_sheet_alone(self) -> None:
         with self.assertRaises(LogError) as caught:
             read_scores("taclog 1\nplay\n")
-        self.assertIn("the line `sheet` is due", str(caught.exception))
+        self.assertIn("expected the line `sheet`", str(caught.exception))
         line = self.place("score 1")
         with self.assertRaises(LogError) as caught:
             read_scores("\n".join([*self.lines[:line - 1], "x", *self.lines[line:], ""]))

@@ -269,10 +269,10 @@ class Command(unittest.TestCase):
         lines = SERVED_LOG.read_text().splitlines(keepends=True)
         cut.write_text("".join(lines[:-30]))
         for flags in ((), ("--unaudited",)):
-            self.refused(f"cut.log is no whole log: line {len(lines) - 29}: ", *flags, SERVED_GAME,
-                         cut)
-            self.refused("is no game file: line 1", *flags, SERVED_LOG, SERVED_LOG)
-            self.refused("is no whole log: line 1", *flags, SERVED_GAME, SERVED_GAME)
+            self.refused(f"cut.log is not a complete log: line {len(lines) - 29}: ", *flags,
+                         SERVED_GAME, cut)
+            self.refused("is not a game file: line 1", *flags, SERVED_LOG, SERVED_LOG)
+            self.refused("is not a complete log: line 1", *flags, SERVED_GAME, SERVED_GAME)
             self.refused("/nowhere/log: No such file", *flags, SERVED_GAME, "/nowhere/log")
             self.refused("/nowhere/game: No such file", *flags, "/nowhere/game", SERVED_LOG)
             self.refused("Is a directory", *flags, SERVED_GAME, self.place)

@@ -63,7 +63,7 @@ class Commands(unittest.TestCase):
     def test_deals(self) -> None:
         self.refused("expected rooms", "--rooms", "0..3")
         self.refused("/nowhere/my.game: No such file", "--game", "/nowhere/my.game")
-        self.refused("line 3: a line `tac` is due", "--game", TOP / "README.md")
+        self.refused("line 3: expected a line `tac`", "--game", TOP / "README.md")
         self.refused("for made games", "--game", SERVED_GAME, "--live")
         self.refused("for made games", "--game", SERVED_GAME, "--rooms", "4")
 

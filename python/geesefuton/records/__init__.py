@@ -1,1 +1,1 @@
-"""Games, logs and what agents say, as values; prices and reports made from them."""
+"""Games, logs, requests and replies as values; prices and reports made from them."""

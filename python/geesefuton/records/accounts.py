@@ -1,5 +1,5 @@
-"""What agents hold and have paid, and what goods cost, while the entries of a log are worked
-through; and so what each agent's best plan is worth at that time."""
+"""The agents' holdings and payments, and the goods' prices, as the entries of a log are worked
+through; from these follows the worth of each agent's best plan at that time."""
 
 from typing import List, NamedTuple, Optional
 

@@ -1,11 +1,11 @@
-"""What a seat's best plan is worth at given prices: trips for its eight clients out of what it
-holds, where each unit more has to be bought.
+"""The worth of a seat's best plan at given prices: trips for its eight clients from its holdings,
+where each further unit has to be bought.
 
-The search is exact wherever it ends within its limit, and says by how much it may be wrong where it
-does not. What is held is priced between 0 and what a unit more costs; at such prices each client by
-itself takes its best trip, and the sum bounds every plan from above. The prices are moved until the
-bound is low. Then all plans that could still be better than the best one known are tried: each
-client has few trips left that cost no more than the distance between the two.
+The search is exact if it ends within its limit, and otherwise says by how much it may be wrong.
+Held goods are priced between 0 and the cost of a further unit; at such prices each client takes its
+best trip by itself, and the sum is an upper bound of every plan. The prices are moved until the
+bound is low. Then the search tries all plans that could still be better than the best known one:
+each client has few trips left that cost no more than the distance between the two.
 """
 
 from dataclasses import dataclass, field

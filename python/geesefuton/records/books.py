@@ -1,8 +1,8 @@
-"""The books of a game: what stands, what is held and paid, and the boards, by docs/GAME.md.
+"""The books of a game: standing units, holdings, payments and boards, by docs/GAME.md.
 
-They are kept from the admitted calls: of a game in steps, so that nobody has to ask what an agent
-holds, and of a log. What `tac` plays by is proved in its crates; that these books agree with it is
-tested.
+They follow the admitted calls of a game in steps, so that nobody has to ask for an agent's
+holdings, or of a log. The rules of `tac` are proved in its crates; tests check that these books
+agree with it.
 """
 
 from __future__ import annotations

@@ -68,9 +68,9 @@ def read_data(folder: Union[str, Path]) -> Dict[str, List[Dict[str, Any]]]:
     try:
         version = json.loads((folder / SCHEMA).read_bytes())["geesefuton data"]
     except (FileNotFoundError, NotADirectoryError):
-        raise DataError(f"{folder} has no tables: it has no {SCHEMA}") from None
+        raise DataError(f"{folder} has no tables: it lacks {SCHEMA}") from None
     except (ValueError, LookupError, TypeError):
-        raise DataError(f"{folder / SCHEMA} is not that of tables") from None
+        raise DataError(f"{folder / SCHEMA} is not a schema of tables") from None
     if version != VERSION:
         raise DataError(f"{folder}: the version of the tables is {version!r:.20}, not {VERSION}")
     return {table: _read_table(file_of(folder, table), kinds) for table, kinds in TABLES.items()}
@@ -89,5 +89,5 @@ def _read_table(file: Path, kinds: Dict[str, Type]) -> List[Dict[str, Any]]:
                 rows.append({name: kind(cell) if cell else None
                              for (name, kind), cell in zip(kinds.items(), cells)})
             except ValueError:
-                raise DataError(f"{file}: line {lines.line_num} is no row") from None
+                raise DataError(f"{file}: line {lines.line_num} is not a row") from None
     return rows

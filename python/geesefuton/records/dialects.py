@@ -1,7 +1,7 @@
-"""What the server takes an agent's line for, and what its replies say, in words and in JSON.
+"""How the server reads an agent's line, and what its replies say, in words and in JSON.
 
-Both forms say the same, so all is put into the lines of words of docs/PROTOCOL.md. Bytes of a line
-stand as the characters of their numbers.
+Both forms mean the same, so everything becomes lines of words as in docs/PROTOCOL.md. Each byte of
+a line becomes the character of that number.
 """
 
 from __future__ import annotations

@@ -1,4 +1,4 @@
-"""What is drawn from the seed of a made game, beside what `tac make` draws."""
+"""Draws from the seed of a made game, in addition to those of `tac make`."""
 
 import hashlib
 from typing import List

@@ -233,14 +233,14 @@ class _Lines:
     def take(self, word: str, count: int) -> List[str]:
         """The further words of the next line, which has to begin with this word."""
         if self.place == len(self.rest):
-            raise GameError(self.last, f"the text ends where a line `{word}` is due")
+            raise GameError(self.last, f"expected a line `{word}`, but the text ends")
         self.number, line = self.rest[self.place]
         self.place += 1
         first, *words = line.split(" ")
         if first != word:
-            raise GameError(self.number, f"a line `{word}` is due, not {line[:40]!r}")
+            raise GameError(self.number, f"expected a line `{word}`, not {line[:40]!r}")
         if len(words) != count:
-            raise GameError(self.number, f"`{word}` has {count} words after it, not {len(words)}")
+            raise GameError(self.number, f"expected {count} words after `{word}`, not {len(words)}")
         return words
 
     def numbers(self, word: str, ranges: Sequence[range]) -> List[int]:
@@ -259,7 +259,7 @@ class _Lines:
         plain = text[1:] if low < 0 and text.startswith("-") else text
         is_one = plain.isascii() and plain.isdigit() and (plain == "0" or plain[0] != "0")
         if not is_one or text == "-0" or len(plain) > 10:
-            raise GameError(self.number, f"{text[:40]!r} is not a number in its one spelling")
+            raise GameError(self.number, f"{text[:40]!r} is not a number in its canonical form")
         if not low <= int(text) <= high:
             raise GameError(self.number, f"{text} is not from {low} to {high}")
         return int(text)
@@ -288,7 +288,7 @@ def read_game(text: str, is_canonical: bool = False) -> Game:
         GameError: The text is no game file; the error names its first bad line.
     """
     if len(text) > MOST_BYTES:
-        raise GameError(1, f"the text has more than {MOST_BYTES:,} bytes, so it is no game file")
+        raise GameError(1, f"more than {MOST_BYTES:,} bytes: this is not a game file")
     lines = _Lines(text, is_canonical)
     version = lines.take("tac", 1)[0]
     if version not in ("1", "2"):
@@ -296,7 +296,7 @@ def read_game(text: str, is_canonical: bool = False) -> Game:
     words = lines.take("words", 8)
     for word in words:
         if not is_seat_word(word):
-            raise GameError(lines.number, f"{word[:40]!r} is no seat word")
+            raise GameError(lines.number, f"{word[:40]!r} is not a seat word")
     lines.different(words)
     flights = [_read_flight(lines, good) for good in FLIGHTS]
     closing = lines.numbers("close", [HOTELS] * 8)
@@ -306,7 +306,7 @@ def read_game(text: str, is_canonical: bool = False) -> Game:
         rooms = lines.numbers("rooms", [range(1, MOST_ROOMS + 1)] * 8)
         quotes = lines.take("quotes", 1)[0]
         if quotes not in ("minute", "live"):
-            raise GameError(lines.number, f"quotes are `minute` or `live`, not {quotes[:20]!r}")
+            raise GameError(lines.number, f"expected `minute` or `live`, not {quotes[:20]!r}")
         live = quotes == "live"
     endow = [lines.numbers("endow", [_just(agent), *UNITS])[1:] for agent in range(SEATS)]
     clients = [[_read_client(lines, agent, number) for number in range(CLIENTS)]

@@ -1,10 +1,10 @@
-"""Why a team got its score: what it held, wanted and bid at each tick, what its best plan then was
-worth, and which of its decisions cost most.
+"""Why a team got its score: what it held, wanted and bid at each tick, the worth of its best plan
+at that time, and its costliest decisions.
 
-A plan is what `accounts` finds at the prices of a time; with the cash it is worth what the team
-would get if it bought at once what is missing. So what lowers it tells what a decision cost: a
-trade, rooms that were wanted and not won at a closing, flights that got dearer while they were
-waited with.
+`accounts` finds the plan at the prices of a time; plan and cash together are worth the score that
+the team would get if it bought the missing goods at once. So each fall of this worth shows the cost
+of a decision: a trade, rooms that were wanted but not won at a closing, or flights that became
+dearer while the team waited.
 """
 
 from typing import Dict, Iterable, List, NamedTuple, Tuple

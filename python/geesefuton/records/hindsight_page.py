@@ -1,4 +1,4 @@
-"""What the report shows of a team's story: its costliest decisions, and a slider over the ticks."""
+"""A team's story in the report: its costliest decisions, and a slider over the ticks."""
 
 import html
 import json

@@ -1,7 +1,7 @@
 """The one reader of logs, and of the reply lines that `tac play` writes before a log.
 
-It tests the form of each line and the ranges of its numbers, as `tac audit` does, and whether a
-certificate is one whole tree. What the rules say of a log, only `tac audit` judges.
+It checks the form of each line and the ranges of its numbers, as `tac audit` does, and whether a
+certificate is one complete tree. Only `tac audit` judges a log by the rules.
 """
 
 import re
@@ -179,7 +179,7 @@ class _Reader:
         if isinstance(text, bytes):
             text = text.decode("latin-1")  # so that a byte is a character, and a bad one is seen
         if len(text) > MOST_BYTES:
-            raise LogError(1, f"the text has more than {MOST_BYTES:,} bytes, so it is no log")
+            raise LogError(1, f"more than {MOST_BYTES:,} bytes: this is not a log")
         self.lines = text.split("\n")
         self.place = 0
 
@@ -202,7 +202,7 @@ class _Reader:
         if not self.left:
             rest = self.lines[-1]
             self.place += 1
-            self.fail(f"the text ends where {due} is due" if not rest
+            self.fail(f"expected {due}, but the text ends" if not rest
                       else f"the last line, {rest[:60]!r}, has no line end")
         self.place += 1
         return self.lines[self.place - 1]
@@ -212,14 +212,14 @@ class _Reader:
         line = self.take(due)
         found = form.fullmatch(line)
         if found is None:
-            self.fail(f"{due} is due, not {line[:60]!r}")
+            self.fail(f"expected {due}, not {line[:60]!r}")
         return found
 
     def exact(self, line: str) -> None:
         """Takes the next line, which has to be this one."""
         got = self.take(f"the line `{line}`")
         if got != line:
-            self.fail(f"the line `{line}` is due, not {got[:60]!r}")
+            self.fail(f"expected the line `{line}`, not {got[:60]!r}")
 
     def range(self, what: str, number: int, low: int, high: int) -> int:
         """The number, if it is in its range."""
@@ -267,7 +267,7 @@ def read_scores(text: Union[str, bytes]) -> Tuple[Score, ...]:
     try:
         reader.place = reader.lines.index("sheet")
     except ValueError:
-        raise LogError(len(reader.lines), "the text ends where the line `sheet` is due") from None
+        raise LogError(len(reader.lines), "expected the line `sheet`, but the text ends") from None
     return _read_sheet(reader)
 
 
@@ -280,7 +280,7 @@ def _read_log(reader: _Reader) -> Log:
     if kind == "serve":
         links, ends, missed = _read_head(reader)
     elif kind != "play":
-        reader.fail(f"`play` or `serve` is due, not {kind[:60]!r}")
+        reader.fail(f"expected `play` or `serve`, not {kind[:60]!r}")
     histories = tuple(_read_history(reader, good) for good in range(28))
     cash = _read_cash(reader)
     if reader.look() == "memory":
@@ -295,7 +295,7 @@ def _read_head(reader: _Reader) -> Tuple[List[Verdict], List[Tuple[int, str]], i
     while reader.look().startswith("link "):
         found = reader.match(_LINK, "a line `link`")
         if int(found[1]) != len(links):
-            reader.fail(f"link {len(links)} is due, not {found[1]}")
+            reader.fail(f"expected link {len(links)}, not {found[1]}")
         if len(links) == MOST_LINKS:
             reader.fail(f"there are more than {MOST_LINKS} links")
         links.append(Verdict("seated", int(found[2])) if found[2] else Verdict(found[3]))
@@ -388,7 +388,7 @@ def _read_cash(reader: _Reader) -> Tuple[Union[Post, Reading], ...]:
             continue
         post = _POST.fullmatch(line)
         if post is None:
-            reader.fail(f"an entry of the cash book is due, not {line[:60]!r}")
+            reader.fail(f"expected an entry of the cash book, not {line[:60]!r}")
         good = reader.range("the good of a post", int(post[2]), 0, 27)
         position = reader.range("the position of a post", int(post[3]), 0, MOST_POSITION)
         nets = tuple(reader.range("a net of a post", int(word), -(1 << 31), (1 << 31) - 1)
@@ -419,7 +419,7 @@ def _read_score(reader: _Reader, agent: int) -> Score:
 
 def _same(reader: _Reader, what: str, got: int, due: int) -> None:
     if got != due:
-        reader.fail(f"{what} {due} is due, not {got}")
+        reader.fail(f"expected {what} {due}, not {got}")
 
 
 def _read_package(reader: _Reader, agent: int, client: int) -> Optional[Package]:
@@ -447,7 +447,7 @@ def _read_cert(reader: _Reader, agent: int) -> None:
         line = reader.take("a node of a certificate")
         split = _SPLIT.fullmatch(line)
         if split is None and _LEAF.fullmatch(line) is None:
-            reader.fail(f"a node of a certificate is due, not {line[:60]!r}")
+            reader.fail(f"expected a node of a certificate, not {line[:60]!r}")
         if due == 0:
             raise LogError(number, "the certificate ends before its last line")
         due += -1 if split is None else 20 if split[1] == "0" else 4

@@ -1,14 +1,14 @@
-"""In which order the seats take their turns, so that no seat gains by its place.
+"""The order in which the seats take their turns, so that no seat gains by its place.
 
-Equal bids go to the earlier one, so who asks first has an advantage. Each turn begins one seat
-later than the one before it, and so does the first turn after each tick. A hotel closes at each
-sixth tick, and six is even, so the first turn after such a tick begins one seat later again:
-otherwise only every other seat would ever be first before a closing. Whichever turn between two
-ticks an agent acts in, over the first 48 ticks each seat is first in it six times, and once among
-the turns before the eight closings.
+Of equal bids the earlier one wins, so the seat that asks first has an advantage. Each turn begins
+one seat later than the one before it, and so does the first turn after each tick. A hotel closes at
+each sixth tick, and six is even, so the first turn after such a tick begins one seat later again:
+otherwise only every other seat would ever be first before a closing. In whichever turn between two
+ticks an agent acts, over the first 48 ticks each seat is first in it six times, and once among the
+turns before the eight closings.
 
-What counts most may happen in the first turns, which come once in a game. So another seat is first
-there from game to game, and the same one in all games of a deal.
+The first turns, which come once in a game, may matter most. So the seat that is first there changes
+from game to game, but is the same in all games of a deal.
 """
 
 import hashlib

@@ -1,8 +1,9 @@
-"""Prices over the ticks, computed again by the rules from a game file and a log.
+"""Prices over the ticks, recomputed by the rules from a game file and a log.
 
-A log has the calls, and neither the prices that were shown nor times. Each call is assigned to the
+A log has the calls, but neither the prices that were shown nor times. Each call is assigned to the
 tick of the clock's last call in its auction, which comes at each tick for a flight and at each
-sixth for a hotel. Ticket auctions have no such call before their end, so their trades have no tick.
+sixth tick for a hotel. Ticket auctions have no such call before their end, so their trades have no
+tick.
 """
 
 from typing import Iterator, List, NamedTuple, Optional, Sequence, Tuple

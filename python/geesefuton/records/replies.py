@@ -1,7 +1,7 @@
 """Requests and replies as values, and their two forms on a link: lines of words, and JSON.
 
-A reply has the position of its entry where a link sends it. In a log the position is the entry's
-place, and lines have none.
+A reply on a link has the position of its entry. In a log the position is the entry's place, so the
+lines do not have it.
 """
 
 import json
@@ -154,7 +154,7 @@ def read_entry_reply(text: str, at: Optional[int] = None) -> Reply:
     """
     found = _FORMS.fullmatch(text)
     if found is None:
-        raise ReplyError(f"{text[:60]!r} is no reply")
+        raise ReplyError(f"{text[:60]!r} is not a reply")
     kind = found.lastgroup
     number = {name: int(word) for name, word in found.groupdict().items()
               if word is not None and name not in ("done", "points", "state", "reason")}
@@ -188,7 +188,7 @@ def read_words(line: str) -> Reply:
         return Bye()
     found = _PLAIN.fullmatch(line)
     if found is None:
-        raise ReplyError(f"{line[:60]!r} is no reply")
+        raise ReplyError(f"{line[:60]!r} is not a reply")
     return No(None, found[1] or "bid", int(found[2] or 0))
 
 
@@ -225,14 +225,14 @@ def _is_whole(value: Any) -> bool:
 
 def _whole(value: Any) -> int:
     if not _is_whole(value):
-        raise ReplyError(f"{value!r} is no whole number")
+        raise ReplyError(f"{value!r} is not a whole number")
     number: int = value
     return number
 
 
 def _pair(value: Any) -> Tuple[int, int]:
     if not isinstance(value, list) or len(value) != 2:
-        raise ReplyError(f"{value!r} is no pair")
+        raise ReplyError(f"{value!r} is not a pair")
     return _whole(value[0]), _whole(value[1])
 
 
@@ -245,9 +245,9 @@ def read_json(line: str) -> Reply:
     try:
         value = json.loads(line)
     except ValueError:
-        raise ReplyError(f"{line[:60]!r} is no JSON") from None
+        raise ReplyError(f"{line[:60]!r} is not JSON") from None
     if not isinstance(value, dict):
-        raise ReplyError(f"{line[:60]!r} is no object")
+        raise ReplyError(f"{line[:60]!r} is not an object")
     keys = set(value)
     at = _whole(value["at"]) if "at" in value else None
     if keys == {"bye"}:
@@ -255,7 +255,7 @@ def read_json(line: str) -> Reply:
     if "no" in keys and isinstance(value["no"], str):
         return _read_json_refusal(value, at)
     if at is None:
-        raise ReplyError(f"{line[:60]!r} is no reply")
+        raise ReplyError(f"{line[:60]!r} is not a reply")
     if keys == {"at", "taken"}:
         return Taken(at, *_pair(value["taken"]))
     if keys == {"at", "done"}:
@@ -269,7 +269,7 @@ def read_json(line: str) -> Reply:
     if keys == {"at", "quote", "open"} and isinstance(value["open"], bool):
         bid, ask = _pair(value["quote"])
         return Quote(at, bid, ask, not value["open"])
-    raise ReplyError(f"{line[:60]!r} is no reply")
+    raise ReplyError(f"{line[:60]!r} is not a reply")
 
 
 def reply_json(reply: Reply) -> str:
@@ -313,7 +313,7 @@ def _read_json_refusal(value: Any, at: Optional[int]) -> No:
         return No(None, reason)
     if at is None and reason == "bid" and rest == {"fault"}:
         return No(None, reason, _whole(value["fault"]))
-    raise ReplyError(f"{json.dumps(value)[:60]!r} is no refusal")
+    raise ReplyError(f"{json.dumps(value)[:60]!r} is not a refusal")
 
 
 def request_words(request: Request) -> str:

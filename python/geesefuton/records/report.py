@@ -1,30 +1,29 @@
-"""Shows a played game: scores, what was paid, prices over the ticks, trips, and trades.
+"""Reports on a played game: scores, payments, prices over the ticks, trips, and trades.
 
-    report my.game my.log > page.html          a page that stands alone, for a projector
-    report --why my.game my.log > page.html    with what each team held, wanted and bid over the
-                                               ticks, and what cost it most
+    report my.game my.log > page.html          a self-contained page, for a projector
+    report --why my.game my.log > page.html    with each team's holdings, wishes and bids over the
+                                               ticks, and its costliest decisions
     report --csv my.game my.log > rows.csv     lines `what,tick,good,position,agent,units,dollars`
-    report --over runs/1 > page.html           what the games of a tournament's folder have in
-                                               common
+    report --over runs/1 > page.html           an overview of the games of a tournament's folder
 
-The log is that of `tac serve` or `tac play`, whose reply lines may stand before it. It is audited
-first, and if it is not sound the report says why and makes no page. With --unaudited it makes one
-all the same, which says so.
+The log comes from `tac serve` or `tac play`, whose reply lines may precede it. The command audits
+it first; if it is not sound, the command says why and makes no page. With --unaudited it makes a
+page that says so.
 
-With --why the page has a slider over the ticks for each team, with what its best plan was worth
-then, and its three costliest decisions. That takes some seconds.
+With --why the page has a slider over the ticks for each team, with the worth of its best plan at
+that time, and its three costliest decisions. This takes some seconds.
 
 Seat words are passwords. So the page calls an agent by the letters before the digits of its word,
-if these differ, or by its number, and with --names by its word.
+if these differ between agents, and otherwise by its number. With --names it shows the words.
 
-In the CSV `price` is the published price from that entry on, `close` that of a hotel's closing,
-`trade` what an agent bought (units above 0) or sold (below 0), with the dollars for each unit, and
-`score` a score. A log has no times: a call has the tick of the clock's last call in its auction,
-so trades of tickets have none.
+In the CSV `price` is the published price from that entry on, `close` the price at a hotel's
+closing, `trade` the units that an agent bought (above 0) or sold (below 0), with the dollars for
+each unit, and `score` a score. A log has no times: a call has the tick of the clock's last call in
+its auction, so trades of tickets have none.
 
 With --over the page has the parts of the agents' scores, prices over the ticks, how many of the
-units that they asked for they got, and how far they were from the best plans. It takes a second or
-two for each deal.
+units that they asked for they got, and how far they were from the best plans. This takes a second
+or two for each deal.
 """
 
 import time
@@ -84,7 +83,7 @@ def read_both(game_file: Path, log_file: Path) -> Tuple[Game, Log, bytes]:
     try:
         game = read_game(game_file.read_bytes().decode("latin-1"))
     except GameError as fault:
-        raise ReportError(f"{game_file} is no game file: {fault}") from None
+        raise ReportError(f"{game_file} is not a game file: {fault}") from None
     whole = log_file.read_bytes()
     text = log_in(whole)
     before = whole[:len(whole) - len(text)].count(b"\n")
@@ -92,7 +91,7 @@ def read_both(game_file: Path, log_file: Path) -> Tuple[Game, Log, bytes]:
         return game, read_log(text), text
     except LogError as fault:
         where = f", counted after {before} lines" if before else ""
-        raise ReportError(f"{log_file} is no whole log: {fault}{where}") from None
+        raise ReportError(f"{log_file} is not a complete log: {fault}{where}") from None
 
 
 def csv_text(game: Game, log: Log) -> str:
@@ -103,27 +102,27 @@ def csv_text(game: Game, log: Log) -> str:
 
 
 def _no_page(folder: Path) -> Tuple[str, List[str]]:
-    return "", [f"{folder}: the pages of tournaments are not at hand"]
+    return "", [f"{folder}: pages of tournaments are not available here"]
 
 
 def _main(over: Over) -> int:
     parser = Parser("report", __doc__)
-    parser.add_argument("--csv", action="store_true", help="write CSV in place of the page")
+    parser.add_argument("--csv", action="store_true", help="write CSV instead of a page")
     parser.add_argument("--why", action="store_true",
                         help="show each team over the ticks, and what cost it most")
     parser.add_argument("--unaudited", action="store_true",
-                        help="show a log that is not sound, or was not audited, too")
+                        help="also show a log that is not sound or cannot be audited")
     parser.add_argument("--names", action="store_true",
-                        help="call agents by their seat words, which are passwords")
+                        help="show agents by their seat words, which are passwords")
     parser.add_argument("--over", type=Path, metavar="FOLDER",
-                        help="show what the games of a tournament's run have in common")
+                        help="show an overview of the games of a tournament's run")
     parser.add_argument("game", type=Path, nargs="?", help="the game file")
     parser.add_argument("log", type=Path, nargs="?", help="the log")
     given = parser.parse_args()
     if given.over is not None and (given.game or given.csv or given.why):
-        parser.error("--over takes a folder alone")
+        parser.error("--over takes only a folder")
     if given.over is None and given.log is None:
-        parser.error("a game file and a log are due, or --over and a folder")
+        parser.error("give a game file and a log, or --over and a folder")
     if given.over is not None:
         return _write(*over(given.over))
     try:
@@ -134,11 +133,11 @@ def _main(over: Over) -> int:
             warning = f"This log is not that of a game by the rules: {flaw}." if flaw else ""
         except program.ProgramError as fault:
             if not given.unaudited:
-                raise ReportError(f"{fault}; the log has to be audited, or --unaudited given") \
+                raise ReportError(f"{fault}; to report without an audit, add --unaudited") \
                     from None
         if warning and not given.unaudited:
-            raise ReportError(f"{given.log} is not sound by {given.game}: {flaw}; with --unaudited "
-                              "it is shown all the same")
+            raise ReportError(f"{given.log} is not sound by {given.game}: {flaw}; to report on it "
+                              "anyway, add --unaudited")
     except ReportError as fault:
         tell(f"report: {fault}")
         return 1

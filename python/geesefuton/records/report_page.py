@@ -1,4 +1,4 @@
-"""The page of a played game: HTML that stands alone, for a projector and for a telephone."""
+"""The page of a played game: self-contained HTML, for a projector and a phone."""
 
 import html
 from collections import defaultdict

@@ -1,6 +1,6 @@
 """The rules of prices: what a flight costs after a tick, and when the clock calls an auction.
 
-What `tac` plays by is proved in its crates. This is the same in Python, for pages and reports.
+The rules of `tac` are proved in its crates. This is the same in Python, for pages and reports.
 """
 
 from functools import lru_cache

@@ -1,4 +1,4 @@
-"""How seats are called where their words, which are passwords, must not be seen."""
+"""Names of seats for places where their words, which are passwords, must not be shown."""
 
 import re
 from typing import List, Sequence

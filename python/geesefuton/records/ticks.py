@@ -1,10 +1,10 @@
-"""When the calls of a log were made: the ticks of its entries.
+"""The ticks of a log's entries: when its calls were made.
 
-A log has no times. Its script has the ticks between the calls, so with it they are known. By the
-log alone an entry of a flight or a hotel has the tick of the clock's last call there. A trade of a
-ticket has that of the last such trade before it in the cash book, which has all trades in order,
-and another entry of tickets that of the trade before it; a reading of cash that of the trade before
-it: these may have come later.
+A log has no times. A script has the ticks between the calls, so it fixes them. By the log alone, an
+entry of a flight or a hotel has the tick of the clock's last call there. A trade of a ticket has
+the tick of the last such trade before it in the cash book, which has all trades in order; another
+entry of tickets, and a reading of cash, has the tick of the trade before it. These may have come
+later.
 """
 
 from typing import Iterator, List, NamedTuple, Optional, Sequence, Tuple
@@ -105,7 +105,7 @@ def ticks_by_script(game: Game, log: Log, script: str) -> Ticks:
                 ticks[good].append(tick)
     for good in GOODS:
         if len(ticks[good]) != len(log.histories[good]):
-            raise ScriptError(f"it has not all calls of good {good}")
+            raise ScriptError(f"it lacks calls of good {good}")
     return Ticks(ticks, ticks_of_cash(log, ticks, readings))
 
 
