@@ -1,12 +1,12 @@
 #!/usr/bin/env python3
 """Learns one seat's bids from rewards, and compares it with the planner in the same seat and games.
 
-Its policy has a table: for each phase of a game, which is how many hotel nights have closed, and
-each group of goods (flights, hotel nights, tickets) how likely each level of `geesefuton.learning.
-numeric` is. It plays each game eight times with levels that it draws, and makes those likelier by
-how much their rewards were above the mean of the eight (REINFORCE). Its rivals are planners. It
-draws from `--seed` alone. It learns from the games of the seeds 1, 2, .., and is compared in those
-of 1,000,001, .., which it has not seen, with the likeliest levels. It needs `numpy`.
+Its policy is a table: the probability of each level of `geesefuton.learning.numeric`, for each
+phase of a game (the number of hotel nights that have closed) and each group of goods (flights,
+hotel nights, tickets). It plays each game eight times with levels drawn from the table, and makes
+levels likelier by how far their rewards exceed the mean of the eight (REINFORCE). Its opponents are
+planners. All draws come from `--seed`. It learns from the games of the seeds 1, 2, .., and compares
+the likeliest levels in the unseen games of 1,000,001, ... It needs `numpy`.
 """
 
 import argparse
@@ -76,9 +76,11 @@ def learn(environment, given, source):
 def main():
     parser = argparse.ArgumentParser(description=__doc__,
                                      formatter_class=argparse.RawDescriptionHelpFormatter)
-    parser.add_argument("--games", type=whole(0), default=200, help="games to learn from (200)")
-    parser.add_argument("--unseen", type=whole(2), default=80, help="games to compare in (80)")
-    parser.add_argument("--seed", type=whole(0), default=1, help="what it draws from (1)")
+    parser.add_argument("--games", type=whole(0), default=200,
+                        help="learn from this many games (default: 200)")
+    parser.add_argument("--unseen", type=whole(2), default=80,
+                        help="compare in this many games (default: 80)")
+    parser.add_argument("--seed", type=whole(0), default=1, help="draw from this seed (default: 1)")
     given = parser.parse_args()
     environment = Seat(rivals=dict.fromkeys(SEATS[1:], "planner"))
     table = learn(environment, given, np.random.default_rng(given.seed))
@@ -90,9 +92,9 @@ def main():
     gains = [own - other for own, other in zip(mine, theirs)]
     error = statistics.stdev(gains) / len(gains) ** 0.5
     print(f"levels by phase: flights {best[:, 0]}, hotel nights {best[:, 1]}, tickets {best[:, 2]}")
-    print(f"{len(gains)} games that it has not seen: {statistics.mean(mine):.0f} dollars a game, "
+    print(f"{len(gains)} unseen games: {statistics.mean(mine):.0f} dollars a game, "
           f"the planner in its seat {statistics.mean(theirs):.0f}: {statistics.mean(gains):.0f} "
-          f"more, with a standard error of {error:.0f} by pairs")
+          f"more, with a standard error of {error:.0f} over pairs")
     return 0
 
 

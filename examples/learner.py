@@ -1,13 +1,13 @@
 #!/usr/bin/env python3
-"""Learns to bid for rooms, and shows on games that it has not seen what it gained.
+"""Learns to bid for rooms, and shows its gain on games that it has not seen.
 
 Its rule has four numbers: the most dollars for a room, how many dollars above the quote it bids,
-the most nights of a trip, and the premium from which a client stays at the better hotel. It has
-seven rivals, which bid 50 dollars above the quote up to limits of their own, and another seat in
-each game. In each round it draws rules around the one that it has, plays the same games with each
-of them, and takes the mean of the best quarter (the cross-entropy method). It draws from `--seed`
-alone, so the same words print the same lines. The games to learn from are those of the seeds 1, 2,
-..; the last ones, which it has not seen, those of 1,000,001, ...
+the most nights of a trip, and the premium from which a client stays at the better hotel. It plays
+against seven opponents, which bid 50 dollars above the quote up to limits of their own, and changes
+its seat from game to game. In each round it draws rules around the current one, plays the same
+games with each of them, and takes the mean of the best quarter (the cross-entropy method). All
+draws come from `--seed`, so the same words print the same lines. It learns from the games of the
+seeds 1, 2, .., and compares in the unseen games of 1,000,001, ...
 """
 
 import argparse
@@ -94,19 +94,23 @@ def learn(environment, given):
 def main():
     parser = argparse.ArgumentParser(description=__doc__,
                                      formatter_class=argparse.RawDescriptionHelpFormatter)
-    parser.add_argument("--rounds", type=whole(0), default=6, help="rounds of learning (6)")
-    parser.add_argument("--rules", type=whole(2), default=16, help="rules tried in a round (16)")
-    parser.add_argument("--games", type=whole(1), default=8, help="games of each of them (8)")
-    parser.add_argument("--unseen", type=whole(2), default=80, help="games to compare in (80)")
-    parser.add_argument("--seed", type=whole(0), default=1, help="what it draws from (1)")
+    parser.add_argument("--rounds", type=whole(0), default=6,
+                        help="learn for this many rounds (default: 6)")
+    parser.add_argument("--rules", type=whole(2), default=16,
+                        help="try this many rules a round (default: 16)")
+    parser.add_argument("--games", type=whole(1), default=8,
+                        help="play this many games by each rule (default: 8)")
+    parser.add_argument("--unseen", type=whole(2), default=80,
+                        help="compare in this many games (default: 80)")
+    parser.add_argument("--seed", type=whole(0), default=1, help="draw from this seed (default: 1)")
     given = parser.parse_args()
     with Environment() as environment:
         rule = learn(environment, given)
         gains = [play(environment, seed, rule) - play(environment, seed, FIRST)
                  for seed in range(UNSEEN, UNSEEN + given.unseen)]
     error = statistics.stdev(gains) / len(gains) ** 0.5
-    print(f"{len(gains)} games that it has not seen: {statistics.mean(gains):.0f} dollars a game "
-          f"more than by the first rule, with a standard error of {error:.0f} by pairs")
+    print(f"{len(gains)} unseen games: {statistics.mean(gains):.0f} dollars a game more than by "
+          f"the first rule, with a standard error of {error:.0f} over pairs")
     return 0
 
 

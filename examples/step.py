@@ -1,8 +1,8 @@
 #!/usr/bin/env python3
-"""A small game in steps: one agent buys seats and bids for rooms, and sees what that is worth.
+"""Plays a small game in steps: one agent buys seats and bids for rooms, and sees its score.
 
-An agent that learns is made of the same calls, which `geesefuton.learning.environment` tells;
-`learner.py` is one. What stands here is for the first client of a made game.
+An agent that learns uses the same calls, which `geesefuton.learning.environment` describes;
+`learner.py` is one. This agent plays for the first client of a made game.
 """
 
 import sys
@@ -31,14 +31,14 @@ def main():
         observations, infos = environment.reset(42)
         agent = environment.agents[0]
         client = infos[agent]["clients"][0]
-        print(f"{agent} has a client with the wishes {client}")
+        print(f"{agent} has a client who wants {client}")
         while environment.agents:
             is_due = observations[agent]["tick"] % 18 == 0
             asked = requests(client, observations[agent]) if is_due else []
             observations, rewards, _, _, infos = environment.step({agent: asked})
             if asked:
-                print(f"it asks {asked}, and is answered {observations[agent]['replies']}",
-                      f"its score is {infos[agent]['score']} if nobody asks more",
+                print(f"it asks {asked}, and gets {observations[agent]['replies']}",
+                      f"its score is {infos[agent]['score']} if nobody asks anything more",
                       environment.render(), sep="\n")
     print(f"its score is {rewards[agent]}")
     return 0

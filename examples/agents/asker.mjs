@@ -1,11 +1,11 @@
 #!/usr/bin/env node
-// An agent that speaks JSON, for a server that was started by `tac serve GAME PORT PACE json`:
+// An agent that sends JSON, for a server that was started by `tac serve GAME PORT PACE json`:
 //
 //     node examples/agents/asker.mjs HOST PORT WORD [--pause SECONDS] [--again]
 //
 // It buys the trip of its first client: both seats at once, and a room for each night, for which it
-// bids again when the quote has reached its bid. When the game is over it prints what it holds, and
-// ends. It needs Node 18 or later, and `../starters/starter.mjs`, whose link connects again.
+// bids again when the quote has reached its bid. When the game is over it prints its holdings, and
+// ends. It needs Node 18 or later, and `../starters/starter.mjs`, whose link reconnects.
 import fs from "node:fs";
 import path from "node:path";
 import { setTimeout as sleep } from "node:timers/promises";
@@ -15,10 +15,10 @@ const MOST_FOR_A_SEAT = 600; // dollars
 const MOST_FOR_A_ROOM = 300; // dollars
 const SIDES = ["asked", "said"]; // of a link
 
-// What is kept of a link if the variable AGENT_RECORD names a folder: the bytes that were sent and
-// those that came, in the files WORD.asked and WORD.said, or WORD.2.asked and WORD.2.said where one
-// of them is there already, and so on. A line is written before it is sent. Once a file takes no
-// more, that is told in a line, and nothing more is kept.
+// The record of a link, if the variable AGENT_RECORD names a folder: the bytes that were sent and
+// received, in the files WORD.asked and WORD.said, or WORD.2.asked and WORD.2.said if one of them
+// exists already, and so on. A line is written before it is sent. If a file cannot be written, the
+// agent reports it in a line, and keeps nothing more.
 class LinkRecord {
   constructor(folder) {
     this.folder = folder;

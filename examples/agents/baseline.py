@@ -1,25 +1,25 @@
 #!/usr/bin/env python3
 """A baseline that is hard to beat: it plans trips at prices at which hotels will probably close.
 
-A trip needs goods of several auctions, and is worth nothing if one is missing. This agent goes the
-way of better agents of the competition, in six parts that can each be replaced by a better one.
+A trip needs goods of several auctions, and is worth nothing if one is missing. This agent works
+like the better agents of the competition, in six parts, each of which can be replaced.
 
 1. Prediction (`predict`). An open hotel night closes at its quote plus a rise. The tables of rises
    are learned from games of eight such agents, by learn_baseline.py.
-2. The plan (`Plan`). Each client in turn takes the trip that gains most as the others leave it,
-   until nobody changes. What is owned costs nothing.
-3. Flights (`Flight`, `buy_seats`). A price's moves tell by Bayes' rule how likely each bound of its
-   flight is, and so how much it will rise. Planned seats are bought once they are to rise.
-4. Hotels (`bid_for_rooms`). The n-th room of a night is worth what the best plan with n of them is
-   worth more than the best with n - 1. The bid lies between the predicted price and that worth.
-5. Tickets (`trade`). What one ticket more would add, and one less would take, is found likewise. It
-   bids below the one and offers above the other, by a margin that shrinks.
+2. The plan (`Plan`). Each client in turn takes the trip that gains most given the others' trips,
+   until no trip changes. Goods that the agent owns cost nothing.
+3. Flights (`Flight`, `buy_seats`). By Bayes' rule a price's moves show how likely each bound of its
+   flight is, and so how much it will rise. The agent buys planned seats once it expects a rise.
+4. Hotels (`bid_for_rooms`). The n-th room of a night is worth the difference between the best plan
+   with n of them and the best with n - 1. The bid lies between the predicted price and that worth.
+5. Tickets (`trade`). The gain from one ticket more, and the loss from one less, are found likewise.
+   The agent bids below the one and offers above the other, by a margin that shrinks.
 6. Time (`round`). Flights move at every tick, and the n-th hotel closes at tick 6n. It plans anew
-   after each closing and halfway to the next; where quotes are live, at every second tick.
+   after each closing and halfway to the next; if quotes are live, at every second tick.
 
-No line says how many rooms a night has. Once every night has a price they are scarce: then prices
+No line says how many rooms a night has. Once every night has a price, rooms are scarce: then prices
 rise by another table, seats wait for their rooms, and a room has to gain LEAST_GAIN: a night's
-price is its lowest winning bid, so that who bids less pays less for all.
+price is its lowest winning bid, so a lower bid lowers the price of all its rooms.
 """
 from __future__ import annotations
 

@@ -1,10 +1,10 @@
 #!/usr/bin/env python3
-"""Learns the tables of baseline.py again: how much hotel nights rise from a quote to the closing.
+"""Relearns the tables of baseline.py: how much hotel nights rise from a quote to the closing.
 
 Eight baselines play each other in simulator.py, half of the games with 16 rooms a night and half
 with 3 to 6 and live quotes. After each round of games the tables become the means of all rises so
-far, and the next round is played with them. It prints the tables as they stand in baseline.py, with
-the error of each entry: two standard errors over games. All is drawn from the seed.
+far, for use in the next round. It prints the tables in the form of baseline.py, with the error of
+each entry: two standard errors over games. All draws come from the seed.
 """
 
 from __future__ import annotations
@@ -80,7 +80,7 @@ def tables(errors: Dict[Entry, float]) -> str:
 def number_of(least: int):
     def read(text: str) -> int:
         if not text.isdigit() or int(text) < least:
-            raise argparse.ArgumentTypeError(f"a number of {least} or more is due, not {text}")
+            raise argparse.ArgumentTypeError(f"expected a number of {least} or more, not {text}")
         return int(text)
     return read
 
@@ -88,11 +88,14 @@ def number_of(least: int):
 def main() -> int:
     parser = argparse.ArgumentParser(description=__doc__,
                                      formatter_class=argparse.RawDescriptionHelpFormatter)
-    parser.add_argument("--rounds", type=number_of(1), default=24, help="rounds of games; 24")
-    parser.add_argument("--games", type=number_of(2), default=12, help="games a round; 12")
+    parser.add_argument("--rounds", type=number_of(1), default=24,
+                        help="rounds of games (default: 24)")
+    parser.add_argument("--games", type=number_of(2), default=12,
+                        help="games a round (default: 12)")
     parser.add_argument("--more", type=number_of(0), default=3,
-                        help="rounds after these, to see what still moves; 3")
-    parser.add_argument("--seed", type=number_of(0), default=1, help="of all that is drawn; 1")
+                        help="further rounds, to see which entries still move (default: 3)")
+    parser.add_argument("--seed", type=number_of(0), default=1,
+                        help="seed of all draws (default: 1)")
     given = parser.parse_args()
     source, learner, begun = random.Random(given.seed), Learner(), time.monotonic()
     then: Dict[Entry, Tuple[float, float]] = {}
@@ -109,7 +112,7 @@ def main() -> int:
     print(tables({entry: learner.error(entry) for entry in learner.games}))
     moved = [entry for entry, (mean, error) in then.items()
              if abs(learner.mean(entry) - mean) > max(error, 1)]
-    print(f"{given.more} rounds more moved {len(moved)} of {len(then)} entries by more than their "
+    print(f"{given.more} more rounds moved {len(moved)} of {len(then)} entries by more than their "
           "error and a dollar:", *moved or ["none"], flush=True)
     return 0
 

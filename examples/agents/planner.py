@@ -3,7 +3,7 @@
 
 It buys the flights at once, and bids for the rooms 50 dollars above the quote, at most 300, and
 again when the quote has reached its bid, until the game is over. It keeps its tickets. It begins
-with what it holds, so it plays on where it is started again in its game.
+with its holdings, so it can be restarted during its game.
 """
 
 import time

@@ -1,4 +1,4 @@
-"""Games of eight agents in one process, without a server and without time.
+"""Games of eight agents in one process, without a server and without a clock.
 
 A `Deal` is what a game file fixes before a game. `play` lets eight agents act once before each of
 the 54 ticks, in an order drawn anew each time, and returns the market after the last one. The rules

@@ -1,7 +1,7 @@
 #!/usr/bin/env python3
 """Only watches: it prints in which order the hotels close, and at which quotes.
 
-It makes no call of an auction, since a quote is none.
+It makes no calls at an auction: a quote does not count as a call.
 """
 
 import time

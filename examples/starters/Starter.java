@@ -13,15 +13,15 @@ import java.util.Map;
 import java.util.TreeMap;
 
 /**
- * An agent to start from, whole in this file: it needs Java 11 or later, and nothing else.
+ * An agent to start from, in a single file: it needs Java 11 or later, and nothing else.
  *
  * <p>java Starter.java [HOST PORT WORD] [--pause SECONDS] [--again]
  *
  * <p>It buys each client's preferred trip: the flights at once, and the rooms 50 dollars above the
  * quote, again when the quote has reached its bid. Change `play`.
  *
- * <p>A link that is lost is connected again for up to 150 seconds, and then `play` begins anew: so
- * it has to begin with `own`, or it buys everything twice.
+ * <p>If its link is lost, it tries to reconnect for up to 150 seconds, and then `play` begins anew:
+ * so `play` has to begin with `own`, or it buys everything twice.
  */
 public final class Starter {
   static final String HOST = "localhost"; // the machine of the game

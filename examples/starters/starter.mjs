@@ -1,13 +1,13 @@
 #!/usr/bin/env node
-// An agent to start from, whole in this file: it needs Node 18 or later, and nothing else.
+// An agent to start from, in a single file: it needs Node 18 or later, and nothing else.
 //
 //     node starter.mjs [HOST PORT WORD] [--pause SECONDS] [--again]
 //
 // It buys each client's preferred trip: the flights at once, and the rooms 50 dollars above the
 // quote, again when the quote has reached its bid. Change `play`.
 //
-// A link that is lost is connected again for up to 150 seconds, and then `play` begins anew: so it
-// has to begin with `own`, or it buys everything twice.
+// If its link is lost, it tries to reconnect for up to 150 seconds, and then `play` begins anew: so
+// `play` has to begin with `own`, or it buys everything twice.
 import fs from "node:fs";
 import net from "node:net";
 import { setTimeout as sleep } from "node:timers/promises";

@@ -1,13 +1,13 @@
 #!/usr/bin/env python3
-"""An agent to start from, whole in this file: it needs Python 3.9 or later, and nothing else.
+"""An agent to start from, in a single file: it needs Python 3.9 or later, and nothing else.
 
     python3 starter.py [HOST PORT WORD] [--pause SECONDS] [--again]
 
 On Windows `py starter.py`. It buys each client's preferred trip: the flights at once, and the rooms
 50 dollars above the quote, again when the quote has reached its bid. Change `play`.
 
-A link that is lost is connected again for up to 150 seconds, and then `play` begins anew: so it
-has to begin with `own`, or it buys everything twice.
+If its link is lost, it tries to reconnect for up to 150 seconds, and then `play` begins anew: so
+`play` has to begin with `own`, or it buys everything twice.
 """
 
 import argparse
@@ -211,12 +211,13 @@ def main():
                                      formatter_class=argparse.RawDescriptionHelpFormatter)
     parser.add_argument("where", nargs="*", metavar="HOST PORT WORD",
                         default=[HOST, str(PORT), WORD])
-    parser.add_argument("--pause", type=float, default=2.0, help="seconds between rounds; 2")
+    parser.add_argument("--pause", type=float, default=2.0,
+                        help="seconds between rounds (default: 2)")
     parser.add_argument("--again", action="store_true", default=AGAIN,
-                        help="ask for a seat in the next game after each")
+                        help="after each game ask for a seat in the next one")
     given = parser.parse_args()
     if len(given.where) != 3 or not given.where[1].isdigit():
-        parser.error("HOST, PORT and WORD are needed, or none of them")
+        parser.error("give HOST, PORT and WORD, or none of them")
     host, port, word = given.where
     while True:
         try:

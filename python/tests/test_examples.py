@@ -55,7 +55,7 @@ class Examples(unittest.TestCase):
         first, again, other = (ran("learner.py", *words, seed) for seed in ("5", "5", "6"))
         self.assertEqual(first, again)
         self.assertNotEqual(first[0], other[0])
-        self.assertRegex(first[-1], "^2 games that it has not seen: -?[0-9]+ dollars a game more")
+        self.assertRegex(first[-1], "^2 unseen games: -?[0-9]+ dollars a game more")
 
 
 class WithoutNumpy(unittest.TestCase):
@@ -76,4 +76,4 @@ class InNumbers(unittest.TestCase):
         words = ["--games", "1", "--unseen", "2", "--seed"]
         first, again = (ran("learn_numeric.py", *words, "5") for _ in range(2))
         self.assertEqual(first, again)
-        self.assertRegex(first[-1], "^2 games that it has not seen: -?[0-9]+ dollars a game, the")
+        self.assertRegex(first[-1], "^2 unseen games: -?[0-9]+ dollars a game, the")

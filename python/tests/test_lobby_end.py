@@ -163,7 +163,7 @@ class TheEnd(Case):
     def test_a_journal_is_a_new_file(self) -> None:
         (self.folder / "my.journal").touch()
         lobby = Lobby(LobbySettings(GAME, 0, 5, None, journal=self.folder / "my.journal"))
-        with self.assertRaisesRegex(LobbyError, "is there already"):
+        with self.assertRaisesRegex(LobbyError, "already exists"):
             lobby.run(lambda event: None)
         with self.assertRaisesRegex(LobbyError, "port"):
             with socket.create_server(("", 0)) as other:

@@ -82,7 +82,7 @@ final class Link {
           throw new IOException("cannot connect to " + place + ": " + e.getMessage());
         }
         if (!told) {
-          System.err.println("agent: nobody listens on " + place + " yet; two minutes of tries");
+          System.err.println("agent: nobody listens on " + place + " yet; trying for two minutes");
           told = true;
         }
         Thread.sleep(BETWEEN_TRIES);

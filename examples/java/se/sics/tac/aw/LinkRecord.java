@@ -8,10 +8,10 @@ import java.nio.file.Files;
 import java.nio.file.StandardOpenOption;
 
 /**
- * What is kept of a link if the variable AGENT_RECORD names a folder: the bytes that were sent and
- * those that came, in the files WORD.asked and WORD.said, or WORD.2.asked and WORD.2.said where one
- * of them is there already, and so on. A line is written before it is sent. Once a file takes no
- * more, that is told in a line, and nothing more is kept.
+ * The record of a link, if the variable AGENT_RECORD names a folder: the bytes that were sent and
+ * received, in the files WORD.asked and WORD.said, or WORD.2.asked and WORD.2.said if one of them
+ * exists already, and so on. A line is written before it is sent. If a file cannot be written, the
+ * agent reports it in a line, and keeps nothing more.
  */
 final class LinkRecord {
   private final String folder = System.getenv("AGENT_RECORD");
@@ -80,7 +80,7 @@ final class LinkRecord {
 
   private void giveUp(IOException fault) {
     asked = said = null;
-    System.err.println("agent: the record in " + folder + " takes no more (" + fault.getMessage()
+    System.err.println("agent: cannot write the record in " + folder + " (" + fault.getMessage()
         + "): the agent plays on without it");
   }
 
