@@ -54,7 +54,8 @@ def write_log(tac: str, place: Path) -> Tuple[Path, Path]:
 def main() -> int:
     parser = Parser("audit_beside_plain", __doc__)
     parser.add_argument("tac", help="the file of tac")
-    parser.add_argument("--runs", type=whole(1), default=5, help="how often each command runs; 5")
+    parser.add_argument("--runs", type=whole(1), default=5,
+                        help="how often each command runs (default: 5)")
     given = parser.parse_args()
     tac = file_of(given.tac)
     need("g++", "wc")

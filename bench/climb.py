@@ -115,13 +115,15 @@ def main() -> int:
     parser = Parser("climb", __doc__)
     add = parser.add_argument
     add("accounts", nargs="*", help="accounts to climb from, one a start, instead of random ones")
-    add("--tac", default="crates/tacd/out/tacd", help="the program (%(default)s)")
-    add("--starts", type=int, default=20, help="how many random starts (%(default)s)")
-    add("--seed", type=int, default=1, help="the first seed (%(default)s)")
-    add("--seconds", type=float, default=600, help="the time of a start (%(default)s)")
-    add("--tries", type=int, default=1_000_000, help="the most tries of a start (%(default)s)")
-    add("--limit", type=float, default=20, help="the most seconds of one account (%(default)s)")
-    add("--keep", default="hard", help="the folder for what is found (%(default)s)")
+    add("--tac", default="crates/tacd/out/tacd", help="the program (default: %(default)s)")
+    add("--starts", type=int, default=20, help="how many random starts (default: %(default)s)")
+    add("--seed", type=int, default=1, help="the first seed (default: %(default)s)")
+    add("--seconds", type=float, default=600, help="the time of a start (default: %(default)s)")
+    add("--tries", type=int, default=1_000_000,
+        help="the most tries of a start (default: %(default)s)")
+    add("--limit", type=float, default=20,
+        help="the most seconds of one account (default: %(default)s)")
+    add("--keep", default="hard", help="the folder for what is found (default: %(default)s)")
     words = parser.parse_args()
     tac = file_of(words.tac)
     Path(words.keep).mkdir(parents=True, exist_ok=True)

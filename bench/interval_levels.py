@@ -55,9 +55,11 @@ def simulated(source: random.Random, deals: int) -> List[Row]:
 
 def main() -> int:
     parser = Parser("interval_levels", __doc__ or "")
-    parser.add_argument("--experiments", type=whole(1), default=1000, metavar="N", help="1000")
-    parser.add_argument("--deals", type=whole(3), default=16, metavar="N", help="16")
-    parser.add_argument("--seed", type=int, default=1, help="what is drawn from; 1")
+    parser.add_argument("--experiments", type=whole(1), default=1000, metavar="N",
+                        help="how many experiments (default: 1000)")
+    parser.add_argument("--deals", type=whole(3), default=16, metavar="N",
+                        help="deals of each (default: 16)")
+    parser.add_argument("--seed", type=int, default=1, help="seed of the draws (default: 1)")
     given = parser.parse_args()
     source, hits = random.Random(given.seed), {}  # type: random.Random, Dict[str, int]
 

@@ -234,11 +234,12 @@ def measure_by_hand(folder: Path, before: List[str]) -> None:
 
 def main() -> int:
     parser = Parser("lobby_cost", __doc__)
-    parser.add_argument("--rounds", type=whole(1), default=3, metavar="N", help="of each way; 3")
+    parser.add_argument("--rounds", type=whole(1), default=3, metavar="N",
+                        help="rounds of each way (default: 3)")
     parser.add_argument("--requests", type=whole(1, 20000), default=5000, metavar="N",
-                        help="of each agent in a round; 5000")
+                        help="requests of each agent a round (default: 5000)")
     parser.add_argument("--hosts-on", type=whole(0, 4095), metavar="PROCESSOR",
-                        help="where server, lobby and page run; by default on any")
+                        help="run server, lobby and page on this processor (default: any)")
     parser.add_argument("--by-hand", action="store_true",
                         help="measure a game by hand, and one of agents that ask as often")
     given = parser.parse_args()

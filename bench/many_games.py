@@ -141,11 +141,12 @@ async def play(servers: List[Server], seconds: float, rate: float) -> Tuple[Seen
 def main() -> int:
     parser = Parser("many_games", __doc__)
     parser.add_argument("tac", help="the file of tac")
-    parser.add_argument("--games", type=whole(1, 400), default=100, help="how many games; 100")
+    parser.add_argument("--games", type=whole(1, 400), default=100,
+                        help="how many games (default: 100)")
     parser.add_argument("--pace", type=whole(1, 60000), default=500,
-                        help="milliseconds from tick to tick; 500")
+                        help="milliseconds from tick to tick (default: 500)")
     parser.add_argument("--rate", type=float, default=2.0,
-                        help="the requests of an agent in a second; 2")
+                        help="the requests of an agent in a second (default: 2)")
     given = parser.parse_args()
     tac = file_of(given.tac)
     if not 0 < given.rate <= 1000:

@@ -116,9 +116,10 @@ def time_of(solver: Solver, given: Any, rounds: int) -> Found:
 def main() -> int:
     parser = Parser("measure", __doc__)
     parser.add_argument("accounts", nargs="+", help="account files")
-    parser.add_argument("--tac", default="crates/tacd/out/tacd", help="the program (%(default)s)")
+    parser.add_argument("--tac", default="crates/tacd/out/tacd",
+                        help="the program (default: %(default)s)")
     parser.add_argument("--rounds", type=whole(1), default=5,
-                        help="how many runs of each (%(default)s)")
+                        help="how many runs of each (default: %(default)s)")
     words = parser.parse_args()
     tac = file_of(words.tac)
     accounts = {file: read_account(file) for file in words.accounts}

@@ -66,9 +66,9 @@ def main() -> int:
     parser = Parser("serve_beside_echo", __doc__)
     parser.add_argument("tac", help="the file of tac")
     parser.add_argument("--rounds", type=whole(1), default=5,
-                        help="how often each server is measured; 5")
+                        help="how often each server is measured (default: 5)")
     parser.add_argument("--depth", type=whole(1), default=64,
-                        help="the most requests of an agent in flight; 64")
+                        help="the most requests of an agent in flight (default: 64)")
     given = parser.parse_args()
     tac = file_of(given.tac)
     need("gcc")

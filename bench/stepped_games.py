@@ -83,9 +83,10 @@ def main() -> int:
     parser.add_argument("tac", help="the file of tac")
     parser.add_argument("--beside", metavar="FOLDER", help="the folder of the other package")
     parser.add_argument("--processor", type=whole(0), default=max(os.sched_getaffinity(0)),
-                        help="the number of the processor; the last one")
-    parser.add_argument("--rounds", type=whole(1), default=5, help="rounds of each way; 5")
-    parser.add_argument("--games", type=whole(1), default=20, help="games of a round; 20")
+                        help="the number of the processor (default: the last)")
+    parser.add_argument("--rounds", type=whole(1), default=5,
+                        help="rounds of each way (default: 5)")
+    parser.add_argument("--games", type=whole(1), default=20, help="games of a round (default: 20)")
     given = parser.parse_args()
     os.environ["TAC"] = file_of(given.tac)
     if given.processor not in os.sched_getaffinity(0):

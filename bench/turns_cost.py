@@ -40,7 +40,7 @@ def spent(who: int) -> float:
 def main() -> int:
     parser = Parser("turns_cost", __doc__)
     parser.add_argument("--turns", type=whole(1, MOST_TURNS), default=40, metavar="R",
-                        help="how many turns each agent has between two ticks; 40")
+                        help="how many turns each agent has between two ticks (default: 40)")
     parser.add_argument("--agent", type=Path, metavar="FILE",
                         default=TOP / "examples" / "agents" / "planner.py")
     given = parser.parse_args()

@@ -186,7 +186,8 @@ def greatest(tac: str, place: Path, has_quotes: bool) -> Tuple[Played, Link]:
 def main() -> int:
     parser = Parser("vouch_beside_audit", __doc__)
     parser.add_argument("tac", help="the file of tac")
-    parser.add_argument("--runs", type=whole(1), default=5, help="how often each command runs; 5")
+    parser.add_argument("--runs", type=whole(1), default=5,
+                        help="how often each command runs (default: 5)")
     given = parser.parse_args()
     tac = file_of(given.tac)
     with tempfile.TemporaryDirectory() as folder, ProcessPoolExecutor(1) as pool:

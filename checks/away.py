@@ -216,8 +216,8 @@ def play(seed: int, given: argparse.Namespace) -> bool:
 def main() -> int:
     parser = Parser("away", __doc__)
     add = parser.add_argument
-    add("--games", type=whole(1), default=3, metavar="N", help="how many games; 3")
-    add("--first", type=whole(1), default=1, metavar="SEED", help="the first seed; 1")
+    add("--games", type=whole(1), default=3, metavar="N", help="how many games (default: 3)")
+    add("--first", type=whole(1), default=1, metavar="SEED", help="the first seed (default: 1)")
     add("--namespace", action="store_true", help="use a network namespace; needs root")
     given = parser.parse_args()
     program.find()

@@ -167,7 +167,7 @@ def link_faults(folder: Path) -> List[str]:
 def _main() -> int:
     parser = Parser("checks/by_hand.py", __doc__ or "")
     parser.add_argument("--pace", type=whole(1000, 60000), default=3000, metavar="MILLISECONDS",
-                        help="from tick to tick; 3000")
+                        help="milliseconds from tick to tick (default: 3000)")
     given = parser.parse_args()
     try:
         program.find()

@@ -238,9 +238,9 @@ def answer(ask: Callable[[], str]) -> str:
 def main() -> int:
     parser = Parser("changed_records", __doc__)
     parser.add_argument("--records", type=whole(1), default=42, metavar="N",
-                        help="how many records; 42")
+                        help="how many records (default: 42)")
     parser.add_argument("--first", type=whole(0), default=1, metavar="SEED",
-                        help="the first seed; 1")
+                        help="the first seed (default: 1)")
     given = parser.parse_args()
     program.find()
     found: Dict[str, "Counter[str]"] = defaultdict(Counter)

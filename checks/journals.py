@@ -277,15 +277,15 @@ def play(given: argparse.Namespace, folder: Path, seed: int) -> "Counter[str]":
 def main() -> int:
     parser = Parser("journals", __doc__)
     add = parser.add_argument
-    add("--games", type=whole(1), default=3, metavar="N", help="of each kind; 3")
-    add("--first", type=whole(1), default=1, metavar="SEED", help="the first seed; 1")
+    add("--games", type=whole(1), default=3, metavar="N", help="games of each kind (default: 3)")
+    add("--first", type=whole(1), default=1, metavar="SEED", help="the first seed (default: 1)")
     add("--at-once", type=whole(1, 16), default=1, metavar="M",
-        help="how many seeds at a time; 1")
+        help="how many seeds at a time (default: 1)")
     add("--pace", type=whole(1, 60000), default=80, metavar="MS",
-        help="milliseconds from tick to tick; 80")
-    add("--cuts", type=whole(0), default=4, metavar="N", help="of each journal; 4")
+        help="milliseconds from tick to tick (default: 80)")
+    add("--cuts", type=whole(0), default=4, metavar="N", help="cuts of each journal (default: 4)")
     add("--keep", type=Path, metavar="FOLDER", help="keep the files here")
-    add("--only", choices=["served", "killed"], help="this kind alone")
+    add("--only", choices=["served", "killed"], help="play only this kind")
     given = parser.parse_args()
     right: "Counter[str]" = Counter()
     with Children() as children:

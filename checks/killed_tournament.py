@@ -102,9 +102,11 @@ class Killed:
 
 def main() -> int:
     parser = parser_with_program("killed_tournament", __doc__)
-    parser.add_argument("--kills", type=whole(1), default=20, metavar="N", help="20")
-    parser.add_argument("--games", type=whole(2), default=60, metavar="N", help="60; even")
-    parser.add_argument("--seed", type=int, default=1, help="what the moments are drawn from; 1")
+    parser.add_argument("--kills", type=whole(1), default=20, metavar="N",
+                        help="how many kills (default: 20)")
+    parser.add_argument("--games", type=whole(2), default=60, metavar="N",
+                        help="how many games, even (default: 60)")
+    parser.add_argument("--seed", type=int, default=1, help="seed of the moments (default: 1)")
     given = parser.parse_args()
     tac, source, games = program_of(given.program), random.Random(given.seed), given.games // 2 * 2
     os.environ["TAC"] = tac

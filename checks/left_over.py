@@ -191,8 +191,9 @@ def tried(run: Run, children: Children) -> List[str]:
 def main() -> int:
     parser = Parser("left_over", __doc__)
     parser.add_argument("--at-once", type=whole(1, 16), default=2, metavar="N",
-                        help="how many scripts at a time; 2")
-    parser.add_argument("--only", metavar="NAME", help="the scripts whose names begin so")
+                        help="how many scripts at a time (default: 2)")
+    parser.add_argument("--only", metavar="NAME",
+                        help="run only scripts whose names begin with this")
     given = parser.parse_args()
     program.find()
     with Children() as children:

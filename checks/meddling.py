@@ -204,9 +204,10 @@ class MeddledGame:
 
 def main() -> int:
     parser = Parser("meddling", __doc__)
-    parser.add_argument("--games", type=whole(1), default=1, metavar="N", help="of each kind; 1")
+    parser.add_argument("--games", type=whole(1), default=1, metavar="N",
+                        help="games of each kind (default: 1)")
     parser.add_argument("--first", type=whole(1), default=1, metavar="SEED",
-                        help="the first seed; 1")
+                        help="the first seed (default: 1)")
     given = parser.parse_args()
     found: "Counter[str]" = Counter()
     for kind in KINDS:

@@ -374,9 +374,9 @@ class Board:
 def _main() -> int:
     parser = Parser("checks/pages.py", __doc__ or "")
     parser.add_argument("--pictures", type=Path, metavar="FOLDER",
-                        help="play a game too, and keep pictures there")
+                        help="also play a game, and keep pictures in this folder")
     parser.add_argument("--pace", type=whole(500, 60000), default=2000, metavar="MILLISECONDS",
-                        help="from tick to tick of that game; 2000")
+                        help="milliseconds from tick to tick of that game (default: 2000)")
     given = parser.parse_args()
     if shutil.which("chromium") is None:
         print("pages.py: skipped: there is no chromium")

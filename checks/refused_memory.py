@@ -316,13 +316,13 @@ WAYS = {"REFUSED": "one alone", "REFUSED_FROM": "and all after it"}
 def main() -> int:
     parser = parser_with_program("refused_memory", __doc__)
     parser.add_argument("most", nargs="?", type=whole(1), default=2000,
-                        help="how many growths of a command are refused (2000)")
+                        help="how many growths of a command are refused (default: 2000)")
     parser.add_argument("--at-once", type=whole(1, 16), default=4, metavar="N",
-                        help="how many runs at a time; 4")
+                        help="how many runs at a time (default: 4)")
     parser.add_argument("--tests", type=Path, default=TESTS, metavar="FILE",
-                        help="the program of the tests of tacd; crates/tacd/out/tacd_tests")
+                        help="the test program of tacd (default: crates/tacd/out/tacd_tests)")
     parser.add_argument("--only", default="", metavar="PART",
-                        help="only the commands and games whose names have this part")
+                        help="run only commands and games whose names contain this")
     given = parser.parse_args()
     program = program_of(given.program)
     tests = str(given.tests.resolve()) if given.tests.is_file() else None

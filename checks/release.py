@@ -97,7 +97,7 @@ def git_alone(place: Path) -> str:
 def refused_logs(commit: str) -> Iterator[Tuple[str, str]]:
     """Logs of which no release of a commit is made, and what is said of each after its name."""
     yield PASSED + TIMES, " names no commit; "
-    yield f"{'0' * 40}\n{PASSED}{TIMES}", f" is of commit {'0' * 40}, and this clone is at {commit}"
+    yield f"{'0' * 40}\n{PASSED}{TIMES}", f" is of commit {'0' * 40}, but this clone is at {commit}"
     yield (f"{commit}\nrt: FAILED: tacd\n2 passed, 1 failed\n{TIMES}",
            ": the gate did not pass: 2 passed, 1 failed")
     some = "3 passed, 0 failed (floor and the crates below alone: not the gate)"
@@ -121,12 +121,12 @@ def faults_of_logs(log: Path) -> List[str]:
 
 def faults_of_refusals(clone: Path, log: Path) -> List[str]:
     """Which words and clones are not refused as they should be, in one line; the log is good."""
-    faults = faults_of_line(release(clone), "--gate LOG is due")
+    faults = faults_of_line(release(clone), "give --gate LOG")
     faults += faults_of_line(release(clone, "--gate", log.parent), "Is a directory")
     faults += faults_of_line(release(clone, "--gate", log, "--program", "nothing"),
                              "nothing: No such file or directory")
     faults += faults_of_line(release(clone, "--gate", log, path=git_alone(clone.parent / "git")),
-                             "the toolchain's command rt is not here")
+                             "there is no command rt in PATH")
     broken = release(clone, "--gate", log, path=toolchain(clone.parent / "broken", BROKEN))
     if (broken.returncode, broken.stdout) != (1, "") or not broken.stderr.endswith(
             "run -- make 42) ended with 3: no proof of main\n"):
@@ -134,7 +134,7 @@ def faults_of_refusals(clone: Path, log: Path) -> List[str]:
     if (clone / "release" / "1.1.0").exists():
         faults.append("a release that was refused leaves a folder")
     (clone / "README.md").write_text("changed")
-    faults += faults_of_line(release(clone, "--gate", log), "not committed, such as 'M README.md'")
+    faults += faults_of_line(release(clone, "--gate", log), "uncommitted changes, such as 'M README.md'")
     git(clone, "checkout", "--quiet", "README.md")
     return faults
 

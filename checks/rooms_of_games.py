@@ -187,7 +187,7 @@ def _main() -> int:
     parser.add_argument("--kills", type=whole(0, 100), default=3)
     parser.add_argument("--pace", type=whole(1, 60000), default=20)
     parser.add_argument("--most", type=whole(1, 36000), default=240, metavar="SECONDS",
-                        help="that a game may take, and the start of a room with it; 240")
+                        help="seconds for a game and the start of its room (default: 240)")
     given = parser.parse_args()
     mark = f"room{os.getpid()}"
     with tempfile.TemporaryDirectory() as folder:

@@ -107,8 +107,10 @@ def differences(seed: int, count: int, place: Path) -> int:
 def main() -> int:
     parser = argparse.ArgumentParser(description=__doc__,
                                      formatter_class=argparse.RawDescriptionHelpFormatter)
-    parser.add_argument("--games", type=int, default=6, help="how many games are drawn; 6")
-    parser.add_argument("--requests", type=int, default=1500, help="how many requests a game; 1500")
+    parser.add_argument("--games", type=int, default=6,
+                        help="how many games are drawn (default: 6)")
+    parser.add_argument("--requests", type=int, default=1500,
+                        help="how many requests a game (default: 1500)")
     given = parser.parse_args()
     with tempfile.TemporaryDirectory() as place:
         found = [differences(seed, given.requests, Path(place)) for seed in range(given.games)]

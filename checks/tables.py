@@ -135,8 +135,9 @@ def compare_folder(program: str, folder: Path, out: Path) -> str:
 def main() -> int:
     """Plays and compares."""
     parser = parser_with_program("checks/tables.py", __doc__)
-    parser.add_argument("--games", type=whole(1), default=10, help="games in turns; 10")
-    parser.add_argument("--by-clock", type=whole(1), default=2, help="games by the clock; 2")
+    parser.add_argument("--games", type=whole(1), default=10, help="games in turns (default: 10)")
+    parser.add_argument("--by-clock", type=whole(1), default=2,
+                        help="games by the clock (default: 2)")
     given = parser.parse_args()
     program = program_of(given.program)
     os.environ["TAC"] = program

@@ -59,7 +59,7 @@ def parser_with_program(name: str, text: Optional[str]) -> Parser:
     """A parser whose first word may name the program."""
     parser = Parser(name, text or "")
     parser.add_argument("program", nargs="?",
-                        help="the file of tac; by default the one that TAC names, or the built one")
+                        help="the file of tac (default: the one that TAC names, or the built one)")
     return parser
 
 

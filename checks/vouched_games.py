@@ -395,11 +395,12 @@ def play_all(given: argparse.Namespace) -> "Counter[str]":
 def main() -> int:
     parser = Parser("vouched_games", __doc__)
     add = parser.add_argument
-    add("--games", type=whole(1), default=5, metavar="N", help="how many games; 5")
-    add("--first", type=whole(1), default=1, metavar="SEED", help="the first seed; 1")
-    add("--at-once", type=whole(1, 16), default=1, metavar="M", help="how many at once; 1")
+    add("--games", type=whole(1), default=5, metavar="N", help="how many games (default: 5)")
+    add("--first", type=whole(1), default=1, metavar="SEED", help="the first seed (default: 1)")
+    add("--at-once", type=whole(1, 16), default=1, metavar="M",
+        help="how many at once (default: 1)")
     add("--keep", type=Path, default=Path(tempfile.gettempdir()), metavar="FOLDER",
-        help="where the files of a game that is wrong are kept")
+        help="keep the files of a wrong game in this folder")
     add("--counts", type=Path, metavar="FILE", help="write the counts here as JSON")
     given = parser.parse_args()
     program.find()

@@ -214,7 +214,7 @@ def main() -> None:
                                                            "hang", "flood", "deaf", "garbage",
                                                            "back"])
     parser.add_argument("--form", default="words", choices=["words", "json"])
-    parser.add_argument("--out", required=True, help="the notes")
+    parser.add_argument("--out", required=True, help="write the notes to this file")
     parser.add_argument("--seed", type=int, default=0)
     parser.add_argument("--pause", type=float, default=0.05, metavar="SECONDS")
     parser.add_argument("--goods", default=",".join(map(str, range(28))))

@@ -1,4 +1,4 @@
-"""A Debian package, made by dpkg-deb of a folder that is laid out here."""
+"""A Debian package, which dpkg-deb makes from a folder that is laid out here."""
 
 import gzip
 import hashlib
@@ -144,6 +144,7 @@ def write(file: Path, version: str, epoch: int, files: Dict[str, Tuple[bytes, bo
                             str(file)], check=True, stdout=subprocess.DEVNULL,
                            env={**os.environ, "SOURCE_DATE_EPOCH": str(epoch)})
         except FileNotFoundError:
-            raise DebianError("dpkg-deb is missing (Debian's package dpkg)") from None
+            raise DebianError("dpkg-deb is missing: install Debian's package dpkg, or use "
+                              "--no-deb") from None
         except subprocess.CalledProcessError as fault:
-            raise DebianError(f"dpkg-deb ended with {fault.returncode}") from None
+            raise DebianError(f"dpkg-deb ended with exit status {fault.returncode}") from None

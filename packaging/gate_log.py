@@ -1,4 +1,4 @@
-"""The log of a gate: for which commit it ran, how it ended, and how long it took."""
+"""The log of a gate: its commit, its outcome, and its minutes."""
 
 import re
 from pathlib import Path
@@ -60,12 +60,12 @@ def read(file: Path, commit: str, minutes: Optional[str] = None) -> Dict[str, st
     try:
         lines = [line.strip() for line in file.read_text(errors="replace").split("\n")]
     except OSError as fault:
-        raise GateError(f"{file}: {fault.strerror}; {HOW} makes it") from None
+        raise GateError(f"{file}: {fault.strerror}; make it by {HOW}") from None
     starts = [at for at, line in enumerate(lines) if re.fullmatch("[0-9a-f]{40}", line)]
     if not starts:
-        raise GateError(f"{file} names no commit; {HOW} makes one that does")
+        raise GateError(f"{file} names no commit; make it by {HOW}")
     if lines[starts[-1]] != commit:
-        raise GateError(f"{file} is of commit {lines[starts[-1]]}, and this clone is at {commit}")
+        raise GateError(f"{file} is of commit {lines[starts[-1]]}, but this clone is at {commit}")
     lines = lines[starts[-1] + 1:]
     last = _last(r"\d+ passed, \d+ failed.*", lines)
     if not last or not re.fullmatch(r"\d+ passed, 0 failed", last[0]):
@@ -74,6 +74,7 @@ def read(file: Path, commit: str, minutes: Optional[str] = None) -> Dict[str, st
     work = _last(r"rt: ok; (.*)", lines)
     minutes = minutes or _minutes(lines)
     if minutes is None:
-        raise GateError(f"{file} has no minutes; {HOW} tells them, or --minutes WALL PROCESSORS")
+        raise GateError(f"{file} has no minutes; make it by {HOW}, or give --minutes WALL "
+                        "PROCESSORS")
     return {"gate": last[0], "gate-minutes": minutes,
             "gate-work": work[1] if work else UNTOLD["gate-work"]}

@@ -5,11 +5,11 @@
     tools/release --gate ../gate.log           # into release/VERSION
     tools/release --check release/1.1.0        # builds again, and compares
 
-PROVENANCE has the last line of the gate, its minutes, and how much of it was done anew. Both ways
-prove and build the program first, by `(cd crates/tacd && rt run -- make 42)`: that takes seconds if
-nothing has changed since, and a quarter of an hour or more in a fresh clone. Two clones of a commit
-give the same bytes, if they are given the same gate. It needs the toolchain, Python 3.11, git and
-dpkg-deb, and fetches nothing.
+PROVENANCE has the last line of the gate, its minutes, and how much of its work was new. Both
+commands first prove and build the program, by `(cd crates/tacd && rt run -- make 42)`: this takes
+seconds if nothing has changed since, and a quarter of an hour or more in a fresh clone. Two clones
+of a commit give the same bytes, if they get the same gate log. The command needs the toolchain,
+Python 3.11, git and dpkg-deb, and fetches nothing.
 """
 
 import argparse
@@ -29,7 +29,7 @@ from pathlib import Path
 from typing import Dict, Iterator, List, NamedTuple, Optional, Sequence
 
 if sys.version_info < (3, 11):
-    sys.exit("release: it needs Python 3.11 or later")
+    sys.exit("release: needs Python 3.11 or later")
 TOP = Path(__file__).resolve().parent.parent
 sys.path.insert(0, str(TOP / "python"))
 sys.path.insert(0, str(TOP / "packaging"))
@@ -111,7 +111,8 @@ def commit_of(may_change: bool) -> str:
     if may_change:
         return f"{commit} with changes"
     first = changes.split("\n")[0]
-    raise ReleaseError(f"the clone has changes that are not committed, such as {first!r}")
+    raise ReleaseError(f"the clone has uncommitted changes, such as {first!r}: commit them, or use "
+                       "--changed")
 
 
 def gate_of(given: argparse.Namespace, commit: str) -> Dict[str, str]:
@@ -126,7 +127,7 @@ def gate_of(given: argparse.Namespace, commit: str) -> Dict[str, str]:
         return gate_log.read(given.gate, commit.split()[0], minutes)
     if given.changed:
         return gate_log.UNTOLD
-    raise ReleaseError(f"--gate LOG is due, which {gate_log.HOW} makes in bash")
+    raise ReleaseError(f"give --gate LOG; in bash {gate_log.HOW} makes LOG")
 
 
 def program_of(given: Optional[Path], commit: str) -> bytes:
@@ -147,8 +148,8 @@ def program_of(given: Optional[Path], commit: str) -> bytes:
             raise ReleaseError(f"{given}: {fault.strerror}") from None
     data = toolchain.build(TOP)
     if commit_of(True) != commit:
-        raise ReleaseError(f"the clone was at {commit} before the program was built, and is no "
-                           "longer")
+        raise ReleaseError(f"the clone was at {commit} before the build, but is no longer: start "
+                           "again")
     return data
 
 
@@ -239,7 +240,7 @@ def told_in(folder: Path) -> Dict[str, str]:
     try:
         lines = (folder / "PROVENANCE").read_text(errors="replace").split("\n")
     except OSError as fault:
-        raise ReleaseError(f"{folder}: no release: {fault.strerror}") from None
+        raise ReleaseError(f"{folder}: not a release: {fault.strerror}") from None
     return dict(line.split(": ", 1) for line in lines if ": " in line)
 
 
@@ -248,7 +249,7 @@ def differences(folder: Path, made: Sequence[Path]) -> List[str]:
     lines = []
     names = {file.name for file in made}
     for extra in sorted({file.name for file in folder.iterdir()} - names):
-        lines.append(f"{extra}: is no file of the release")
+        lines.append(f"{extra}: is not a file of the release")
     for file in made:
         given = folder / file.name
         if not given.is_file():
@@ -272,7 +273,7 @@ def check(folder: Path, given: Optional[Path], commit: str) -> int:
     """
     told = told_in(folder)
     if told.get("commit") != commit:
-        raise ReleaseError(f"{folder} is of commit {told.get('commit', 'unknown')}, and this clone "
+        raise ReleaseError(f"{folder} is of commit {told.get('commit', 'unknown')}, but this clone "
                            f"is at {commit}")
     # A build cannot know these facts.
     release = gather(program_of(given, commit), commit,
@@ -285,29 +286,32 @@ def check(folder: Path, given: Optional[Path], commit: str) -> int:
         tell(f"release: {line}")
     if not lines:
         what = f" with the program {given}, which was not built here" if given else ""
-        print(f"{folder}: the same, byte by byte, as this clone's at {commit}{what}")
+        print(f"{folder}: identical, byte by byte, to this clone's release at {commit}{what}")
     return int(bool(lines))
 
 
 def _minutes(text: str) -> float:
     """Reads a number of minutes, such as 39.2."""
     if not re.fullmatch(r"\d{1,6}(\.\d+)?", text, re.ASCII):
-        raise argparse.ArgumentTypeError(f"a number of minutes is due, not {text!r}")
+        raise argparse.ArgumentTypeError(f"expected a number of minutes, not {text!r}")
     return float(text)
 
 
 def _main() -> int:
     parser = Parser("release", __doc__ or "")
     add = parser.add_argument
-    add("--gate", type=Path, metavar="LOG", help="the commit, and what `time rt ci` printed for it")
+    add("--gate", type=Path, metavar="LOG",
+        help="read the commit and the output of `time rt ci` for it from this file")
     add("--minutes", type=_minutes, nargs=2, metavar=("WALL", "PROCESSORS"),
-        help="how long the gate took, if its log has no times")
-    add("--out", type=Path, metavar="FOLDER", help="a new folder; release/VERSION")
+        help="give the minutes of the gate, if its log has no times")
+    add("--out", type=Path, metavar="FOLDER",
+        help="write to this new folder (default: release/VERSION)")
     add("--check", type=Path, metavar="FOLDER", help="build again, and compare with that release")
     add("--program", type=Path, metavar="FILE",
-        help="this program in place of the built one, to try it; PROVENANCE says so")
-    add("--no-deb", action="store_true", help="without the Debian package")
-    add("--changed", action="store_true", help="also from a clone with changes, to try it")
+        help="use this program instead of the built one, for a trial; PROVENANCE says so")
+    add("--no-deb", action="store_true", help="leave out the Debian package")
+    add("--changed", action="store_true",
+        help="also accept a clone with uncommitted changes, for a trial")
     given = parser.parse_args()
     try:
         commit = commit_of(given.changed)
@@ -324,7 +328,7 @@ def _main() -> int:
                 print(f"{file.stat().st_size:>9} {file}")
             stack.pop_all()
     except FileExistsError as fault:
-        tell(f"release: {fault.filename} is there already")
+        tell(f"release: {fault.filename} already exists: name a new folder")
         return 1
     except (ReleaseError, gate_log.GateError, toolchain.ToolchainError,
             debian.DebianError) as fault:

@@ -1,4 +1,4 @@
-"""The toolchain, Rattle: which one is at hand, and the program of a clone as it builds it."""
+"""The toolchain, Rattle: its version, and the program that it builds from a clone."""
 
 import shutil
 import subprocess
@@ -36,9 +36,9 @@ def build(top: Path) -> bytes:
         ToolchainError: There is no toolchain, or it builds no program.
     """
     if shutil.which("rt") is None:
-        raise ToolchainError("the toolchain's command rt is not here, and the program has to be "
-                             "built at this commit")
-    tell(f"release: builds the program, if anything has changed: {BUILDING}")
+        raise ToolchainError("there is no command rt in PATH: install the toolchain, Rattle, to "
+                             "build the program at this commit")
+    tell(f"release: building the program, if anything has changed: {BUILDING}")
     with Children() as children:
         child = children.start(["rt", "run", "--", "make", "42"], cwd=top / "crates" / "tacd",
                                stdin=subprocess.DEVNULL, stdout=subprocess.PIPE,
@@ -46,7 +46,7 @@ def build(top: Path) -> bytes:
         said = child.communicate()[0].decode(errors="replace").strip()
     if child.returncode:
         raise ToolchainError(f"{BUILDING} ended with {child.returncode}: "
-                             f"{said.splitlines()[-1][:200] if said else 'it said nothing'}")
+                             f"{said.splitlines()[-1][:200] if said else 'no output'}")
     file = top / "crates" / "tacd" / "out" / "tacd"
     try:
         return file.read_bytes()

@@ -1,4 +1,4 @@
-"""A wheel, written plainly: a zip with the package's files and its metadata."""
+"""A wheel, written directly: a zip with the package's files and its metadata."""
 
 import base64
 import hashlib
