@@ -1,6 +1,6 @@
 #!/usr/bin/env python3
-"""Hosts games in which an agent's machine goes away three times, and looks whether its records,
-joined, are vouched for.
+"""Hosts games in which an agent's machine is cut off three times, and checks that its joined
+records are vouched for.
 
     checks/away.py --games N --first SEED [--namespace]
 

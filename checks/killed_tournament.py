@@ -1,11 +1,11 @@
 #!/usr/bin/env python3
-"""Kills a tournament by SIGKILL at random moments, and goes on with it each time.
+"""Kills a tournament by SIGKILL at random moments, and resumes it each time.
 
     checks/killed_tournament.py [PROGRAM] --kills 20 --games 60
 
-No finished game may be lost or played twice, and a killed run may leave no process. In the end each
-game has to be there once, with a sound log whose scores are those of its rows. It is run by hand,
-takes some two minutes, and ends with 0 if all is right, and with 1 if not.
+No finished game may be lost or played twice, and a killed run must not leave a process. At the end
+each game has to be there once, with a sound log whose scores are those of its rows. Run it by hand;
+it takes about two minutes, and ends with 0 if all is right, and with 1 if not.
 """
 
 import os

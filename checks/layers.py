@@ -1,11 +1,12 @@
 #!/usr/bin/env python3
-"""Whether what judges a log rests on nothing that searches for a best allocation.
+"""Checks that the definitions and crates that judge a log do not depend on the search for a best
+allocation.
 
     checks/layers.py
 
 It follows the imports of the module that says when a log is sound: those of the modules of specs/,
 and of the sources whose types they name. It also follows crates.txt from the crates that read,
-judge and count logs. It fails if one of the crates that search is met, and says on which way.
+judge and count logs. It fails if it meets one of the crates that search, and shows the path.
 """
 import argparse
 import os

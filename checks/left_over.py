@@ -1,6 +1,6 @@
 #!/usr/bin/env python3
-"""Ends each script around the server in several ways, and checks whether a process that it started
-or a folder that it made is left.
+"""Ends each script around the server in several ways, and checks that it leaves no process that it
+started and no folder that it made.
 
     checks/left_over.py
 

@@ -1,6 +1,6 @@
 #!/usr/bin/env python3
-"""Plays served games in which a relay meddles with one request of one agent, and looks whether the
-agent finds it out by its own record.
+"""Plays served games in which a relay tampers with one request of one agent, and checks that the
+agent detects it by its own record.
 
     checks/meddling.py --games N --first SEED
 
@@ -11,9 +11,9 @@ only play. By the agent's record, the bytes that it sent and those that it was s
 `checks/vouching.py` must find a difference, and for each other agent there must be none. It ends
 with 0 if so.
 
-What is meddled with is a bid, a withdrawal or an `own`, and the two of a swap differ. No record
-shows that a quote was made up from a board that there was, or in which order an agent's calls came
-to different auctions.
+The relay tampers with a bid, a withdrawal or an `own`; the two of a swap differ. No record shows
+that a quote was made up from an earlier board, or in which order an agent's calls came to different
+auctions.
 """
 
 import asyncio

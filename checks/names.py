@@ -5,8 +5,8 @@
 
 It lists the names that more than one module of specs/ defines, each with its modules. It fails if
 the clauses of `tac` reach two definitions of one name, if two crates make public items of one name,
-other than one item that a crate gives again, or if a module of specs/ imports a name that it does
-not use: a definition that was changed for the worse mostly leaves one.
+other than one item that a crate re-exports, or if a module of specs/ imports a name that it does
+not use: a definition that was changed for the worse often leaves one.
 """
 import argparse
 import collections

@@ -1,5 +1,5 @@
 #!/usr/bin/env python3
-"""Whether what the documents name is there: files, folders, and a call beside its file.
+"""Checks that the files, folders and calls that the documents name exist.
 
 A name in backquotes that begins with a folder of the repository is a path; it may stand for several
 files by `*` or `{..}`. `NAME` followed by (`PATH`) is a call, a type or a definition of that file,

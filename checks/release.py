@@ -134,7 +134,8 @@ def faults_of_refusals(clone: Path, log: Path) -> List[str]:
     if (clone / "release" / "1.1.0").exists():
         faults.append("a release that was refused leaves a folder")
     (clone / "README.md").write_text("changed")
-    faults += faults_of_line(release(clone, "--gate", log), "uncommitted changes, such as 'M README.md'")
+    faults += faults_of_line(release(clone, "--gate", log),
+                             "uncommitted changes, such as 'M README.md'")
     git(clone, "checkout", "--quiet", "README.md")
     return faults
 

@@ -1,5 +1,5 @@
 #!/usr/bin/env python3
-"""The rooms of the package: which module imports which, by the syntax alone.
+"""Checks the rooms of the package: which module imports which, by the syntax alone.
 
     checks/rooms.py
 

@@ -1,5 +1,5 @@
 #!/usr/bin/env python3
-"""Whether examples/agents/simulator.py answers as the program does: drawn requests, asked of both.
+"""Checks that examples/agents/simulator.py answers like the program, by random requests to both.
 
 It plays drawn scripts by `tac play`, half of them with live quotes and 1 to 8 rooms a night, and
 asks the same of a `Market`. It says how many answers and amounts of cash differ, and ends with 1 if

@@ -1,6 +1,5 @@
 #!/usr/bin/env python3
-"""Runs the program for each exit status that a shell can bring about, and compares what it ends
-with.
+"""Runs the program for each exit status that a shell can cause, and checks the status.
 
 A contract says that the exit status is made of the code that `tac` answers, but not what `main` and
 the system make of that. It ends with 0 if each status is the one due, and with 1 if one differs, or

@@ -2,7 +2,7 @@
 """Plays games line by line with `tac step`, as no test in memory can: over pipes, at a terminal,
 and by scripts at their limits.
 
-It ends with 0 if each game goes as it should, and with 1 if one does not, or there is no program.
+It ends with 0 if each game goes as it should, and with 1 if one does not or there is no program.
 """
 
 import os

@@ -1,5 +1,5 @@
 #!/usr/bin/env python3
-"""Types what docs/PROTOCOL.md says of the record of a link, line by line, and takes the time.
+"""Runs the commands of docs/PROTOCOL.md, "A record of a link", line by line, and takes the time.
 
     checks/student_path.py
 

@@ -1,4 +1,4 @@
-"""What the checks share: the package, the program to try, links, and one line for errors."""
+"""The common parts of the checks: the package, the program to try, links, errors in one line."""
 
 import contextlib
 import os

@@ -61,7 +61,7 @@ class Views(Case):
     def test_what_is_no_action_is_told(self) -> None:
         view = self.numeric.View(seen())
         for action in ([0] * 27, [6] + [0] * 27, [-1] + [0] * 27):
-            self.assertRaisesRegex(ValueError, "an action is 28 levels", view.requests, action)
+            self.assertRaisesRegex(ValueError, "expected 28 levels", view.requests, action)
 
 
 @needs_program

@@ -279,7 +279,7 @@ class Command(unittest.TestCase):
         cut.write_bytes(b"0 @0 done\n\xff\n" + SERVED_LOG.read_bytes()[:100])
         self.refused("counted after 2 lines", SERVED_GAME, cut)
         cut.write_bytes(b"")
-        self.refused("line 1: the text ends", SERVED_GAME, cut)
+        self.refused("line 1: expected the line `taclog 1`, but the text ends", SERVED_GAME, cut)
 
     def test_outputs_that_take_no_more(self) -> None:
         with open("/dev/full", "wb") as full:

@@ -195,7 +195,7 @@ class Rooms(Case):
         self.lobbies.plays = [whole(), *faults, whole()]
         self.room(games=2).run()
         self.assertEqual([game.number for game in self.kept.finished], [1, 2])
-        self.assertEqual([text for text in self.told if "tried again" in text], [
+        self.assertEqual([text for text in self.told if "trying the next game again" in text], [
             f"{text}; trying the next game again in 0.01 seconds" for text in
             ("port 7000: Address already in use", "Too many open files", "no program")])
 
