@@ -175,7 +175,7 @@ class TheEnd(Case):
             self.assertEqual(log_files.keep(b"log\n", output, file), log_files.Kept(None, None))
         self.assertEqual(file.read_bytes(), b"log\n")
         kept = log_files.keep(b"other\n", None, file)
-        self.assertEqual((kept.fault, kept.file), ("there is none", self.folder / "my-2.log"))
+        self.assertEqual((kept.fault, kept.file), ("it is closed", self.folder / "my-2.log"))
         self.assertEqual((self.folder / "my-2.log").read_bytes(), b"other\n")
         self.assertEqual(log_files.keep(b"x", io.BytesIO(), None), log_files.Kept(None, None))
 
