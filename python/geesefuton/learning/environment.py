@@ -39,7 +39,7 @@ from typing import Any, Callable, Dict, List, Mapping, Optional, Sequence, Tuple
 
 from geesefuton import program
 from geesefuton.learning.interfaces import ParallelEnv
-from geesefuton.learning.market import LimitError, Market, score_rows
+from geesefuton.learning.market import LimitError, Market
 from geesefuton.learning.rivals import Maker, Players, Rivals, maker_of
 from geesefuton.learning.scores import Scorer
 from geesefuton.records.books import Books, text_of
@@ -131,7 +131,7 @@ class Environment(ParallelEnv):  # type: ignore[misc]
         self._script = b""  # of a game that is no longer played
         self._boards: List[Tuple[int, int, bool]] = []
         self._books: Optional[Books] = None
-        self._held: List[Tuple[int, ...]] = []  # the holdings of each seat after so many moves
+        self._known: List[Tuple[str, int, Values]] = []  # what each agent sees until more moves
         self._moves = -1
         self._clients: List[Tuple[Tuple[int, ...], ...]] = []
         self._players: Optional[Players] = None  # the rivals
@@ -222,8 +222,8 @@ class Environment(ParallelEnv):  # type: ignore[misc]
         self._clear(market.text)
         self._market = market
         self._books, self._boards = market.books, list(market.books.boards)
-        self._clients = [tuple((client.arrive, client.depart, client.premium, *client.values)
-                               for client in clients) for clients in game.clients]
+        self._clients = [tuple([client[:3] + client.values for client in clients])
+                         for clients in game.clients]
         self._scorer = Scorer(game) if self._has_scores else None
         self._players = Players(market, self._rivals, seed)
         self.agents = list(self.possible_agents)
@@ -331,7 +331,7 @@ class Environment(ParallelEnv):  # type: ignore[misc]
         infos: Values = {agent: {} for agent in agents}
         if is_over:
             self.log = market.finish()
-            self._scores_now = [row[-1] for row in score_rows(self.log)]
+            self._scores_now = market.scores
             rewards = {agent: self._scores_now[self._seats[agent]] for agent in agents}
             self.close()
         if self._scorer is not None:
@@ -347,12 +347,17 @@ class Environment(ParallelEnv):  # type: ignore[misc]
         books, tick, round_, boards = self._books, self.tick, self.round, self._boards
         assert books is not None
         if self._moves != books.moves:
-            self._held, self._moves = list(map(tuple, books.holdings)), books.moves
-        held, cash, clients = self._held, books.cash, self._clients
-        return {agent: {"tick": tick, "round": round_, "quotes": boards, "holdings": held[seat],
-                        "cash": cash[seat], "clients": clients[seat],
-                        "replies": replies.get(seat, [])}
-                for agent, seat in self._seats.items()}
+            self._moves = books.moves
+            self._known = [(agent, seat, {
+                "tick": 0, "round": 0, "quotes": boards, "holdings": tuple(books.holdings[seat]),
+                "cash": books.cash[seat], "clients": self._clients[seat], "replies": []})
+                for agent, seat in self._seats.items()]
+        observations: Values = {}
+        for agent, seat, known in self._known:
+            seen = observations[agent] = known.copy()  # quicker than to make it from its parts
+            seen["tick"], seen["round"], seen["quotes"] = tick, round_, boards
+            seen["replies"] = replies.get(seat) or []
+        return observations
 
     def clone(self) -> "Environment":
         """The same environment in the same game, which goes on by itself, in a process of its own.

@@ -31,6 +31,7 @@ class Market:
         text: Its canonical text.
         books: What stands, is held and was paid.
         changes: How many bids and withdrawals were answered by an auction.
+        scores: The score of each seat in dollars, once the game is over; before, there are none.
 
     Args:
         game: The game.
@@ -49,6 +50,7 @@ class Market:
         self._script: List[bytes] = []
         self._waiting = b""  # ticks that the process was not told yet
         self.changes = 0
+        self.scores: List[int] = []
         self._lines = [0] * SEATS  # that each seat has asked
         self._bytes = len(TICK) * TICKS  # of the script
 
@@ -136,8 +138,10 @@ class Market:
         """
         self._exchange(b"", 0)
         log = self._process.finish()
-        if [row[1] for row in score_rows(log)] != self.books.cash:
+        rows = score_rows(log)
+        if [row[1] for row in rows] != self.books.cash:
             raise program.ProgramError("the cash of the log differs from that of the books")
+        self.scores = [row[-1] for row in rows]
         return log
 
     def copied(self) -> Market:

@@ -9,7 +9,7 @@ from types import ModuleType
 from typing import Callable, Dict, List, Mapping, Optional, Protocol, Tuple, Union, cast
 
 from geesefuton import program
-from geesefuton.learning.market import Market, score_rows
+from geesefuton.learning.market import Market
 from geesefuton.records.games import TICKS, Game
 from geesefuton.records.order import order_of_turn
 from geesefuton.records.replies import Own, Quote, ReplyError, read_words, text_of_points
@@ -164,6 +164,7 @@ def scores_of(game: Game, makers: Mapping[int, Maker], seed: int) -> List[int]:
                 if seat in makers:
                     players.act(seat)
             market.advance()
-        return [row[-1] for row in score_rows(market.finish())]
+        market.finish()
+        return market.scores
     finally:
         market.close()

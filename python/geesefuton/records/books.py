@@ -7,6 +7,7 @@ agree with it.
 
 from __future__ import annotations
 
+from itertools import repeat
 from typing import Dict, List, Optional, Sequence, Tuple
 
 from geesefuton.records.games import (AUCTIONS, CLOCK, FLIGHTS, HOTELS, HOUSE, SEATS, TICKETS,
@@ -24,16 +25,18 @@ class FlightBook:
 
     Attributes:
         price: The price now, in dollars.
+        prices: Its prices before the first tick and after each of the ticks 1 to 53, in dollars.
+        bids: For each agent what stands of its bid, as units and dollars for each.
     """
 
     def __init__(self, prices: Sequence[int]) -> None:
-        self.price, self._prices = prices[0], prices
-        self._bids: Dict[int, List[Tuple[int, int]]] = {}
+        self.price, self.prices = prices[0], prices
+        self.bids: Dict[int, List[Tuple[int, int]]] = {}
 
     def copied(self) -> FlightBook:
         """The same flight, which goes on by itself."""
-        other = FlightBook(self._prices)
-        other.price, other._bids = self.price, dict(self._bids)
+        other = FlightBook(self.prices)
+        other.price, other.bids = self.price, dict(self.bids)
         return other
 
     def board(self) -> Tuple[int, int]:
@@ -42,31 +45,31 @@ class FlightBook:
 
     def bid(self, agent: int, points: Points) -> List[Side]:
         """An agent's bid is admitted, and replaces its earlier one."""
-        self._bids[agent] = list(points)
+        self.bids[agent] = list(points)
         return self._sell([agent])
 
     def withdraw(self, agent: int) -> None:
         """What stands of an agent's bid is taken back."""
-        self._bids.pop(agent, None)
+        self.bids.pop(agent, None)
 
     def update(self, tick: int) -> List[Side]:
         """The price of a tick comes, 1 to 53."""
-        self.price = self._prices[tick]
-        return self._sell(list(self._bids)) if self._bids else []
+        self.price = self.prices[tick]
+        return self._sell(list(self.bids)) if self.bids else []
 
     def move(self, price: int) -> None:
         """A price comes, and takes what stands at it or above."""
         self.price = price
-        self._sell(list(self._bids))
+        self._sell(list(self.bids))
 
     def _sell(self, agents: List[int]) -> List[Side]:
         trades = []
         for agent in agents:
             trades += [(agent, units, self.price)
-                       for units, price in self._bids[agent] if price >= self.price]
-            self._bids[agent] = [point for point in self._bids[agent] if point[1] < self.price]
-            if not self._bids[agent]:
-                del self._bids[agent]
+                       for units, price in self.bids[agent] if price >= self.price]
+            self.bids[agent] = [point for point in self.bids[agent] if point[1] < self.price]
+            if not self.bids[agent]:
+                del self.bids[agent]
         return trades
 
 
@@ -202,12 +205,15 @@ class Books:
         self._flights = [FlightBook(prices_of(flight)) for flight in game.flights]
         self._nights = [NightBook(rooms, game.live) for rooms in game.rooms]
         self._tickets = [TicketBook() for _ in TICKETS]
-        self.boards: List[Board] = [(0, flight.price, False) for flight in self._flights]
-        self.boards += [(0, 0, False)] * (len(HOTELS) + len(TICKETS))
+        # The boards of all flights after each tick.
+        self._fares = list(zip(*(zip(repeat(0), flight.prices, repeat(False))
+                                 for flight in self._flights)))
+        self.boards: List[Board] = [*self._fares[0],
+                                    *[(0, 0, False)] * (len(HOTELS) + len(TICKETS))]
 
     def bid(self, seat: int, good: int, points: Points) -> None:
         """A bid is admitted."""
-        auction = self._auction(good)
+        auction = self._timed(good)
         self._book(good, auction.bid(seat, points))
         self.boards[good] = (*auction.board(), False)
 
@@ -251,7 +257,7 @@ class Books:
 
     def withdraw(self, seat: int, good: int) -> None:
         """A withdrawal of a flight's or a ticket's bid is admitted."""
-        auction = self._auction(good)
+        auction = self._timed(good)
         assert not isinstance(auction, NightBook)
         auction.withdraw(seat)
         self.boards[good] = (*auction.board(), False)
@@ -265,12 +271,10 @@ class Books:
             self.boards = [*((bid, ask, True) for bid, ask, _ in self.boards[:TICKETS.start]),
                            *[(0, 0, True)] * len(TICKETS)]
             return
-        tick, boards = self.tick, self.boards
+        self.boards[:HOTELS.start] = self._fares[self.tick]
         for good, flight in enumerate(self._flights):
-            trades = flight.update(tick)
-            if trades:
-                self._book(good, trades)
-            boards[good] = (0, flight.price, False)
+            if flight.bids:
+                self._book(good, flight.update(self.tick))
         if self.tick % MINUTE == 0 and self.tick <= MINUTE * len(HOTELS):
             closing = self._closing[self.tick // MINUTE - 1]
             self._book(closing, self._nights[closing - HOTELS.start].close())
@@ -290,13 +294,19 @@ class Books:
         """The same books, which go on by themselves."""
         other = object.__new__(Books)
         other.tick, other._closing, other.boards = self.tick, self._closing, self.boards[:]
-        other._drawn = self._drawn
+        other._drawn, other._fares = self._drawn, self._fares
         other.holdings, other.cash = [held[:] for held in self.holdings], self.cash[:]
         other.moves = self.moves
         other._flights = [flight.copied() for flight in self._flights]
         other._nights = [night.copied() for night in self._nights]
         other._tickets = [tickets.copied() for tickets in self._tickets]
         return other
+
+    def _timed(self, good: int) -> "FlightBook | NightBook | TicketBook":
+        """An auction as of this tick. A flight in which no bid stands is not updated before."""
+        if good in FLIGHTS:
+            self._flights[good].update(self.tick)
+        return self._auction(good)
 
     def _auction(self, good: int) -> "FlightBook | NightBook | TicketBook":
         if good in FLIGHTS:

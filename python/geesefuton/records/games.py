@@ -22,10 +22,13 @@ MOST_ROOMS = 64
 DRAWS = 53  # of a flight, one for each tick but the last
 MOST_BYTES = 1 << 20  # of a game file
 
-# The ranges of a line's numbers behind those that say whose it is.
-FARES = (range(250, 401), range(-10, 31), *[range(1 << 32)] * DRAWS)
-UNITS = (range(17),) * len(TICKETS)
-WISHES = (range(1, 5), range(2, 6), range(50, 151), *[range(201)] * 3)
+# The ranges of a line's numbers: those that say whose it is, and those behind them.
+_FARES = [(range(good, good + 1), range(250, 401), range(-10, 31), *[range(1 << 32)] * DRAWS)
+          for good in FLIGHTS]
+_UNITS = [(range(agent, agent + 1), *[range(17)] * len(TICKETS)) for agent in range(SEATS)]
+_WISHES = [[(range(agent, agent + 1), range(number, number + 1), range(1, 5), range(2, 6),
+             range(50, 151), *[range(201)] * 3) for number in range(CLIENTS)]
+           for agent in range(SEATS)]
 
 
 class Auction(NamedTuple):
@@ -220,9 +223,8 @@ def _line(*words: object) -> str:
 class _Lines:
     """The lines of a game file that count, with their numbers."""
 
-    def __init__(self, text: str, is_canonical: bool = False) -> None:
+    def __init__(self, text: str) -> None:
         lines = text.split("\n")
-        self.is_canonical = is_canonical
         self.last = len(lines)
         self.whole = lines[-1] == ""
         self.rest = [(number, line) for number, line in enumerate(lines[:-1], 1)
@@ -250,8 +252,7 @@ class _Lines:
             numbers = list(map(int, words))
         except ValueError:
             numbers = []
-        if self.is_canonical and numbers or (
-                list(map(str, numbers)) == words and all(map(range.__contains__, ranges, numbers))):
+        if list(map(str, numbers)) == words and all(map(range.__contains__, ranges, numbers)):
             return numbers
         return [self._number(text, each[0], each[-1]) for text, each in zip(words, ranges)]
 
@@ -276,20 +277,47 @@ def is_seat_word(word: str) -> bool:
     return 1 <= len(word) <= 16 and set(word) <= letters
 
 
+def _read_made(text: str) -> Game:
+    """Reads the text of a game that `tac make` wrote, by the places of its lines.
+
+    Raises:
+        ValueError: The text is none.
+    """
+    lines = text.split("\n")
+    close, endow, client, end = 10, 11, 19, 83
+    if lines[0] != "tac 1" or lines[end:] != ["end", ""]:
+        raise ValueError
+    flights = [list(map(int, line.split(" ")[2:])) for line in lines[2:close]]
+    words = " ".join(lines[client:end]).split(" ")  # nine of each client
+    arrive, depart, premium, *values = [map(int, words[column::9]) for column in range(3, 9)]
+    clients = list(map(Client, arrive, depart, premium, zip(*values)))
+    return Game(tuple(lines[1].split(" ")[1:]),
+                tuple(Flight(first, bound, tuple(draws)) for first, bound, *draws in flights),
+                tuple(map(int, lines[close].split(" ")[1:])),
+                tuple(tuple(map(int, line.split(" ")[2:])) for line in lines[endow:client]),
+                tuple(tuple(clients[place:place + CLIENTS])
+                      for place in range(0, SEATS * CLIENTS, CLIENTS)))
+
+
 def read_game(text: str, is_canonical: bool = False) -> Game:
     """Reads the text of a game file, of version 1 or 2, in the form that `tac` accepts.
 
     Args:
         text: The text.
-        is_canonical: Whether `tac` wrote it. Then its numbers are not checked again, which is half
-            of the work.
+        is_canonical: Whether `tac` wrote it. Then its lines are not checked again if it is of
+            version 1, which is two thirds of the work.
 
     Raises:
         GameError: The text is no game file; the error names its first bad line.
     """
+    if is_canonical:
+        try:
+            return _read_made(text)
+        except ValueError:
+            pass  # it is of version 2, or gets its error below
     if len(text) > MOST_BYTES:
         raise GameError(1, f"more than {MOST_BYTES:,} bytes: this is not a game file")
-    lines = _Lines(text, is_canonical)
+    lines = _Lines(text)
     version = lines.take("tac", 1)[0]
     if version not in ("1", "2"):
         raise GameError(lines.number, f"version {version[:20]!r} is neither 1 nor 2")
@@ -298,7 +326,7 @@ def read_game(text: str, is_canonical: bool = False) -> Game:
         if not is_seat_word(word):
             raise GameError(lines.number, f"{word[:40]!r} is not a seat word")
     lines.different(words)
-    flights = [_read_flight(lines, good) for good in FLIGHTS]
+    flights = [_read_flight(lines, ranges) for ranges in _FARES]
     closing = lines.numbers("close", [HOTELS] * 8)
     lines.different(closing)
     rooms, live = [ROOMS] * 8, False
@@ -308,9 +336,8 @@ def read_game(text: str, is_canonical: bool = False) -> Game:
         if quotes not in ("minute", "live"):
             raise GameError(lines.number, f"expected `minute` or `live`, not {quotes[:20]!r}")
         live = quotes == "live"
-    endow = [lines.numbers("endow", [_just(agent), *UNITS])[1:] for agent in range(SEATS)]
-    clients = [[_read_client(lines, agent, number) for number in range(CLIENTS)]
-               for agent in range(SEATS)]
+    endow = [lines.numbers("endow", ranges)[1:] for ranges in _UNITS]
+    clients = [[_read_client(lines, ranges) for ranges in wishes] for wishes in _WISHES]
     lines.take("end", 0)
     if lines.place < len(lines.rest):
         raise GameError(lines.rest[lines.place][0], "a line follows `end`")
@@ -320,19 +347,13 @@ def read_game(text: str, is_canonical: bool = False) -> Game:
                 tuple(map(tuple, clients)), tuple(rooms), live, int(version))
 
 
-def _just(number: int) -> range:
-    """The range of a number alone."""
-    return range(number, number + 1)
-
-
-def _read_flight(lines: _Lines, good: int) -> Flight:
-    _, first, bound, *draws = lines.numbers("flight", [_just(good), *FARES])
+def _read_flight(lines: _Lines, ranges: Sequence[range]) -> Flight:
+    _, first, bound, *draws = lines.numbers("flight", ranges)
     return Flight(first, bound, tuple(draws))
 
 
-def _read_client(lines: _Lines, agent: int, number: int) -> Client:
-    _, _, arrive, depart, premium, first, second, third = lines.numbers(
-        "client", [_just(agent), _just(number), *WISHES])
+def _read_client(lines: _Lines, ranges: Sequence[range]) -> Client:
+    _, _, arrive, depart, premium, first, second, third = lines.numbers("client", ranges)
     if depart <= arrive:
         raise GameError(lines.number, f"the departure {depart} is not after the arrival {arrive}")
     return Client(arrive, depart, premium, (first, second, third))

@@ -4,6 +4,8 @@ The rules of `tac` are proved in its crates. This is the same in Python, for pag
 """
 
 from functools import lru_cache
+from itertools import accumulate
+from operator import add, mod
 from typing import List, Sequence, Tuple
 
 from geesefuton.records.games import FLIGHTS, HOTELS, TICKS, Flight, Game
@@ -14,36 +16,42 @@ MINUTE = 6  # ticks from one call of the clock in a hotel to the next
 
 
 @lru_cache(maxsize=None)
-def _moves(bound: int) -> Tuple[Tuple[int, int], ...]:
+def _moves(bound: int) -> Tuple[Tuple[int, ...], Tuple[int, ...]]:
     """For each tick from 1 by how many dollars at least the price of a flight of a bound may move,
     and how many moves there are."""
-    moves = []
+    lows, counts = [], []
     for tick in range(1, TICKS + 1):
         limit = 10 + tick * (bound - 10) // TICKS
         low, high = (-10, limit) if limit > 0 else (limit, 10) if limit < 0 else (-10, 10)
-        moves.append((low, high - low + 1))
-    return tuple(moves)
+        lows.append(low)
+        counts.append(high - low + 1)
+    return tuple(lows), tuple(counts)
 
 
-def _path(price: int, moves: Sequence[Tuple[int, int]], draws: Sequence[int]) -> List[int]:
+def _kept_in(price: int, move: int) -> int:
+    """A price after a move, in dollars."""
+    return min(max(price + move, LOWEST), HIGHEST)
+
+
+def _path(price: int, lows: Sequence[int], counts: Sequence[int],
+          draws: Sequence[int]) -> List[int]:
     """A price, and those that follow by the moves and draws of ticks, in dollars."""
-    prices = [price]
-    for (low, count), draw in zip(moves, draws):
-        price += low + draw % count
-        if not LOWEST <= price <= HIGHEST:
-            price = LOWEST if price < LOWEST else HIGHEST
-        prices.append(price)
-    return prices
+    moves = list(map(add, lows, map(mod, draws, counts)))
+    prices = list(accumulate(moves, initial=price))
+    if LOWEST <= min(prices) and max(prices) <= HIGHEST:
+        return prices  # as of most flights, and without a call for each tick
+    return list(accumulate(moves, _kept_in, initial=price))
 
 
 def next_price(flight: Flight, price: int, tick: int, draw: int) -> int:
     """The price of a flight in dollars after the update of a tick with a draw."""
-    return _path(price, _moves(flight.bound)[tick - 1:tick], [draw])[1]
+    lows, counts = _moves(flight.bound)
+    return _kept_in(price, lows[tick - 1] + draw % counts[tick - 1])
 
 
 def prices_of(flight: Flight) -> List[int]:
     """A flight's prices in dollars, before the first tick and after each of the ticks 1 to 53."""
-    return _path(flight.first, _moves(flight.bound), flight.draws)
+    return _path(flight.first, *_moves(flight.bound), flight.draws)
 
 
 def clock_ticks(game: Game, good: int) -> List[int]:
