@@ -7,23 +7,26 @@ the package, or crates/tacd/out/tacd of the clone that contains the package.
 import atexit
 import contextlib
 import errno
+import fcntl
 import os
 import platform
 import shutil
 import signal
-import subprocess
 import tempfile
 import threading
+import time
 from pathlib import Path
-from typing import Iterator, List, Optional, Sequence, Set, Tuple, Union
+from typing import Any, Iterator, List, Mapping, Optional, Sequence, Set, Tuple, Union
 
 __all__ = [
     "INPUT", "LEAST_LIBRARY", "MEANINGS", "OK", "CLOCK", "UNSOUND", "ProgramError", "audit",
-    "ended", "examples", "find", "find_runnable", "library", "make", "nameless_file", "play", "run",
-    "served_words", "show", "solve", "table", "top", "upgrade", "vouch", "why_not_run", "worth",
+    "ended", "examples", "exit_status", "find", "find_runnable", "library", "make", "moved",
+    "nameless_file", "play", "run", "served_words", "show", "solve", "start", "table", "top",
+    "upgrade", "vouch", "why_not_run", "worth",
 ]
 
 Word = Union[str, int, "os.PathLike[str]"]
+Moves = List[Tuple[Any, ...]]
 
 OK, CLOCK, UNSOUND = 0, 6, 9  # exit statuses
 INPUT = "/dev/stdin"  # the file that has what a command is given
@@ -43,7 +46,7 @@ MEANINGS = {
 }
 
 _starting = threading.Lock()  # held while a process is started
-_running: "Set[subprocess.Popen[bytes]]" = set()  # what was started and has not ended
+_running: Set[int] = set()  # the processes that were started and have not ended
 
 
 class ProgramError(Exception):
@@ -94,6 +97,8 @@ def find() -> str:
         name = str(clone / "crates" / "tacd" / "out" / "tacd") if clone else None
     if name is None:
         raise ProgramError("there is no program: set the variable TAC to the file of tac")
+    if name.startswith("/") and os.access(name, os.X_OK) and not os.path.isdir(name):
+        return name
     file = shutil.which(name)
     if file is None:
         if os.path.isfile(name):
@@ -144,37 +149,117 @@ def run(command: str, *words: Word, given: bytes = b"", allowed: Sequence[int] =
         ProgramError: There is no program, it ended with another status, or took too long.
     """
     file = find_runnable()
-    child: "Optional[subprocess.Popen[bytes]]" = None
-    output = nameless_file()  # through a pipe each line that it writes would wake this process
+    child: Optional[int] = None
+    held: List[int] = []
+    moves: Moves = [(os.POSIX_SPAWN_OPEN, 0, os.devnull, os.O_RDONLY, 0)]
     try:
+        if given:
+            held.append(nameless_file(given))
+            moves = [(os.POSIX_SPAWN_DUP2, held[0], 0)]
+        output = nameless_file()  # through a pipe each line that it writes would wake this process
+        held.append(output)
+        moves.append((os.POSIX_SPAWN_DUP2, output, 1))
         with _held_signals(), _starting:
-            child = subprocess.Popen([file, command, *map(str, words)], stdout=output,
-                                     stdin=subprocess.PIPE if given else subprocess.DEVNULL)
+            child = start(file, [file, command, *map(str, words)], moves)
             _running.add(child)
-        child.communicate(given or None, timeout)
+        status = exit_status(child, timeout)
+        _running.discard(child)
+        child = None
         data = os.pread(output, os.fstat(output).st_size, 0)
-    except subprocess.TimeoutExpired:
+    except TimeoutError:
         raise ProgramError(f"tac {command} took longer than {timeout:g} seconds") from None
     except OSError as fault:
         raise ProgramError(why_not_run(file, fault)) from None
     finally:
         if child is not None:
-            child.kill()  # does nothing if it has ended
-            child.__exit__(None, None, None)
+            _end(child)
+            exit_status(child)
             _running.discard(child)
-        os.close(output)
+        for each in held:
+            os.close(each)
     text = data.decode("ascii", "replace")
-    if child.returncode not in allowed:
-        raise ended(command, child.returncode, text.split("\n", 1)[0])
+    if status not in allowed:
+        raise ended(command, status, text.split("\n", 1)[0])
     return text
 
 
-def nameless_file() -> int:
-    """The descriptor of a new file without a name, so that none is left behind."""
+def start(file: str, words: Sequence[str], moves: Moves, **how: int) -> int:
+    """Starts a process of tac, and gives its number.
+
+    Args:
+        file: The file of tac.
+        words: What it is called, and its arguments.
+        moves: Where its descriptors come from (`file_actions` of `os.posix_spawn`).
+        how: Further arguments of `os.posix_spawn`.
+
+    Raises:
+        OSError: It cannot be run.
+    """
+    # Python would read each variable by itself from `os.environb`, which takes as long as the rest.
+    variables: Mapping[bytes, bytes] = getattr(os.environb, "_data", os.environb)
+    return os.posix_spawn(file, words, variables, file_actions=moves,
+                          setsigdef=[signal.SIGPIPE, signal.SIGXFSZ], **how)
+
+
+def exit_status(process: int, timeout: Optional[float] = None) -> int:
+    """Waits for the end of a process, and gives its exit status, negative for a signal.
+
+    Args:
+        process: Its number.
+        timeout: The seconds that it may take; None for no limit.
+
+    Raises:
+        TimeoutError: It took longer.
+    """
+    end, pause = time.monotonic() + (timeout or 0), 0.0005
+    while True:
+        try:
+            found, status = os.waitpid(process, 0 if timeout is None else os.WNOHANG)
+        except ChildProcessError:
+            return 0  # somebody else has waited for it
+        if found:
+            return -os.WTERMSIG(status) if os.WIFSIGNALED(status) else os.WEXITSTATUS(status)
+        left = end - time.monotonic()
+        if left <= 0:
+            raise TimeoutError
+        pause = min(2 * pause, left, 0.05)
+        time.sleep(pause)
+
+
+def _end(process: int) -> None:
+    """Ends a process, if it has not ended."""
+    with contextlib.suppress(ProcessLookupError):  # somebody else has waited for it
+        os.kill(process, signal.SIGKILL)
+
+
+def nameless_file(text: bytes = b"") -> int:
+    """The descriptor of a new file without a name, so that none is left behind, which holds a
+    text."""
     if hasattr(os, "memfd_create"):
-        return os.memfd_create("tac")
-    with tempfile.TemporaryFile() as file:
-        return os.dup(file.fileno())
+        number = os.memfd_create("tac")
+    else:
+        with tempfile.TemporaryFile() as file:
+            number = os.dup(file.fileno())
+    if number <= 2:  # a standard stream is closed here
+        number = moved(number, 3)
+    try:
+        rest = memoryview(text)
+        while rest:
+            rest = rest[os.write(number, rest):]
+        if text:
+            os.lseek(number, 0, os.SEEK_SET)
+    except BaseException:
+        os.close(number)
+        raise
+    return number
+
+
+def moved(number: int, least: int) -> int:
+    """A descriptor in place of another one, which is closed: the next free one from `least` on."""
+    try:
+        return fcntl.fcntl(number, fcntl.F_DUPFD_CLOEXEC, least)
+    finally:
+        os.close(number)
 
 
 @contextlib.contextmanager
@@ -203,7 +288,7 @@ def _end_running() -> None:
     """Ends what daemon threads have started when their script ends: they go no further."""
     _starting.acquire()  # for good: nothing more is started
     for child in list(_running):
-        child.kill()
+        _end(child)
 
 
 def why_not_run(file: str, fault: OSError) -> str:

@@ -5,7 +5,7 @@ import tempfile
 import time
 import unittest
 from pathlib import Path
-from typing import Any, Dict, List
+from typing import Any, Dict, List, Tuple
 from unittest import mock
 
 from geesefuton import program
@@ -152,19 +152,25 @@ class Commands(unittest.TestCase):
 
         former = signal.signal(signal.SIGINT, interrupt)
         self.addCleanup(signal.signal, signal.SIGINT, former)
-        made: List[Any] = []
-        make = subprocess.Popen
+        made: List[int] = []
+        make, end = os.posix_spawn, os.waitpid
+        ends: List[Tuple[int, int]] = []
 
-        def slow(*words: Any, **how: Any) -> Any:
+        def slow(*words: Any, **how: Any) -> int:
             made.append(make(*words, **how))
             signal.raise_signal(signal.SIGINT)  # comes before the caller has the process
             return made[0]
 
+        def ended(*words: Any) -> Tuple[int, int]:
+            ends.append(end(*words))
+            return ends[-1]
+
         self.set({"TAC": fake_program(self.place, "exec sleep 60")})
-        with mock.patch("subprocess.Popen", slow), self.assertRaises(Interrupted):
+        with mock.patch("os.posix_spawn", slow), mock.patch("os.waitpid", ended), \
+                self.assertRaises(Interrupted):
             program.make(1)
         self.assertIs(signal.getsignal(signal.SIGINT), interrupt)
-        self.assertEqual(made[0].returncode, -signal.SIGKILL)
+        self.assertEqual(ends, [(made[0], signal.SIGKILL)])
 
     def test_the_file_is_that_of_the_variable_and_holds_in_any_folder(self) -> None:
         file = fake_program(self.place, "exit")

@@ -11,7 +11,6 @@ A game belongs to the process that began it. A process forked from that one clos
 without any effect on the game, and no game can be copied or pickled.
 """
 
-import fcntl
 import os
 import select
 import signal
@@ -20,10 +19,10 @@ import weakref
 from types import TracebackType
 from typing import List, NoReturn, Optional, Sequence, Type, Union
 
-from geesefuton.program import (INPUT, OK, ProgramError, Word, ended, find_runnable,
-                                nameless_file)
+from geesefuton.program import (INPUT, OK, Moves, ProgramError, Word, ended, exit_status,
+                                find_runnable, moved, nameless_file, start)
 
-GAME = 3  # the descriptor at which the process finds the text of a game
+GAME = 63  # the descriptor at which the process finds the text of a game; seldom one in use here
 MOST_READ = 1 << 16  # bytes read at once, which is what a pipe holds
 PAUSE = 0.0004  # seconds between two reads of a log
 
@@ -46,14 +45,14 @@ class Stepped:
         _open_games.add(self)
         held: List[int] = []  # what only the process needs
         try:
-            script, self._script = map(_above, os.pipe())
+            script, self._script = map(_apart, os.pipe())
             held.append(script)
-            self._replies, replies = map(_above, os.pipe())
+            self._replies, replies = map(_apart, os.pipe())
             held.append(replies)
             os.set_blocking(self._script, False)
-            moves = [(os.POSIX_SPAWN_DUP2, script, 0), (os.POSIX_SPAWN_DUP2, replies, 1)]
+            moves: Moves = [(os.POSIX_SPAWN_DUP2, script, 0), (os.POSIX_SPAWN_DUP2, replies, 1)]
             if isinstance(game, bytes):
-                held.append(_above(_kept(game)))
+                held.append(_apart(nameless_file(game)))
                 moves.append((os.POSIX_SPAWN_DUP2, held[-1], GAME))
                 game = f"/dev/fd/{GAME}"
             self._process = _spawn(find_runnable(), ["tac", "step", str(game), INPUT], moves)
@@ -179,12 +178,9 @@ class Stepped:
     def _wait(self) -> int:
         """The exit status of the process, negative for a signal."""
         assert self._process is not None
-        try:
-            status = os.waitpid(self._process, 0)[1]
-        except ChildProcessError:
-            status = 0  # somebody else has waited for it
+        status = exit_status(self._process)
         self._process = None
-        return -os.WTERMSIG(status) if os.WIFSIGNALED(status) else os.WEXITSTATUS(status)
+        return status
 
     def _fault(self, parts: Sequence[bytes]) -> ProgramError:
         """Why the process has ended before the end of the script, after these parts of its text."""
@@ -219,13 +215,9 @@ def _close_inherited() -> None:
 os.register_at_fork(after_in_child=_close_inherited)
 
 
-def _above(number: int) -> int:
+def _apart(number: int) -> int:
     """A descriptor, moved away from those that the process gets."""
-    if number > GAME:
-        return number
-    moved = fcntl.fcntl(number, fcntl.F_DUPFD_CLOEXEC, GAME + 1)
-    os.close(number)
-    return moved
+    return number if number > 2 and number != GAME else moved(number, GAME + 1)
 
 
 def _closed(number: int) -> int:
@@ -235,25 +227,10 @@ def _closed(number: int) -> int:
     return -1
 
 
-def _kept(text: bytes) -> int:
-    """A descriptor of a file without a name that holds a text, so that none is left behind."""
-    number = nameless_file()
-    try:
-        rest = memoryview(text)
-        while rest:
-            rest = rest[os.write(number, rest):]
-        os.lseek(number, 0, os.SEEK_SET)
-    except BaseException:
-        os.close(number)
-        raise
-    return number
-
-
-def _spawn(file: str, words: List[str], moves: "List[tuple[int, int, int]]") -> int:
+def _spawn(file: str, words: List[str], moves: Moves) -> int:
     """Starts a process in a group of its own, which ctrl-C at a terminal does not reach."""
     try:
-        return os.posix_spawn(file, words, os.environb, file_actions=moves, setpgroup=0,
-                              setsigdef=[signal.SIGPIPE])
+        return start(file, words, moves, setpgroup=0)
     except OSError as fault:
         raise ProgramError(f"cannot run the file of tac: {fault.strerror}") from None
 
