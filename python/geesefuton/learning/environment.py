@@ -282,7 +282,7 @@ class Environment(ParallelEnv):  # type: ignore[misc]
         """
         if self._market is None:
             raise ActionError("no game has begun: call reset first")
-        if not isinstance(actions, abc.Mapping):
+        if not isinstance(actions, (dict, abc.Mapping)):
             raise ActionError(f"expected actions as a dictionary by agent, not {actions!r:.60}")
         asked: Dict[int, List[str]] = {}
         for agent, requests in actions.items():

@@ -7,7 +7,6 @@ agree with it.
 
 from __future__ import annotations
 
-from itertools import repeat
 from typing import Dict, List, Optional, Sequence, Tuple
 
 from geesefuton.records.games import (AUCTIONS, CLOCK, FLIGHTS, HOTELS, HOUSE, SEATS, TICKETS,
@@ -111,6 +110,8 @@ class NightBook:
 
     def ask(self) -> int:
         """The price of the last unit that would get a room, in dollars; 0 if fewer units stand."""
+        if not self._bids:
+            return 0
         units = self._units()
         return -units[self._rooms - 1][0] if len(units) >= self._rooms else 0
 
@@ -205,11 +206,10 @@ class Books:
         self._flights = [FlightBook(prices_of(flight)) for flight in game.flights]
         self._nights = [NightBook(rooms, game.live) for rooms in game.rooms]
         self._tickets = [TicketBook() for _ in TICKETS]
-        # The boards of all flights after each tick.
-        self._fares = list(zip(*(zip(repeat(0), flight.prices, repeat(False))
-                                 for flight in self._flights)))
-        self.boards: List[Board] = [*self._fares[0],
-                                    *[(0, 0, False)] * (len(HOTELS) + len(TICKETS))]
+        # The prices of all flights before the first tick and after each of the others.
+        self._fares = list(zip(*(flight.prices for flight in self._flights)))
+        self.boards: List[Board] = [(0, price, False) for price in self._fares[0]]
+        self.boards += [(0, 0, False)] * (len(HOTELS) + len(TICKETS))
 
     def bid(self, seat: int, good: int, points: Points) -> None:
         """A bid is admitted."""
@@ -271,7 +271,7 @@ class Books:
             self.boards = [*((bid, ask, True) for bid, ask, _ in self.boards[:TICKETS.start]),
                            *[(0, 0, True)] * len(TICKETS)]
             return
-        self.boards[:HOTELS.start] = self._fares[self.tick]
+        self.boards[:HOTELS.start] = [(0, price, False) for price in self._fares[self.tick]]
         for good, flight in enumerate(self._flights):
             if flight.bids:
                 self._book(good, flight.update(self.tick))

@@ -1,6 +1,7 @@
 """Game files of both versions, and the numbers and names of auctions, clients and trips."""
 
-from dataclasses import dataclass, field, replace
+from dataclasses import dataclass, replace
+from functools import cached_property
 from itertools import product
 from typing import Iterator, List, NamedTuple, Optional, Sequence, Tuple
 
@@ -181,12 +182,12 @@ class Game:
     rooms: Tuple[int, ...] = (ROOMS,) * 8
     live: bool = False
     version: int = 1
-    hotels: Tuple[Hotel, ...] = field(init=False)  # by good, 8 to 15
 
-    def __post_init__(self) -> None:
-        hotels = tuple(Hotel(rooms, 6 * (self.closing.index(good) + 1))
-                       for good, rooms in zip(HOTELS, self.rooms))
-        object.__setattr__(self, "hotels", hotels)
+    @cached_property
+    def hotels(self) -> Tuple[Hotel, ...]:
+        """The hotel nights 8 to 15."""
+        return tuple(Hotel(rooms, 6 * (self.closing.index(good) + 1))
+                     for good, rooms in zip(HOTELS, self.rooms))
 
     def named(self, words: Sequence[str]) -> "Game":
         """The same game with other seat words."""
@@ -281,18 +282,18 @@ def _read_made(text: str) -> Game:
     """Reads the text of a game that `tac make` wrote, by the places of its lines.
 
     Raises:
-        ValueError: The text is none.
+        TypeError, ValueError: The text is none.
     """
     lines = text.split("\n")
     close, endow, client, end = 10, 11, 19, 83
     if lines[0] != "tac 1" or lines[end:] != ["end", ""]:
         raise ValueError
-    flights = [list(map(int, line.split(" ")[2:])) for line in lines[2:close]]
+    flights = [tuple(map(int, line.split(" ")[2:])) for line in lines[2:close]]
     words = " ".join(lines[client:end]).split(" ")  # nine of each client
     arrive, depart, premium, *values = [map(int, words[column::9]) for column in range(3, 9)]
     clients = list(map(Client, arrive, depart, premium, zip(*values)))
     return Game(tuple(lines[1].split(" ")[1:]),
-                tuple(Flight(first, bound, tuple(draws)) for first, bound, *draws in flights),
+                tuple(Flight(*each[:2], each[2:]) for each in flights),
                 tuple(map(int, lines[close].split(" ")[1:])),
                 tuple(tuple(map(int, line.split(" ")[2:])) for line in lines[endow:client]),
                 tuple(tuple(clients[place:place + CLIENTS])
@@ -313,7 +314,7 @@ def read_game(text: str, is_canonical: bool = False) -> Game:
     if is_canonical:
         try:
             return _read_made(text)
-        except ValueError:
+        except (TypeError, ValueError):
             pass  # it is of version 2, or gets its error below
     if len(text) > MOST_BYTES:
         raise GameError(1, f"more than {MOST_BYTES:,} bytes: this is not a game file")
