@@ -14,7 +14,6 @@ without any effect on the game, and no game can be copied or pickled.
 import os
 import select
 import signal
-import time
 import weakref
 from types import TracebackType
 from typing import List, NoReturn, Optional, Sequence, Type, Union
@@ -24,7 +23,7 @@ from geesefuton.program import (INPUT, OK, Moves, ProgramError, Word, ended, exi
 
 GAME = 63  # the descriptor at which the process finds the text of a game; seldom one in use here
 MOST_READ = 1 << 16  # bytes read at once, which is what a pipe holds
-PAUSE = 0.0004  # seconds between two reads of a log
+FIRST_PAUSE, PAUSE = 20, 1  # milliseconds before the first read of a log and before a further one
 
 
 class Stepped:
@@ -164,16 +163,18 @@ class Stepped:
         return parts
 
     def _rest(self) -> bytes:
-        """What the process still writes, to its end. It writes each line by itself, and a line that
-        is waited for costs a change of processes: so it gets the time to write several."""
+        """What the process still writes, to its end. It writes this in parts, and a part that is
+        waited for costs a change of processes: so its end is waited for, unless the pipe is full."""
         parts: List[bytes] = []
+        pause, poll = FIRST_PAUSE, select.poll()
+        poll.register(self._replies, 0)  # its end alone
         while True:
+            poll.poll(pause)
             part = os.read(self._replies, MOST_READ)
             if not part:
                 return b"".join(parts)
             parts.append(part)
-            if len(part) < MOST_READ:
-                time.sleep(PAUSE)
+            pause = PAUSE if len(part) < MOST_READ else 0
 
     def _wait(self) -> int:
         """The exit status of the process, negative for a signal."""
