@@ -163,8 +163,8 @@ class Stepped:
         return parts
 
     def _rest(self) -> bytes:
-        """What the process still writes, to its end. It writes this in parts, and a part that is
-        waited for costs a change of processes: so its end is waited for, unless the pipe is full."""
+        """What the process still writes, to its end. It writes this in parts, and to wait for each
+        would cost a change of processes: so it waits for the end, unless the pipe is full."""
         parts: List[bytes] = []
         pause, poll = FIRST_PAUSE, select.poll()
         poll.register(self._replies, 0)  # its end alone
