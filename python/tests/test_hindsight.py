@@ -2,9 +2,11 @@ import json
 import re
 import unittest
 from dataclasses import replace
-from typing import Dict, Tuple
+from typing import Dict, List, Optional, Sequence, Tuple
+from unittest import mock
 
-from geesefuton.records.games import CLOCK, HOUSE, SEATS, TICKS, name_of
+from geesefuton.records.best_plans import Plan, best_plan
+from geesefuton.records.games import CLOCK, HOUSE, SEATS, TICKS, Client, name_of
 from geesefuton.records.hindsight import Decision, Story, stories
 from geesefuton.records.hindsight_page import story_html
 from geesefuton.records.logs import Call, Entry, Log, Post, Trade
@@ -15,6 +17,24 @@ from tests.helpers import served_game, served_log
 GAME, LOG = served_game(), served_log()
 TAKEN = read_entry_reply("taken 0 0")
 CLOSED = read_entry_reply("done")
+
+
+FOUND: Dict[object, Plan] = {}
+
+
+def found_once(clients: Sequence[Client], held: Sequence[int], prices: Sequence[Optional[int]],
+               before: Optional[Plan] = None) -> Plan:
+    """The best plan of a seat, which is searched for once: all logs here begin alike."""
+    key = (*clients, *held, *prices, before, before and before.prices)
+    if key not in FOUND:
+        FOUND[key] = best_plan(clients, held, prices, before)
+    return FOUND[key]
+
+
+def told_of(log: Log) -> List[Story]:
+    """The stories of the eight teams by a log of the game."""
+    with mock.patch("geesefuton.records.accounts.best_plan", found_once):
+        return stories(GAME, log)
 
 
 def log_of(histories: Dict[int, Tuple[Entry, ...]]) -> Log:
@@ -35,7 +55,7 @@ def flights(dearer_at: int, until: int = 8) -> Dict[int, Tuple[Entry, ...]]:
     return histories
 
 
-START = stories(GAME, log_of({}))  # nothing happens
+START = told_of(log_of({}))  # nothing happens
 # The first hotel night that closes of those that a team wants, and when it does.
 NIGHT = next(good for good in GAME.closing if any(story.moments[0].wanted[good] for story in START))
 CLOSES = 6 * (GAME.closing.index(NIGHT) + 1)
@@ -49,7 +69,7 @@ def night(*trades: Trade) -> Tuple[Entry, ...]:
 
 class Stories(unittest.TestCase):
     def test_they_end_with_the_scores_of_the_log(self) -> None:
-        made = stories(GAME, LOG)
+        made = told_of(LOG)
         self.assertEqual([len(story.moments) for story in made], [TICKS + 1] * SEATS)
         for story, score in zip(made, LOG.scores):
             last = story.moments[-1]
@@ -62,7 +82,7 @@ class Stories(unittest.TestCase):
     def test_what_is_bought_in_vain_is_told(self) -> None:
         price = GAME.flights[0].first
         bought = Entry(2, Call("bid", ((16, 800),)), TAKEN, (Trade(2, 8, 16, price),))
-        story = stories(GAME, log_of({0: (bought,)}))[2]
+        story = told_of(log_of({0: (bought,)}))[2]
         first = story.decisions[0]
         self.assertIn(f"Tick 0: bought 16 of in, day 1 at {price}", first.text)
         # Eight of them are of no use to eight clients.
@@ -71,17 +91,17 @@ class Stories(unittest.TestCase):
         self.assertEqual(story.moments[0].bids, {})
 
     def test_flights_that_became_dearer_are_told_with_what_waiting_cost(self) -> None:
-        story = stories(GAME, log_of(flights(dearer_at=1, until=2)))[0]
+        story = told_of(log_of(flights(dearer_at=1, until=2)))[0]
         cost = story.moments[0].worth - story.moments[1].worth
         self.assertTrue(any(story.moments[0].wanted[:8]) and cost > 0)
         self.assertEqual(story.decisions, [Decision(
             cost, "Until tick 2: waited with flights that its plans wanted, which became dearer or "
             f"closed meanwhile. Its best plan was worth {cost:,} less afterwards.")])
-        self.assertEqual(stories(GAME, log_of(flights(0, until=1)))[0].decisions, [])
+        self.assertEqual(told_of(log_of(flights(0, until=1)))[0].decisions, [])
 
     def test_rooms_that_were_wanted_and_not_won_are_told_apart_from_flights(self) -> None:
-        alone = stories(GAME, log_of({NIGHT: night()}))
-        both = stories(GAME, log_of({**flights(CLOSES, CLOSES), NIGHT: night()}))
+        alone = told_of(log_of({NIGHT: night()}))
+        both = told_of(log_of({**flights(CLOSES, CLOSES), NIGHT: night()}))
         found = 0
         for story, other in zip(both, alone):
             before, after = other.moments[CLOSES - 1:CLOSES + 1]
@@ -98,7 +118,7 @@ class Stories(unittest.TestCase):
         self.assertGreater(found, 0)
 
     def test_rooms_that_were_won_are_told_with_their_price(self) -> None:
-        story = stories(GAME, log_of({NIGHT: night(Trade(5, HOUSE, 1, 900))}))[5]
+        story = told_of(log_of({NIGHT: night(Trade(5, HOUSE, 1, 900))}))[5]
         wanted = story.moments[0].wanted[NIGHT]
         self.assertIn(f"{name_of(NIGHT)} closed, and it won 1 room at 900 where its best plan "
                       f"wanted {wanted}. ", story.decisions[0].text)
@@ -110,11 +130,11 @@ class Stories(unittest.TestCase):
         sold = Entry(2, Call("bid", ((-4, 1),)), TAKEN, (Trade(1, 2, 4, 1),))
         log = replace(log_of({0: (bought,), 16: (sold,)}), cash=(
             Post(2, 0, 0, (0,) * 9), Post(2, 16, 0, (0,) * 9)))
-        story, other = (stories(GAME, log)[agent] for agent in (2, 1))
+        story, other = (told_of(log)[agent] for agent in (2, 1))
         self.assertIn(f"Tick 0: bought 3 of {name_of(0)} at {price}, sold 4 of {name_of(16)} at "
                       "1. ", story.decisions[0].text)
         self.assertEqual(story.decisions[0].cost,
-                         stories(GAME, log_of({}))[2].moments[0].worth - story.moments[0].worth)
+                         told_of(log_of({}))[2].moments[0].worth - story.moments[0].worth)
         self.assertEqual([decision for decision in other.decisions if "bought 3" in decision.text],
                          [])
 
@@ -124,7 +144,7 @@ class Stories(unittest.TestCase):
             trade = Trade(0, HOUSE, count, GAME.flights[good].first)
             entry = Entry(0, Call("bid", ((count, 800),)), TAKEN, (trade,))
             histories[good] = (*histories[good][:good + 1], entry, *histories[good][good + 1:])
-        story = stories(GAME, log_of(histories))[0]
+        story = told_of(log_of(histories))[0]
         worths = [moment.worth for moment in story.moments[:5]]
         costs = {f"Tick {tick}": before - after
                  for tick, (before, after) in enumerate(zip(worths, worths[1:]), 1)}
@@ -138,7 +158,7 @@ class Stories(unittest.TestCase):
         hotel, flight = GAME.closing[0], (
             Entry(1, Call("bid", ((2, price + 9), (1, price), (3, price - 1))), TAKEN,
                   (Trade(1, HOUSE, 3, price),)),)
-        moments = stories(GAME, log_of({
+        moments = told_of(log_of({
             0: flight, 1: (Entry(1, Call("bid", ((1, 200),)), TAKEN),
                            Entry(1, Call("withdraw"), CLOSED)),
             hotel: (Entry(1, Call("bid", ((2, 50),)), TAKEN),
@@ -151,14 +171,14 @@ class Stories(unittest.TestCase):
 
     def test_bids_that_stand_are_shown(self) -> None:
         stands = Entry(1, Call("bid", ((2, 130), (1, 90))), TAKEN)
-        moments = stories(GAME, log_of({8: (stands,)}))[1].moments
+        moments = told_of(log_of({8: (stands,)}))[1].moments
         self.assertEqual(moments[0].bids, {8: "2 at 130, 1 at 90"})
 
 
 class Page(unittest.TestCase):
     def test_a_team_has_its_decisions_and_its_moments(self) -> None:
         stands = Entry(1, Call("bid", ((2, 130),)), TAKEN)
-        story = stories(GAME, log_of({8: (stands,)}))[1]
+        story = told_of(log_of({8: (stands,)}))[1]
         text = story_html(story)
         found = re.search(r'<script type="application/json">(.*?)</script>', text)
         assert found is not None
