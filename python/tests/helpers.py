@@ -7,8 +7,9 @@ import re
 import subprocess
 import sys
 import unittest
+from functools import lru_cache
 from pathlib import Path
-from typing import Any, Dict, List, Optional, Tuple
+from typing import Any, Callable, Dict, List, Optional, Tuple, TypeVar, Union
 from unittest import mock
 
 from geesefuton import program
@@ -23,6 +24,7 @@ PACKAGE = DATA.parents[1]
 TOP = PACKAGE.parent
 SERVED_GAME, SERVED_LOG = DATA / "served.game", DATA / "served.log"
 PLAYED = DATA / "played.text"
+Decorated = TypeVar("Decorated", bound=Union[type, Callable[..., Any]])  # tests, or a class of them
 
 
 def has_program() -> bool:
@@ -34,6 +36,7 @@ def has_program() -> bool:
     return True
 
 
+@lru_cache(maxsize=1)
 def has_step() -> bool:
     """Whether there is a program that plays a game line by line."""
     try:
@@ -43,8 +46,14 @@ def has_step() -> bool:
     return True
 
 
-needs_program = unittest.skipUnless(has_program(), "there is no program of tac")
-needs_step = unittest.skipUnless(has_step(), "there is no program of tac with the command step")
+def needs_program(case: Decorated) -> Decorated:
+    """Skips tests where there is no program."""
+    return unittest.skipUnless(has_program(), "there is no program of tac")(case)
+
+
+def needs_step(case: Decorated) -> Decorated:
+    """Skips tests where the program cannot play a game line by line."""
+    return unittest.skipUnless(has_step(), "there is no program of tac with the command step")(case)
 
 
 def served_game() -> Game:
@@ -103,6 +112,25 @@ def fake_program(folder: Path, body: str) -> str:
     file.write_text("#!/bin/sh\n" + body)
     file.chmod(0o755)
     return str(file)
+
+
+# The beginning of a stand-in for the process of a game of a tournament, which has its job and its
+# name then. It starts fast: it loads neither the package nor `multiprocessing`, whose messages are
+# four bytes with their length, and then as many of a pickled value.
+STAND_IN = """
+import os, sys, time
+link = int(sys.argv[1])
+def take(size):
+    data = b""
+    while len(data) < size:
+        data += os.read(link, size - len(data)) or sys.exit("nobody asks")
+    return data
+def give(data):
+    os.write(link, len(data).to_bytes(4, "big") + data)
+job = take(int.from_bytes(take(4), "big"))
+name = job.split(b"name\\x94\\x8c", 1)[1]
+name = name[1:1 + name[0]].decode()
+"""
 
 
 class CountingPlayer:

@@ -17,21 +17,17 @@ from geesefuton.experiments.messages import Result
 from geesefuton.experiments.results import Outcome
 from geesefuton.experiments.runs import read_scores
 from geesefuton.processes import Output, Stopped
-from tests.helpers import SERVED_GAME, TOP, fake_program, refusal
+from tests.helpers import SERVED_GAME, STAND_IN, TOP, fake_program, refusal
 
 # A stand-in for the process of a game of two strategies, whose words begin with `dove` and `hawk`:
 # a hawk has 0 for each other hawk and 7 for each dove, a dove 2 for a hawk and 6 for a dove, and
-# each deal another 10 more. It writes which game it plays. It starts fast, since it takes its job
-# and gives its result as bytes: in the one of `played`, `crashed` or `lost` it changes the scores.
-WORKER = """
-import os, re, sys, time
-from multiprocessing.connection import Connection
-parent = Connection(int(sys.argv[1]))
-job = parent.recv_bytes()
-name = re.search(rb"[0-9]+[.][0-9]", job)[0].decode()
+# each deal another 10 more. It writes which game it plays. It gives its result as bytes: in the one
+# of `played`, `crashed` or `lost` it changes the scores.
+WORKER = STAND_IN + """
 with open(os.path.join(os.environ["PLACE"], "begun"), "a") as begun:
     begun.write(name + "\\n")
-hawks = [word.startswith(b"hawk") for word in re.search(rb"\\nwords (.*?)\\n", job)[1].split()]
+words = job.split(b"\\nwords ", 1)[1].split(b"\\n", 1)[0].split()
+hawks = [word.startswith(b"hawk") for word in words]
 result = "crashed" if name == os.environ.get("CRASH") else "played"
 result = "lost" if name == os.environ.get("LOSE") else result
 text = open(os.path.join(os.environ["PLACE"], result), "rb").read()
@@ -39,7 +35,7 @@ for seat, hawk in enumerate(hawks):
     others = sum(hawks) - hawk
     score = 10 * int(name.split(".")[0]) + (7 * (7 - others) if hawk else 42 - 4 * others)
     text = text.replace(b"I%d\\n" % (9000 + seat), b"I%d\\n" % score)
-parent.send_bytes(text)
+give(text)
 time.sleep(60)
 """
 

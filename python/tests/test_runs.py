@@ -3,15 +3,18 @@ import os
 import pickle
 import random
 import signal
-import subprocess
+import sys
 import tempfile
 import time
 import unittest
 from dataclasses import replace
+from multiprocessing import get_context
+from multiprocessing.process import BaseProcess
 from pathlib import Path
 from typing import Any, Dict, List, Set, Tuple
 from unittest import mock
 
+from geesefuton.experiments import tournament
 from geesefuton.experiments.deals import Rule
 from geesefuton.experiments.messages import Result
 from geesefuton.experiments.plan import Plan
@@ -19,7 +22,7 @@ from geesefuton.experiments.provenance import Agent
 from geesefuton.experiments.results import HEAD, Outcome, Row, text_of
 from geesefuton.experiments.runs import RunError, RunFolder, is_run, read_scores
 from geesefuton.records.tables import csv_of
-from tests.helpers import SERVED_GAME, fake_program, python, refusal, variables
+from tests.helpers import SERVED_GAME, STAND_IN, fake_program, refusal
 
 MINE = Agent("mine", "mine.py", ["mine.py"], {"mine.py": "00"})
 
@@ -178,24 +181,13 @@ class Folders(unittest.TestCase):
             self.begin()
 
 
-# A stand-in for the process of a game: it writes that it has begun, and scores soon. It starts
-# fast, since it takes its job and gives its result as bytes.
-WORKER = """
-import os, random, re, sys, time
-from multiprocessing.connection import Connection
-parent = Connection(int(sys.argv[1]))
-name = re.search(rb"[0-9]+[.][0-9]", parent.recv_bytes())[0].decode()
+# A stand-in for the process of a game: it writes that it has begun, and scores soon.
+WORKER = STAND_IN + """
 with open(os.environ["BEGUN"], "a") as begun:
     begun.write(name + "\\n")
-time.sleep(random.random() * 0.3)
-parent.send_bytes(open(os.environ["RESULT"], "rb").read())
+time.sleep(float(os.environ["LONGEST"]) * os.urandom(1)[0] / 255)
+give(open(os.environ["RESULT"], "rb").read())
 time.sleep(60)
-"""
-COMMAND = """
-import sys
-from geesefuton.experiments import tournament
-tournament.PROGRAM = open(sys.argv.pop(1)).read()
-sys.exit(tournament.main())
 """
 
 
@@ -208,21 +200,38 @@ class Killed(unittest.TestCase):
         folder = tempfile.TemporaryDirectory()
         self.addCleanup(folder.cleanup)
         self.place = Path(folder.name)
-        (self.place / "worker").write_text(WORKER)
         result = Result(tuple(range(8)), (Outcome.PLAYED,) * 8)
         (self.place / "result").write_bytes(pickle.dumps(result))
         self.begun, self.out = self.place / "begun", self.place / "run"
         self.begun.touch()
         self.tac = fake_program(self.place, f"cat '{SERVED_GAME}'")
 
-    def start(self) -> "subprocess.Popen[bytes]":
-        words = ["--games", self.GAMES, "--at-once", "3", "--out", self.out, "--resume", "sh",
-                 "cat"]
-        return subprocess.Popen(
-            python(COMMAND, self.place / "worker", *map(str, words)), stdin=subprocess.DEVNULL,
-            stdout=subprocess.PIPE, stderr=subprocess.STDOUT, cwd=self.place,
-            env=variables({"TAC": self.tac, "BEGUN": str(self.begun),
-                           "RESULT": str(self.place / "result")}))
+    def start(self, longest: float) -> BaseProcess:
+        """The command, in a copy of this process, which has loaded what it needs.
+
+        Args:
+            longest: The seconds that a game may last.
+        """
+        process = get_context("fork").Process(target=self.command, args=(longest,))
+        process.start()
+        self.addCleanup(process.close)
+        return process
+
+    def command(self, longest: float) -> None:
+        """Runs the command in a process of its own, with all that it prints in a file."""
+        printed = os.open(self.place / "printed", os.O_WRONLY | os.O_CREAT | os.O_TRUNC)
+        for number in (1, 2):
+            os.dup2(printed, number)
+        os.chdir(self.place)
+        os.environ.update({"TAC": self.tac, "BEGUN": str(self.begun), "LONGEST": str(longest),
+                           "RESULT": str(self.place / "result")})
+        sys.argv = ["tournament", "--games", str(self.GAMES), "--at-once", "3", "--out",
+                    str(self.out), "--resume", "sh", "cat"]
+        tournament.PROGRAM = WORKER
+        sys.exit(tournament.main())
+
+    def printed(self) -> str:
+        return (self.place / "printed").read_text()
 
     def finished(self) -> Set[str]:
         return {f"{row.deal}.{row.rotation}" for row in read_scores(self.out).rows}
@@ -239,27 +248,28 @@ class Killed(unittest.TestCase):
         texts: List[str] = []
         for kill in range(self.KILLS):
             finished, begun = self.finished(), len(self.begun_games())
-            process = self.start()
+            process = self.start(0.3)
             deadline = time.monotonic() + 60
             # Three play at once, so that one has ended where five have begun, on any machine.
             awaited = begun + source.randint(1, 5) if kill % 4 else 0
-            while (len(self.begun_games()) < awaited and process.poll() is None
+            while (len(self.begun_games()) < awaited and process.is_alive()
                    and time.monotonic() < deadline):
                 time.sleep(0.01)
             time.sleep(source.random() * 0.2)
-            process.send_signal(signal.SIGKILL)
-            output = process.communicate()[0].decode()
-            self.assertFalse(finished & set(self.begun_games()[begun:]), output)
-            self.assertTrue(finished <= self.finished(), output)
+            process.kill()
+            process.join()
+            self.assertEqual(process.exitcode, -signal.SIGKILL, self.printed())
+            self.assertFalse(finished & set(self.begun_games()[begun:]), self.printed())
+            self.assertTrue(finished <= self.finished(), self.printed())
             texts.append(self.scores())
         self.assertTrue(all(later.startswith(former)
                             for former, later in zip(texts, texts[1:])))
         finished, begun = self.finished(), len(self.begun_games())
         self.assertTrue(0 < len(finished) < self.GAMES, finished)
-        process = self.start()
-        output = process.communicate()[0].decode()
-        self.assertEqual(process.returncode, 0, output)
-        self.assertIn(f"{len(finished)} games were finished by earlier runs", output)
+        process = self.start(0.0)
+        process.join()
+        self.assertEqual(process.exitcode, 0, self.printed())
+        self.assertIn(f"{len(finished)} games were finished by earlier runs", self.printed())
         self.assertFalse(finished & set(self.begun_games()[begun:]))
         rows = read_scores(self.out)
         self.assertEqual(rows.told, [])
