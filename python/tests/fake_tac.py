@@ -11,16 +11,22 @@ file is removed then, if its name does not end with `stays`. FAKE_SLOW is how ma
 waits for its answer, and a line that begins with FAKE_HANG has none.
 
 `audit` calls each log sound, and `vouch` vouches for each link of a seat.
+
+It is started for nearly each test of the lobby, so what takes a while to load is loaded where it is
+needed.
 """
 
-import os
-import socket
-import sys
-import threading
-import time
-from typing import Dict, List
+from __future__ import annotations
 
-REFUSED: List[socket.socket] = []  # links that stay open
+import os
+import sys
+import time
+
+TYPE_CHECKING = False  # as in `typing`
+if TYPE_CHECKING:
+    import socket
+
+REFUSED: list[socket.socket] = []  # links that stay open
 SLOW = 0.25  # seconds until a bid is answered
 
 
@@ -40,7 +46,7 @@ def answer(line: bytes) -> bytes:
     return b"bye" if line == b"quit" else b"no syntax"
 
 
-def session(agent: int, link: socket.socket, welcome: bytes, asked: List[str]) -> None:
+def session(agent: int, link: socket.socket, welcome: bytes, asked: list[str]) -> None:
     """Answers an agent's lines until its link ends."""
     link.sendall(welcome)
     for line in link.makefile("rb"):
@@ -68,6 +74,8 @@ def step(script: str) -> int:
 
 def serve(game: str, port: int) -> int:
     """Plays a game without ticks, and writes its log once all links have ended."""
+    import socket
+    import threading
     taken = os.environ.get("FAKE_TAKEN")
     if taken and os.path.exists(taken):
         os.remove(taken)
@@ -114,6 +122,7 @@ def vouch(game: str, asked: str, said: str) -> int:
 
 def stranger(port: int) -> socket.socket:
     """A link that comes before all others, if there is a file FAKE_STRANGER."""
+    import socket
     file = os.environ.get("FAKE_STRANGER", "")
     link = socket.socket()
     if os.path.exists(file):
@@ -125,9 +134,9 @@ def stranger(port: int) -> socket.socket:
     return link
 
 
-def admit(listener: socket.socket, words: List[str]) -> Dict[int, socket.socket]:
+def admit(listener: socket.socket, words: list[str]) -> dict[int, socket.socket]:
     """Takes links, one after the other, until each word has one."""
-    seats: Dict[int, socket.socket] = {}
+    seats: dict[int, socket.socket] = {}
     while len(seats) < len(words):
         link, _ = listener.accept()
         word = link.makefile("rb").readline().decode().partition(" ")[2].rstrip()
