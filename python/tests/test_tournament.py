@@ -2,12 +2,13 @@
 
 import json
 import os
+import pickle
 import tempfile
 import time
 import unittest
 from multiprocessing.connection import Pipe
 from pathlib import Path
-from typing import Any, List, Optional
+from typing import Any, Dict, List, Optional
 from unittest import mock
 
 from geesefuton.experiments import tournament
@@ -15,7 +16,7 @@ from geesefuton.experiments.deals import Deal, Rule, Table
 from geesefuton.experiments.entrants import Entrant
 from geesefuton.experiments.forms import as_text
 from geesefuton.experiments.luck import worths_of
-from geesefuton.experiments.messages import Note, Result
+from geesefuton.experiments.messages import Message, Note, Result
 from geesefuton.experiments.plan import MARGIN, Plan
 from geesefuton.experiments.results import Kind, Outcome, Row, read_rows
 from geesefuton.experiments.summary import summarize
@@ -24,37 +25,60 @@ from geesefuton.experiments.writers import OrderedRows, free_name
 from geesefuton.hosting import events
 from geesefuton.processes import Children, Output, Stopped
 from geesefuton.program import ProgramError
-from tests.helpers import SERVED_GAME, fake_program, served_game
+from tests.helpers import SERVED_GAME, STAND_IN, fake_program, served_game
 
 # A stand-in for the process of a game: seat s of game D.R scores 1000 D + 100 R + s. What FAULT
-# says of the game GAME happens to it.
-WORKER = """
-import os, sys, time
-from multiprocessing.connection import Connection
-from geesefuton.hosting import events
-from geesefuton.experiments.messages import Note, Result
-from geesefuton.experiments.results import Kind, Outcome
-parent = Connection(int(sys.argv[1]))
-job = parent.recv()
-deal, rotation = job.name.split(".")
-fault = os.environ.get("FAULT", "") if job.name == os.environ.get("GAME") else ""
+# says of the game GAME happens to it. It reads its job without the package, each of whose types is
+# a `Value` here, and sends the messages of the folder MESSAGES with other texts and scores.
+WORKER = STAND_IN + """
+import io, pickle
+class Value:
+    def __new__(kind, *parts):
+        value = object.__new__(kind)
+        value.parts = parts
+        return value
+class Values(pickle.Unpickler):
+    def find_class(self, module, name):
+        return Value
+def send(name, **more):
+    text = open(os.path.join(os.environ["MESSAGES"], name), "rb").read()
+    for old, new in more.items():
+        text = text.replace(old.encode(), str(new).encode())
+    give(text)
+deal, rotation = name.split(".")
+fault = os.environ.get("FAULT", "") if name == os.environ.get("GAME") else ""
 if fault == "hang":
     time.sleep(60)
 if fault == "die":
     os._exit(3)
 if fault == "lose":
-    parent.send(Result(fault="why"))
+    send("lost")
 else:
-    parent.send(Note(f"{job.words[0]} {job.form} {job.pace} {job.start:g} {job.linger:g}"))
-    parent.send(events.Refused(0.0, "here", "syntax", "HELLO"))
-    parent.send(events.Warned(0.0, "a warning"))
-    (job.folder / f"{job.name}.game").write_text(job.game)
-    outcomes = [Outcome.PLAYED] * 7 + [Outcome.HUNG]
+    job = Values(io.BytesIO(job)).load()
+    told = f"{job.words[0]} {job.form} {job.pace} {job.start:g} {job.linger:g}"
+    send("note", WHAT_IT_IS_TOLD=told)
+    send("refused")
+    send("warned")
+    with open(os.path.join(*job.folder.parts, f"{job.name}.game"), "w") as file:
+        file.write(job.game)
     score = 1000 * int(deal) + 100 * int(rotation)
-    kind = Kind.SERVED if not job.turns else Kind.TURNS if rotation == "0" else Kind.UNREPEATABLE
-    parent.send(Result(tuple(score + seat for seat in range(8)), tuple(outcomes), kind=kind))
+    kind = "served" if not job.turns else "turns" if rotation == "0" else "unrepeatable"
+    send(kind, **{f"I{90000 + seat}\\n": f"I{score + seat}\\n" for seat in range(8)})
 time.sleep(60)
 """
+
+
+def messages(folder: Path) -> None:
+    """Writes the messages of the stand-in, in a form that can be changed as a text."""
+    outcomes = (*[Outcome.PLAYED] * 7, Outcome.HUNG)
+    found: Dict[str, Message] = {
+        "lost": Result(fault="why"), "note": Note("WHAT_IT_IS_TOLD"),
+        "refused": events.Refused(0.0, "here", "syntax", "HELLO"),
+        "warned": events.Warned(0.0, "a warning"),
+        **{name: Result(tuple(range(90000, 90008)), outcomes, kind=kind) for name, kind in (
+            ("served", Kind.SERVED), ("turns", Kind.TURNS), ("unrepeatable", Kind.UNREPEATABLE))}}
+    for name, message in found.items():
+        (folder / name).write_bytes(pickle.dumps(message, 0))
 
 
 def entrants(*names: str) -> List[Entrant]:
@@ -67,7 +91,12 @@ class Playing(unittest.TestCase):
     def setUp(self) -> None:
         folder = tempfile.TemporaryDirectory()
         self.addCleanup(folder.cleanup)
-        self.place = Path(folder.name)
+        self.place = Path(folder.name, "place")
+        self.place.mkdir()
+        messages(Path(folder.name))
+        variable = mock.patch.dict(os.environ, {"MESSAGES": folder.name})
+        variable.start()
+        self.addCleanup(variable.stop)
         self.told: List[str] = []
         self.patch("geesefuton.experiments.tournament.PROGRAM", WORKER)
         self.patch("geesefuton.experiments.tournament.tell", self.told.append)
