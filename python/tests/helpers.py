@@ -114,6 +114,10 @@ def fake_program(folder: Path, body: str) -> str:
     return str(file)
 
 
+# How a JVM is run: it leaves no file where temporary files stand, and loads and compiles little.
+JVM = ["-XX:-UsePerfData", "-XX:+UseSerialGC", "-XX:TieredStopAtLevel=1"]
+JAVAC = ["javac", *(f"-J{word}" for word in JVM)]
+
 # The beginning of a stand-in for the process of a game of a tournament, which has its job and its
 # name then. It starts fast: it loads neither the package nor `multiprocessing`, whose messages are
 # four bytes with their length, and then as many of a pickled value.

@@ -13,11 +13,11 @@ from unittest import mock
 
 from geesefuton import program
 from geesefuton.hosting.handouts import STARTERS, Handouts
-from tests.helpers import variables
+from tests.helpers import JVM, variables
 from tests.seat_server import SeatServer
 
 RUN = {"starter.py": [sys.executable], "starter.mjs": ["node"],
-       "Starter.java": ["java", "-XX:-UsePerfData"]}  # which otherwise leaves a file
+       "Starter.java": ["java", *JVM]}
 
 
 def text_of(handouts: Handouts, name: str, host: str = "10.0.0.7:7080") -> str:

@@ -9,11 +9,10 @@ from functools import lru_cache
 from pathlib import Path
 from typing import List
 
-from tests.helpers import TOP, variables
+from tests.helpers import JAVAC, JVM, TOP, variables
 from tests.seat_server import HANG, SeatServer
 
 LAYER = TOP / "examples" / "java"
-NO_FILE = "-XX:-UsePerfData"  # otherwise a JVM leaves a file in the folder of temporary ones
 
 
 @lru_cache(maxsize=1)
@@ -21,7 +20,7 @@ def classes() -> Path:
     """The folder of the compiled layer, with its agent."""
     folder = tempfile.TemporaryDirectory()
     unittest.addModuleCleanup(folder.cleanup)
-    subprocess.run(["javac", f"-J{NO_FILE}", "-d", folder.name, "-sourcepath", str(LAYER),
+    subprocess.run([*JAVAC, "-d", folder.name, "-sourcepath", str(LAYER),
                     str(LAYER / "TripAgent.java")], stdin=subprocess.DEVNULL, check=True)
     return Path(folder.name)
 
@@ -54,8 +53,8 @@ class Game(SeatServer):
 class Lost(unittest.TestCase):
     def played(self, game: Game, **more: str) -> List[str]:
         """What the layer tells of a game, with status 0."""
-        words = ["java", NO_FILE, "-Xmx64m", "-XX:+UseSerialGC", "-XX:TieredStopAtLevel=1", "-cp",
-                 str(classes()), "se.sics.tac.aw.TACAgent", "-agentimpl", "TripAgent"]
+        words = ["java", *JVM, "-Xmx64m", "-cp", str(classes()), "se.sics.tac.aw.TACAgent",
+                 "-agentimpl", "TripAgent"]
         with contextlib.closing(game):
             done = subprocess.run([*words, "127.0.0.1", str(game.port), "red"],
                                   stdin=subprocess.DEVNULL, capture_output=True, text=True,

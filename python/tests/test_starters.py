@@ -17,7 +17,7 @@ from pathlib import Path
 from typing import Dict, List, Optional
 from unittest import mock
 
-from tests.helpers import TOP, variables
+from tests.helpers import JAVAC, JVM, TOP, variables
 from tests.seat_server import HANG, SeatServer
 from tests.test_link import WELCOME, Server
 from tests.test_link_record import ANSWERS, ASKED
@@ -29,7 +29,6 @@ FIRST = [line for good in GOODS for line in
          [f"own {good}", *[f"bid {good} (({UNITS[good]} 600))"] * (good < 8)]]
 LAST = ["quote 0", *(f"own {good}" for good in GOODS), "cash", "quit"]
 HOLDS = "agent 3 holds 0:0 1:0 2:0 3:0 7:0 8:0 9:0 10:0 11:0, cash 0\n"
-NO_FILE = "-XX:-UsePerfData"  # otherwise a JVM leaves a file in the folder of temporary ones
 
 
 @lru_cache(maxsize=1)
@@ -37,7 +36,7 @@ def classes() -> Path:
     """The folder of the compiled starter in Java."""
     folder = tempfile.TemporaryDirectory()
     unittest.addModuleCleanup(folder.cleanup)
-    subprocess.run(["javac", f"-J{NO_FILE}", "-Xlint:all,-serial", "-Werror", "-d", folder.name,
+    subprocess.run([*JAVAC, "-Xlint:all,-serial", "-Werror", "-d", folder.name,
                     str(STARTERS / "Starter.java")], stdin=subprocess.DEVNULL, check=True)
     return Path(folder.name)
 
@@ -45,8 +44,7 @@ def classes() -> Path:
 def words_of(language: str) -> List[str]:
     """The words that run the starter of a language."""
     if language == "Java":
-        return ["java", NO_FILE, "-Xmx64m", "-XX:+UseSerialGC", "-XX:TieredStopAtLevel=1", "-cp",
-                str(classes()), "Starter"]
+        return ["java", *JVM, "-Xmx64m", "-cp", str(classes()), "Starter"]
     if language == "JavaScript":
         return ["node", str(STARTERS / "starter.mjs")]
     return [sys.executable, str(STARTERS / "starter.py")]
