@@ -73,10 +73,13 @@ class SymmetricGame:
 
     def values(self, mixture: Sequence[float]) -> List[float]:
         """The payoff that each strategy has in the mean while the others draw from a mixture."""
-        weights = self._shape.orders
-        for share, column in zip(mixture, self._shape.columns):
-            powers = [share ** count for count in range(self.players)]
-            weights = list(map(mul, weights, map(powers.__getitem__, column)))
+        weights: Sequence[float] = self._shape.orders
+        if self.players == 2:  # the choices of one rival, in their order, are the strategies
+            weights = mixture
+        else:
+            for share, column in zip(mixture, self._shape.columns):
+                powers = [share ** count for count in range(self.players)]
+                weights = list(map(mul, weights, map(powers.__getitem__, column)))
         return [sum(map(mul, weights, row)) for row in self.payoffs]
 
     def regret(self, mixture: Mixture) -> float:
