@@ -127,6 +127,7 @@ class Games(Case):
 
     def test_names_are_escaped(self) -> None:
         overview, all_rows = Overview(), read_scores(self.folder).rows
+        overview.deals = self.overview.deals  # their optima do not depend on names
         for rows in games_of(all_rows):
             overview.add(read_kept(self.folder, [
                 replace(row, agent=f"<zz{row.agent} & co") for row in rows]))
