@@ -184,8 +184,23 @@ class Teams(Case):
         self.assertIn("<h2>B &amp; C</h2>", page)
 
 
-# An agent for rooms: it bids once in each round, and then does what its third word says.
-AGENT = """
+# An agent of the house: it bids once, for a flight, and quits. Eight of them start for a game, so
+# it loads no more than it needs.
+HOUSE = """
+import socket, sys
+lines = socket.create_connection((sys.argv[1], int(sys.argv[2]))).makefile("rw")
+def ask(line):
+    lines.write(line + "\\n")
+    lines.flush()
+    return lines.readline()
+agent = ask("hello " + sys.argv[3]).split()[1]
+for _ in range(9):
+    lines.readline()
+for line in ("bid " + agent + " ((1 900))", "own 8", "quit"):
+    ask(line)
+"""
+# A guest: it bids once, too, and then does what the variable WHAT says.
+GUEST = """
 import os, sys, time
 from geesefuton.link import run
 def play(link, pause):
@@ -206,8 +221,9 @@ class Games(Case):
 
     def setUp(self) -> None:
         super().setUp()
-        self.agent = self.place / "mine.py"
-        self.agent.write_text(AGENT)
+        self.house, self.visitor = self.place / "mine.py", self.place / "visitor.py"
+        self.house.write_text(HOUSE)
+        self.visitor.write_text(GUEST)
         self.port = free_port()
         self.started: List["subprocess.Popen[bytes]"] = []
         self.addCleanup(self.end_all)
@@ -226,10 +242,10 @@ class Games(Case):
 
     def room(self, *more: object) -> "subprocess.Popen[bytes]":
         return self.start([TOP / "tools" / "room", "--port", self.port, "--pace", 10, "--wait", 0.3,
-                           "--after", 0.5, "--house", self.agent, "--folder", self.path, *more])
+                           "--after", 0.5, "--house", self.house, "--folder", self.path, *more])
 
     def guest(self, word: str, what: str = "") -> "subprocess.Popen[bytes]":
-        return self.start([self.agent, "localhost", self.port, word, "--pause", 0.01, "--again"],
+        return self.start([self.visitor, "localhost", self.port, word, "--pause", 0.01, "--again"],
                           WHAT=what)
 
     def until(self, is_so: Callable[[], bool]) -> None:

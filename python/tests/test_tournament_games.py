@@ -43,16 +43,22 @@ if word == "failingd":
 time.sleep(60)
 """
 # An agent that buys a seat at once, and one that does the same but fails where the seat was dear.
+# In four games 32 of them start, so they load no more than they need.
 SEAT_BUYER = """
-import sys
-from geesefuton.link import Link, inbound
-link = Link.greet(sys.argv[1], int(sys.argv[2]), sys.argv[3])
-link.bid(inbound(link.clients[0].arrive), (1, 600))
-if sys.argv[0].endswith("quits.py") and link.cash() < -{dear}:
+import socket, sys
+lines = socket.create_connection((sys.argv[1], int(sys.argv[2]))).makefile("rw")
+def ask(line):
+    lines.write(line + "\\n")
+    lines.flush()
+    return lines.readline()
+ask("hello " + sys.argv[3])
+client = [lines.readline() for _ in range(9)][1].split()
+ask(f"bid {int(client[3]) - 1} ((1 600))")
+if sys.argv[0].endswith("quits.py") and int(ask("cash").split()[2]) < -{dear}:
     sys.exit(1)
-while not link.quote(0).closed:
+while not ask("quote 0").endswith("closed\\n"):
     pass
-link.quit()
+ask("quit")
 """
 
 
