@@ -123,7 +123,7 @@ class Quickstart(unittest.TestCase):
                 done = self.run_with(python)
                 self.assertEqual((done.returncode, done.stdout), (1, ""))
                 self.assertEqual(done.stderr, "quickstart: it needs Python 3.9 or later (sudo apt "
-                                 "install python3); the program tac runs without\n")
+                                 "install python3); the program tac does not need Python\n")
 
     def test_with_python_it_hands_its_words_on(self) -> None:
         done = self.run_with('[ "$1" = -c ] || echo "$#:$1:$2:$3"')
