@@ -32,6 +32,7 @@ from reading_aids import (
 from reading_guides import (
     FIELDS,
     GUIDES,
+    LOOKING_UP,
     NOTES,
     OUTSIDE,
     PLAYED,
@@ -110,7 +111,7 @@ SKIP_MARKS: Dict[Target, str] = {}
 
 
 def table(definitions: Definitions, rows: Rows, paths: Iterable[str]) -> List[str]:
-    text = ["| module | lines | what it says | in words | definitions |", "|---|---|---|---|---|"]
+    text = ["| module | lines | content | rule in words | definitions |", "|---|---|---|---|---|"]
     notes = {target_of(full): f" ({note})" for full, note in NOTES.items()}
     for path in paths:
         module = definitions.modules[path]
@@ -136,7 +137,7 @@ def worked(definitions: Definitions, rows: Iterable[Row], faults: List[str]) -> 
         f"{tried_links(definitions, row)} |"
         for row in rows
     ]
-    head = ["", "Worked rows:", "", "| case | lemma | tries |", "|---|---|---|"]
+    head = ["", "Worked rows:", "", "| case | lemma | definitions tried |", "|---|---|---|"]
     return head + text if text else []
 
 
@@ -259,7 +260,7 @@ def value_of(source: str, name: str) -> str:
 def types_table(found: Iterable[Target]) -> Tuple[List[str], List[str]]:
     """The table of these types, with what contracts see of them; and what could not be found."""
     types, missing = types_of(found)
-    text = ["| type | what it is | appears as |", "|---|---|---|"]
+    text = ["| type | description | appears as |", "|---|---|---|"]
     for (crate, name), (file, line) in types.items():
         with open(file, encoding="utf-8") as source:
             lines = source.read().split("\n")
@@ -292,7 +293,7 @@ def limits_of(found: Iterable[Target]) -> List[Tuple[str, str, str]]:
 
 def limits_table(found: Iterable[Target]) -> List[str]:
     """The table of these limits."""
-    text = ["| limit | value | what it is |", "|---|---|---|"]
+    text = ["| limit | value | description |", "|---|---|---|"]
     for name, shown, about in limits_of(found):
         line = line_of(LIMITS_FILE, f"pub const {name}:")
         text.append(f"| {link(name, LIMITS_FILE, line)} | {shown} | {about} |")
@@ -308,7 +309,7 @@ def outside_tables() -> List[str]:
         for file in names
         if file.endswith(".rt")
     )
-    traits, objects = ["| trait | its `state` | what it says |", "|---|---|---|"], [
+    traits, objects = ["| trait | its `state` | description |", "|---|---|---|"], [
         "| object in memory | trait | definitions of its `state` |",
         "|---|---|---|",
     ]
@@ -342,10 +343,11 @@ def outside_tables() -> List[str]:
                 f" `{made.group(1)}` | {links} |"
             )
     memory = (
-        "The objects in memory say everything, so the premises can be met; the tests run over"
-        " them. You need not read them to believe the headline. The system's own (`HostFiles`,"
-        " `StdSink`, `TcpLinks`, `TcpLink`, `SleepTicker` of `crates/tacd/src`) say `None` and"
-        " their counts of faults."
+        "The objects in memory report every field, so the premises can be met; the tests use them."
+        " You need not read them to believe the headline. The system's own objects (`HostFiles`,"
+        " `StdSink`, `TcpLinks`, `TcpLink` and `SleepTicker` in `crates/tacd/src`) report only"
+        " their counts of faults, whether a file is selected, and whether the port is open; their"
+        " other fields are `None`."
     )
     return traits + ["", filled(memory), ""] + objects
 
@@ -354,7 +356,7 @@ def fields_table(definitions: Definitions) -> Tuple[List[str], List[str]]:
     """The fields of the states of the outside in words; and the fields that have none."""
     module = definitions.modules["tac_io.specs.States"]
     text = [
-        "| state | field | what it is | what is assumed of the system's own |",
+        "| state | field | meaning | assumption about the system's own object |",
         "|---|---|---|---|",
     ]
     for record, field, meaning, assumed in OUTSIDE:
@@ -385,10 +387,10 @@ def guided(definitions: Definitions, rows: Rows, heading: str, faults: List[str]
         at_a_glance, missing = glance_table()
         faults += missing
         text += ["", "The causes of a session's end, in words:", ""] + causes_table()
-        text += ["", "The same by rows:", ""] + at_a_glance
+        text += ["", "Worked rows for each cause:", ""] + at_a_glance
     if heading == "The command `serve`":
-        text += ["", "Which `played` is which:", ""]
-        text += ["| where | type | what it says |", "|---|---|---|"]
+        text += ["", "The name `played` occurs with several meanings:", ""]
+        text += ["| where | type | meaning |", "|---|---|---|"]
         text += [f"| {' | '.join(cells)} |" for cells in PLAYED]
     return text
 
@@ -396,8 +398,9 @@ def guided(definitions: Definitions, rows: Rows, heading: str, faults: List[str]
 def sentences_table(
     definitions: Definitions, rows: Rows, what: str, sentences: List[Tuple[str, List[str]]]
 ) -> Tuple[List[str], List[str]]:
-    """The half sentences of a promise with what says them; and what of that it does not rest on."""
-    text, missing = [f"| of {what} | said by |", "|---|---|"], []
+    """The phrases of a promise with the definitions that state them; and those of these
+    definitions on which it does not depend."""
+    text, missing = [f"| part of {what} | stated by |", "|---|---|"], []
     for sentence, names in sentences:
         links = []
         for full in names:
@@ -434,8 +437,8 @@ def library_words(
     )
     plain = ", ".join(f"`{word}`" for word in words if word in PLAIN)
     return (
-        f"{told}\n\nAs their names say, in Rust or in mathematics: {plain}.\n\nOnly in the parts"
-        f" beside and in the last chapter: {more}.",
+        f"{told}\n\nThese words mean what they mean in Rust or in mathematics: {plain}.\n\nThese"
+        f" words occur only in the parts \"Beside\" and in the last chapter: {more}.",
         missing,
     )
 
@@ -471,7 +474,7 @@ def page(definitions: Definitions) -> Tuple[str, List[str], str]:
     faults += without_headline()
     joined = " ".join(half for half, _ in SENTENCES if not half.startswith("("))
     if joined.replace(" ..", "") != " ".join(HEADLINE.split()):
-        faults.append("the half sentences do not make the headline")
+        faults.append("the phrases do not make up the headline")
     preamble = LEMMAS.module(PREAMBLE_FILE)
     faults += [
         f"{PREAMBLE_FILE} has no {name}, which the print explains"
@@ -530,7 +533,7 @@ def page(definitions: Definitions) -> Tuple[str, List[str], str]:
         "",
         filled(LEAD),
         "",
-        "## The headline, half sentence by half sentence",
+        "## The headline, phrase by phrase",
         "",
     ] + sentences
     text += [
@@ -573,9 +576,11 @@ def page(definitions: Definitions) -> Tuple[str, List[str], str]:
         filled_blocks(HOW_TO_READ),
         "",
         filled(
-            f"The headline for lines of words takes {core:,} lines of definitions, without comments"
-            f" and imports; with the four parts beside it {in_all:,}. Worked rows reach {tried:,}"
-            f" of the {core:,} lines. Most others are about whole games, and compute nothing."
+            f"For lines of words, the headline takes {core:,} lines of definitions, not counting"
+            f" comments and imports. With the four parts \"Beside\" it takes {in_all:,}. Worked"
+            f" rows reach {tried:,} of the {core:,} lines. A line that a row reaches is not thereby"
+            " tested: the row shows one case, which may not depend on that line. Most of the lines"
+            " that no row reaches are about whole games, and compute nothing."
         ),
         "",
         "## How long it takes",
@@ -602,37 +607,37 @@ def page(definitions: Definitions) -> Tuple[str, List[str], str]:
         },
         len(re.sub(r"\]\([^)]*\)", "", "\n".join(text)).split()) + KEY_WORDS,
     )
-    text += ["", "## What has no worked row", "", filled(ROWLESS), ""]
+    text += ["", filled(LOOKING_UP), "", "## What has no worked row", "", filled(ROWLESS), ""]
     text += rowless_table(definitions, chapters, reached_by_rows(definitions), SKIP_MARKS)
     text += ["", filled(cases_sentence(definitions, rows))]
     text += ["", "## Names that are alike", "", filled_blocks(ALIKE)]
     borrowed = row_words(definitions, rows)
     faults += [f"no words for {name} of rows" for name in borrowed if name not in ROW_WORDS]
     faults += [f"no row names {name}" for name in ROW_WORDS if name not in borrowed]
-    text += ["", "## Key", "", "| notation | what it means |", "|---|---|"]
+    text += ["", "## Key", "", "| notation | meaning |", "|---|---|"]
     text += [f"| {sign} | {meaning} |" for sign, meaning in NOTATION]
     text += [
         "",
         filled(
-            "Words of the toolchain's library (`rt lemma WORD`, in the folder of a crate, prints"
-            " the definition of a word):"
+            "The definitions use these words of the toolchain's library (`rt lemma WORD`, run in"
+            " the folder of a crate, prints the definition of a word):"
         ),
         "",
         filled_blocks(words),
         "",
-        filled(
-            "Rows also use these definitions, which are in no chapter: "
-            + "; ".join(
-                f"{row_link(definitions, name)}: {ROW_WORDS[name]}"
+        "Rows also use these definitions, which are in no chapter:",
+        "",
+        filled_items(
+            "".join(
+                f"\n- {row_link(definitions, name)}: {ROW_WORDS[name]}."
                 for name in borrowed
                 if name in ROW_WORDS
             )
-            + "."
         ),
         "",
         "## Types of the code",
         "",
-        "Each is in `src/` of its crate, and its own calls keep its ranges.",
+        "Each type is in `src/` of its crate, and its own calls keep its values in their ranges.",
         "",
     ] + types
     text += ["", "## Limits", ""] + limits_table(everything)
@@ -642,7 +647,7 @@ def page(definitions: Definitions) -> Tuple[str, List[str], str]:
         "",
         filled(
             "In the clauses of `tac`, `F.state`, `K.state`, `N.state`, `N.Link.state` and `T.state`"
-            " are the ghost `state` of these traits."
+            " are the ghost members `state` of these traits."
         ),
         "",
     ]
@@ -656,7 +661,7 @@ def page(definitions: Definitions) -> Tuple[str, List[str], str]:
                 "",
                 f"## {heading}",
                 "",
-                filled(f"{about} {line_count(definitions, chapter, chapter)} lines."),
+                filled(f"{about} It has {line_count(definitions, chapter, chapter)} lines."),
             ]
             text += guided(definitions, rows, heading, faults) + [""]
             text += table(definitions, chapter, chapter)
@@ -670,7 +675,7 @@ def page(definitions: Definitions) -> Tuple[str, List[str], str]:
             "",
             f"## Beside: {heading[0].lower() + heading[1:]}",
             "",
-            filled(f"{about} {line_count(definitions, part, part)} lines."),
+            filled(f"{about} This part has {line_count(definitions, part, part)} lines."),
             "",
         ]
         text += table(definitions, part, in_order(definitions, part)) + worked(
@@ -682,8 +687,8 @@ def page(definitions: Definitions) -> Tuple[str, List[str], str]:
             "## For the other commands and the codes",
             "",
             filled(
-                "The other clauses of `tac`: what each command writes, and when it ends with which"
-                f" code. {line_count(definitions, others, others):,} more lines."
+                "The other clauses of `tac` state what each command writes, and with which code it"
+                f" ends. They take {line_count(definitions, others, others):,} more lines."
             ),
             "",
             filled(STEP_TRUTHS),

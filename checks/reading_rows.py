@@ -30,49 +30,55 @@ ROWS = [
         "Goods 0 and 7 are flights, 8 and 15 hotel nights, 16 and 27 tickets"),
     Row(["worked_rows/Bids:faults_of_points_in_their_order"],
         ["tac_base/Bids.fault_of", "tac_base/Bids.point_fault"],
-        ("0 units at 10001: no units. 1 unit at 10001, or at 0: the price. 9 to buy and 8 to "
-         "sell: too many units. Sixteen points of 1 unit and then one of 0 units: too many "
-         "points")),
+        ("A point of 0 units at 10001 is reported as having no units. A point of 1 unit at 10001, "
+         "or at 0, is reported for its price. Points for 9 units to buy and 8 to sell have too "
+         "many units. Sixteen points of 1 unit and then one of 0 units are too many points")),
     Row(["worked_rows/Bids:numerals_have_one_form"],
         ["tac_base/Numerals.numeral", "tac_base/Numerals.signed_numeral"],
-        "A bid cannot have the numbers `01`, `-0` and `100000`; `-1` is a number of units"),
+        ("A bid cannot contain the numbers `01`, `-0` and `100000`. It can contain `-1` as a "
+         "number of units")),
     # The rules of the auctions: bids and units
     Row(["worked_rows/Auctions:units_go_on_through_the_points"], ["auction_rules/Units.units_of"],
-        ("A bid at position 5 buys two units at 70 and sells one at 90: its units 0 and 1 buy at "
+        ("A bid at position 5 buys two units at 70 and sells one at 90. Its units 0 and 1 buy at "
          "70, and its unit 2 sells at 90")),
     Row(["worked_rows/Auctions:new_bid_takes_its_own_place_in_time"],
         ["auction_rules/Standing.stand", "auction_rules/Precedence.precedes"],
-        ("A hotel of 16 rooms. Agent 0 bids for 13 at 100, agent 1 for 3 at 120; the clock "
+        ("A hotel has 16 rooms. Agent 0 bids for 13 at 100, and agent 1 for 3 at 120; the clock "
          "publishes; agent 2 bids for 14 at 101, and then agent 1 for 3 at 101. The closing "
          "sells 16 rooms at 101: 2 to agent 1, whose bid is later, and 14 to agent 2")),
     Row(["worked_rows/Auctions:two_bids_win_until_the_closing"],
         ["auction_rules/Standing.stand", "auction_rules/WinningNumber.winning",
          "auction_rules/Ask.ask"],
-        ("A hotel of 16 rooms with 13 units at 100 and 3 at 120: the ask is 100, and 13 and 3 "
-         "units win. After the closing no unit stands")),
+        ("In a hotel of 16 rooms, 13 units stand at 100 and 3 at 120. The ask is 100, and the "
+         "two agents win 13 and 3 units. After the closing no unit stands")),
     Row(["worked_rows/Auctions:part_of_a_sale_is_left"],
         ["auction_rules/Standing.left", "auction_rules/Effects.holding"],
-        ("Agent 1 sells 2 tickets at 60 that it does not have, and agent 0 buys 1. Agent 1 then "
-         "holds -1, and 1 unit at 60 is left to sell")),
+        ("Agent 1 offers to sell 2 tickets at 60 that it does not have, and agent 0 buys 1. "
+         "Agent 1 then holds -1, and 1 unit at 60 is left to sell")),
     # .. refusals
-    Row(["worked_rows/Auctions:calls_and_bids_that_are_refused"], ["auction_rules/Refusals.refusal"],
-        ("After a closing, a bid and a second closing are `closed`. Withdrawing from a hotel is "
-         "a wrong call. Selling a seat at 300 is `sell`. Buying a ticket at 80 and selling one "
-         "at 70 crosses itself, and leaves no bid to withdraw")),
+    Row(["worked_rows/Auctions:calls_and_bids_that_are_refused"],
+        ["auction_rules/Refusals.refusal"],
+        ("After a closing, a bid and a second closing are refused as `closed`. A withdrawal from "
+         "a hotel is a wrong call. An offer to sell a seat at 300 is refused as `sell`. A bid "
+         "that buys a ticket at 80 and sells one at 70 crosses itself, and leaves no bid to "
+         "withdraw")),
     Row(["worked_rows/Auctions:each_has_its_own_calls"],
         ["auction_rules/Refusals.is_wrong_caller", "auction_rules/Refusals.is_wrong_place"],
-        ("Wrong calls: the clock, 8, bids or asks `own`; agent 0 publishes or closes; an update "
-         "of a hotel; publishing a flight; publishing or updating tickets")),
+        ("These are wrong calls: a bid or `own` by the clock, 8; a publication or a closing by "
+         "agent 0; an update of a hotel; a publication of a flight; a publication or an update "
+         "of tickets")),
     Row(["worked_rows/Auctions:closed_comes_first"], ["auction_rules/Refusals.refusal"],
-        ("After the closing of a hotel agent 0 publishes and withdraws, which are wrong calls "
-         "too: both are answered `closed`. Its `own` is answered as before: it holds 0")),
+        ("After the closing of a hotel, agent 0 publishes and withdraws. These are wrong calls "
+         "too, but both are refused as `closed`. The reply to its `own` is the same as before: "
+         "it holds 0")),
     Row(["worked_rows/Auctions:equal_prices_cross_themselves"],
         ["auction_rules/Refusals.crosses_itself"],
-        "Buying at 70 and selling at 70 crosses itself; buying at 69 and selling at 70 is taken"),
+        ("A bid that buys at 70 and sells at 70 crosses itself; one that buys at 69 and sells at "
+         "70 is taken")),
     Row(["worked_rows/Auctions:withdrawn_bid_is_gone"],
         ["auction_rules/Refusals.has_standing", "auction_rules/History.bid_after"],
-        ("Agent 0 bids for 2 seats at 200 when the price is 300, and withdraws: done. A second "
-         "withdrawal is `nobid`, and nothing is left")),
+        ("Agent 0 bids for 2 seats at 200 when the price is 300, and withdraws the bid: `done`. "
+         "A second withdrawal is refused as `nobid`, and no unit is left")),
     # .. flights
     Row(["worked_rows/Auctions:one_dollar_below_the_price"],
         ["auction_rules/FlightSales.is_sold", "auction_rules/Standing.gone_by"],
@@ -80,141 +86,153 @@ ROWS = [
          "300")),
     Row(["worked_rows/Auctions:sold_units_never_stand_again"],
         ["auction_rules/Standing.gone", "auction_rules/Standing.gone_by"],
-        ("Agent 0 buys 1 seat at 300 by a bid. After that, and after an update too, nothing of "
+        ("Agent 0 buys 1 seat at 300 by a bid. After that, and after an update too, no unit of "
          "the bid stands, and the seat is not sold again")),
     Row(["worked_rows/Auctions:draws_raise_and_lower_the_price"],
         ["auction_rules/FlightRule.next_price", "auction_rules/FlightRule.drift"],
-        ("Price 300, bound 30, tick 27, draw 30: 320, the top of the interval. Price 300, bound "
-         "-10, tick 28, draw 0: 299, since the drift, between -1 and 0, is rounded down")),
+        ("With price 300, bound 30, tick 27 and draw 30, the next price is 320, the top of the "
+         "interval. With price 300, bound -10, tick 28 and draw 0, it is 299, since the drift, "
+         "between -1 and 0, is rounded down")),
     Row(["worked_rows/Auctions:price_stops_at_800_and_150"], ["auction_rules/FlightRule.clamped"],
-        "Bound 30, tick 27, draw 30: from 795 to 800. Bound 10, tick 1, draw 0: from 151 to 150"),
+        ("With bound 30, tick 27 and draw 30, the price rises from 795 only to 800. With bound "
+         "10, tick 1 and draw 0, it falls from 151 only to 150")),
     Row(["worked_rows/Auctions:points_above_the_price_are_sold_one_by_one"],
         ["auction_rules/FlightSales.flight_trades", "auction_rules/Standing.left"],
-        ("At the price 300 agent 0 bids for 1 unit at 300, 2 at 200 and 1 at 400: two trades "
-         "of 1 unit at 300 each, and the 2 at 200 stand")),
+        ("At the price 300 agent 0 bids for 1 unit at 300, 2 at 200 and 1 at 400. There are two "
+         "trades of 1 unit at 300 each, and the 2 units at 200 stand")),
     Row(["worked_rows/Auctions:falling_price_reaches_a_bid"],
         ["auction_rules/FlightSales.flight_trades", "auction_rules/FlightRule.price"],
-        ("From 250 the draw 0 lowers the price by 10 a tick: the tenth update reaches 150, and "
-         "sells the 2 seats that were bid for at 150")),
+        ("From 250 the draw 0 lowers the price by 10 a tick. The tenth update reaches 150, and "
+         "sells 2 seats to the bid at 150")),
     # .. hotels
     Row(["worked_rows/Auctions:price_of_the_last_room_is_paid_for_all"],
         ["auction_rules/HotelClosing.closing_trades", "auction_rules/Ask.ask"],
-        ("Sixteen units at 100, 101 .. 115 for 16 rooms: all 16 are sold at 100. 15 units at 100 "
-         "are sold at 0. Without bids, 0 units are sold at 0")),
+        ("For 16 rooms there are sixteen units at 100, 101 .. 115: all 16 are sold at 100. If "
+         "there are 15 units at 100, they are sold at 0. Without bids, 0 units are sold at 0")),
     Row(["worked_rows/Auctions:earlier_of_equal_bids_wins"],
         ["auction_rules/Precedence.wins", "auction_rules/HotelClosing.closing_trades"],
-        ("15 units at 200, then agent 1 and then agent 2 with 1 unit at 150 each: agent 1 gets "
-         "the sixteenth room, and all 16 cost 150")),
+        ("After 15 units at 200, agent 1 and then agent 2 bid for 1 unit at 150 each. Agent 1 "
+         "gets the sixteenth room, and all 16 rooms cost 150")),
     Row(["worked_rows/Auctions:fewer_units_do_not_replace_those_that_win"],
         ["auction_rules/BeatQuote.need", "auction_rules/Refusals.hotel_refusal"],
         ("Agent 0 has 13 units at 100 and agent 1 has 3 at 120; 100 is published. Agent 1 then "
          "offers 2 at 150 and 1 at 100, and is refused: it needs 3 at 101 or more, and offers 2. "
-         "With 15 units at 10 and 0 published, 1 unit at 1 is refused: it needs 15 at 1 or more")),
+         "With 15 units at 10 and 0 published, 1 unit at 1 is refused: the agent needs 15 at 1 "
+         "or more")),
     Row(["worked_rows/Auctions:ask_is_shown_when_published_or_closed"],
         ["auction_rules/Board.board", "auction_rules/Ask.published"],
-        ("After 1 bid and no publication a hotel shows the ask 0. After 2 bids and the closing "
+        ("After 1 bid and no publication, a hotel shows the ask 0. After 2 bids and the closing, "
          "it shows 100, says that it is closed, and counts 3 entries")),
     Row(["worked_rows/Auctions:live_bid_must_beat_the_last_one"],
         ["auction_rules/Ask.published", "auction_rules/Refusals.hotel_refusal"],
-        ("One room and live quotes: after a bid at 50 another at 50 is refused, since it needs 1 "
-         "at 51, and the ask stays 50. A bid at 51 is taken, and wins the room at 51")),
+        ("There is one room, and quotes are live. After a bid at 50 another bid at 50 is "
+         "refused, since it needs 1 unit at 51, and the ask stays 50. A bid at 51 is taken, and "
+         "wins the room at 51")),
     Row(["worked_rows/Auctions:enough_at_one_dollar_more"],
         ["auction_rules/BeatQuote.quote_to_beat", "auction_rules/BeatQuote.need"],
-        ("16 units at 50, published. Another agent's unit at 50 is refused: it needs 1 at 51, "
-         "and offers 0. At 51 it is taken, and wins: 15 rooms and 1 are sold, all at 50")),
+        ("16 units stand at 50, and 50 is published. Another agent's unit at 50 is refused: the "
+         "agent needs 1 at 51, and offers 0. At 51 the unit is taken, and wins: 15 rooms and 1 "
+         "room are sold, all at 50")),
     # .. tickets
     Row(["worked_rows/Auctions:equal_prices_trade"], ["auction_rules/TicketMatch.crosses"],
-        "A ticket is for sale at 60: a bid at 59 does not trade, and one at 60 does"),
+        "A ticket is for sale at 60: a bid at 59 does not trade, and a bid at 60 does"),
     Row(["worked_rows/Auctions:cheapest_then_earliest_and_dearest_first"],
         ["auction_rules/TicketMatch.goes_before", "auction_rules/TicketMatch.better"],
-        ("Asks at 60, 50 and 50, by the agents 0, 1 and 2: a bid for 2 at 90 buys agent 1's and "
-         "then agent 2's, at 50. Bids at 60 and 80: an ask at 40 sells to the one at 80, at 80")),
+        ("The agents 0, 1 and 2 ask 60, 50 and 50: a bid for 2 at 90 buys agent 1's ticket and "
+         "then agent 2's, at 50. There are bids at 60 and 80: an ask at 40 sells to the bid at "
+         "80, at 80")),
     Row(["worked_rows/Auctions:trade_is_at_the_standing_price"],
         ["auction_rules/TicketMatch.partner", "auction_rules/TicketMatch.ticket_trades",
          "auction_rules/Board.board"],
-        ("Agent 0 sells 1 at 60, then agent 1 buys 2 at 70: 1 is traded at 60, the standing "
-         "price. The board shows the bid 70 and no ask")),
+        ("Agent 0 offers 1 at 60, and then agent 1 bids for 2 at 70: 1 is traded at 60, the "
+         "standing price. The board shows the bid 70 and no ask")),
     Row(["worked_rows/Auctions:new_bid_does_not_meet_the_old_one"],
         ["auction_rules/TicketMatch.faces"],
-        ("Agent 0 sells 1 at 60, and then bids to buy 1 at 70: nothing is traded, and only the "
+        ("Agent 0 offers 1 at 60, and then bids to buy 1 at 70. No unit trades, and only the "
          "later bid stands")),
     # .. trades, holdings, dollars
     Row(["worked_rows/Auctions:buyers_pay_and_nets_add_up_to_0"],
         ["auction_rules/Effects.dollars", "auction_rules/Effects.nets"],
-        ("Two seats at 300 and a ticket at 60 are -660 dollars for their buyer. Agent 1 sells a "
+        ("The buyer of two seats at 300 and a ticket at 60 has -660 dollars. Agent 1 sells a "
          "ticket at 60 to agent 0 and one to agent 2: the nets are -60, 120 and -60, and 0 for "
          "all others and the house")),
     Row(["worked_rows/Auctions:holding_may_be_negative"],
         ["auction_rules/Effects.holding", "auction_rules/Legal.entry_of"],
         "Agent 1 sells 2 tickets that it does not have, to two buyers: it holds -2"),
     Row(["worked_rows/Auctions:part_has_its_positions"], ["auction_rules/Legal.entry_of"],
-        "Of the five calls of `short_sale`, agent 1 made those at the positions 0 and 3"),
+        "Of the five calls of `short_sale`, agent 1 made those at positions 0 and 3"),
     Row(["worked_rows/Auctions:history_is_lawful_by_its_replies"], ["auction_rules/Legal.IsLawful"],
         ("The entries that the rules give for a bid and a publication are lawful. A publication "
-         "that is answered `closed` before any closing is not")),
+         "with the reply `closed` before any closing is not")),
     Row(["worked_rows/Auctions:cap_of_agents_and_clock"], ["auction_rules/Legal.cap"],
         "The agents 0 and 7 may have 1024 entries each, and the clock, 8, may have 64"),
     # The cash book
     Row(["worked_rows/Logs:trades_are_posted_with_their_nets"], ["trade_ledger/Posts.due_post"],
-        ("Agent 0 buys 2 seats at 300 by the entry 0 of good 0. It owes a post: -600 for itself, "
-         "600 for the house, 0 for the others. An entry without a trade has no post")),
+        ("Agent 0 buys 2 seats at 300 by entry 0 of good 0. It owes a post: -600 for itself, 600 "
+         "for the house, and 0 for the others. An entry without a trade has no post")),
     Row(["worked_rows/Logs:reading_sums_the_posts_before_it"],
         ["trade_ledger/CashHistory.cash_reply_of"],
-        ("A book has a post of -60 for agent 0, a reading, and a post of -600. A reading after "
-         "0, 1, 2 or 3 of these entries answers 0, -60, -60 and -660")),
+        ("A book has a post of -60 for agent 0, a reading, and a post of -600. The reply to a "
+         "reading after 0, 1, 2 or 3 of these entries is 0, -60, -60 or -660")),
     Row(["worked_rows/Logs:totals_of_the_book"], ["trade_ledger/CashHistory.cash_total"],
-        ("A book with posts of -60 and -600 for agent 0 comes to -660 for agent 0, 60 for agent "
-         "1 and 600 for the house, 8")),
+        ("A book has posts of -60 and -600 for agent 0. The totals are -660 for agent 0, 60 for "
+         "agent 1 and 600 for the house, 8")),
     Row(["worked_rows/Logs:posts_match_in_any_order"], ["trade_ledger/Posts.Matched"],
-        ("The post of good 1 stands before that of good 0: the book still has one post for each "
+        ("The post of good 1 comes before that of good 0. The book still has one post for each "
          "entry with a trade, and no other")),
     # The game file
     Row(["worked_rows/Ticks:flights_alone_are_updated_first"], ["game_text/Schedule.calls_at"],
-        "At tick 1 flight 0 is updated by its draw 10 first, and no call follows the eighth"),
+        ("At tick 1 flight 0 is updated first, by its draw 10, and no call comes after the "
+         "eighth")),
     Row(["worked_rows/Ticks:first_hotel_closes_and_seven_publish"],
         ["game_text/Schedule.open_after", "game_text/Schedule.calls_at"],
-        ("At tick 6 the ninth call closes hotel 8, and the seven others, 9 to 15, publish; no "
-         "call follows")),
+        ("At tick 6 the ninth call closes hotel 8, and the seven others, 9 to 15, publish. No "
+         "call comes after these")),
     Row(["worked_rows/Ticks:last_hotel_closes_alone"], ["game_text/Schedule.hotel_calls"],
-        "At tick 48 the ninth call closes hotel 15, and none publishes"),
+        "At tick 48 the ninth call closes hotel 15, and no hotel publishes"),
     Row(["worked_rows/Ticks:tickets_close_after_the_flights"], ["game_text/Schedule.closed_last"],
-        "At tick 54 the flights close, then good 16, and so on to good 27; no call follows"),
+        ("At tick 54 the flights close, then good 16, and so on to good 27. No call comes after "
+         "these")),
     Row(["worked_rows/Ticks:all_calls_and_those_of_two_goods"],
         ["game_text/Schedule.schedule", "game_text/Schedule.clock_calls"],
-        ("480 calls in all. Hotel 10, the third to close, publishes, publishes and closes; "
-         "good 20, a ticket, closes alone")),
+        ("There are 480 calls in all. Hotel 10, the third to close, publishes, publishes and "
+         "closes. Good 20, a ticket, only closes")),
     # The auctions of a game
     Row(["worked_rows/Links:auctions_have_their_rules"], ["auction_core/Setups.setup_of"],
-        ("In `quiet_game` good 0 is a flight with first price 300 and bound 10, good 15 a hotel "
-         "night of 16 rooms without live quotes, and good 27 tickets, of which nobody has any")),
+        ("In `quiet_game` good 0 is a flight with first price 300 and bound 10, good 15 is a "
+         "hotel night with 16 rooms and without live quotes, and good 27 is a ticket that no "
+         "agent has")),
     # Packages and the best total
     Row(["worked_rows/Packages:goods_are_seats_rooms_and_tickets"], ["packages/Goods.thing_of"],
-        ("The goods 0 and 3 are the seats in on the days 1 and 4, the goods 4 and 7 those out "
-         "on the days 2 and 5; 8, 11, 12 and 15 are the first and the last night of the two "
-         "hotels, 16, 19, 20, 23, 24 and 27 those of the three ticket types")),
+        ("Goods 0 and 3 are the inbound seats on days 1 and 4, and goods 4 and 7 the outbound "
+         "seats on days 2 and 5. Goods 8, 11, 12 and 15 are the first and the last nights of the "
+         "two hotels, and goods 16, 19, 20, 23, 24 and 27 those of the three ticket types")),
     Row(["worked_rows/Trips:trips_use_four_and_eight_goods"], ["packages/Packages.use_of"],
-        ("Tampa Towers (1) from day 2 to 3 with the museum on night 2 uses the goods 1, 5, 13 "
-         "and 25. Shoreline Shanties (0) from day 1 to 5, with the first ticket type on night "
-         "1 and the second on night 3: 0, 7, 8, 9, 10, 11, 16 and 22")),
+        ("Tampa Towers (1) from day 2 to 3 with the museum on night 2 uses goods 1, 5, 13 and "
+         "25. Shoreline Shanties (0) from day 1 to 5, with the first ticket type on night 1 and "
+         "the second on night 3, uses goods 0, 7, 8, 9, 10, 11, 16 and 22")),
     Row(["worked_rows/Packages:museum_trip", "worked_rows/Trips:long_trip_is_worth_830_and_home_0"],
         ["packages/Packages.utility_of"],
-        ("Tampa Towers from day 2 to 3 with the museum, for a client of day 1 to 3 with premium "
-         "100 and 200 for the museum: 1000 - 100 + 100 + 200 = 1200. Shoreline Shanties from day "
-         "1 to 5 with two tickets, for one of day 2 to 4 with premium 80 and the values 10, 20 "
-         "and 30: 1000 - 200 + 10 + 20 = 830. To stay at home: 0")),
+        ("A client prefers days 1 to 3, with premium 100 and 200 for the museum. Tampa Towers "
+         "from day 2 to 3 with the museum is worth 1000 - 100 + 100 + 200 = 1200. A client "
+         "prefers days 2 to 4, with premium 80 and the values 10, 20 and 30. Shoreline Shanties "
+         "from day 1 to 5 with two tickets is worth 1000 - 200 + 10 + 20 = 830. Staying at home "
+         "is worth 0")),
     Row(["worked_rows/Trips:packages_keep_to_days_nights_and_tickets"],
         ["packages/Packages.is_package"],
-        ("To stay at home is a package, and so are two trips. No package: a hotel 2, no night, "
-         "day 6, a ticket on the day of departure, two tickets on one night, four ticket types")),
+        ("Staying at home is a package, and so are two trips. These are not packages: a trip "
+         "with a hotel 2, one without a night, one to day 6, one with a ticket on the day of "
+         "departure, one with two tickets on one night, and one with four ticket types")),
     Row(["worked_rows/Trips:second_traveller_has_no_seat"],
         ["packages/BestTotal.used_by", "packages/Stocks.stock_of"],
         ("An agent has one inbound seat, two outbound seats and two rooms, and owes a ticket of "
-         "good 27. One traveller lacks nothing, two lack good 0; of good 27 there are 0")),
+         "good 27. One traveller lacks nothing, and two travellers lack good 0. The stock of "
+         "good 27 is 0")),
     Row(["worked_rows/Trips:lacking_goods_or_seven_packages_are_not_feasible"],
         ["packages/BestTotal.IsFeasible"],
-        ("Each of these is not feasible: a trip from day 1 with 8 of each good but 0 of good 0, "
-         "the first; a museum trip on night 4 with 8 of each but good 27, the last; 7 packages, "
-         "though none uses anything")),
+        ("None of these is feasible: a trip from day 1 with 8 of each good but 0 of good 0, the "
+         "first; a museum trip on night 4 with 8 of each good but none of good 27, the last; 7 "
+         "packages, though they use no goods")),
     Row(["worked_rows/Trips:one_traveller_is_worth_1000"], ["packages/BestTotal.total_of"],
         "One traveller and seven at home are worth 1000 together"),
     # Scores
@@ -222,24 +240,27 @@ ROWS = [
         ["settlement/Settlement.settlement_of", "settlement/Settlement.holdings_of",
          "settlement/Settlement.cash_gained"],
         ("Agent 0 buys 2 seats at 300. Agent 1, which has 1 ticket, sells 3 at 60: one to agent "
-         "0 and two to agent 2. They end with 2 seats and 1 ticket, none and -2, none and 2; and "
-         "with -660, 180 and -120 dollars")),
+         "0 and two to agent 2. At the end agent 0 has 2 seats, 1 ticket and -660 dollars; agent "
+         "1 has no seat, -2 tickets and 180 dollars; and agent 2 has no seat, 2 tickets and -120 "
+         "dollars")),
     Row(["worked_rows/Logs:three_tickets_short"], ["settlement/Score.short_of"],
-        "-2 seats and -1 room do not count; with -2, 4 and -1 tickets an agent is 3 short"),
+        ("Holdings of -2 seats and -1 room do not count. With -2, 4 and -1 tickets an agent is 3 "
+         "short")),
     Row(["worked_rows/Logs:ticket_short_costs_200"], ["settlement/Score.score_of"],
-        ("Best total 1150, -360 dollars and 2 short: 1150 - 360 - 2 * 200 = 390. Best total 0, "
-         "60 dollars and 1 short: -140")),
+        ("With best total 1150, -360 dollars and 2 tickets short, the score is 1150 - 360 - 2 * "
+         "200 = 390. With best total 0, 60 dollars and 1 short, it is -140")),
     # Requests and replies as lines
     Row(["worked_rows/Lines:lines_of_three_two_and_one_words"],
         ["line_protocol/Requests.request_of", "bid_strings/BidForm.points_of"],
-        ("`bid 24 ((2 70) (-1 65))` asks to buy 2 at 70 and sell 1 at 65; `withdraw 24`, `own "
-         "0`, `quote 27`, `cash` and `quit` ask what they say")),
+        ("`bid 24 ((2 70) (-1 65))` requests to buy 2 at 70 and to sell 1 at 65. `withdraw 24`, "
+         "`own 0`, `quote 27`, `cash` and `quit` are the requests that they name")),
     Row(["worked_rows/Lines:faults_of_lines_goods_and_points"],
         ["line_protocol/Requests.request_of", "bid_strings/BidForm.judged"],
-        ("Syntax: `hold`, an empty line, `cash` with a space after it, `own  1`, `own 01`, "
-         "`own 100000`, `bid 24`. No auction: `own 28`, `quote 99999`, `bid 28 x`. Points "
-         "without a form: `bid 5` and a space, `bid 5 ((1 1))` and a space. Price: `((1 "
-         "10001))`. Too many units: `((16 1) (1 1))`")),
+        ("These lines have a syntax fault: `hold`, an empty line, `cash` with a space after it, "
+         "`own  1`, `own 01`, `own 100000`, `bid 24`. These name no auction: `own 28`, `quote "
+         "99999`, `bid 28 x`. The points of these have no form: `bid 5` and a space, `bid 5 ((1 "
+         "1))` and a space. `((1 10001))` has a bad price, and `((16 1) (1 1))` has too many "
+         "units")),
     Row(["worked_rows/Lines:replies_to_calls"],
         ["line_protocol/Replies.said_text", "bid_strings/Spelling.spelling"],
         ("`@7 taken 1 0`, `@8 own -1 ((-1 60))`, `@0 own 1 ()`, `@9 done`, `@3 no belowquote 3 "
@@ -249,133 +270,140 @@ ROWS = [
          "units, `no toolong`, `bye`")),
     # The outside
     Row(["worked_rows/Links:lines_have_ends_and_fit_the_budget"], ["tac_io/AllAnswers.all_answers"],
-        ("A link gives `own 1`, a line end, another one, and `qui`: two lines, the second empty, "
-         "and the end; `qui` is dropped. If only 3 bytes of `ab`, a line end and more may be "
-         "taken: the line `ab`, and then the budget is used up")),
+        ("A link gives `own 1`, a line end, another line end, and `qui`. This makes two lines, "
+         "the second of them empty, and then the end; `qui` is dropped. Another link gives `ab`, "
+         "a line end and more bytes, of which only 3 may be taken. This makes the line `ab`, and "
+         "then the budget is used up")),
     Row(["worked_rows/Links:longest_line"], ["tac_io/AllAnswers.ended_line"],
-        ("512 bytes before a line end are a line; 513 are an overlong one, of which nothing is "
-         "kept. The next line counts")),
+        ("512 bytes before a line end are a line. 513 bytes are an overlong line, and none of "
+         "them is kept. The next line is read as usual")),
     Row(["worked_rows/Links:known_bytes_grow_and_unknown_stay"],
         ["tac_io/Known.known_then", "tac_io/Known.then_known"],
-        ("`ab` and then `c` is `abc`; `a` and then `bc` is `abc`; what is not known (`None`) "
-         "is not known with `c` either")),
+        ("`ab` and then `c` make `abc`, and so do `a` and then `bc`. Unknown bytes (`None`) are "
+         "still unknown when `c` is added")),
     Row(["worked_rows/Links:cut_line"], ["tac_io/Known.TakesSome"],
         "The write of a line failed after its first 3 bytes"),
     Row(["worked_rows/Links:counts_rise_or_stay"], ["tac_io/Counts.Rose"],
-        "A count of 3 faults rose to 4. At 2 ^ 64 - 1 it stays"),
+        "A count of 3 faults rose to 4. A count of 2 ^ 64 - 1 stays as it is"),
     # The session of a link
     Row(["worked_rows/Links:first_line_decides"],
         ["agent_gate/Gates.verdict_of", "agent_gate/Gates.seats_after"],
-        ("The seat of agent 2 is taken. `hello seat7`: seat 7; `hello seat2`: taken; `hello "
-         "seat8`: wrong word. Syntax: `Hello seat7`, `hello`, `hello Seat7`, two spaces, a space "
-         "at the end, a word that is too long, an empty line")),
+        ("The seat of agent 2 is taken. `hello seat7` gets seat 7; `hello seat2` is `taken`; "
+         "`hello seat8` has a wrong word. These have a syntax fault: `Hello seat7`, `hello`, "
+         "`hello Seat7`, a line with two spaces, one with a space at the end, one with a word "
+         "that is too long, and an empty line")),
     Row(["worked_rows/Links:ten_lines_are_sent_first"],
         ["agent_gate/Welcome.welcome_lines", "game_text/OneAgent.lines_of_agent"],
         ("A link with seat 3 is sent 10 lines: `welcome 3`, `endow 3 0 0 ..`, `client 3 0 1 2 "
-         "100 0 0 100`, and seven more clients")),
+         "100 0 0 100`, and the lines of seven more clients")),
     Row(["worked_rows/Sessions:each_line_is_asked_and_answered_once"],
         ["agent_gate/Turns.asked_and_said", "agent_gate/Served.reply_line"],
-        ("Six lines, six turns, six replies: `bid 8 ((1 50))`: `@1 taken 0 0`; `quote 8`: `@3 "
-         "quote 0 40 open`; `own 8`: `@3 own 0 ((1 50))`; `cash`: `@0 cash 0`; `sell 8`: `no "
-         "syntax`; `quit`: `bye`")),
+        ("Six lines make six turns with six replies. `bid 8 ((1 50))` gets `@1 taken 0 0`; "
+         "`quote 8` gets `@3 quote 0 40 open`; `own 8` gets `@3 own 0 ((1 50))`; `cash` gets `@0 "
+         "cash 0`; `sell 8` gets `no syntax`; `quit` gets `bye`")),
     Row(["worked_rows/Sessions:answers_tell_lengths_and_quit_is_last"],
         ["agent_gate/Turns.shown_length", "agent_gate/Turns.has_left"],
-        ("The answers of a session of six turns show that the history of good 8 has at least 2, "
-         "3 and 4 entries; a later position there is at least 4. The agent has left after turn "
-         "6, and not after 5")),
+        ("The replies of a session of six turns show that the history of good 8 has at least 2, "
+         "3 and then 4 entries. A later position there is at least 4. The agent has left after "
+         "turn 6, and not after turn 5")),
     Row(["worked_rows/Sessions:nothing_comes_after_quit"], ["agent_gate/Turns.AreLawful"],
-        ("`quit` and then an overlong line: not lawful. The overlong line first and then `quit`: "
-         "lawful")),
+        ("The turn of `quit` followed by one of an overlong line is not lawful. The overlong "
+         "line followed by `quit` is lawful")),
     Row(["worked_rows/Sessions:call_is_denied_after_1024"],
         ["agent_gate/Turns.IsLawfulTurn", "agent_gate/Turns.asked_call"],
-        ("A call at good 8 may be denied (`CallDenied`) after 1024 calls there, and not after "
-         "1023; after 1024 none may be made")),
+        ("A call at good 8 may be denied (`CallDenied`) after 1024 calls there, but not after "
+         "1023. After 1024 calls, no further call may be made")),
     Row(["worked_rows/Sessions:reading_is_denied_after_1024"],
         ["agent_gate/Turns.IsLawfulTurn", "agent_gate/Turns.is_reading"],
-        ("The same with cash: after 1024 readings the next one may be denied, and may not be "
-         "made")),
+        ("The same holds for cash: after 1024 readings the next one may be denied, and may not "
+         "be made")),
     Row(["worked_rows/Sessions:board_is_not_shorter"], ["agent_gate/Turns.IsNotBehind"],
-        ("After a call at position 3 of good 8 no board of only 3 entries may be shown: it would "
-         "be behind that call")),
+        ("After a call at position 3 of good 8, no board of only 3 entries may be shown, since "
+         "it would be behind that call")),
     Row(["worked_rows/Sessions:turns_make_the_agents_part"],
         ["turn_lock/Part.part", "agent_gate/Turns.made_at", "agent_gate/Turns.cash_made"],
         ("A hotel has four entries: agent 1 bids, agent 0 bids for 1 at 50, the clock publishes, "
-         "agent 0 looks. Agent 0's part, the entries 1 and 3, is what its turns made at good 8; at "
-         "good 9 they made nothing, and in the cash history one reading, at 0")),
+         "and agent 0 requests `own`. Agent 0's part consists of entries 1 and 3, which its "
+         "turns made at good 8. At good 9 its turns made no entry, and in the cash history they "
+         "made one reading, at position 0")),
     Row(["worked_rows/Sessions:shown_board_is_of_a_prefix"],
         ["floor/ClosedBoards.board_of", "agent_gate/Turns.boards_shown"],
-        ("A hotel has four entries. The board with the count 3 that agent 0 was shown is that of "
+        ("A hotel has four entries. The board that agent 0 was shown with the count 3 is that of "
          "the first 3 entries")),
     Row(["worked_rows/Ends:quit_after_bye", "worked_rows/Ends:no_quit_without_it"],
         ["agent_gate/Served.EndsBy", "agent_gate/Served.SendsAll"],
-        ("The welcome is `hi`, and all was sent. The turn `quit`, answered `bye`: the cause is "
-         "`Quit`, whatever the link has left. Without that turn it is not")),
+        ("The welcome is `hi`, and all bytes were sent. With the turn `quit` and its reply "
+         "`bye`, the cause is `Quit`, whatever bytes the link has left. Without that turn it is "
+         "not")),
     Row(["worked_rows/Ends:end_with_all_taken", "worked_rows/Ends:no_end_with_bytes_left",
          "worked_rows/Ends:read_fault_with_bytes_left"],
         ["agent_gate/Served.EndsBy", "agent_gate/Served.ComesTo"],
-        ("No further line comes. If nothing is left the cause is `End`; if an `x` is left it is "
-         "not. If the last read failed it is `ReadFault`")),
+        ("No further line comes. If no byte is left, the cause is `End`; if an `x` is left, it "
+         "is not. If the last read failed, the cause is `ReadFault`")),
     Row(["worked_rows/Ends:no_end_with_a_reply_unsent",
          "worked_rows/Ends:write_fault_cuts_the_last_line"],
         ["agent_gate/Served.EndsBy", "agent_gate/Served.IsCutOff"],
-        ("Of the reply `no toolong` only `no too` was sent. The cause is not `End`; it is "
-         "`WriteFault`: the 6 first bytes of the last line were sent, and a write failed there")),
+        ("Only `no too` of the reply `no toolong` was sent. The cause is not `End`. It is "
+         "`WriteFault`: the first 6 bytes of the last line were sent, and a write failed there")),
     Row(["worked_rows/Ends:no_budget_after_one_turn", "worked_rows/Ends:budget_after_65536_turns",
          "worked_rows/Ends:budget_with_all_bytes_used_up"],
         ["agent_gate/Served.EndsBy", "agent_gate/Served.IsUsedUp"],
-        ("All was sent. 1 turn and then the end of the bytes: not `Budget`. 65536 turns without "
-         "`quit`, whatever they are, and bytes left: `Budget`. So too after 1 turn if the bytes "
-         "that may be taken are used up")),
+        ("All bytes were sent. After 1 turn and then the end of the bytes, the cause is not "
+         "`Budget`. After 65536 turns without `quit`, with bytes left, it is `Budget`, whatever "
+         "the turns are. It is also `Budget` after 1 turn if all bytes that may be taken are "
+         "used up")),
     Row(["worked_rows/Ends:end_counts_no_fault",
          "worked_rows/Ends:no_session_writes_after_a_failed_write"],
         ["agent_gate/Served.EndsBy", "agent_gate/Served.IsCutOff"],
-        ("If failed reads rose from 3 to 4 the cause is not `End`. A write that failed after 2 "
-         "bytes, with more sent after it, is not `WriteFault`")),
+        ("If the count of failed reads rose from 3 to 4, the cause is not `End`. If a write "
+         "failed after 2 bytes and more bytes were sent after it, the cause is not `WriteFault`")),
     # A game over links
     Row(["worked_rows/Links:second_greeting_is_taken"], ["game_run/Admission.HasFirstLine"],
-        ("The seat of agent 2 is taken. A link gives `hello seat2`, and then `hello seat3`: its "
+        ("The seat of agent 2 is taken. A link gives `hello seat2`, and then `hello seat3`. Its "
          "first line makes it `Taken`, and later lines do not count")),
     Row(["worked_rows/Links:refusal_is_sent_or_cut",
          "worked_rows/Links:no_refusal_goes_on_after_a_failed_write"],
         ["game_run/Admission.IsSentOrCut"],
-        ("`refused taken` was sent whole, and no fault counted; or its first 7 bytes, `refused`, "
-         "and failed writes rose from 0 to 1. Never: a write that failed after 4 bytes, and then "
-         "3 more bytes")),
+        ("Either `refused taken` was sent whole, and no fault was counted; or only its first 7 "
+         "bytes, `refused`, were sent, and the count of failed writes rose from 0 to 1. It never "
+         "happens that a write fails after 4 bytes and 3 more bytes are sent")),
     Row(["worked_rows/Links:lost_at_its_end_or_a_failed_read",
          "worked_rows/Links:no_link_is_read_after_a_failed_read"],
         ["game_run/Admission.IsLost"],
-        ("Lost, and sent nothing: `hello seat2` without a line end, and no more; or `hello`, and "
-         "then a read failed, though the rest of the line was to come. Never: a read that failed "
-         "after 2 bytes, and then 3 more bytes")),
+        ("These links are lost, and were sent nothing: one that gave `hello seat2` without a "
+         "line end, and no more; and one that gave `hello` before a read failed, though the rest "
+         "of the line was to come. It never happens that a read fails after 2 bytes and 3 more "
+         "bytes are taken")),
     Row(["worked_rows/Links:links_are_taken_up_to_8_seats_or_64_links"],
         ["game_run/Admission.MayGoOn", "game_run/Admission.is_seated"],
-        ("After seven seats another link may be taken, and after eight none. After 63 refused "
-         "links another one may, and after 64 none")),
+        ("After seven seats another link may be taken, and after eight seats none. After 63 "
+         "refused links another link may be taken, and after 64 none")),
     Row(["worked_rows/CommandLines:one_tick_lapsed"],
         ["clock_events/Clocking.WaitsForAll"],
-        ("The ticks 1 to 54 were waited for, tick 7 lapsed, and faults rose from 0 to 1: 1 tick "
-         "was missed. The pace was 500 at each wait, and stays")),
+        ("Ticks 1 to 54 were waited for, tick 7 lapsed, and the count of faults rose from 0 to "
+         "1: 1 tick was missed. The pace was 500 at each wait, and stays 500")),
     Row(["worked_rows/Sessions:clock_posts_what_was_traded"],
         ["clock_events/ClockTurns.clock_entries", "clock_events/ClockTurns.clock_posts"],
-        ("The clock updates flight 0, where a seat is sold at 300, and publishes at hotel 8: one "
-         "entry at each good, and one post, for the update")),
+        ("The clock updates flight 0, where a seat is sold at 300, and publishes at hotel 8. "
+         "This makes one entry at each good, and one post, for the update")),
     Row(["worked_rows/Links:one_seat_is_given_and_refused_links_are_told"],
         ["game_run/Admission.seats_given", "game_run/Admission.first_verdict",
          "game_run/Admission.refusal_line"],
-        ("After a wrong word, seat 2 and a lost link, only the seat of agent 2 is taken. A first "
-         "line that is too long is `syntax`. Refused links are sent `refused syntax`, `refused "
-         "wrongword` or `refused taken`, and a lost one nothing")),
+        ("After a wrong word, a link with seat 2 and a lost link, only the seat of agent 2 is "
+         "taken. A first line that is too long is refused as `syntax`. Refused links are sent "
+         "`refused syntax`, `refused wrongword` or `refused taken`, and a lost link is sent "
+         "nothing")),
     Row(["worked_rows/LoggedLinks:ended_by_quit"],
         ["game_run/LinkRuns.IsSeated", "agent_gate/Transcript.IsTranscript",
          "agent_gate/Served.IsServed", "agent_gate/Items.AreItems"],
-        ("The link of the example: agent 2 asks `bid 0 ((2 310))`, `cash` and `quit`, and buys 2 "
-         "seats at 300. `own 8` comes after `quit`, and is not answered")),
+        ("The link of the example: agent 2 sends `bid 0 ((2 310))`, `cash` and `quit`, and buys "
+         "2 seats at 300. `own 8` comes after `quit`, and gets no reply")),
     Row(["worked_rows/LoggedLinks:ended_by_its_end", "worked_rows/LoggedLinks:ended_by_a_read",
          "worked_rows/LoggedLinks:ended_by_a_write"],
         ["game_run/LinkRuns.IsSeated", "agent_gate/Served.EndsBy"],
-        ("The same link without `quit`: `End` if its bytes end there; `ReadFault` if a read "
-         "fails within the line `own 8`; `WriteFault` if only the first 5 bytes of the reply `@1 "
-         "cash -600` are sent")),
+        ("The same link without `quit`: the cause is `End` if its bytes end there, `ReadFault` "
+         "if a read fails within the line `own 8`, and `WriteFault` if only the first 5 bytes of "
+         "the reply `@1 cash -600` are sent")),
     # The log
     Row(["worked_rows/Logs:history_of_a_hotel"], ["log_text/LogText.auction_text"],
         ("`auction 8 4`, `0 bid ((1 50)) = taken 0 0`, `8 publish = done`, `1 bid ((1 50)) = "
@@ -392,64 +420,71 @@ ROWS = [
     # Outcomes and codes
     Row(["worked_rows/CommandLines:services_have_a_port_a_pace_and_a_form"],
         ["tac_commands/Services.service_of"],
-        ("`serve a.game 7000 10000`, and `serve a.game 1 60000 json`. No service: port 0, "
-         "65536 or 07000, pace 60001, no pace, another form")),
+        ("`serve a.game 7000 10000` and `serve a.game 1 60000 json` are services. There is no "
+         "service with port 0, 65536 or 07000, with pace 60001, without a pace, or with another "
+         "form")),
     Row(["worked_rows/CommandLines:codes_of_texts_and_refusals"],
         ["tac_commands/Outcomes.exit_of", "tac_commands/Outcomes.refusal_end"],
-        ("A text has code 0; with lapsed ticks 6; of an unsound log 9; cut off by a failed write "
-         "4. A first part is followed by `memory`, with 7. Replies to a script that broke off "
-         "are followed by `fault read`, with 3. Refusals: 1 `usage`, 2 `game 3 2`, 3 `fault "
-         "read`, 5 `fault links`, 7 `memory`")),
+        ("A text has code 0, or 6 if ticks lapsed. The text about an unsound log has code 9. A "
+         "text that was cut off by a failed write has code 4. A first part is followed by "
+         "`memory`, with code 7. The replies to a script that broke off are followed by `fault "
+         "read`, with code 3. The refusals are 1 `usage`, 2 `game 3 2`, 3 `fault read`, 5 `fault "
+         "links` and 7 `memory`")),
     Row(["worked_rows/CommandLines:text_is_written_with_its_code_or_cut"],
         ["tac_commands/Reporting.Reports", "tac_io/Taken.TookPart"],
-        ("The text `ab` of a game with lapsed ticks, whole: code 6. Of `ab` only `a`, and a "
-         "fault counted: code 4. Never: only `a` and code 0; or `a` after a write that had "
-         "failed before it")),
+        ("If the text `ab` of a game with lapsed ticks was written whole, the code is 6. If only "
+         "`a` of `ab` was written and a fault was counted, the code is 4. Two results never "
+         "occur: only `a` with code 0; and `a` written after an earlier write had failed")),
     Row(["worked_rows/CommandLines:replies_are_whole_before_a_failed_read_is_told"],
         ["tac_commands/Reporting.Reports", "tac_commands/Reporting.IsCutShort"],
-        ("The reply `ab` to a script that broke off, and then `fault read`: code 3. Then only "
-         "`fau`, and a fault counted: code 4. Never: only `a` of the reply, and code 4")),
+        ("If the reply `ab` to a script that broke off was written, and then `fault read`, the "
+         "code is 3. If only `fau` of the latter was written, and a fault was counted, the code "
+         "is 4. It never happens that only `a` of the reply is written, with code 4")),
     # The command `step`
     Row(["worked_rows/Lines:good_lines_and_a_rest_or_a_bad_line"],
         ["script_run/HeardScripts.heard", "script_run/HeardScripts.heard_from"],
-        ("`tick`, `3 own` and `0 ca` without a line end: two good lines, the last one first, of "
-         "which one asks what is no request, and the rest `0 ca`. `0 cash`, `tock`, `tick`: one "
-         "good line, and line 2 is bad for reason 1")),
+        ("`tick`, `3 own` and `0 ca` without a line end make two good lines, listed with the "
+         "last one first, and the rest `0 ca`. One of these lines is not a valid request. `0 "
+         "cash`, `tock`, `tick` make one good line, and line 2 is bad for reason 1")),
     Row(["worked_rows/Lines:script_is_open_bad_broken_off_or_whole"],
         ["script_run/HeardScripts.script_standing"],
-        ("`tick` and the rest `0 ca`: open where more may come; at the end line 2 is bad for "
-         "reason 3; where a read failed it is broken off. `tick`, `0 cash`: whole at the end. "
-         "`tock`, `tick`: line 1 is bad for reason 1, though a read failed")),
+        ("A script has the line `tick` and the rest `0 ca`. It is open if more may come; at the "
+         "end its line 2 is bad for reason 3; after a failed read it is broken off. `tick`, `0 "
+         "cash` is whole at the end. In `tock`, `tick`, line 1 is bad for reason 1, even if a "
+         "read failed")),
     # Beside
     Row(["worked_rows/Games:first_bad_line_is_told"], ["game_text/Games.game_in"],
-        ("`tic 1` is bad at line 1 for its keyword; a comment and an empty line count, so "
-         "`seats` after `tac 1` is line 4; a comment without a line end is bad for reason 7")),
+        ("`tic 1` is bad at line 1 because of its keyword. A comment and an empty line count, so "
+         "`seats` after `tac 1` is line 4. A comment without a line end is bad for reason 7")),
     Row(["worked_rows/Packages:prices_bound_all_allocations"], ["packages/Bounds.leaf_bound"],
-        ("With one seat in and one ticket that two clients want, the prices 1000 and 150 bound "
-         "every allocation by 1150; without prices the bound is 8650, and at 50 for the seat "
-         "8300")),
+        ("There are one inbound seat and one ticket that two clients want. The prices 1000 and "
+         "150 bound every allocation by 1150. Without prices the bound is 8650, and with the "
+         "price 50 for the seat it is 8300")),
     Row(["worked_rows/Json:forms_of_a_request"], ["json_dialect/JsonRequests.asked_by_value"],
-        ("`{\"do\":\"bid\",\"auction\":0,\"points\":[[1,300]]}` asks to buy 1 at 300; of two "
-         "keys `do` the last counts; a further key, or 1.0 for an auction, is a syntax fault")),
+        ("`{\"do\":\"bid\",\"auction\":0,\"points\":[[1,300]]}` requests to buy 1 at 300. If "
+         "there are two keys `do`, the last one counts. A further key, or 1.0 as an auction, is "
+         "a syntax fault")),
     Row(["worked_rows/Lines:replies_in_json"], ["json_dialect/JsonReplies.json_text"],
         ("`{\"at\":7,\"taken\":[1,0]}`, `{\"at\":8,\"own\":-1,\"points\":[[-1,60]]}`, "
          "`{\"at\":9,\"quote\":[70,0],\"open\":true}`, `{\"no\":\"bid\",\"fault\":5}`")),
     # The other commands
     Row(["worked_rows/Worths:seat_is_worth_1000_more_and_1150_less"],
         ["good_worth/Worths.up_at", "good_worth/Worths.down_at"],
-        ("Best total 1150 with one seat, 2150 with two and 0 with none: one more is worth "
-         "1000, one less 1150")),
+        ("The best total is 1150 with one seat, 2150 with two and 0 with none. So one more seat "
+         "is worth 1000, and one seat fewer costs 1150")),
     Row(["worked_rows/Draws:first_words_of_42"], ["draw_maker/Words.next_words"],
-        "The first words of the seed 42: 2707161783, 2068313097, 3122475824, 2211639955"),
+        "The first words of the seed 42 are 2707161783, 2068313097, 3122475824 and 2211639955"),
     Row(["worked_rows/Draws:own_place_keeps_order_and_the_first_turns_it"],
         ["draw_maker/ClosingOrders.made_order"],
-        "Seven draws that each exchange with the first place: 9, 10, 11, 12, 13, 14, 15, 8"),
+        ("Seven draws that each exchange a place with the first place give the order 9, 10, 11, "
+         "12, 13, 14, 15, 8")),
     Row(["worked_rows/Standings:standings_of_one_game_twice"],
         ["tourney/Standings.total", "tourney/Standings.rank"],
-        ("Two games with the scores 440, -280, -60 and five times 0: 880, -560 and -120; the "
-         "ranks are 1, 8 and 7, and 2 for the others")),
+        ("Two games have the same scores: 440, -280, -60 and five times 0. The totals are 880, "
+         "-560, -120 and 0. The ranks are 1, 8 and 7, and 2 for the others")),
     Row(["worked_rows/Standings:averages_in_lowest_terms"], ["tourney/Rows.IsAverage"],
-        "-560 of 2 games is -280/1; 440 of 3 is 440/3; 0 of 3 is 0/1"),
+        ("The average of -560 in 2 games is -280/1; of 440 in 3 games it is 440/3; of 0 in 3 "
+         "games it is 0/1")),
 ]
 
 

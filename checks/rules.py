@@ -55,7 +55,7 @@ RULES = [
          ["tac_base/forgets_units_so_far", "bid_strings/accepts_zero_units"],
          ["worked_rows/Bids:faults_of_points_in_their_order"]),
     Rule("Bids and units",
-         "the index of a unit, and its place in time",
+         "the index of a unit and its place in time",
          [],
          ["auction_rules/Units:units_of"],
          ["auction_rules/units:push_units"],
@@ -63,7 +63,7 @@ RULES = [
          ["auction_rules/units_share_an_index", "auction_rules/points_are_numbered_anew"],
          ["units_go_on_through_the_points"]),
     Rule("Bids and units",
-         "a new bid replaces the whole earlier one",
+         "the replacement of the whole earlier bid by a new bid",
          ["PROTOCOL/Requests", "GAME/Where this differs from TAC Classic"],
          ["auction_rules/History:last_bid", "auction_rules/Standing:stand"],
          ["hotel_book/book:bid", "flight_auction/book:bid", "ticket_book/book:bid"],
@@ -72,7 +72,7 @@ RULES = [
          ["ticket_book/old_units_kept_beside_new_bid"],
          ["new_bid_takes_its_own_place_in_time", "new_bid_does_not_meet_the_old_one"]),
     Rule("Bids and units",
-         "what is left of a bid",
+         "the remaining units of a bid",
          ["PROTOCOL/Replies"],
          ["auction_rules/Standing:left"],
          ["hotel_book/book:own", "flight_auction/book:own", "ticket_book/book:own"],
@@ -80,7 +80,7 @@ RULES = [
          ["ticket_book/own_forgets_standing_units"],
          ["trade_is_at_the_standing_price", "part_of_a_sale_is_left"]),
     Rule("Refusals",
-         "closed, before every other refusal",
+         "the refusal `closed`, which precedes every other refusal",
          ["PROTOCOL/Refusals"],
          ["auction_rules/Refusals:refusal"],
          ["auction_rules/wrong_calls:wrong_reply"],
@@ -88,7 +88,7 @@ RULES = [
          ["auction_core/bid_after_close_enters"],
          ["calls_and_bids_that_are_refused"]),
     Rule("Refusals",
-         "wrong call",
+         "the refusal `wrong call`",
          ["PROTOCOL/Refusals"],
          ["auction_rules/Refusals:is_wrong_caller", "auction_rules/Refusals:is_wrong_place"],
          ["auction_rules/wrong_calls:wrong_reply"],
@@ -96,7 +96,7 @@ RULES = [
          [],
          ["calls_and_bids_that_are_refused"]),
     Rule("Refusals",
-         "no bid to withdraw",
+         "the refusal of a withdrawal without a bid",
          ["PROTOCOL/Refusals"],
          ["auction_rules/Refusals:has_standing"],
          ["flight_auction/book:withdraw", "ticket_book/book:withdraw"],
@@ -104,7 +104,7 @@ RULES = [
          ["flight_auction/withdrawn_without_a_bid"],
          ["calls_and_bids_that_are_refused"]),
     Rule("Refusals",
-         "no selling at a flight or in a hotel",
+         "no sales by agents at flights or in hotels",
          ["PROTOCOL/Refusals"],
          ["auction_rules/Refusals:sells"],
          ["auction_rules/units:sells"],
@@ -112,7 +112,7 @@ RULES = [
          [],
          ["calls_and_bids_that_are_refused"]),
     Rule("Refusals",
-         "a bid for tickets does not cross itself",
+         "no bid for tickets that crosses itself",
          ["PROTOCOL/Refusals"],
          ["auction_rules/Refusals:crosses_itself"],
          ["ticket_book/refusals:meets_own"],
@@ -120,7 +120,7 @@ RULES = [
          ["ticket_book/self_crossing_bid_is_admitted"],
          ["calls_and_bids_that_are_refused"]),
     Rule("Flights",
-         "how a draw moves a price",
+         "the change of a flight's price by a draw",
          ["FORMATS/Game file", "GAME/Where this differs from TAC Classic"],
          ["auction_rules/FlightRule:next_price", "auction_rules/FlightRule:drift"],
          ["flight_auction/prices:next_price"],
@@ -128,7 +128,7 @@ RULES = [
          ["flight_auction/rounds_a_fall_to_zero", "flight_auction/update_forgets_the_draw"],
          ["draws_raise_and_lower_the_price", "price_stops_at_800_and_150"]),
     Rule("Flights",
-         "points at or above the price are sold whole, at the price",
+         "the sale of whole points at or above the price, at the price",
          ["PROTOCOL/Replies"],
          ["auction_rules/FlightSales:flight_trades"],
          ["flight_auction/sales:sell"],
@@ -137,7 +137,7 @@ RULES = [
          ["flight_auction/sells_at_own_price"],
          ["points_above_the_price_are_sold_one_by_one", "falling_price_reaches_a_bid"]),
     Rule("Hotels",
-         "which unit comes first",
+         "the order of units",
          ["GAME/Where this differs from TAC Classic"],
          ["auction_rules/Precedence:precedes"],
          ["hotel_book/order:precedes"],
@@ -153,7 +153,7 @@ RULES = [
          ["hotel_book/ask_of_fifteen_units"],
          ["two_bids_win_until_the_closing"]),
     Rule("Hotels",
-         "the published price, by the minute or live",
+         "the published price, with quotes by the minute or live",
          ["PROTOCOL/Replies", "PROTOCOL/What a hotel bid would win", "FORMATS/Game file"],
          ["auction_rules/Ask:published"],
          ["hotel_book/quotes:after_bid", "hotel_book/book:publish"],
@@ -187,7 +187,7 @@ RULES = [
          ["ticket_book/trades_at_arriving_price"],
          ["trade_is_at_the_standing_price", "points_above_the_price_are_sold_one_by_one"]),
     Rule("Tickets",
-         "nobody trades with itself",
+         "no trade of an agent with itself",
          [],
          ["auction_core/Laws:HasNoSelfTrade"],
          ["ticket_book/matching:partner"],
@@ -195,7 +195,7 @@ RULES = [
          ["ticket_book/trades_with_own_old_unit"],
          ["new_bid_does_not_meet_the_old_one"]),
     Rule("Tickets",
-         "tickets may be sold short",
+         "short sales of tickets",
          ["PROTOCOL/Replies"],
          ["auction_rules/Effects:holding"],
          ["trade_ledger/good_book:apply"],
@@ -203,7 +203,7 @@ RULES = [
          ["trade_ledger/forgets_seller"],
          ["holding_may_be_negative"]),
     Rule("Boards",
-         "what a board shows",
+         "the content of a board",
          ["PROTOCOL/Replies"],
          ["auction_rules/Board:board"],
          ["auction_core/book:board"],
@@ -234,7 +234,7 @@ RULES = [
           "worked_rows/Ticks:last_hotel_closes_alone",
           "worked_rows/Ticks:all_calls_and_those_of_two_goods"]),
     Rule("Cash",
-         "each entry with trades has one post",
+         "one post for each entry with trades",
          ["FORMATS/The histories"],
          ["trade_ledger/Posts:Matched"],
          ["floor/desk:call", "floor/cash_turns:post"],
@@ -259,7 +259,7 @@ RULES = [
          ["worked_rows/Logs:reading_sums_the_posts_before_it",
           "auction_tests/cash:callers_take_turns_at_the_cash_book"]),
     Rule("Packages",
-         "what a package is, and what it uses",
+         "the packages and the goods that they use",
          ["FORMATS/A best allocation"],
          ["packages/Packages:is_package", "packages/Packages:use_of"],
          ["packages/listing:package", "packages/goods_used:uses"],
@@ -269,7 +269,7 @@ RULES = [
          ["worked_rows/Trips:trips_use_four_and_eight_goods",
           "worked_rows/Trips:packages_keep_to_days_nights_and_tickets"]),
     Rule("Packages",
-         "what a package is worth",
+         "the worth of a package",
          ["PROTOCOL/Admission"],
          ["packages/Packages:utility_of"],
          ["packages/utilities:utility"],
@@ -314,13 +314,15 @@ RULES = [
 ]
 
 INTRODUCTION = """\
-This table has a row for each rule of `docs/GAME.md`. Each row links the sections that state the
-rule in words, its definition, the code that implements it, and the clause that connects the two.
-Most rows also link a refused edit: a wrong function body that the clause rules out (the gate fails
-if the prover accepts it). The last column links a worked row, which the prover computes, or a test.
+This table has a row for each rule of `docs/GAME.md`. Each row links to the sections that state the
+rule in words, to its definition, to the code that implements it, and to the clause that connects
+definition and code. Most rows also link to a refused edit: a wrong function body that the clause
+rules out. The gate fails if the prover accepts such a body. The last column links to a worked row,
+which the prover evaluates, or to a test.
 
-To change a rule, change all of these places, and its entry in `docs/DECISIONS.md` if it has one.
-`checks/reading.py --write` generates this page, and fails if one of the places does not exist."""
+To change a rule, change all of these places, and the rule's entry in `docs/DECISIONS.md` if it has
+one. `checks/reading.py --write` generates this page, and fails if one of the places does not
+exist."""
 
 OTHERS = ["FORMATS/Game script"]  # headings of other pages that have rules, with their page
 
