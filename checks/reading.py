@@ -493,7 +493,7 @@ def page(definitions: Definitions) -> Tuple[str, List[str], str]:
         if target_of(full) not in SKIP_MARKS
     ]
     steps, wrong_steps = sentences_table(
-        definitions, all_rows, "the command `step`", STEP_SENTENCES
+        definitions, all_rows, "the promise of `step`", STEP_SENTENCES
     )
     faults += wrong_steps
     types, wrong_types = types_table(headline)
@@ -675,7 +675,7 @@ def page(definitions: Definitions) -> Tuple[str, List[str], str]:
             "",
             f"## Beside: {heading[0].lower() + heading[1:]}",
             "",
-            filled(f"{about} This part has {line_count(definitions, part, part)} lines."),
+            filled(f"This part has {line_count(definitions, part, part)} lines. {about}"),
             "",
         ]
         text += table(definitions, part, in_order(definitions, part)) + worked(

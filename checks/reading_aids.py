@@ -177,9 +177,9 @@ def cases_sentence(definitions: Definitions, rows: Rows) -> str:
         for (_, name), words in sorted(found.items())
     )
     return (
-        f"Rows try some cases of these statements, but not these cases: {told}."
+        f"Rows try these statements, but not all of their cases. The cases without a row: {told}."
         if found
-        else "If a row tries a statement by cases, each case that the statement names has a row."
+        else "If rows try a statement by cases, each case that the statement names has a row."
     )
 
 

@@ -12,9 +12,9 @@ this project. For the chapters that it read, the rates gave 210 minutes; its own
 
 Eight such readers estimated earlier versions of this page. Without rows and guides they said
 5 h 14 and 6 h 04. With them they said 4 h 57, then 4 h 43, 4 h 14 and 3 h 59, and then 4 h 00 and
-4 h 13. The first six read copies in which three definitions had been changed to wrong ones. Each of
-these readers found all three. The last three of them said that they would have needed about ten
-minutes less without the changes. The goal is three hours.
+4 h 13. In the copies that the first six read, three definitions had deliberately been made wrong. Each of
+these readers found all three. The last three of the six said that this had cost them about ten
+minutes. The goal is three hours.
 
 The column "for code 0" leaves out the definitions with the sign °: those that only other outcomes
 use, and the definition of a certificate. The headline does not need them, and the minutes do not
@@ -259,7 +259,7 @@ The headline needs only `Reports`, `IsCashOfPosts` and `service_of`; the other o
 other commands. `Reports` has two cases. With code 4, a part of the text was taken, but not all of
 it. With any other code, the code is that of the outcome, and the whole text was taken.""",
     "The command `serve`": """\
-Four definitions each make one sentence:
+Each of the four definitions is one sentence:
 
 1. `Serves`: some outcome is allowed, and it was reported. So code 0 means `Done` and code 6 means
 `Lapsed`, with the whole text written.
@@ -387,7 +387,7 @@ RULES_MAP: List[Tuple[str, Tuple[Cell, Cell, Cell]]] = [
       ("the ask of the standing units: {}", ["auction_rules/Ask.ask"]),
       ("the price of the standing unit: {}", ["auction_rules/TicketMatch.pair_trade"]))),
     ("which standing units a call removes",
-     (("the units at or above the price, of {}", ["auction_rules/FlightRule.looked_at"]),
+     (("the units of {} that are at or above the price", ["auction_rules/FlightRule.looked_at"]),
       ("none until the closing, then all", []),
       ("{}", ["auction_rules/TicketMatch.ticket_gone"]))),
     ("which bid is refused",

@@ -49,8 +49,8 @@ ROWS = [
     Row(["worked_rows/Auctions:two_bids_win_until_the_closing"],
         ["auction_rules/Standing.stand", "auction_rules/WinningNumber.winning",
          "auction_rules/Ask.ask"],
-        ("In a hotel of 16 rooms, 13 units stand at 100 and 3 at 120. The ask is 100, and the "
-         "two agents win 13 and 3 units. After the closing no unit stands")),
+        ("In a hotel of 16 rooms, agent 0 has 13 units at 100 and agent 1 has 3 at 120. The ask "
+         "is 100, and the agents win 13 and 3 units. After the closing no unit stands")),
     Row(["worked_rows/Auctions:part_of_a_sale_is_left"],
         ["auction_rules/Standing.left", "auction_rules/Effects.holding"],
         ("Agent 1 offers to sell 2 tickets at 60 that it does not have, and agent 0 buys 1. "
@@ -77,8 +77,8 @@ ROWS = [
          "70 is taken")),
     Row(["worked_rows/Auctions:withdrawn_bid_is_gone"],
         ["auction_rules/Refusals.has_standing", "auction_rules/History.bid_after"],
-        ("Agent 0 bids for 2 seats at 200 when the price is 300, and withdraws the bid: `done`. "
-         "A second withdrawal is refused as `nobid`, and no unit is left")),
+        ("Agent 0 bids for 2 seats at 200 when the price is 300. Its withdrawal gets the reply "
+         "`done`. A second withdrawal is refused as `nobid`, and no unit is left")),
     # .. flights
     Row(["worked_rows/Auctions:one_dollar_below_the_price"],
         ["auction_rules/FlightSales.is_sold", "auction_rules/Standing.gone_by"],
@@ -213,11 +213,11 @@ ROWS = [
          "the second on night 3, uses goods 0, 7, 8, 9, 10, 11, 16 and 22")),
     Row(["worked_rows/Packages:museum_trip", "worked_rows/Trips:long_trip_is_worth_830_and_home_0"],
         ["packages/Packages.utility_of"],
-        ("A client prefers days 1 to 3, with premium 100 and 200 for the museum. Tampa Towers "
-         "from day 2 to 3 with the museum is worth 1000 - 100 + 100 + 200 = 1200. A client "
-         "prefers days 2 to 4, with premium 80 and the values 10, 20 and 30. Shoreline Shanties "
-         "from day 1 to 5 with two tickets is worth 1000 - 200 + 10 + 20 = 830. Staying at home "
-         "is worth 0")),
+        ("A client prefers days 1 to 3, with a premium of 100 for the better hotel and a value "
+         "of 200 for the museum. Tampa Towers from day 2 to 3 with the museum is worth 1000 - "
+         "100 + 100 + 200 = 1200. Another client prefers days 2 to 4, with premium 80 and the "
+         "values 10, 20 and 30. Shoreline Shanties from day 1 to 5 with two tickets is worth "
+         "1000 - 200 + 10 + 20 = 830. Staying at home is worth 0")),
     Row(["worked_rows/Trips:packages_keep_to_days_nights_and_tickets"],
         ["packages/Packages.is_package"],
         ("Staying at home is a package, and so are two trips. These are not packages: a trip "
@@ -365,15 +365,15 @@ ROWS = [
          "worked_rows/Links:no_refusal_goes_on_after_a_failed_write"],
         ["game_run/Admission.IsSentOrCut"],
         ("Either `refused taken` was sent whole, and no fault was counted; or only its first 7 "
-         "bytes, `refused`, were sent, and the count of failed writes rose from 0 to 1. It never "
-         "happens that a write fails after 4 bytes and 3 more bytes are sent")),
+         "bytes, `refused`, were sent, and the count of failed writes rose from 0 to 1. It is "
+         "excluded that 3 more bytes are sent after a write that failed after 4 bytes")),
     Row(["worked_rows/Links:lost_at_its_end_or_a_failed_read",
          "worked_rows/Links:no_link_is_read_after_a_failed_read"],
         ["game_run/Admission.IsLost"],
         ("These links are lost, and were sent nothing: one that gave `hello seat2` without a "
          "line end, and no more; and one that gave `hello` before a read failed, though the rest "
-         "of the line was to come. It never happens that a read fails after 2 bytes and 3 more "
-         "bytes are taken")),
+         "of the line was to come. It is excluded that 3 more bytes are taken after a read that "
+         "failed after 2 bytes")),
     Row(["worked_rows/Links:links_are_taken_up_to_8_seats_or_64_links"],
         ["game_run/Admission.MayGoOn", "game_run/Admission.is_seated"],
         ("After seven seats another link may be taken, and after eight seats none. After 63 "
@@ -433,13 +433,13 @@ ROWS = [
     Row(["worked_rows/CommandLines:text_is_written_with_its_code_or_cut"],
         ["tac_commands/Reporting.Reports", "tac_io/Taken.TookPart"],
         ("If the text `ab` of a game with lapsed ticks was written whole, the code is 6. If only "
-         "`a` of `ab` was written and a fault was counted, the code is 4. Two results never "
-         "occur: only `a` with code 0; and `a` written after an earlier write had failed")),
+         "`a` of `ab` was written and a fault was counted, the code is 4. Two results are "
+         "excluded: only `a` with code 0; and `a` written after an earlier write had failed")),
     Row(["worked_rows/CommandLines:replies_are_whole_before_a_failed_read_is_told"],
         ["tac_commands/Reporting.Reports", "tac_commands/Reporting.IsCutShort"],
         ("If the reply `ab` to a script that broke off was written, and then `fault read`, the "
-         "code is 3. If only `fau` of the latter was written, and a fault was counted, the code "
-         "is 4. It never happens that only `a` of the reply is written, with code 4")),
+         "code is 3. If only `fau` of that line was written, and a fault was counted, the code "
+         "is 4. It is excluded that only `a` of the reply is written, with code 4")),
     # The command `step`
     Row(["worked_rows/Lines:good_lines_and_a_rest_or_a_bad_line"],
         ["script_run/HeardScripts.heard", "script_run/HeardScripts.heard_from"],

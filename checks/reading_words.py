@@ -39,7 +39,7 @@ trust."""
 
 PICTURE_ABOUT = """\
 The picture shows how the bytes of one link become lines, turns, entries in two histories, lines of
-the log and a score. The names at each arrow are those of the definitions that state this step. The
+the log and a score. The names at an arrow are the definitions that state that step. The
 clock's turns take the same path (`IsClockTranscript`). For both histories, `Legal` and
 `IsLegalCash` state that each entry is the one that the rules give after the entries before it."""
 
@@ -136,8 +136,8 @@ guide here.
 **Worked rows** are small cases. Each is given first in words, and then as the lemma that the
 toolchain checks. A row is printed below the definition that it tries. If it names later
 definitions, it is printed below the last of these. The nearest row for a definition is the next one
-below it, unless a note of `--print` above the definition names another place. Such a note also
-applies to the definitions that follow it in the same module. `--print` marks definitions that no
+below it, unless `--print` names another place. It does so above the definition, or above the first
+of several in succession. `--print` marks definitions that no
 row reaches with "(no row)", and the section "What has no worked row" lists them. Read these slowly.
 
 **What you need not read.** The tables of library words, types and limits are for reference. The
@@ -559,18 +559,18 @@ PREAMBLE_WORDS: Dict[str, str] = {
 # which they begin, as CRATE/MODULE.NAME. What these names say is not needed to read the chapters.
 BESIDE: List[Tuple[str, str, List[str]]] = [
     ("How the text of a game file is read",
-     ("You can leave this out if you take the output of `tac show` as the content of a game file: "
+     ("You can leave it out if you take the output of `tac show` as the content of a game file: "
       "it is proved that this text is read as the same game."),
      ["game_text/Games.game_of"]),
     ("When a certificate holds, and its lines",
-     "No score depends on a certificate, which only helps readers who check the best total again.",
+     "It only helps readers who check the best total again. No score depends on a certificate.",
      ["bound_cert/Trees.IsCertificate", "bound_cert/Certificate.holds",
       "bound_cert/Texts.tree_lines"]),
     ("Lines of JSON",
-     "Only `serve .. json` needs this part.",
+     "Only `serve .. json` needs it.",
      ["json_dialect/JsonRequests.asks_json", "json_dialect/JsonReplies.json_text"]),
     ("That the log is sound, as `audit` has it",
-     "This part defines a sound log, as `audit` judges it.",
+     "It defines a sound log, as `audit` judges it.",
      ["tacd/SoundLogs.IsSoundLog"]),
 ]
 
