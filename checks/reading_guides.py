@@ -12,9 +12,9 @@ this project. For the chapters that it read, the rates gave 210 minutes; its own
 
 Eight such readers estimated earlier versions of this page. Without rows and guides they said
 5 h 14 and 6 h 04. With them they said 4 h 57, then 4 h 43, 4 h 14 and 3 h 59, and then 4 h 00 and
-4 h 13. In the copies that the first six read, three definitions had deliberately been made wrong. Each of
-these readers found all three. The last three of the six said that this had cost them about ten
-minutes. The goal is three hours.
+4 h 13. In the copies that the first six read, three definitions had deliberately been made wrong.
+Each of these readers found all three. The last three of the six would have needed about ten minutes
+less without them. The goal is three hours.
 
 The column "for code 0" leaves out the definitions with the sign °: those that only other outcomes
 use, and the definition of a certificate. The headline does not need them, and the minutes do not
@@ -109,8 +109,8 @@ PLAYED: List[Tuple[str, str, str]] = [
     ("the field `played` of `IsGameEnd`", "a statement",
      "`IsPlayedOver` holds for the verdicts and the ends of the head, and for the same histories"),
     ("`played` of `IsPlayedOver`", "`PlayedGame`",
-     "the verdicts, ends and histories: each link has its verdict, and met the fate that goes "
-     "with that verdict"),
+     "the verdicts, ends and histories: each link has its verdict, with the consequences of that "
+     "verdict"),
     ("`played` of `IsSeated`", "`PlayedGame`",
      "the cause of this link is among the ends, and the calls of this link are in the histories"),
     ("`played` of `IsPlayedBy`", "`PlayedGame`",
@@ -333,7 +333,7 @@ OUTSIDE: List[Tuple[str, str, str, str]] = [
      "the connections that it returns are those to that port"),
     ("LinksState", "pending", "the links that are still to come, in order",
      "each connection is returned once. It is not assumed that one comes, or when"),
-    ("LinksState", "faults", "the number of calls to open the port or to take a connection that failed",
+    ("LinksState", "faults", "the number of failed calls to open the port or to take a connection",
      "a connection that is reset before it is taken is skipped, and not counted as a fault"),
     ("LinkState", "left", "the bytes from the peer that were not read yet",
      "reads return them in order, without gaps, and 0 bytes only once the peer has ended"),
@@ -352,13 +352,13 @@ OUTSIDE: List[Tuple[str, str, str, str]] = [
      "none: it follows from the results of `write`"),
     ("TickerState", "paced", "the pace that was set, if any, in milliseconds from tick to tick",
      "the ticks keep to it; no clause says so, since no clause is about time"),
-    ("TickerState", "waited", "the waits for ticks, in order, each with its pace and whether it lapsed",
+    ("TickerState", "waited", "the waits for ticks, in order, each with its pace and any lapse",
      "a wait ends at the tick's time or later"),
     ("TickWait", "tick", "the tick that was waited for, 1 to 54", "as above"),
     ("TickWait", "lapsed", "whether the wait lapsed: the system's clock could not be read",
      "as above"),
     ("TickWait", "paced", "the pace when the wait began, if one was set", "as above"),
-    ("TickerState", "faults", "the number of ticks that lapsed: the system's clock could not be read",
+    ("TickerState", "faults", "the number of ticks that lapsed, as the clock could not be read",
      "nothing else is counted, not even a tick that comes late under load"),
 ]
 

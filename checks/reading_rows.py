@@ -263,11 +263,11 @@ ROWS = [
          "units")),
     Row(["worked_rows/Lines:replies_to_calls"],
         ["line_protocol/Replies.said_text", "bid_strings/Spelling.spelling"],
-        ("`@7 taken 1 0`, `@8 own -1 ((-1 60))`, `@0 own 1 ()`, `@9 done`, `@3 no belowquote 3 "
-         "101 2`, `@5 no selfcross`")),
+        ("Replies to calls are printed as `@7 taken 1 0`, `@8 own -1 ((-1 60))`, `@0 own 1 ()`, "
+         "`@9 done`, `@3 no belowquote 3 101 2` and `@5 no selfcross`")),
     Row(["worked_rows/Lines:other_replies"], ["line_protocol/Replies.said_text"],
-        ("`@31 cash -660`, `@9 quote 70 0 open`, `no spent`, `no auction`, `no bid 5` for 0 "
-         "units, `no toolong`, `bye`")),
+        ("Other replies are printed as `@31 cash -660`, `@9 quote 70 0 open`, `no spent`, `no "
+         "auction`, `no bid 5` for 0 units, `no toolong` and `bye`")),
     # The outside
     Row(["worked_rows/Links:lines_have_ends_and_fit_the_budget"], ["tac_io/AllAnswers.all_answers"],
         ("A link gives `own 1`, a line end, another line end, and `qui`. This makes two lines, "
@@ -365,15 +365,15 @@ ROWS = [
          "worked_rows/Links:no_refusal_goes_on_after_a_failed_write"],
         ["game_run/Admission.IsSentOrCut"],
         ("Either `refused taken` was sent whole, and no fault was counted; or only its first 7 "
-         "bytes, `refused`, were sent, and the count of failed writes rose from 0 to 1. It is "
-         "excluded that 3 more bytes are sent after a write that failed after 4 bytes")),
+         "bytes, `refused`, were sent, and the count of failed writes rose from 0 to 1. The "
+         "definition does not hold if a write failed after 4 bytes and 3 more bytes were sent")),
     Row(["worked_rows/Links:lost_at_its_end_or_a_failed_read",
          "worked_rows/Links:no_link_is_read_after_a_failed_read"],
         ["game_run/Admission.IsLost"],
         ("These links are lost, and were sent nothing: one that gave `hello seat2` without a "
          "line end, and no more; and one that gave `hello` before a read failed, though the rest "
-         "of the line was to come. It is excluded that 3 more bytes are taken after a read that "
-         "failed after 2 bytes")),
+         "of the line was to come. The definition does not hold if a read failed after 2 bytes "
+         "and 3 more bytes were taken")),
     Row(["worked_rows/Links:links_are_taken_up_to_8_seats_or_64_links"],
         ["game_run/Admission.MayGoOn", "game_run/Admission.is_seated"],
         ("After seven seats another link may be taken, and after eight seats none. After 63 "
@@ -406,17 +406,21 @@ ROWS = [
          "the reply `@1 cash -600` are sent")),
     # The log
     Row(["worked_rows/Logs:history_of_a_hotel"], ["log_text/LogText.auction_text"],
-        ("`auction 8 4`, `0 bid ((1 50)) = taken 0 0`, `8 publish = done`, `1 bid ((1 50)) = "
-         "no belowquote 1 51 0`, `8 close = sold 1 50`, `trade 0 8 1 50`")),
+        ("The history of a hotel is printed as `auction 8 4`, `0 bid ((1 50)) = taken 0 0`, `8 "
+         "publish = done`, `1 bid ((1 50)) = no belowquote 1 51 0`, `8 close = sold 1 50`, "
+         "`trade 0 8 1 50`")),
     Row(["worked_rows/Logs:cash_history"], ["log_text/LogText.cash_text"],
-        "`cash 2`, `8 post 8 3 -50 0 0 0 0 0 0 0 50`, `0 read = -50`"),
+        ("A cash history is printed as `cash 2`, `8 post 8 3 -50 0 0 0 0 0 0 0 50`, `0 read = "
+         "-50`")),
     Row(["worked_rows/Logs:heads_of_a_script_and_of_links"], ["log_text/LogText.first_lines"],
-        ("`taclog 1`, and then `play`; or `serve`, `link 0 seated 2`, `link 1 wrongword`, "
+        ("A log begins with `taclog 1`. For a game from a script, the next line is `play`. For a "
+         "game over links, the next lines are `serve`, `link 0 seated 2`, `link 1 wrongword`, "
          "`link 2 seated 0`, `link 3 lost`, `end 0 quit`, `end 2 readfault`, `missed 1`")),
     Row(["worked_rows/Logs:lines_of_the_sheet"],
         ["log_text/SheetText.score_line", "log_text/SheetText.package_line",
          "log_text/SheetText.cert_line"],
-        "`score 0 1150 -360 2 390`, `package 0 3 none`, `package 0 4 1 2 3 0 0 2`, `cert 0 1`"),
+        ("A sheet has lines such as `score 0 1150 -360 2 390`, `package 0 3 none`, `package 0 4 "
+         "1 2 3 0 0 2` and `cert 0 1`")),
     # Outcomes and codes
     Row(["worked_rows/CommandLines:services_have_a_port_a_pace_and_a_form"],
         ["tac_commands/Services.service_of"],
@@ -433,13 +437,14 @@ ROWS = [
     Row(["worked_rows/CommandLines:text_is_written_with_its_code_or_cut"],
         ["tac_commands/Reporting.Reports", "tac_io/Taken.TookPart"],
         ("If the text `ab` of a game with lapsed ticks was written whole, the code is 6. If only "
-         "`a` of `ab` was written and a fault was counted, the code is 4. Two results are "
-         "excluded: only `a` with code 0; and `a` written after an earlier write had failed")),
+         "`a` of `ab` was written and a fault was counted, the code is 4. The definition does "
+         "not hold if only `a` was written with code 0, or if `a` was written after an earlier "
+         "write had failed")),
     Row(["worked_rows/CommandLines:replies_are_whole_before_a_failed_read_is_told"],
         ["tac_commands/Reporting.Reports", "tac_commands/Reporting.IsCutShort"],
         ("If the reply `ab` to a script that broke off was written, and then `fault read`, the "
          "code is 3. If only `fau` of that line was written, and a fault was counted, the code "
-         "is 4. It is excluded that only `a` of the reply is written, with code 4")),
+         "is 4. The definition does not hold if only `a` of the reply was written, with code 4")),
     # The command `step`
     Row(["worked_rows/Lines:good_lines_and_a_rest_or_a_bad_line"],
         ["script_run/HeardScripts.heard", "script_run/HeardScripts.heard_from"],
@@ -465,8 +470,9 @@ ROWS = [
          "there are two keys `do`, the last one counts. A further key, or 1.0 as an auction, is "
          "a syntax fault")),
     Row(["worked_rows/Lines:replies_in_json"], ["json_dialect/JsonReplies.json_text"],
-        ("`{\"at\":7,\"taken\":[1,0]}`, `{\"at\":8,\"own\":-1,\"points\":[[-1,60]]}`, "
-         "`{\"at\":9,\"quote\":[70,0],\"open\":true}`, `{\"no\":\"bid\",\"fault\":5}`")),
+        ("Replies in JSON are printed as `{\"at\":7,\"taken\":[1,0]}`, "
+         "`{\"at\":8,\"own\":-1,\"points\":[[-1,60]]}`, "
+         "`{\"at\":9,\"quote\":[70,0],\"open\":true}` and `{\"no\":\"bid\",\"fault\":5}`")),
     # The other commands
     Row(["worked_rows/Worths:seat_is_worth_1000_more_and_1150_less"],
         ["good_worth/Worths.up_at", "good_worth/Worths.down_at"],
