@@ -215,6 +215,8 @@ class Environment(ParallelEnv):  # type: ignore[misc]
         """
         seed = self._next if seed is None else _seed(seed)
         self.close()
+        if self._given:
+            program.find_runnable()  # what makes a game finds it, too
         game, text = (self._given, "") if self._given else self._made(seed)
         self.seed = None if self._given else seed
         self._next = (seed + 1) % (MOST_SEED + 1)

@@ -38,16 +38,12 @@ class Market:
     Args:
         game: The game.
         text: Its canonical text, if that is at hand.
-
-    Raises:
-        ProgramError: There is no program.
     """
 
     def __init__(self, game: Game, text: str = "") -> None:
         self.game, self.books = game, Books(game)
         self.text = text or game.text()
         self._first: Optional[int] = None  # found when it is asked for
-        program.find_runnable()
         self._process: Optional[Stepped] = None
         self._owner, self._is_closed = os.getpid(), False
         self._script: List[bytes] = []
