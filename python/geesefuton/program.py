@@ -183,22 +183,23 @@ def run(command: str, *words: Word, given: bytes = b"", allowed: Sequence[int] =
     return text
 
 
-def start(file: str, words: Sequence[str], moves: Moves, **how: int) -> int:
+def start(file: str, words: Sequence[str], moves: Moves, in_own_group: bool = False) -> int:
     """Starts a process of tac, and gives its number.
 
     Args:
         file: The file of tac.
         words: What it is called, and its arguments.
         moves: Where its descriptors come from (`file_actions` of `os.posix_spawn`).
-        how: Further arguments of `os.posix_spawn`.
+        in_own_group: Whether it is in a process group of its own, not in that of this process.
 
     Raises:
         OSError: It cannot be run.
     """
     # Python would read each variable by itself from `os.environb`, which takes as long as the rest.
     variables: Mapping[bytes, bytes] = getattr(os.environb, "_data", os.environb)
+    group: Any = {"setpgroup": 0} if in_own_group else {}
     return os.posix_spawn(file, words, variables, file_actions=moves,
-                          setsigdef=[signal.SIGPIPE, signal.SIGXFSZ], **how)
+                          setsigdef=[signal.SIGPIPE, signal.SIGXFSZ], **group)
 
 
 def exit_status(process: int, timeout: Optional[float] = None) -> int:

@@ -231,7 +231,7 @@ def _closed(number: int) -> int:
 def _spawn(file: str, words: List[str], moves: Moves) -> int:
     """Starts a process in a group of its own, which ctrl-C at a terminal does not reach."""
     try:
-        return start(file, words, moves, setpgroup=0)
+        return start(file, words, moves, in_own_group=True)
     except OSError as fault:
         raise ProgramError(f"cannot run the file of tac: {fault.strerror}") from None
 
