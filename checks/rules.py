@@ -320,6 +320,10 @@ definition and code. Most rows also link to a refused edit: a wrong function bod
 rules out. The gate fails if the prover accepts such a body. The last column links to a worked row,
 which the prover evaluates, or to a test.
 
+The prover finds some proofs of clauses by itself. The others are in `proofs/` of the clause's
+crate, in a folder named after the call. For example, the clause `follows` of a hotel's `bid`, which
+covers beating the quote, is proved in `crates/hotel_book/proofs/book/Hotel/bid/Answers.antt`.
+
 To change a rule, change all of these places, and the rule's entry in `docs/DECISIONS.md` if it has
 one. `checks/reading.py --write` generates this page, and fails if one of the places does not
 exist."""
