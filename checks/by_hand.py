@@ -90,7 +90,7 @@ class Player:
         """A bid for 17 units, which is more than the buttons allow."""
         self.tab.tap("button.tile", f"Towers, night {night}")
         self.tab.tap("dialog input", "^$")
-        self.tab.call("Input.insertText", text="7")
+        self.tab.call("Input.insertText", text="17")
         self.tab.tap("dialog button.main", "uy")
         until = time.monotonic() + 3
         while not self.tab.sees("at most 16 units") and time.monotonic() < until:
