@@ -87,7 +87,7 @@ class Pages(unittest.TestCase):
         for name, words in re.findall(r'(\w+)\+?="(.*)"', text):
             known.setdefault(name, []).extend(words.split())
         self.assertEqual(known["programs"], sorted(self.words))
-        table = (TOP / "README.md").read_text().split("## Commands and", 1)[1].split("Numbers", 1)
+        table = (TOP / "README.md").read_text().split("## Commands and", 1)[1].split("### Exit", 1)
         commands = re.findall(r"(?m)^\| `([a-z]+) [A-Z]", table[0])
         self.assertEqual(known["commands"], sorted(set(commands)))
 

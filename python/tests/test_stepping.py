@@ -188,7 +188,7 @@ class Pipes(unittest.TestCase):
         file.write_bytes(b"\x7fELF")
         file.chmod(0o755)
         with mock.patch.dict(os.environ, {"TAC": str(file)}):
-            self.assertRaisesRegex(ProgramError, "cannot be run", Stepped, "my.game")
+            self.assertRaisesRegex(ProgramError, "cannot run the file", Stepped, "my.game")
 
     def test_standard_streams_may_be_closed(self) -> None:
         code = ("import os; os.close(0); os.close(1)\n"
