@@ -32,7 +32,7 @@ with mock.patch.object(sys, "path", [str(TOP / "checks"), *sys.path]):
 
 WORDS = ["red7k", "orange3x", "yellow9m", "green4", "blue77", "violet5", "brown8q", "grey0"]
 NAMES = ["red", "orange", "yellow", "green", "blue", "violet", "brown", "grey"]
-PACE = 100  # milliseconds a tick, so that the game takes some six seconds
+PACE = 150  # milliseconds a tick, so that the game takes some eight seconds
 PAUSE = 0.03  # seconds between an agent's requests
 MOST = 60.0  # seconds that anything may take
 
