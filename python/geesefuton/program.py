@@ -16,7 +16,7 @@ import tempfile
 import threading
 import time
 from pathlib import Path
-from typing import Any, Iterator, List, Mapping, Optional, Sequence, Set, Tuple, Union
+from typing import Any, Iterator, List, Optional, Sequence, Set, Tuple, Union
 
 __all__ = [
     "INPUT", "LEAST_LIBRARY", "MEANINGS", "OK", "CLOCK", "UNSOUND", "ProgramError", "audit",
@@ -32,6 +32,9 @@ OK, CLOCK, UNSOUND = 0, 6, 9  # exit statuses
 INPUT = "/dev/stdin"  # the file that has what a command is given
 BUNDLED = Path(__file__).resolve().parent / "bin" / "tac"  # in a release
 LEAST_LIBRARY = (2, 34)  # the version of glibc that a released program needs
+# By glibc's default each block of a megabyte is mapped by itself, which is a tenth of the time of
+# `tac step`. Blocks of fewer bytes than this are parts of the heap. A variable that is set holds.
+BLOCKS = {b"MALLOC_MMAP_THRESHOLD_": b"33554432"}
 STOPPING = (signal.SIGINT, signal.SIGTERM, signal.SIGHUP)
 MEANINGS = {
     1: "the words are no command",
@@ -196,7 +199,7 @@ def start(file: str, words: Sequence[str], moves: Moves, in_own_group: bool = Fa
         OSError: It cannot be run.
     """
     # Python would read each variable by itself from `os.environb`, which takes as long as the rest.
-    variables: Mapping[bytes, bytes] = getattr(os.environb, "_data", os.environb)
+    variables = {**BLOCKS, **getattr(os.environb, "_data", os.environb)}
     group: Any = {"setpgroup": 0} if in_own_group else {}
     return os.posix_spawn(file, words, variables, file_actions=moves,
                           setsigdef=[signal.SIGPIPE, signal.SIGXFSZ], **group)
