@@ -13,7 +13,7 @@ from unittest import mock
 
 from geesefuton import program
 from geesefuton.learning.environment import ActionError, Environment
-from geesefuton.learning.market import Market, score_rows
+from geesefuton.learning.market import score_rows
 from geesefuton.learning.rivals import SeatLink, maker_of, scores_of
 from geesefuton.program import ProgramError
 from geesefuton.records.drawing import drawn_rooms
@@ -444,37 +444,6 @@ class Games(unittest.TestCase):
         environment.reset()
         self.assertEqual((environment.seed, environment.num_agents), (2, 8))
         environment.close()
-
-    def test_a_game_in_which_nobody_asks_has_no_process_before_its_end(self) -> None:
-        with Environment(FIRST) as environment, \
-                mock.patch("geesefuton.learning.market.Stepped", side_effect=AssertionError):
-            environment.reset()
-            environment.step({})
-            environment.step({environment.agents[0]: ["quit", "x" * 600]})  # answered here
-            with environment.clone() as other:
-                rest(environment)
-                rest(other)
-            self.assertEqual((environment.script, other.script), ("tick\n" * TICKS,) * 2)
-            self.assertEqual((environment.log, other.log), (played(environment),) * 2)
-
-    def test_a_game_that_is_closed_or_of_another_process_is_not_begun(self) -> None:
-        closed, forked = Market(read_game(FIRST.read_text())), Market(read_game(FIRST.read_text()))
-        closed.close()
-        child = os.fork()
-        if not child:
-            status = 1
-            try:
-                signal.alarm(20)
-                with self.assertRaisesRegex(ProgramError, "belongs to the process that began it"):
-                    forked.ask([(0, "own 8")])
-                status = 0
-            finally:
-                os._exit(status)
-        self.assertEqual(os.waitpid(child, 0)[1], 0)
-        for call in (lambda: closed.ask([(0, "own 8")]), closed.finish):
-            self.assertRaisesRegex(ProgramError, "the game is over", call)
-        self.assertEqual(forked.ask([(0, "own 8")]), ["@0 own 0 ()"])
-        forked.close()
 
     def test_no_seat_gains_by_its_place(self) -> None:
         with Environment(FIRST) as environment:

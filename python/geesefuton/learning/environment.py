@@ -24,8 +24,7 @@ At reset `infos` has also `endow`, its tickets of the goods 16 to 27. After the 
 is over: the rewards are the scores, in dollars; before, they are 0.
 
 The same requests give the same game, and its log is what `tac play` writes for the game's file and
-script. A game is one process of `tac step`, which begins with the first request. A game in which
-nobody asks anything is played by `tac play` after its last tick.
+script. A game is one process of `tac step`.
 """
 
 from __future__ import annotations
@@ -212,11 +211,10 @@ class Environment(ParallelEnv):  # type: ignore[misc]
         Raises:
             ValueError: The seed is none. Nothing has changed.
             ProgramError: There is no program, or it ended with an error.
+            OSError: There is no room for pipes.
         """
         seed = self._next if seed is None else _seed(seed)
         self.close()
-        if self._given:
-            program.find_runnable()  # what makes a game finds it, too
         game, text = (self._given, "") if self._given else self._made(seed)
         self.seed = None if self._given else seed
         self._next = (seed + 1) % (MOST_SEED + 1)
@@ -259,7 +257,7 @@ class Environment(ParallelEnv):  # type: ignore[misc]
         Raises:
             ActionError: There is no game, or an action cannot be asked. Nothing has changed.
             ProgramError: The program ended with an error. The game is lost.
-            OSError: There is no room for pipes. The game is lost.
+            OSError: There is no room for the pipes of `scores`. The game is lost.
         """
         asked = self._asked(actions)
         assert self._market is not None

@@ -3,7 +3,6 @@
 from __future__ import annotations
 
 import copy
-import os
 from typing import List, Optional, Sequence, Tuple
 
 from geesefuton import program
@@ -25,8 +24,7 @@ class LimitError(ValueError):
 
 
 class Market:
-    """A game that is played in steps. Its process begins with the first request, and a game in
-    which nobody asks anything is played at once when it is over.
+    """A game that is played in steps.
 
     Attributes:
         game: The game.
@@ -38,14 +36,17 @@ class Market:
     Args:
         game: The game.
         text: Its canonical text, if that is at hand.
+
+    Raises:
+        ProgramError: There is no program.
+        OSError: There is no room for pipes.
     """
 
     def __init__(self, game: Game, text: str = "") -> None:
         self.game, self.books = game, Books(game)
         self.text = text or game.text()
         self._first: Optional[int] = None  # found when it is asked for
-        self._process: Optional[Stepped] = None
-        self._owner, self._is_closed = os.getpid(), False
+        self._process = Stepped(self.text.encode())
         self._script: List[bytes] = []
         self._waiting = b""  # ticks that the process was not told yet
         self.changes = 0
@@ -72,7 +73,6 @@ class Market:
         Raises:
             LimitError: These are more lines of a seat, or bytes of a script, than a game takes.
             ProgramError: The program has ended. The game is lost.
-            OSError: There is no room for pipes. The game is lost.
         """
         sent = [request for request in requests if not _unasked(request[1])]
         if not sent:
@@ -125,22 +125,8 @@ class Market:
         self._waiting += TICK
         self.books.advance()
 
-    def _need_game(self) -> None:
-        """Sees that the game can go on.
-
-        Raises:
-            ProgramError: It cannot.
-        """
-        if self._is_closed:
-            raise program.ProgramError("the game is over")
-        if self._owner != os.getpid():
-            raise program.ProgramError("the game belongs to the process that began it")
-
     def _exchange(self, text: bytes, due: int) -> bytes:
         """Plays lines, and the ticks before them."""
-        self._need_game()
-        if self._process is None:
-            self._process = Stepped(self.text.encode())
         waiting, self._waiting = self._waiting, b""
         return self._process.exchange(waiting + text, due)
 
@@ -150,12 +136,8 @@ class Market:
         Raises:
             ProgramError: The program has ended otherwise, or the log has other cash than the books.
         """
-        self._need_game()
-        if self._process is None:
-            log = program.run("play", program.INPUT, os.devnull, given=self.text.encode()).encode()
-        else:
-            self._exchange(b"", 0)
-            log = self._process.finish()
+        self._exchange(b"", 0)
+        log = self._process.finish()
         rows = score_rows(log)
         if [row[1] for row in rows] != self.books.cash:
             raise program.ProgramError("the cash of the log differs from that of the books")
@@ -167,18 +149,14 @@ class Market:
         other = object.__new__(Market)
         vars(other).update({name: copy.copy(value) for name, value in vars(self).items()
                             if name not in ("_process", "books")})
-        other.books, other._process = self.books.copied(), None
-        other._owner = os.getpid()
-        if self._process is not None:
-            script, other._waiting = self.script, b""
-            other._exchange(script, script.count(b"\n") - self.books.tick)
+        other.books, other._process = self.books.copied(), Stepped(self.text.encode())
+        script, other._waiting = self.script, b""
+        other._process.exchange(script, script.count(b"\n") - self.books.tick)
         return other
 
     def close(self) -> None:
-        """Ends the game, and its process if it has not ended."""
-        self._is_closed = True
-        if self._process is not None:
-            self._process.close()
+        """Ends the process, if it has not ended."""
+        self._process.close()
 
 
 def _size(line: str) -> int:
