@@ -12,15 +12,15 @@ allocations, less costs and penalties."""
 # What stands beside the headline, here and in README.md.
 CAVEATS: List[str] = [
     """**Some bytes.** The system's sockets and files do not say what they carry. For them the
-    headline holds of *some* bytes, and of a game that *some* text says (`docs/PROOFS.md`,
+    headline holds for *some* bytes, and for a game that *some* text describes (`docs/PROOFS.md`,
     "Premises").""",
     """**29 orders.** Each auction has its own history, and so has the cash book. Nothing says which
     of two calls came first if they are in different auctions and have different callers. So
     "everything that the agent had seen" is about one auction at a time.""",
     """**Fewer than eight agents.** A game begins once eight agents have a seat, 64 links were
-    taken, or no link is left. An empty seat makes no calls, and has a score.""",
-    """**No memory.** In a game in JSON the server may answer any line `{"no":"memory"}`. Such a
-    line asks nothing.""",
+    taken, or no link is left. An empty seat makes no calls but has a score.""",
+    """**No memory.** In a game in JSON, the reply to any line may be `{"no":"memory"}`. Such a line
+    requests nothing.""",
     """**Costs are subtracted once.** They are in the agent's cash, which is added: a score is the
     greatest utility, plus cash, less 200 dollars for each ticket short.""",
 ]
