@@ -56,7 +56,9 @@ class Module:
 
     def _read_imports(self, lines: Iterable[str]) -> None:
         for line in lines:
-            several = re.match(r"(?:unfoldable )?(?:pub )?use (?:Rattle\.)?([\w.]+)\.\{(.*)\}$", line)
+            several = re.match(
+                r"(?:unfoldable )?(?:pub )?use (?:Rattle\.)?([\w.]+)\.\{(.*)\}$", line
+            )
             whole = re.match(r"use Rattle\.([\w.]+) as (\w+)$", line)
             given = re.match(r"pub use Rattle\.([\w.]+)$", line)
             if several:

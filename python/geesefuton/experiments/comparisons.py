@@ -132,13 +132,12 @@ def student_p(value: Estimate) -> Optional[float]:
 
 
 def holm_halves(values: Sequence[Optional[Estimate]]) -> List[Optional[float]]:
-    """Half the widths of intervals that all together miss a true difference of 0 in at most 5 % of
+    """Half the widths of intervals that together exclude a true difference of 0 in at most 5 % of
     experiments, by Holm's procedure.
 
-    Of m values the one that is least likely by chance is tested at 5 % / m, the next at
-    5 % / (m - 1), and so on until one could be chance; that one and all after it keep its level.
-    Each interval is at the level of its test, so 0 lies outside exactly where Holm tells a
-    difference.
+    Holm tests the least likely of m values at 5 % / m, the next at 5 % / (m - 1), and so on until
+    one could be chance; that one and all after it keep its level. Each interval has the level of
+    its test, so it excludes 0 exactly where Holm finds a difference.
 
     Args:
         values: What `estimate` gives; None, or no interval, is left out of the count.

@@ -21,7 +21,7 @@ from geesefuton.records.games import FLIGHTS, GOODS, HOTELS, TICKETS, Client
 from geesefuton.records.replies import Cash, Own, Points, Quote, Reply, Request
 
 LOOK = 0.25  # seconds from one look at the quotes to the next, while the pace is not known
-LOOKS = 4  # looks in a tick, and readings of what stands in an auction, of which there are 1024
+LOOKS = 4  # looks in a tick; an auction answers at most 1024 `own` requests of an agent
 LEAST, MOST = 0.2, 2.0  # seconds from one look to the next; so a session's 65,536 lines last
 FRESH = 1.5  # seconds of waiting for the welcome after which it came as the game began
 READINGS = 2  # of the cash after a change: another caller's trade may be missing for a moment

@@ -30,7 +30,7 @@ _NOTHING = len(GOODS)  # a good that costs nothing: staying at home is a trip th
 _TRIPS: Tuple[Optional[Package], ...] = (None, *PACKAGES)
 _GOODS: Tuple[Tuple[int, ...], ...] = tuple(
     tuple(trip.goods()) if trip else (_NOTHING, _NOTHING) for trip in _TRIPS)
-# Each trip as a stay and the tickets in it, of which there are few: so costs are added once.
+# Each trip as a stay and its tickets. There are few of both, so costs are added once.
 _STAY_OF = [tuple(good for good in goods if good not in TICKETS) for goods in _GOODS]
 _TICKETS_OF = [tuple(good for good in goods if good in TICKETS) for goods in _GOODS]
 _STAYS, _TICKETS = list(dict.fromkeys(_STAY_OF)), list(dict.fromkeys(_TICKETS_OF))
