@@ -46,7 +46,8 @@ class Entrants(unittest.TestCase):
                               ("mine 'theirs", "no closing quotation"),
                               ("none.py", "there is no file none.py"),
                               ("no-such-program x", "there is no program no-such-program"),
-                              (self.file("theirs.jar"), r"is not executable: chmod \+x it, or give")):
+                              (self.file("theirs.jar"),
+                               r"is not executable: chmod \+x it, or give")):
             with self.assertRaisesRegex(EntrantError, told):
                 read_entrant(command)
 

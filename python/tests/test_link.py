@@ -366,8 +366,8 @@ class Lost(unittest.TestCase):
                     self.assertEqual((agent.limit, agent.stream.gettimeout()), (due, due))
                 server.join()
         with mock.patch.dict(os.environ, {"AGENT_LIMIT": "soon"}):
-            self.assertRaisesRegex(LinkError, "AGENT_LIMIT: expected a number of seconds", Link.greet,
-                                   "127.0.0.1", 7000, "red")
+            self.assertRaisesRegex(LinkError, "AGENT_LIMIT: expected a number of seconds",
+                                   Link.greet, "127.0.0.1", 7000, "red")
 
 
 class Running(unittest.TestCase):

@@ -134,7 +134,8 @@ class Strangers(Case):
         host = Host(self.folder, pace=2, start=0, linger=0, journal=self.folder / "other.journal")
         host.end()
         warned, = host.of(events.Warned)
-        self.assertIn("did not have all eight seats of the server (it had 0 1 2 5 6 7)", warned.text)
+        self.assertIn("did not have all eight seats of the server (it had 0 1 2 5 6 7)",
+                      warned.text)
 
 
 class Ticks(Case):

@@ -57,7 +57,8 @@ class Case(unittest.TestCase):
         """Stands for `tac vouch`: it vouches for each link whose seat is not among the others."""
         lines, replies = (file.read_bytes().split(b"\n")[:-1] for file in (asked, said))
         word = lines[0].decode()[6:]
-        seat, counts = WORDS.index(word) if word in WORDS else 8, (len(lines) - 1, len(replies) - 10)
+        seat = WORDS.index(word) if word in WORDS else 8
+        counts = len(lines) - 1, len(replies) - 10
         self.others.forms.append(form)
         if seat in self.others.said:
             return self.others.said[seat]
