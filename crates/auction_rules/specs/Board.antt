@@ -1,4 +1,4 @@
--- What is shown of an auction.
+-- What an auction shows.
 use Rattle.std.specs.Prelude.{ℕ, max, min, not, List, [], ◌∷◌, length, map, filter, fold}
 use Rattle.tac_base.specs.declared.calls.Board.{Board}
 use Rattle.auction_rules.specs.declared.units.BidUnit.{BidUnit}
@@ -13,7 +13,7 @@ use Rattle.auction_rules.specs.Ask.{published}
 abbrev pub highest_buy : List BidUnit → ℕ
 highest_buy units = fold max 0 (map (λ u. u.price) (filter (λ u. u.buys) units))
 
--- the least of the numbers, 0 if there is none
+-- the lowest of the numbers, 0 if there is none
 abbrev pub lowest : List ℕ → ℕ
 lowest [] = 0
 lowest (n ∷ ns) = fold min n ns
@@ -22,12 +22,12 @@ lowest (n ∷ ns) = fold min n ns
 abbrev pub lowest_sell : List BidUnit → ℕ
 lowest_sell units = lowest (map (λ u. u.price) (filter (λ u. not u.buys) units))
 
--- the bid that is shown
+-- the bid that a board shows
 abbrev pub shown_bid : Rules → List Entry → ℕ
 shown_bid TicketRules past = highest_buy (stand TicketRules past)
 shown_bid rules past = 0
 
--- the ask that is shown
+-- the ask that a board shows
 abbrev pub shown_ask : Rules → List Entry → ℕ
 shown_ask (FlightRules first bound) past = price first bound past
 shown_ask (HotelRules rooms live) past = published rooms live past

@@ -1,5 +1,5 @@
--- Flights: the price, the calls in which the house may sell, and the units that it then sells. That a price stays in 150..800 is the
--- game description's; how a draw changes it is our own rule.
+-- Flights: the price, the calls in which the house may sell, and the units that it may sell in them. By the game description a price
+-- stays in 150..800; this project defines how a draw changes it.
 use Rattle.std.specs.Prelude.{ℕ, ◌+◌, ◌%◌, ◌==◌, min, max, Bool, true, false, not, if◌then◌else◌, List, [], ◌∷◌, ◌++◌, ℤ, pos, negsuc, neg_ℤ, ◌+ℤ◌, ◌-ℤ◌, ◌*ℤ◌, int_lt, unsigned_abs, filter}
 use Rattle.std.specs.Int.{int_div_euclid}
 use Rattle.auction_rules.specs.Prelude.{TICKS, Call, Bid, Update}
@@ -7,22 +7,22 @@ use Rattle.auction_rules.specs.declared.units.BidUnit.{BidUnit}
 use Rattle.auction_rules.specs.Units.{units_of}
 use Rattle.auction_rules.specs.History.{Entry, is_admission}
 
--- the drift at a tick: 10 plus the floor of t * (bound - 10) / 54, since the divisor is positive
+-- the drift at a tick: 10 plus the floor of t * (bound - 10) / 54; Euclidean division by 54 rounds down
 abbrev pub drift : ℤ → ℕ → ℤ
 drift bound tick = pos 10 +ℤ int_div_euclid (pos tick *ℤ (bound -ℤ pos 10)) (pos TICKS)
 
--- the interval's ends: from -10 to a positive drift, from a negative one to 10, and otherwise from -10 to 10
+-- the ends of the interval: -10 and a positive drift, a negative drift and 10, or -10 and 10 if the drift is 0
 abbrev pub low_end : ℤ → ℤ
 low_end x = if int_lt x (pos 0) then x else neg_ℤ (pos 10)
 
 abbrev pub high_end : ℤ → ℤ
 high_end x = if int_lt (pos 0) x then x else pos 10
 
--- the number in the interval that the draw picks
+-- the number in the interval that the draw selects
 abbrev pub change : ℤ → ℤ → ℕ → ℤ
 change lo hi draw = lo +ℤ pos (draw % (unsigned_abs (hi -ℤ lo) + 1))
 
--- a sum, clamped to 150..800
+-- a number, clamped to 150..800
 abbrev pub clamped : ℤ → ℕ
 clamped (pos n) = max 150 (min 800 n)
 clamped (negsuc n) = 150
@@ -47,7 +47,7 @@ is_sale (Bid points) = true
 is_sale (Update tick draw) = true
 is_sale call = false
 
--- the units that a call looks at: those that stand, but for the caller of a bid its new ones
+-- the units that a call may sell: those that stand; a new bid's units, at the end, replace its caller's earlier ones
 abbrev pub looked_at : List BidUnit → ℕ → ℕ → Call → List BidUnit
 looked_at standing position caller (Bid points) =
     filter (λ u. not (u.agent == caller)) standing ++ units_of (record { agent = caller; position = position; points = points })

@@ -1,5 +1,5 @@
--- Histories of an auction. The rules read a history as a past, the newest entry first: an entry that is put in front
--- of a past has the past's length as its position.
+-- Histories of an auction. The rules read a history as a past, newest entry first: the entry in front of a past
+-- is at the position that equals the past's length.
 use Rattle.std.specs.Prelude.{ℕ, ◌==◌, Bool, true, false, ◌&&◌, if◌then◌else◌, List, [], ◌∷◌, length, map, Option, Some, None, flat_map}
 use Rattle.std.specs.List.{list_any}
 use Rattle.auction_rules.specs.Prelude.{Trade, Call, Reply, Closed, WrongCall, NoBid, Sell, SelfCross, BelowQuote, agents}
@@ -8,14 +8,14 @@ use Rattle.auction_rules.specs.declared.units.BidUnit.{BidUnit}
 use Rattle.auction_rules.specs.declared.units.Placed.{Placed}
 use Rattle.auction_rules.specs.Units.{units_of}
 
--- who called, what, the reply, and the trades of the call
+-- the caller, the call, the reply, and the trades that the call made
 pub record Entry : Type 0 where
   pub caller : ℕ
   pub call : Call
   pub reply : Reply
   pub trades : List Trade
 
--- whether a reply is none of the six refusals
+-- whether a reply is not one of the six refusals
 abbrev pub is_admission : Reply → Bool
 is_admission Closed = false
 is_admission WrongCall = false
@@ -41,19 +41,19 @@ is_close call = false
 abbrev pub is_closed : List Entry → Bool
 is_closed past = list_any (λ e. is_admission e.reply && is_close e.call) past
 
--- the caller's bid after an admitted call of its own at a position
+-- the caller's last bid after an admitted call of its own at a position
 abbrev pub bid_after : ℕ → ℕ → Call → Option Placed → Option Placed
 bid_after caller position (Bid points) earlier = Some (record { agent = caller; position = position; points = points })
 bid_after caller position Withdraw earlier = None
 bid_after caller position call earlier = earlier
 
--- the agent's last admitted bid, and None if an admitted `Withdraw` of the agent comes later
+-- the agent's last admitted bid; None if there is none, or if an admitted `Withdraw` of the agent came after it
 abbrev pub last_bid : ℕ → List Entry → Option Placed
 last_bid agent [] = None
 last_bid agent (e ∷ past) =
     if is_admission e.reply && (e.caller == agent) then bid_after e.caller (length past) e.call (last_bid agent past) else last_bid agent past
 
--- the last bids, for the agents in order
+-- the last bids of the agents, in order
 abbrev pub last_bids : List Entry → List (Option Placed)
 last_bids past = map (λ agent. last_bid agent past) agents
 
@@ -62,7 +62,7 @@ abbrev pub units_of_last : Option Placed → List BidUnit
 units_of_last None = []
 units_of_last (Some bid) = units_of bid
 
--- the units of bids in order
+-- the units of the bids, in order
 abbrev pub units_of_bids : List (Option Placed) → List BidUnit
 units_of_bids bids = flat_map units_of_last bids
 

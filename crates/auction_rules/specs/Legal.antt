@@ -46,7 +46,7 @@ entry_by setup past caller call (Some refused) = record { caller = caller; call 
 entry_by setup past caller call None =
     record { caller = caller; call = call; reply = admitted_reply setup past caller call; trades = admitted_trades setup past caller call }
 
--- the entry that the rules give for a call of the caller after the past
+-- the entry that the rules give for a caller's call after a past
 abbrev pub entry_of : Setup → List Entry → ℕ → Call → Entry
 entry_of setup past caller call = entry_by setup past caller call (refusal setup.rules past caller call)
 
@@ -66,16 +66,16 @@ abbrev pub past_of : Setup → List (ℕ × Call) → List Entry
 past_of setup [] = []
 past_of setup ((caller, call) ∷ calls) = entry_of setup (past_of setup calls) caller call ∷ past_of setup calls
 
--- how many entries a caller has
+-- the number of entries of a caller
 abbrev pub entries_of : List Entry → ℕ → ℕ
 entries_of history caller = count_by (λ e. e.caller == caller) history
 
--- how many entries a caller may have
+-- the most entries that a caller may have
 abbrev pub cap : ℕ → ℕ
 cap caller = if caller == clock then CLOCK_CALLS else AGENT_CALLS
 
--- a history, the oldest entry first, is legal: its entries are those of the rules, of agents and the clock, and none of these has
--- more than its cap
+-- a history, oldest entry first, is legal: the rules give its entries, each caller is an agent or the clock, and no caller has more
+-- entries than its cap
 pub record Legal (setup : Setup) (history : List Entry) : Type 0 where
   pub lawful : IsLawful setup (reverse history)
   pub called : AllByRecursion (λ e. e.caller ≤ clock) history

@@ -1,4 +1,4 @@
--- The six refusals of a call, in their order, which is our own rule.
+-- The six refusals of a call. This project defines their order.
 use Rattle.std.specs.Prelude.{ℕ, ◌==◌, Bool, true, false, not, ◌&&◌, ◌||◌, nat_le, nat_lt, if◌then◌else◌, List, Option, Some, None}
 use Rattle.std.specs.List.{list_any}
 use Rattle.auction_rules.specs.Prelude.{Point, Call, Reply, Closed, WrongCall, NoBid, Sell, SelfCross, BelowQuote, buys_of, clock}
@@ -9,7 +9,7 @@ use Rattle.auction_rules.specs.History.{Entry, is_own, is_closed}
 use Rattle.auction_rules.specs.Standing.{stand}
 use Rattle.auction_rules.specs.BeatQuote.{need, quote_to_beat, offered}
 
--- whether the call is not one of the caller's: the clock updates, publishes and closes, agents do the rest
+-- whether the caller may not make the call: the clock updates, publishes and closes, and agents make the other calls
 abbrev pub is_wrong_caller : ℕ → Call → Bool
 is_wrong_caller caller (Bid points) = caller == clock
 is_wrong_caller caller Withdraw = caller == clock
@@ -25,19 +25,19 @@ is_wrong_place TicketRules (Update tick draw) = true
 is_wrong_place TicketRules Publish = true
 is_wrong_place rules call = false
 
--- whether a unit of the agent stands
+-- whether the agent has a standing unit
 abbrev pub has_standing : Rules → List Entry → ℕ → Bool
 has_standing rules past agent = list_any (λ u. u.agent == agent) (stand rules past)
 
--- whether some point sells
+-- whether a point sells
 abbrev pub sells : List Point → Bool
 sells points = list_any (λ point. not (buys_of point.units)) points
 
--- whether some buying point has at least the price of a selling one
+-- whether a buying point has at least the price of a selling one
 abbrev pub crosses_itself : List Point → Bool
 crosses_itself points = list_any (λ buy. buys_of buy.units && list_any (λ sell. not (buys_of sell.units) && nat_le sell.price buy.price) points) points
 
--- the refusals that only a hotel bid has, of which so many units are due at a price or more: it sells, or it offers fewer units there
+-- the refusals of a hotel bid that must offer `due` units at the price `at` or above: it sells, or it offers fewer units there
 abbrev pub hotel_refusal : ℕ → ℕ → List Point → Option Reply
 hotel_refusal due at points =
     if sells points then Some Sell

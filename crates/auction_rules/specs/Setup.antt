@@ -1,8 +1,8 @@
--- What is fixed of an auction before its first call.
+-- What is fixed for an auction before its first call.
 use Rattle.std.specs.Prelude.{ℕ, List, ℤ}
 use Rattle.auction_rules.specs.declared.rules.Rules.{Rules}
 
--- an auction's good, its rules, and how many units of the good each agent holds at first
+-- an auction's good, its rules, and how many units of the good each agent has at the start
 pub record Setup : Type 0 where
   pub good : ℕ
   pub rules : Rules

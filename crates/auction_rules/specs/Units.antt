@@ -1,21 +1,21 @@
--- Units of bids.
+-- The units of bids.
 use Rattle.std.specs.Prelude.{ℕ, zero, suc, ◌+◌, ◌==◌, Bool, not, ◌&&◌, ◌||◌, List, [], ◌∷◌, ◌++◌, filter, count_by}
 use Rattle.std.specs.List.{list_any}
 use Rattle.auction_rules.specs.Prelude.{Point, buys_of, size_of}
 use Rattle.auction_rules.specs.declared.units.Placed.{Placed}
 use Rattle.auction_rules.specs.declared.units.BidUnit.{BidUnit}
 
--- this many units: the first, and others like it with the indices that follow
+-- a number of units: the first, and others like it with the indices that follow
 abbrev pub block : BidUnit → ℕ → List BidUnit
 block first zero = []
 block first (suc n) = block first n ++ record first { index = first.index + n } ∷ []
 
--- the units of a point of the agent's bid at the position, numbered from an index
+-- the units of a point of an agent's bid at a position, numbered upwards from `from`
 abbrev pub point_units : ℕ → ℕ → ℕ → Point → List BidUnit
 point_units agent position from point =
     block (record { agent = agent; buys = buys_of point.units; price = point.price; position = position; index = from }) (size_of point)
 
--- the units of the points in order, numbered from an index
+-- the units of the points in order, numbered upwards from `from`
 abbrev pub units_from : ℕ → ℕ → ℕ → List Point → List BidUnit
 units_from agent position from [] = []
 units_from agent position from (point ∷ points) = point_units agent position from point ++ units_from agent position (from + size_of point) points

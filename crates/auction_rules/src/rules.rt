@@ -1,5 +1,5 @@
-/// What a game fixes of an auction: for a flight its first price in dollars and the bound that its draws lead to, by the game description; for
-/// a hotel night its rooms, and whether its quotes are live, which is our own rule; for tickets nothing.
+/// What a game fixes for an auction: for a flight its first price in dollars and the bound of its drift, by the game description; for
+/// a hotel night its rooms, and whether its quotes are live, which this project defines; for tickets nothing.
 #[derive(Clone, Copy, Debug, PartialEq, Eq)]
 pub enum Rules {
     Flight { first: u16, bound: i8 },

@@ -4,7 +4,7 @@ ghost use Rattle.auction_rules.specs.Effects as effects;
 
 use tac_base::Trade;
 
-/// How many units the agent with this number, 0..7, buys in the trades, of which there are at most 128.
+/// Returns how many units the agent with this number, 0..7, buys in at most 128 trades.
 pub fn bought(trades: &[Trade], number: u8) -> u32
     requires { length trades.now ≤ ENTRY_TRADES }
     ensures { result ≡ effects.bought trades.now number }
@@ -16,7 +16,7 @@ pub fn bought(trades: &[Trade], number: u8) -> u32
         .sum()
 }
 
-/// How many units the agent with this number, 0..7, sells in the trades, of which there are at most 128.
+/// Returns how many units the agent with this number, 0..7, sells in at most 128 trades.
 pub fn sold(trades: &[Trade], number: u8) -> u32
     requires { length trades.now ≤ ENTRY_TRADES }
     ensures { result ≡ effects.sold trades.now number }

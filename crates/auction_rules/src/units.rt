@@ -7,7 +7,7 @@ ghost use Rattle.auction_rules.specs.Refusals as refusals;
 use arrayvec::ArrayVec;
 use tac_base::{Agent, Point, Points, Unit};
 
-/// A bid, and the position in the history at which it was made.
+/// A bid, and the position in the history at which the agent made it.
 #[derive(Debug, Drop)]
 pub struct Placed {
     pub agent: Agent,
@@ -15,15 +15,15 @@ pub struct Placed {
     pub points: Points,
 }
 
-/// A point of an agent's bid that stands.
+/// A standing point, and its agent.
 #[derive(Clone, Copy, Debug, Default, PartialEq, Eq)]
 pub struct StandingPoint {
     pub agent: Agent,
     pub point: Point,
 }
 
-/// One unit of a bid: whose it is, its side and price in dollars, the position of its bid, and its
-/// number in the bid, from 0.
+/// One unit of a bid: its agent, its side and price in dollars, the position of its bid, and its
+/// index in the bid, counted from 0.
 #[derive(Clone, Copy, Debug, Default, PartialEq, Eq)]
 pub struct BidUnit {
     pub agent: Agent,
@@ -34,7 +34,7 @@ pub struct BidUnit {
 }
 
 impl BidUnit {
-    /// The unit without its side, as the books of hotels and tickets show it.
+    /// Returns the unit without its side, as the books of hotels and tickets show it.
     pub fn shown(&self) -> Unit
         ensures { result ≡ shown_unit self.now }
     {
@@ -47,14 +47,14 @@ impl BidUnit {
     }
 }
 
-/// Whether some point sells.
+/// Returns whether a point sells.
 pub fn sells(points: &[Point]) -> bool
     ensures { result ≡ refusals.sells points.now }
 {
     points.iter().any(|point| !point.buys())
 }
 
-/// Appends this many units like the first, with the numbers that follow.
+/// Appends this many units like the first, with consecutive indices from that of the first.
 #[tactic(auto, using(crate::proofs::Blocks::block_more))]
 fn push_block<const N: usize>(out: &mut ArrayVec<BidUnit, N>, first: &BidUnit, count: u8)
     requires room { length out.old.items + count ≤ N }
@@ -70,7 +70,7 @@ fn push_block<const N: usize>(out: &mut ArrayVec<BidUnit, N>, first: &BidUnit, c
     }
 }
 
-/// Appends the units of a point of a bid, numbered from `from`. Answers how many they are.
+/// Appends the units of a bid's point, with indices from `from` upwards, and returns their number.
 pub fn push_point<const N: usize>(
     out: &mut ArrayVec<BidUnit, N>,
     bid: &Placed,
@@ -95,7 +95,7 @@ pub fn push_point<const N: usize>(
     size
 }
 
-/// Appends the units of a bid, of which there are at most 16, each at a price of at most 10000.
+/// Appends the units of a bid: at most 16, each at a price of at most 10000 dollars.
 pub fn push_units<const N: usize>(out: &mut ArrayVec<BidUnit, N>, bid: &Placed)
     requires { length out.old.items + BID_UNITS ≤ N }
     ensures units { out.new.items ≡ out.old.items ++ spec.units_of bid.now }

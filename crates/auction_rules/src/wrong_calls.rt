@@ -4,8 +4,8 @@ ghost use Rattle.auction_rules.specs.History.{is_own};
 
 use tac_base::{Call, Reply};
 
-/// The reply to a call that an auction does not have, or that its caller may not make: `Closed` after the closing, except
-/// for `Own`, and otherwise `WrongCall`.
+/// Returns the reply to a call that the auction does not have or its caller may not make: `Closed` after the closing,
+/// except for `Own`, and otherwise `WrongCall`.
 pub fn wrong_reply(closed: bool, call: &Call) -> Reply
     ensures { result ≡ (if not (is_own call.now) && closed then Reply.Closed else Reply.WrongCall) }
 {

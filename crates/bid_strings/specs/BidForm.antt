@@ -3,7 +3,7 @@ use Rattle.std.specs.Prelude.{ℕ, ◌-◌, ◌==◌, ◌&&◌, nat_le, if◌the
 use Rattle.bid_strings.specs.Prelude.{Point, BidFault, fault_of, numeral, signed_numeral, words_of}
 use Rattle.tac_base.specs.declared.bids.BidFault.TheVariants.{Syntax}
 
--- the bytes of a list without the last
+-- all bytes of a list except the last
 abbrev pub front : List ℕ → List ℕ
 front bytes = take (length bytes - 1) bytes
 
@@ -11,7 +11,7 @@ front bytes = take (length bytes - 1) bytes
 abbrev pub last : List ℕ → ℕ
 last bytes = slice_index bytes (length bytes - 1)
 
--- the point of these units and this price
+-- the point with these units and this price
 abbrev pub paired : Option ℤ → Option ℕ → Option Point
 paired None price = None
 paired (Some units) None = None
@@ -21,12 +21,12 @@ paired (Some units) (Some price) = Some (record { units = units; price = price }
 unfoldable pub point_of : List ℕ → List ℕ → Option Point
 point_of left right = if slice_index left 0 == 40 && last right == 41 then paired (signed_numeral 5 (drop 1 left)) (numeral 5 (front right)) else None
 
--- a point before others
+-- a point in front of others
 abbrev pub point_then : Option Point → Option (List Point) → Option (List Point)
 point_then None others = None
 point_then (Some point) others = option_map (λ points. point ∷ points) others
 
--- the points of this many words
+-- the points of a list of words
 abbrev pub points_from : List (List ℕ) → Option (List Point)
 points_from [] = Some []
 points_from (left ∷ []) = None
@@ -36,17 +36,17 @@ points_from (left ∷ right ∷ words) = point_then (point_of left right) (point
 unfoldable pub points_of : List ℕ → Option (List Point)
 points_of text = if nat_le 2 (length text) && (slice_index text 0 == 40 && last text == 41) then points_from (words_of (take (length text - 2) (drop 1 text))) else None
 
--- a list of points, or what is wrong with it
+-- the points, or their fault
 abbrev pub verdict : List Point → Option BidFault → Result (List Point) BidFault
 verdict points None = Ok points
 verdict points (Some fault) = Err fault
 
--- the bid of the points of a text, if it has points
+-- the bid in a text with these points; without points, the text does not have the form
 abbrev pub judged : Option (List Point) → Result (List Point) BidFault
 judged None = Err Syntax
 judged (Some points) = verdict points (fault_of points)
 
--- what is wrong if a point has this fault: the form of the points after it comes first
+-- the fault of a text if a point has this fault: `Syntax` if the points after it lack the form
 abbrev pub form_fault : BidFault → Option (List Point) → BidFault
 form_fault fault None = Syntax
 form_fault fault (Some points) = fault

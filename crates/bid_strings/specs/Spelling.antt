@@ -17,16 +17,16 @@ pub record HasFiveDigits (point : Point) : Type 0 where
   pub units : unsigned_abs point.units < 100000
   pub price : point.price < 100000
 
--- a text of the form: one point or more, with numbers of at most five digits, as they are spelled
+-- a text of this form: the spelling of one point or more, with numbers of at most five digits
 pub record IsBidString (text : List ℕ) (points : List Point) : Type 0 where
   pub some : 0 < length points
   pub digits : All HasFiveDigits points
   pub spelled : text ≡ spelling points
 
--- the text of a point
+-- the text of one point
 abbrev pub point_text : Point → List ℕ
 point_text point = join_with_byte 32 (point_words point)
 
--- the text that a point adds to the points before it
+-- the text that the next point adds after `count` others
 abbrev pub next_text : ℕ → Point → List ℕ
 next_text count point = if nat_lt 0 count then 32 ∷ point_text point else point_text point

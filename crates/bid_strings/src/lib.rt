@@ -1,4 +1,4 @@
-//! Bids as text: the points of a bid are read from a string and printed as one.
+//! Bids as text: reads the points of a bid from a string, and prints them as one.
 #![tactic(auto)]
 
 mod printing;

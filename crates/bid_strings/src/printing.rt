@@ -17,7 +17,7 @@ fn print_point(point: &Point, out: &mut Text)
     out.push(b')');
 }
 
-/// Appends the text of the next point.
+/// Appends the text of the next point, after `count` others.
 fn print_next(count: usize, point: &Point, out: &mut Text)
     requires { length out.old + 44 ≤ REPLY_TEXT }
     ensures value { out.new ≡ out.old ++ next_text count point.now }
@@ -29,8 +29,8 @@ fn print_next(count: usize, point: &Point, out: &mut Text)
     print_point(point, out);
 }
 
-/// Appends the one spelling of at most 16 points, in their order; 256 bytes have to be free. Without points it is `()`,
-/// which is not read as a bid.
+/// Appends the spelling of at most 16 points, in order; at least 256 bytes must be free. Without points it is `()`,
+/// which cannot be read as a bid.
 pub fn print_points(points: &[Point], out: &mut Text)
     requires count { length points.now ≤ BID_POINTS }
     requires room { length out.old + 256 ≤ REPLY_TEXT }

@@ -7,7 +7,7 @@ use std::marker::Model;
 use tac_base::{BidDraft, BidFault, Points, read_numeral, read_signed};
 use text_forms::Words;
 
-/// A point as it was written, within no limits yet.
+/// A point as it was written, before any check of its limits.
 #[derive(Debug, Drop)]
 struct WrittenPoint {
     units: i64,
@@ -23,7 +23,7 @@ impl Model for WrittenPoint {
 }
 
 impl WrittenPoint {
-    /// Adds the point to a bid, unless it brings a fault.
+    /// Adds the point to a bid, or returns the fault that it causes.
     fn add_to(&self, draft: &mut BidDraft) -> Result<(), BidFault>
         ensures fault { IfErr result (λ fault. left_fault (draft.old ++ self.now ∷ []) ≡ Some fault) }
         ensures ok { OnOk result (draft.new ≡ draft.old ++ self.now ∷ []) }
@@ -32,25 +32,25 @@ impl WrittenPoint {
     }
 }
 
-/// The bid of a text of points, each with units and a price in dollars, such as `((2 150) (1 100))`. The whole text has to
-/// have the form; then the first fault of the points from the left is reported. The form and its limits are our own.
+/// Reads a bid from a text of points, each with units and a price in dollars, such as `((2 150) (1 100))`. Returns `Syntax` if
+/// the text lacks this form, and otherwise the first fault from the left, if any. This project defines the form and limits.
 pub fn read_points(text: &[u8]) -> Result<Points, BidFault>
     ensures exact { result ≡ bid_form.judged (bid_form.points_of text.now) }
-    // What is read is spelled so.
+    // A text that is read is the spelling of its points.
     ensures spelled { IfOk result (λ points. text.now ≡ spelling points) }
 {
     points_of(text)
 }
 
-/// The law of bid strings, as this call's contract: a text has the form of some points exactly if it is their
-/// spelling, and so the text that is printed of a bid is read as that bid.
+/// The law of bid strings: a text has the form of some points exactly if it is their spelling. So the printed text of a
+/// bid is read as that bid.
 pub fn one_spelling()
     ensures found { (text : List ℕ) (points : List Point) → bid_form.points_of text ≡ Some points → IsBidString text points }
     ensures only { (text : List ℕ) (points : List Point) → IsBidString text points → bid_form.points_of text ≡ Some points }
     ensures bids { (points : List Point) → fault_of points ≡ None → bid_form.judged (bid_form.points_of (spelling points)) ≡ Ok points }
 {}
 
-/// The points of a text, over the definition of its form.
+/// Reads the points of a text. Only this function unfolds the definition of its form.
 #[tactic(auto, unfolding(crate::specs::BidForm::points_of))]
 fn points_of(text: &[u8]) -> Result<Points, BidFault>
     ensures { result ≡ bid_form.judged (bid_form.points_of text.now) }
@@ -62,14 +62,14 @@ fn points_of(text: &[u8]) -> Result<Points, BidFault>
     }
 }
 
-/// Whether the text stands between parentheses.
+/// Returns whether the text is in parentheses.
 fn is_between(text: &[u8]) -> bool
     ensures { result ≡ (nat_le 2 (length text.now) && (slice_index text.now 0 == 40 && bid_form.last text.now == 41)) }
 {
     2 <= text.len() && text[0] == b'(' && text[text.len() - 1] == b')'
 }
 
-/// The points of the words, or what is wrong with them.
+/// Returns the bid of the words, or what is wrong with them.
 fn points_in(mut words: Words<'_>) -> Result<Points, BidFault>
     ensures { result ≡ bid_form.judged (bid_form.points_from words.entry) }
 {
@@ -88,14 +88,14 @@ fn points_in(mut words: Words<'_>) -> Result<Points, BidFault>
     finished(draft)
 }
 
-/// The bid of the draft, or what is wrong with it.
+/// Returns the bid of the draft, or what is wrong with it.
 fn finished(draft: BidDraft) -> Result<Points, BidFault>
     ensures { result ≡ bid_form.verdict draft (fault_of draft) }
 {
     draft.finish()
 }
 
-/// The point of two words: `(` and its units, its price and `)`.
+/// Returns the point of two words: `(` and its units, its price and `)`.
 #[tactic(auto, unfolding(crate::specs::BidForm::point_of))]
 fn point_of(left: &[u8], right: &[u8]) -> Option<WrittenPoint>
     ensures { result ≡ bid_form.point_of left.now right.now }
@@ -111,7 +111,7 @@ fn point_of(left: &[u8], right: &[u8]) -> Option<WrittenPoint>
     Some(WrittenPoint { units, price })
 }
 
-/// What is wrong with the text if a point has a fault and these words follow: the form is tested first.
+/// Returns the fault of a text in which a point has a fault and these words follow: `Syntax` if they lack the form.
 fn refusal(fault: BidFault, words: Words<'_>) -> BidFault
     ensures { result ≡ bid_form.form_fault fault (bid_form.points_from words.entry) }
 {
@@ -122,7 +122,7 @@ fn refusal(fault: BidFault, words: Words<'_>) -> BidFault
     }
 }
 
-/// Whether the words are those of points.
+/// Returns whether the words have the form of points.
 fn are_points(mut words: Words<'_>) -> bool
     ensures { result ≡ is_some (bid_form.points_from words.entry) }
 {

@@ -1,4 +1,4 @@
--- What clients want.
+-- The preferences of clients.
 use Rattle.std.specs.Prelude.{◌≡◌, ℕ, ◌<◌, ◌≤◌, List, length, All}
 
 -- the days, the hotel premium and the values of the three ticket types, in dollars

@@ -1,4 +1,4 @@
--- The numbers of goods, parties and callers, which are our own.
+-- The numbers of goods, parties and callers, which this project defines.
 use Rattle.std.specs.Prelude.{ℕ, ◌+◌, ◌-◌, ◌*◌, List, [], ◌∷◌}
 
 -- the inbound flight of a day, 1 to 4
@@ -21,11 +21,11 @@ ticket_night ticket night = 16 + 4 * ticket + (night - 1)
 abbrev pub agents : List ℕ
 agents = 0 ∷ 1 ∷ 2 ∷ 3 ∷ 4 ∷ 5 ∷ 6 ∷ 7 ∷ []
 
--- the caller that is no agent
+-- the caller that is not an agent
 abbrev pub clock : ℕ
 clock = 8
 
--- the party that is no agent
+-- the party that is not an agent
 abbrev pub house : ℕ
 house = 8
 

@@ -1,4 +1,4 @@
--- The ranges of calls, replies, trades, posts and cash readings: those in which a log shows them.
+-- The ranges of calls, replies, trades, posts and cash readings in a log.
 use Rattle.std.specs.Prelude.{◌≡◌, ℕ, ◌^◌, ◌<◌, ◌≤◌, ⊤, List, ℤ, negsuc, pos, ◌≤ℤ◌, None, length, unsigned_abs, All}
 use Rattle.tac_base.specs.Bids.{fault_of, left_fault}
 use Rattle.tac_base.specs.Goods.{clock, house}
@@ -9,19 +9,19 @@ use Rattle.tac_base.specs.declared.calls.Reply.TheVariants.{Taken, Own, Sold, Be
 use Rattle.tac_base.specs.declared.calls.Trade.{Trade}
 use Rattle.tac_base.specs.declared.limits.TheConstants.{BID_PRICE, BID_UNITS, CASH_DIGITS, LAST_POSITION, SHOWN_HOLDING, SHOWN_PRICE, UPDATE_TICKS}
 
--- points are those of a bid, and an update is of one of the ticks 1..53, with a draw of 32 bits
+-- the points are those of a bid; an update is for one of the ticks 1..53, and its draw has 32 bits
 abbrev pub IsCall : Call → Type 0
 IsCall (Bid points) = fault_of points ≡ None
 IsCall (Update tick draw) = (1 ≤ tick) × (tick ≤ UPDATE_TICKS) × (draw ≤ 4294967295)
 IsCall call = ⊤
 
--- what the type of a call keeps of its range: all but that no update is of the last tick
+-- the part of this range that the type of a call ensures: all, except that an update may be for the last tick
 abbrev pub HasCallNumbers : Call → Type 0
 HasCallNumbers (Bid points) = fault_of points ≡ None
 HasCallNumbers (Update tick draw) = (1 ≤ tick) × (draw ≤ 4294967295)
 HasCallNumbers call = ⊤
 
--- numbers of units have eight bits, prices and holdings are those that are shown; standing points keep the limits of a bid
+-- numbers of units have 8 bits, prices and holdings are in the ranges shown, and points are within the limits of a bid
 abbrev pub IsReply : Reply → Type 0
 IsReply (Taken bought sold) = (bought ≤ 255) × (sold ≤ 255)
 IsReply (Own holding left) = (unsigned_abs holding ≤ unsigned_abs SHOWN_HOLDING) × (left_fault left ≡ None)
@@ -29,7 +29,7 @@ IsReply (Sold units price) = (units ≤ 255) × (price ≤ SHOWN_PRICE)
 IsReply (BelowQuote need at offered) = (need ≤ 255) × (at ≤ SHOWN_PRICE) × (offered ≤ 255)
 IsReply reply = ⊤
 
--- what the type of a reply keeps of its range: numbers of units of eight bits, and standing points within the limits of a bid
+-- the part of this range that the type of a reply ensures: numbers of units have 8 bits, and points are within the limits
 abbrev pub HasSmallNumbers : Reply → Type 0
 HasSmallNumbers (Taken bought sold) = (bought ≤ 255) × (sold ≤ 255)
 HasSmallNumbers (Own holding left) = left_fault left ≡ None
@@ -46,7 +46,7 @@ pub record IsTrade (good : ℕ) (t : Trade) : Type 0 where
   pub few : t.units ≤ BID_UNITS
   pub price : t.price ≤ BID_PRICE
 
--- a number of 32 bits with a sign
+-- a signed number of 32 bits
 pub record IsNet (dollars : ℤ) : Type 0 where
   pub low : negsuc 2147483647 ≤ℤ dollars
   pub high : dollars ≤ℤ pos 2147483647

@@ -5,24 +5,24 @@ use crate::limits::{BID_POINTS, BID_PRICE, BID_UNITS};
 use arrayvec::ArrayVec;
 use std::marker::Model;
 
-/// A number of units at a price each.
+/// A number of units, with a price per unit.
 #[derive(Clone, Copy, Debug, Default, PartialEq, Eq)]
 pub struct Point {
-    /// Positive units are bought, negative ones sold.
+    /// A positive number of units is bought, a negative number sold.
     pub units: i8,
     /// The most that a unit may cost, or the least that it must bring, in dollars.
     pub price: u16,
 }
 
 impl Point {
-    /// Whether the point buys; units of 0 count as buying.
+    /// Returns whether the point buys; 0 units count as buying.
     pub fn buys(&self) -> bool
         ensures { result ≡ buys_of self.now.units }
     {
         self.units >= 0
     }
 
-    /// How many units the point buys or sells, at most 128.
+    /// Returns how many units the point buys or sells, at most 128.
     pub fn size(&self) -> u8
         ensures value { result ≡ size_of self.now }
         ensures bound { result ≤ 128 }
@@ -31,10 +31,10 @@ impl Point {
     }
 }
 
-/// Why a list of points is no bid. The limits are our own.
+/// Why a list of points is not a bid. This project defines the limits.
 #[derive(Clone, Copy, Debug, PartialEq, Eq)]
 pub enum BidFault {
-    /// The text is no list of points, or the list is empty.
+    /// The text is not a list of points, or the list is empty.
     Syntax,
     /// There is a 17th point.
     TooManyPoints,
@@ -46,7 +46,7 @@ pub enum BidFault {
     ZeroUnits,
 }
 
-/// What is wrong with the next point, after `count` points with `used` units. The order of the tests is our own.
+/// Returns the fault of the next point, after `count` points with `used` units. This project defines the order.
 fn fault_at(count: usize, used: u8, size: u64, price: u64) -> Option<BidFault>
     requires { used ≤ BID_UNITS }
     ensures { result ≡ point_fault count used (point_at (pos size) price) }
@@ -66,10 +66,10 @@ fn fault_at(count: usize, used: u8, size: u64, price: u64) -> Option<BidFault>
     }
 }
 
-/// The storage of a list of points.
+/// The capacity of a list of points.
 const POINTS: usize = BID_POINTS as usize;
 
-/// The points of a bid so far, within the limits of a bid: at most 16 of them, with at most 16 units.
+/// The points of a bid that is being built: at most 16 of them, with at most 16 units in all.
 #[derive(Debug, Drop)]
 pub struct BidDraft {
     list: ArrayVec<Point, POINTS>,
@@ -89,7 +89,7 @@ impl Model for BidDraft {
 }
 
 impl BidDraft {
-    /// No point yet.
+    /// Returns a draft without points.
     pub fn new() -> Self
         ensures { result ≡ [] }
     {
@@ -99,7 +99,7 @@ impl BidDraft {
         }
     }
 
-    /// Adds a point of any units and price, unless it brings a fault. After a fault the draft is as before.
+    /// Appends a point with any units and price, or returns the fault that it causes and changes nothing.
     #[tactic(auto, using(crate::proofs::Faults::list_units))]
     pub fn push(&mut self, units: i64, price: u64) -> Result<(), BidFault>
         ensures variant { IsOk result ↔ (left_fault (self.old ++ point_at units price ∷ []) ≡ None) }
@@ -118,7 +118,7 @@ impl BidDraft {
         Ok(())
     }
 
-    /// Adds a point as `push` does.
+    /// Appends a point as `push` does.
     fn push_point(&mut self, point: &Point) -> Result<(), BidFault>
         ensures variant { IsOk result ↔ (left_fault (self.old ++ point.now ∷ []) ≡ None) }
         ensures fault { IfErr result (λ fault. left_fault (self.old ++ point.now ∷ []) ≡ Some fault) }
@@ -127,7 +127,7 @@ impl BidDraft {
         self.push(i64::from(point.units), u64::from(point.price))
     }
 
-    /// The fault of the points with one more point, if there is one.
+    /// Returns the fault that one more point would cause, if any.
     #[tactic(auto, using(crate::proofs::Faults::list_units))]
     fn fault_with(&self, units: i64, price: u64) -> Option<BidFault>
         ensures value { result ≡ left_fault (self.now ++ point_at units price ∷ []) }
@@ -136,7 +136,7 @@ impl BidDraft {
         fault_at(self.list.len(), self.used, units.unsigned_abs(), price)
     }
 
-    /// The bid of these points: a bid has at least one.
+    /// Returns the bid of these points, or `Syntax` if there are none.
     pub fn finish(self) -> Result<Points, BidFault>
         ensures variant { IsOk result ↔ (fault_of self ≡ None) }
         ensures value { IfOk result (λ points. points ≡ self) }
@@ -149,7 +149,7 @@ impl BidDraft {
     }
 }
 
-/// The points, if there are at most 16.
+/// Copies a list of at most 16 points.
 pub(crate) fn copied(list: &[Point]) -> ArrayVec<Point, POINTS>
     requires { length list.now ≤ BID_POINTS }
     ensures { result.items ≡ list.now }
@@ -180,7 +180,7 @@ impl Model for Points {
 }
 
 impl Points {
-    /// The bid of a list, which is refused by the first fault from the left; an empty list is refused as `Syntax`.
+    /// Returns the bid of a list, or the first fault from the left; an empty list has the fault `Syntax`.
     #[tactic(auto, using(crate::proofs::Faults::fault_found))]
     pub fn new(list: &[Point]) -> Result<Self, BidFault>
         ensures variant { IsOk result ↔ (fault_of list.now ≡ None) }
@@ -194,7 +194,7 @@ impl Points {
         draft.finish()
     }
 
-    /// The points in the order of the bid.
+    /// Returns the points in the order of the bid.
     #[tactic(auto, using(crate::proofs::Faults::bid_points, crate::proofs::Faults::bid_units, crate::proofs::Faults::bid_prices, crate::proofs::Faults::bid_sizes))]
     pub fn as_slice(&self) -> &[Point]
         ensures value { result.now ≡ self.now }
@@ -207,7 +207,7 @@ impl Points {
         self.list.as_slice()
     }
 
-    /// A copy of the bid.
+    /// Copies the bid.
     #[tactic(auto, using(crate::proofs::Faults::bid_points, crate::proofs::Faults::bid_prices))]
     pub fn copy(&self) -> Self
         ensures value { result ≡ self.now }
@@ -239,7 +239,7 @@ impl Model for Left {
 }
 
 impl Left {
-    /// No points.
+    /// Returns no points.
     pub fn none() -> Self
         ensures { result ≡ [] }
     {
@@ -248,7 +248,7 @@ impl Left {
         }
     }
 
-    /// The points of a list within the limits.
+    /// Returns the points of a list that is within the limits.
     #[tactic(auto, using(crate::proofs::Faults::list_points))]
     pub fn new(list: &[Point]) -> Self
         requires { left_fault list.now ≡ None }
@@ -257,7 +257,7 @@ impl Left {
         Left { list: copied(list) }
     }
 
-    /// The points in the order of the bid.
+    /// Returns the points in the order of the bid.
     #[tactic(auto, using(crate::proofs::Faults::list_points))]
     pub fn as_slice(&self) -> &[Point]
         ensures value { result.now ≡ self.now }
@@ -267,7 +267,7 @@ impl Left {
         self.list.as_slice()
     }
 
-    /// A copy of the points.
+    /// Copies the points.
     #[tactic(auto, using(crate::proofs::Faults::list_points))]
     pub fn copy(&self) -> Self
         ensures value { result ≡ self.now }

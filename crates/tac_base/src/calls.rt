@@ -8,22 +8,22 @@ use arrayvec::ArrayVec;
 use std::marker::Model;
 use std::slice;
 
-/// A number of units of a good, each at the price.
+/// A trade of units of one good, all at the same price.
 #[derive(Clone, Copy, Debug, Default, PartialEq, Eq)]
 pub struct Trade {
     /// Who pays.
     pub buyer: Party,
     /// Who is paid.
     pub seller: Party,
-    /// What is traded.
+    /// The good that is traded.
     pub good: Good,
-    /// How many units.
+    /// The number of units.
     pub units: u8,
-    /// What each unit costs, in dollars.
+    /// The price of each unit, in dollars.
     pub price: u16,
 }
 
-/// The storage of a list of trades.
+/// The capacity of a list of trades.
 const TRADES: usize = ENTRY_TRADES as usize;
 
 /// The trades of one entry, in the order in which they were made: at most 128.
@@ -42,7 +42,7 @@ impl Model for Fills {
 }
 
 impl Fills {
-    /// No trade.
+    /// Returns an empty list.
     pub fn new() -> Self
         ensures { result ≡ [] }
     {
@@ -58,7 +58,7 @@ impl Fills {
         self.list.clear();
     }
 
-    /// Adds a trade at the end; there have to be fewer than 128.
+    /// Appends a trade to fewer than 128 others.
     pub fn push(&mut self, trade: Trade)
         requires { length self.old < ENTRY_TRADES }
         ensures { self.new ≡ self.old ++ trade ∷ [] }
@@ -66,7 +66,7 @@ impl Fills {
         self.list.push(trade);
     }
 
-    /// How many trades there are.
+    /// Returns the number of trades, at most 128.
     pub fn len(&self) -> usize
         ensures value { result ≡ length self.now }
         ensures few { result ≤ ENTRY_TRADES }
@@ -74,14 +74,14 @@ impl Fills {
         self.list.len()
     }
 
-    /// The trades in order, one by one.
+    /// Iterates over the trades in order.
     pub fn iter(&self) -> slice::Iter<'_, Trade>
         ensures { iter_rest result ≡ self.now }
     {
         self.list.iter()
     }
 
-    /// The trades in order.
+    /// Returns the trades in order.
     pub fn as_slice(&self) -> &[Trade]
         ensures value { result.now ≡ self.now }
         ensures few { length self.now ≤ ENTRY_TRADES }
@@ -90,10 +90,10 @@ impl Fills {
     }
 }
 
-/// What is shown of an auction to everybody.
+/// What an auction shows to everybody.
 #[derive(Clone, Copy, Debug, PartialEq, Eq)]
 pub struct Board {
-    /// How many entries its history has.
+    /// The number of entries in its history.
     pub count: u32,
     /// The highest standing bid in a ticket auction, in dollars; 0 if there is none, and for every other good.
     pub bid: u16,
@@ -103,32 +103,32 @@ pub struct Board {
     pub closed: bool,
 }
 
-/// What the trades of one entry gave each party.
+/// The net amounts that the trades of one entry give the parties.
 #[derive(Clone, Copy, Debug, PartialEq, Eq)]
 pub struct Nets {
-    /// What each party gained, in dollars, negative if it paid: the agents 0..7, then the house.
+    /// What each party gains, in dollars, negative if it pays: the agents 0..7, then the house.
     pub dollars: [i32; 9],
 }
 
-/// What a caller may ask of an auction.
+/// A call that a caller can make in an auction.
 #[derive(Debug, Drop)]
 pub enum Call {
-    /// An agent's bid, which replaces its whole earlier bid.
+    /// An agent bids. The bid replaces its whole earlier bid.
     Bid(Points),
     /// An agent withdraws its bid.
     Withdraw,
     /// An agent reads its own state.
     Own,
-    /// The clock moves a flight's price at a tick, 1..53, by the draw.
+    /// The clock updates a flight's price at a tick, 1..53, with a draw.
     Update { tick: Tick, draw: u32 },
     /// The clock publishes a hotel's ask.
     Publish,
-    /// The clock ends the auction.
+    /// The clock closes the auction.
     Close,
 }
 
 impl Call {
-    /// A copy of the call.
+    /// Copies the call.
     pub fn copy(&self) -> Self
         ensures value { result ≡ self.now }
         ensures range { HasCallNumbers self.now }
@@ -150,34 +150,34 @@ impl Call {
     }
 }
 
-/// What an auction answers: the first four replies are to admitted calls, the others are refusals.
-/// The refusals are tried in this order, which is our own rule.
+/// The reply to a call: the first four variants are for admitted calls, the others are refusals.
+/// An auction tests for the refusals in this order, which this project defines.
 #[derive(Debug, Drop)]
 pub enum Reply {
-    /// A bid stands, and the caller bought and sold these units by it at once.
+    /// The bid was admitted, and the caller bought and sold this many units with it at once.
     Taken { bought: u8, sold: u8 },
     /// The agent's holding of the good, its endowment included, and its standing points.
     Own { holding: i32, left: Left },
-    /// A hotel closed: this many rooms were sold, each at the price in dollars.
+    /// A hotel closed: this many rooms were sold, each at this price in dollars.
     Sold { units: u8, price: u16 },
-    /// Any other admitted call.
+    /// Any other call was admitted.
     Done,
     /// The auction is closed.
     Closed,
-    /// The caller may not make the call, or the kind of the good does not have it.
+    /// The caller may not make the call, or auctions of this kind do not have it.
     WrongCall,
-    /// There is no standing unit to withdraw.
+    /// The agent has no standing unit to withdraw.
     NoBid,
-    /// A bid that sells, where agents only buy.
+    /// The bid sells, and agents only buy this good.
     Sell,
-    /// A bid that buys at a price at or above one at which it sells.
+    /// The bid buys at a price at or above one at which it sells.
     SelfCross,
-    /// A hotel bid that offers fewer units than it needs at the price `at` or more, in dollars.
+    /// The hotel bid offers too few units at prices of `at` dollars or more.
     BelowQuote { need: u8, at: u16, offered: u8 },
 }
 
 impl Reply {
-    /// A copy of the reply.
+    /// Copies the reply.
     pub fn copy(&self) -> Self
         ensures value { result ≡ self.now }
         ensures range { HasSmallNumbers self.now }
@@ -215,12 +215,12 @@ impl Reply {
 pub struct Entry {
     /// Who called.
     pub caller: Caller,
-    /// What was asked.
+    /// The call that was made.
     pub call: Call,
-    /// What was answered.
+    /// The reply to it.
     pub reply: Reply,
-    /// Where its trades begin in the list of all trades of the auction.
+    /// The index of its first trade in the list of all trades of the auction.
     pub first_trade: u32,
-    /// How many trades it made.
+    /// The number of its trades.
     pub trades: u8,
 }

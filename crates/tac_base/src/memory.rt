@@ -1,7 +1,7 @@
-// The error for refused memory, as public calls report it.
+// The error that public calls return if a memory allocation failed.
 use std::alloc::AllocError;
 
-/// There is no memory left. Nothing else is known of the call.
+/// A memory allocation failed. Nothing else is known about the call.
 #[derive(Clone, Copy, Debug, PartialEq, Eq)]
 pub struct Memory;
 

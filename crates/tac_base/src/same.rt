@@ -1,23 +1,23 @@
-// Equality of bids, calls and replies, as contracts see them.
+// Equality of bids, calls and replies, as contracts define it.
 ghost use Rattle.std.specs.Prelude.{◌≡◌, ◌↔◌, IsTrue};
 
 use crate::{Call, Left, Points, Reply};
 
-/// Whether two bids have the same points in the same order.
+/// Returns whether two bids have the same points in the same order.
 pub fn same_points(a: &Points, b: &Points) -> bool
     ensures { IsTrue result ↔ (a.now ≡ b.now) }
 {
     a.as_slice() == b.as_slice()
 }
 
-/// Whether two lists have the same points in the same order.
+/// Returns whether two lists have the same points in the same order.
 pub fn same_left(a: &Left, b: &Left) -> bool
     ensures { IsTrue result ↔ (a.now ≡ b.now) }
 {
     a.as_slice() == b.as_slice()
 }
 
-/// Whether two calls are the same.
+/// Returns whether two calls are equal.
 pub fn same_call(a: &Call, b: &Call) -> bool
     ensures { IsTrue result ↔ (a.now ≡ b.now) }
 {
@@ -33,7 +33,7 @@ pub fn same_call(a: &Call, b: &Call) -> bool
     }
 }
 
-/// Whether two replies are the same.
+/// Returns whether two replies are equal.
 pub fn same_reply(a: &Reply, b: &Reply) -> bool
     ensures { IsTrue result ↔ (a.now ≡ b.now) }
 {

@@ -3,7 +3,7 @@ use crate::Agent;
 /// One standing unit of a bid, as the books of hotels and tickets show it.
 #[derive(Clone, Copy, Debug, Default, PartialEq, Eq)]
 pub struct Unit {
-    /// Whose unit it is.
+    /// The agent that owns the unit.
     pub agent: Agent,
     /// The most that the unit may cost, or the least that it must bring, in dollars.
     pub price: u16,

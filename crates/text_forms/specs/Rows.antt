@@ -16,15 +16,15 @@ abbrev pub most_digits : Digits → ℕ
 most_digits Ten = 10
 most_digits Eighteen = CASH_DIGITS
 
--- a numeral of at most ten digits in a range
+-- the column of the numerals of at most ten digits in a range
 abbrev pub within : ℕ → ℕ → Column
 within low high = record { signed = false; digits = Ten; low = pos low; high = pos high }
 
--- the number of a word in a column: a numeral of at most this many digits, signed or not
+-- the number of a word in a column: a numeral with at most the column's digits, signed or not
 abbrev pub number_in_column : Column → List ℕ → Option ℤ
 number_in_column column word = if column.signed then signed_numeral (most_digits column.digits) word else option_map pos (numeral (most_digits column.digits) word)
 
--- a number before others
+-- a number in front of others
 abbrev pub followed_by : Option ℤ → Option (List ℤ) → Option (List ℤ)
 followed_by None others = None
 followed_by (Some number) others = option_map (λ numbers. number ∷ numbers) others
@@ -42,7 +42,7 @@ is_in column number = int_le column.low number && int_le number column.high
 abbrev pub all_in : List Column → List ℤ → Bool
 all_in columns numbers = list_all (λ pair. is_in pair.0 pair.1) (zip columns numbers)
 
--- the numbers, or the reason why the words are no numbers of the row
+-- the numbers, or the reason why the words are not numbers of the row
 abbrev pub in_range : List Column → Option (List ℤ) → Result (List ℤ) Reason
 in_range columns None = Err Spelling
 in_range columns (Some numbers) = if all_in columns numbers then Ok numbers else Err OutOfRange
@@ -62,7 +62,7 @@ row keyword columns line = row_of_words keyword columns (words_of line)
 abbrev pub row_text : List ℕ → List ℤ → List ℕ
 row_text keyword numbers = join_with_byte 32 (keyword ∷ map signed_decimal numbers)
 
--- numbers of a range, its ends included
+-- the numbers from low to high, both included
 abbrev pub IsBetween : ℕ → ℕ → ℕ → Type 0
 IsBetween low high n = (low ≤ n) × (n ≤ high)
 

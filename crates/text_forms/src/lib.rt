@@ -1,4 +1,4 @@
-//! The parts of a text: what is between separators, and the words of a line.
+//! The parts of a text between separators, its lines with their numbers, and the words of a line.
 #![tactic(auto)]
 
 mod lines;

@@ -6,22 +6,22 @@ ghost use Rattle.text_forms.specs.Words.{parts_of};
 use crate::cut;
 use std::marker::Model;
 
-/// Why a line is bad. A refusal shows the variant's number.
+/// Why a line is bad. A refusal shows the number of the variant.
 #[derive(Clone, Copy, Debug, PartialEq, Eq)]
 pub enum Reason {
-    /// The first word is not the one that is due.
+    /// The first word is not the expected one.
     Keyword = 1,
     /// There are too few or too many words; an empty word counts.
     WordCount = 2,
-    /// A later word has another spelling than its place requires, such as a numeral with a leading zero.
+    /// A later word is not spelled as its place requires, for example a numeral with a leading zero.
     Spelling = 3,
     /// A number is outside the range of its place.
     OutOfRange = 4,
-    /// A number that counts lines of a kind is not the one that is due.
+    /// A number that counts lines of a kind is not the next one.
     NotDue = 5,
     /// Two words or numbers that have to differ are equal.
     Repeated = 6,
-    /// The text ends before or within this line, or goes on after its last line.
+    /// The text ends before or within this line, or does not end after its last line.
     TextEnd = 7,
 }
 
@@ -37,7 +37,7 @@ impl Reason {
 /// The first bad line of a text, with the first reason that applies to it.
 #[derive(Clone, Copy, Debug, PartialEq, Eq)]
 pub struct BadLine {
-    /// Counted from 1, comments and empty lines among them.
+    /// The number of the line, counted from 1. Comments and empty lines count.
     pub line: u32,
     pub reason: Reason,
 }
@@ -45,9 +45,9 @@ pub struct BadLine {
 /// Where a text ends.
 #[derive(Clone, Copy, Debug, PartialEq, Eq)]
 pub struct Ending {
-    /// The number of what follows the last line end.
+    /// The number of the line after the last line end.
     pub line: u32,
-    /// Whether that is empty, so that the last line has its end.
+    /// Whether that line is empty, so that the last line has its line end.
     pub whole: bool,
 }
 
@@ -67,14 +67,14 @@ impl<'a> Model for NumberedLine<'a> {
 }
 
 impl<'a> NumberedLine<'a> {
-    /// Counted from 1, comments and empty lines among them.
+    /// Returns the number of the line, counted from 1. Comments and empty lines count.
     pub fn number(&self) -> u32
         ensures { result ≡ self.now.number }
     {
         self.number
     }
 
-    /// The bytes of the line, without its line end.
+    /// Returns the bytes of the line, without its line end.
     pub fn bytes(&self) -> &'a [u8]
         ensures { result.now ≡ self.now.bytes }
     {
@@ -82,7 +82,7 @@ impl<'a> NumberedLine<'a> {
     }
 }
 
-/// The lines that are left of a text.
+/// The lines of a text that are left to read.
 #[derive(Debug, Drop)]
 pub struct TextLines<'a> {
     skips_comments: bool,
@@ -103,7 +103,7 @@ impl<'a> Model for TextLines<'a> {
 }
 
 impl<'a> TextLines<'a> {
-    /// All lines of a text.
+    /// Returns all lines of a text.
     pub fn new(text: &'a [u8]) -> Self
         requires { length text.now < 2 ^ 31 }
         ensures { result ≡ lines.lines_from false 1 (parts_of 10 text.now) }
@@ -115,7 +115,7 @@ impl<'a> TextLines<'a> {
         }
     }
 
-    /// The lines of a text except empty lines and those that begin with `#`, which count in the numbers.
+    /// Returns the lines of a text except empty lines and those that begin with `#`, which still count in the numbers.
     pub fn without_comments(text: &'a [u8]) -> Self
         requires { length text.now < 2 ^ 31 }
         ensures { result ≡ lines.lines_from true 1 (parts_of 10 text.now) }
@@ -127,7 +127,7 @@ impl<'a> TextLines<'a> {
         }
     }
 
-    /// The next line and those after it, or where the text ends.
+    /// Returns the next line and those after it, or where the text ends.
     pub fn next(self) -> Result<(NumberedLine<'a>, TextLines<'a>), Ending>
         ensures { result ≡ lines.next_of self.entry }
     {
@@ -151,7 +151,7 @@ impl<'a> TextLines<'a> {
         }
     }
 
-    /// A copy of the lines, to look at the next line and go back.
+    /// Copies the lines, so that the caller can read on and come back.
     pub fn again(&self) -> TextLines<'a>
         ensures { result ≡ self.now }
     {
@@ -162,8 +162,8 @@ impl<'a> TextLines<'a> {
         }
     }
 
-    /// The bytes of the next `count` lines with their line ends, and the lines after them. There are none if fewer
-    /// whole lines are left, or if a line that is left out is among them.
+    /// Returns the bytes of the next `count` lines with line ends, and the lines after them. It returns `None` if fewer
+    /// whole lines are left, or if a skipped line is among them.
     pub fn block(self, count: u32) -> Option<(&'a [u8], TextLines<'a>)>
         ensures { MatchOption result (lines.block_of count self.entry ≡ None) (λ found. lines.block_of count self.entry ≡ Some (found.0.now, found.1)) }
     {
@@ -181,7 +181,7 @@ impl<'a> TextLines<'a> {
         }
     }
 
-    /// The next line and those after it; a text that ends here ends too early.
+    /// Returns the next line and those after it. If no line is left, returns `TextEnd`.
     pub fn due(self) -> Result<(NumberedLine<'a>, TextLines<'a>), BadLine>
         ensures { result ≡ lines.due_of self.entry }
     {
@@ -194,7 +194,7 @@ impl<'a> TextLines<'a> {
         }
     }
 
-    /// The text has to end here, with a line end.
+    /// Checks that the text ends here, with a line end.
     pub fn finish(self) -> Result<(), BadLine>
         ensures { result ≡ lines.nothing_left self.entry }
     {
@@ -212,7 +212,7 @@ impl<'a> TextLines<'a> {
     }
 }
 
-/// What is left of a text, with the number of its first line, after the lines at its head that are left out.
+/// Returns the text without the skipped lines at its head, with the number of its first line.
 fn past_comments(skips_comments: bool, number: u32, text: &[u8]) -> (u32, &[u8])
     requires { number + length text.now < 2 ^ 32 }
     ensures same { lines.lines_from skips_comments result.0 (parts_of 10 result.1.now) ≡ lines.lines_from skips_comments number (parts_of 10 text.now) }
@@ -231,8 +231,8 @@ fn past_comments(skips_comments: bool, number: u32, text: &[u8]) -> (u32, &[u8])
     (number, rest)
 }
 
-/// The bytes of this many lines with their line ends, and what follows them. There are none if there are fewer whole lines,
-/// or if one of them is left out.
+/// Returns the bytes of the next `count` lines with line ends, and the text after them. It returns `None` if there are
+/// fewer whole lines, or if one of them is skipped.
 fn take_lines(skips_comments: bool, text: &[u8], count: u32) -> Option<(&[u8], &[u8])>
     ensures lines { (number : ℕ) → MatchOption result (block_at skips_comments number count text.now ≡ None) (λ found. block_at skips_comments number count text.now ≡ Some (found.0.now, lines.lines_from skips_comments (number + count) (parts_of 10 found.1.now))) }
     ensures small { IfSome result (λ found. count + length found.1.now ≤ length text.now) }
@@ -252,7 +252,7 @@ fn take_lines(skips_comments: bool, text: &[u8], count: u32) -> Option<(&[u8], &
     Some((&text[..text.len() - rest.len()], rest))
 }
 
-/// Whether a line is empty or begins with `#`.
+/// Returns whether a line is empty or begins with `#`.
 fn is_comment(line: &[u8]) -> bool
     ensures { result ≡ lines.is_comment line.now }
 {
@@ -262,14 +262,14 @@ fn is_comment(line: &[u8]) -> bool
     }
 }
 
-/// Whether a line is left out.
+/// Returns whether a line is skipped.
 fn is_skipped(skips_comments: bool, line: &[u8]) -> bool
     ensures { result ≡ (skips_comments && lines.is_comment line.now) }
 {
     skips_comments && is_comment(line)
 }
 
-/// What was read of a line, or the line with the reason why it is bad.
+/// Returns what was read from a line, or the line with the reason why it is bad.
 pub fn at_line<T>(line: u32, read: Result<T, Reason>) -> Result<T, BadLine>
     ensures { result ≡ lines.at_line line read }
 {

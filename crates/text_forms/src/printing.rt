@@ -11,12 +11,12 @@ pub trait PrintedPart {
 
     ghost lines: { Self → ℕ → Self.Value → List (List ℕ) };
 
-    /// Appends the lines of the part of this number. After an error the text may end within them.
+    /// Appends the lines of the part with this number. After an error the text may end within them.
     fn print(&self, number: u8, value: &Self::Value, out: &mut Vec<u8>) -> Result<(), AllocError>
         ensures { OnOk result (out.new.items ≡ out.old.items ++ text_of (lines self.now number value.now)) };
 }
 
-/// Appends the lines of the parts, at most 255. After an error the text may end within them.
+/// Appends the lines of at most 255 parts. After an error the text may end within them.
 pub fn print_parts<P: PrintedPart>(
     part: &P,
     values: &[P::Value],

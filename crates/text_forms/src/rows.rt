@@ -18,7 +18,7 @@ pub enum Digits {
 }
 
 impl Digits {
-    /// The most digits.
+    /// Returns the most digits.
     pub fn most(self) -> u8
         ensures value { result ≡ rows.most_digits self }
         ensures bound { result ≤ CASH_DIGITS }
@@ -30,7 +30,7 @@ impl Digits {
     }
 }
 
-/// What a number in a row may be: a numeral of at most this many digits, with a sign or without, in a range.
+/// The numbers that a place of a row admits: numerals of at most this many digits, signed or not, in a range.
 #[derive(Clone, Copy, Debug, PartialEq, Eq)]
 pub struct Column {
     pub signed: bool,
@@ -40,7 +40,7 @@ pub struct Column {
 }
 
 impl Column {
-    /// A numeral of at most ten digits without a sign, in a range.
+    /// Returns the column of the unsigned numerals of at most ten digits in a range.
     pub fn within(low: u32, high: u32) -> Self
         ensures { result ≡ rows.within low high }
     {
@@ -53,7 +53,7 @@ impl Column {
     }
 }
 
-/// The number of a word in a column.
+/// Returns the number of a word in a column.
 fn number_of(column: &Column, word: &[u8]) -> Option<i64>
     ensures { result ≡ rows.number_in_column column.now word.now }
 {
@@ -67,7 +67,7 @@ fn number_of(column: &Column, word: &[u8]) -> Option<i64>
     }
 }
 
-/// The numbers of the words, each in its column.
+/// Returns the numbers of the words, each in its column.
 fn numbers_of<const N: usize>(columns: &[Column; N], mut words: Words<'_>) -> Option<[i64; N]>
     ensures { result ≡ rows.numbers_of columns.now words.entry }
 {
@@ -84,14 +84,14 @@ fn numbers_of<const N: usize>(columns: &[Column; N], mut words: Words<'_>) -> Op
     Some(numbers)
 }
 
-/// Whether a number is in the range of its column.
+/// Returns whether a number is in the range of its column.
 fn is_in(column: &Column, number: i64) -> bool
     ensures { result ≡ rows.is_in column.now number }
 {
     column.low <= number && number <= column.high
 }
 
-/// Whether each number is in the range of its column.
+/// Returns whether each number is in the range of its column.
 fn all_in(columns: &[Column], numbers: &[i64]) -> bool
     ensures { result ≡ rows.all_in columns.now numbers.now }
 {
@@ -101,7 +101,7 @@ fn all_in(columns: &[Column], numbers: &[i64]) -> bool
         .all(|(column, number)| is_in(column, *number))
 }
 
-/// The numbers, or the reason why the words are no numbers of the row.
+/// Returns the numbers, or the reason why the words are not numbers of the row.
 fn in_range<const N: usize>(
     columns: &[Column; N],
     numbers: Option<[i64; N]>,
@@ -121,7 +121,7 @@ fn in_range<const N: usize>(
     }
 }
 
-/// The numbers of a line that has a keyword and then a number for each column, or the first reason that applies.
+/// Returns the numbers of a line with a keyword and a number for each column, or the first reason that applies.
 #[tactic(auto, unfolding(crate::specs::Rows::row))]
 pub fn read_row<const N: usize>(
     line: &[u8],
@@ -144,7 +144,7 @@ pub fn read_row<const N: usize>(
     in_range(columns, numbers_of(columns, words))
 }
 
-/// Appends a number after a space. After an error the text is as it was.
+/// Appends a number after a space. After an error the text is unchanged.
 fn print_number(out: &mut Vec<u8>, number: i64) -> Result<(), AllocError>
     ensures added { OnOk result (out.new.items ≡ out.old.items ++ 32 ∷ signed_decimal number) }
     ensures kept { OnErr result (out.new.items ≡ out.old.items) }
@@ -157,7 +157,7 @@ fn print_number(out: &mut Vec<u8>, number: i64) -> Result<(), AllocError>
 }
 
 /// Appends a line of a keyword and numbers, with its line end.
-/// After an error a part of it may follow what was there.
+/// After an error the text may end within the line.
 pub fn print_row(out: &mut Vec<u8>, keyword: &[u8], numbers: &[i64]) -> Result<(), AllocError>
     ensures added { OnOk result (out.new.items ≡ out.old.items ++ (rows.row_text keyword.now numbers.now ++ 10 ∷ [])) }
     ensures part { OnErr result (GoesOn out.old.items out.new.items) }

@@ -3,7 +3,7 @@ ghost use Rattle.text_forms.specs.Steps as steps;
 
 use crate::{BadLine, TextLines};
 
-/// A part of a text that comes several times, numbered from 0.
+/// A part of a text that occurs several times, numbered from 0.
 pub trait Part {
     type Value: Drop;
 
@@ -13,7 +13,7 @@ pub trait Part {
 
     ghost gives: { Self → ℕ → Remaining → Result (Self.Value × Remaining) BadLine };
 
-    /// Reads the part of this number, and gives the lines after it.
+    /// Reads the part with this number, and returns it with the lines after it.
     fn read<'a>(
         &self,
         number: u8,
@@ -22,8 +22,8 @@ pub trait Part {
         ensures { result ≡ gives self.now number lines.entry };
 }
 
-/// Reads a part into each of the values, at most 255, and gives the lines after them.
-/// After a bad line the values before it have been written.
+/// Reads a part into each of at most 255 values, and returns the lines after them.
+/// After a bad line, the values before it have been written.
 pub fn repeat<'a, P: Part>(
     part: &P,
     values: &mut [P::Value],

@@ -4,7 +4,7 @@ ghost use Rattle.text_forms.specs.Words.{parts_of, words_of};
 
 use std::marker::Model;
 
-/// The place of the first separator.
+/// Returns the index of the first separator.
 fn find(bytes: &[u8], separator: u8) -> Option<usize>
     ensures value { result ≡ position (λ b. b == separator) bytes.now }
     ensures bound { IfSome result (λ i. i < length bytes.now) }
@@ -12,7 +12,7 @@ fn find(bytes: &[u8], separator: u8) -> Option<usize>
     bytes.iter().position(|b| *b == separator)
 }
 
-/// How many separators there are.
+/// Returns the number of separators.
 fn count(bytes: &[u8], separator: u8) -> usize
     ensures value { result ≡ count_by (λ b. b == separator) bytes.now }
     ensures bound { result < 2 ^ 63 }
@@ -20,7 +20,7 @@ fn count(bytes: &[u8], separator: u8) -> usize
     bytes.iter().filter(|b| **b == separator).count()
 }
 
-/// The bytes before the first separator and those after it, if there is a separator.
+/// Returns the bytes before the first separator and those after it, if there is a separator.
 /// Either side may be empty.
 pub fn cut(bytes: &[u8], separator: u8) -> Option<(&[u8], &[u8])>
     ensures whole { IfNone result (parts_of separator bytes.now ≡ bytes.now ∷ []) }
@@ -33,15 +33,15 @@ pub fn cut(bytes: &[u8], separator: u8) -> Option<(&[u8], &[u8])>
     }
 }
 
-/// How many parts the separators make, empty ones counted: one more than there are separators.
+/// Returns the number of parts, empty ones included: one more than there are separators.
 pub fn count_parts(bytes: &[u8], separator: u8) -> usize
     ensures { result ≡ length (parts_of separator bytes.now) }
 {
     count(bytes, separator) + 1
 }
 
-/// The words of a line that are left. Words are separated by exactly one space, so two spaces have an empty word between
-/// them, and an empty line is one empty word. Contracts see the list of the words.
+/// The words of a line that are left to read. Exactly one space separates words, so there is an empty word between two
+/// spaces, and an empty line is one empty word. Contracts see the list of the words.
 #[derive(Debug, Drop)]
 pub struct Words<'a> {
     rest: Option<&'a [u8]>,
@@ -57,14 +57,14 @@ impl<'a> Model for Words<'a> {
 }
 
 impl<'a> Words<'a> {
-    /// All words of a line.
+    /// Returns all words of a line.
     pub fn new(line: &'a [u8]) -> Self
         ensures { result ≡ words_of line.now }
     {
         Words { rest: Some(line) }
     }
 
-    /// How many words are left.
+    /// Returns how many words are left.
     pub fn count(&self) -> usize
         ensures { result ≡ length self.now }
     {
@@ -74,7 +74,7 @@ impl<'a> Words<'a> {
         }
     }
 
-    /// Takes the next word, if one is left. After the last word there is never one again.
+    /// Takes the next word, if one is left. Once it has returned `None`, it always does.
     pub fn next(&mut self) -> Option<&'a [u8]>
         ensures { MatchOption result ((self.old ≡ []) × (self.new ≡ [])) (λ word. self.old ≡ word.now ∷ self.new) }
     {
@@ -93,7 +93,7 @@ impl<'a> Words<'a> {
         }
     }
 
-    /// All bytes that are left, with the spaces between the words, if a word is left.
+    /// Returns all bytes that are left, with the spaces between the words, if a word is left.
     pub fn rest(self) -> Option<&'a [u8]>
         ensures { MatchOption result (self.entry ≡ []) (λ rest. (self.entry ≡ words_of rest.now) × (rest.now ≡ join_with_byte 32 self.entry)) }
     {

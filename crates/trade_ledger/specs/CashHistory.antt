@@ -1,4 +1,4 @@
--- Histories of the cash book, the oldest entry first.
+-- Histories of the cash book, oldest entry first.
 use Rattle.std.specs.Prelude.{◌≡◌, ℕ, ◌==◌, if◌then◌else◌, ⊤, false, List, ℤ, pos, ◌+ℤ◌, fold, map, take, length, slice_get, slice_index_or, Option, Some, None, filter_map}
 use Rattle.trade_ledger.specs.Prelude.{Nets, clock, CLOCK_CASH_ENTRIES, AGENT_CASH_ENTRIES}
 use Rattle.tac_base.specs.declared.calls.Board.{Board}
@@ -17,12 +17,12 @@ nets_of (Read agent) = None
 abbrev pub cash_total : List CashEntry → ℕ → ℤ
 cash_total history party = fold ◌+ℤ◌ (pos 0) (map (λ nets. slice_index_or nets.dollars party (pos 0)) (filter_map (λ e. nets_of e.call) history))
 
--- what a call adds to a party's total
+-- the amount that a call adds to a party's total
 abbrev pub gain_of : CashCall → ℕ → ℤ
 gain_of (Post good position nets) party = slice_index_or nets.dollars party (pos 0)
 gain_of (Read agent) party = pos 0
 
--- which calls a caller may make: every post, and a reading of its own cash
+-- the calls that a caller may make: every post, and a reading of its own cash
 abbrev pub IsFitCash : ℕ → CashCall → Type 0
 IsFitCash caller (Post good position nets) = ⊤
 IsFitCash caller (Read agent) = agent ≡ caller
@@ -32,11 +32,11 @@ abbrev pub reply_by : (ℕ → ℤ) → CashCall → CashReply
 reply_by totals (Post good position nets) = Done
 reply_by totals (Read agent) = Cash (totals agent)
 
--- the reply that is due to a call after a history
+-- the reply to a call after a history
 abbrev pub cash_reply_of : List CashEntry → CashCall → CashReply
 cash_reply_of before call = reply_by (cash_total before) call
 
--- each entry has a call that its caller may make, and the reply that is due after the entries before it
+-- a legal history: each entry has a call that its caller may make, and the reply to it after the entries before
 abbrev pub IsLegalCash : List CashEntry → Type 0
 IsLegalCash history = (position : ℕ) (e : CashEntry) → slice_get history position ≡ Some e →
     IsFitCash e.caller e.call × (e.reply ≡ cash_reply_of (take position history) e.call)

@@ -1,4 +1,4 @@
--- The posts of a cash history, and those that are due to the histories of auctions.
+-- The posts of a cash history, and those that the histories of auctions require.
 use Rattle.std.specs.Prelude.{◌≡◌, ℕ, Bool, true, false, List, [], ◌∷◌, map, filter, sum_by, flat_map}
 use Rattle.std.specs.List.{enumerate_from}
 use Rattle.trade_ledger.specs.Prelude.{Trade, Entry, nets}
@@ -16,30 +16,30 @@ is_post (Read agent) = false
 abbrev pub posts_of : List CashEntry → List CashEntry
 posts_of history = filter (λ e. is_post e.call) history
 
--- a post if there are trades, and none if there are none
+-- the post if there are trades, and none otherwise
 abbrev pub post_for : List Trade → CashEntry → List CashEntry
 post_for [] post = []
 post_for (trade ∷ trades) post = post ∷ []
 
--- the post that is due to an entry of a good at a position, if the entry has a trade: made by the entry's caller, with the nets
+-- the post that an entry of a good at a position requires, if it has a trade: by the entry's caller, with the nets of its trades
 abbrev pub due_post : ℕ → ℕ → Entry → List CashEntry
 due_post good position e =
     post_for e.trades (record { caller = e.caller; call = Post good position (record { dollars = nets e.trades }); reply = Done })
 
--- the posts that are due to entries of a good, each with its position
+-- the posts that entries of a good require; each entry comes with its position
 abbrev pub due_to : ℕ → List (ℕ × Entry) → List CashEntry
 due_to good entries = flat_map (λ p. due_post good p.0 p.1) entries
 
--- the posts that are due to entries of the goods in order
+-- the posts that the entries of all goods require, in the order of the goods
 abbrev pub due_posts : List (List (ℕ × Entry)) → List CashEntry
 due_posts rows = flat_map (λ row. due_to row.0 row.1) (enumerate_from 0 rows)
 
--- two lists hold the same entries, each equally often: under every weight of entries, both have the same sum
+-- two lists have the same entries, each equally often: for every weight of entries, the sums over both are equal
 abbrev pub HoldSame : List CashEntry → List CashEntry → Type 0
 HoldSame xs ys = (weight : CashEntry → ℕ) → sum_by weight xs ≡ sum_by weight ys
 
--- the cash history has exactly one post for each entry of the goods' histories that has a trade, made by that entry's caller with its
--- good, its position and the nets of its trades, and no other post: its posts are those that are due, in some order
+-- the cash history has exactly one post for each entry with a trade in the goods' histories, and no other post. The entry's caller
+-- makes the post, with the good, the position and the nets of the entry's trades; the posts may be in any order
 abbrev pub Matched : List (List Entry) → List CashEntry → Type 0
 Matched histories cash = HoldSame (posts_of cash) (due_posts (map (enumerate_from 0) histories))
 

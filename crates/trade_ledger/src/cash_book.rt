@@ -29,7 +29,7 @@ impl Model for CashBook {
     ghost invariant = { λ b. IsCashSound b.entries.items b.totals (vec_capacity b.entries) };
 }
 
-/// Adds the nets of a post to the totals of nine parties, in dollars.
+/// Adds the nets of a post to the totals of the nine parties, in dollars.
 pub fn add_nets(totals: &mut [i64; 9], nets: &Nets)
     requires { (party : ℕ) → party < 9 → IsWithin 600000000000000 (slice_index_or totals.old party (pos 0)) }
     ensures totals { (party : ℕ) → party < 9 →
@@ -43,7 +43,7 @@ pub fn add_nets(totals: &mut [i64; 9], nets: &Nets)
     }
 }
 
-/// The answer to a call, given the totals so far; adds what the call gives.
+/// Returns the reply to a call, given the totals so far, and adds the call's nets to them.
 fn settle(totals: &mut [i64; 9], call: &CashCall) -> CashReply
     requires { (party : ℕ) → party < 9 → IsWithin 600000000000000 (slice_index_or totals.old party (pos 0)) }
     ensures reply { result ≡ reply_by (λ party. slice_index_or totals.old party (pos 0)) call.now }
@@ -72,7 +72,7 @@ impl CashBook {
     ghost use Rattle.trade_ledger.specs.CashKeeping.{IsLoggableCash};
     ghost use Rattle.trade_ledger.specs.CashHistory.{cash_total};
 
-    /// The empty book, with room for all entries of a game. After `Memory` nothing was made.
+    /// Returns an empty book with room for all entries of a game. After `Memory` nothing was made.
     pub fn begin(alloc: Global) -> Result<CashBook, Memory>
         ensures { IfOk result (λ b. b ≡ []) }
     {
@@ -83,7 +83,7 @@ impl CashBook {
         })
     }
 
-    /// The entry at a position, None exactly past the end. A log can show each entry.
+    /// Returns the entry at a position, or `None` exactly if it is past the end. A log can show each entry.
     #[tactic(auto, using(crate::proofs::CashSteps::few_entries))]
     pub fn entry(&self, position: u32) -> Option<&CashEntry>
         ensures value { option_copied result ≡ slice_get self.now position }
@@ -93,7 +93,7 @@ impl CashBook {
         self.entries.get(position as usize)
     }
 
-    /// The sum of the party's nets in all posts, in dollars: at most 600,000,000,000,000, gained or lost.
+    /// Returns the sum of the party's nets in all posts: at most 600,000,000,000,000 dollars, gained or lost.
     #[tactic(auto, using(crate::proofs::CashSteps::few_entries, crate::proofs::CashSteps::within_all))]
     pub fn total(&self, party: Party) -> i64
         ensures value { result ≡ cash_total self.now party }

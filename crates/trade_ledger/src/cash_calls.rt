@@ -1,9 +1,9 @@
 use tac_base::{Agent, Caller, Good, Nets};
 
-/// What a caller may ask of the cash book.
+/// A call that a caller can make to the cash book.
 #[derive(Clone, Copy, Debug, PartialEq, Eq)]
 pub enum CashCall {
-    /// Adds what the trades of one entry gave each party. The entry is named by its good and by its position in that auction's history.
+    /// Adds the net amounts of one entry's trades. The entry is given by its good and its position in that good's history.
     Post {
         good: Good,
         position: u32,
@@ -15,12 +15,12 @@ pub enum CashCall {
     },
 }
 
-/// What the cash book answers. It refuses nothing.
+/// The reply of the cash book, which refuses no call.
 #[derive(Clone, Copy, Debug, PartialEq, Eq)]
 pub enum CashReply {
-    /// A post was added.
+    /// The post was added.
     Done,
-    /// The agent's cash, in dollars: the sum of its nets in the posts before.
+    /// The agent's cash, in dollars: the sum of its nets in the posts so far.
     Cash(i64),
 }
 
@@ -29,8 +29,8 @@ pub enum CashReply {
 pub struct CashEntry {
     /// Who called.
     pub caller: Caller,
-    /// What was asked.
+    /// The call that was made.
     pub call: CashCall,
-    /// What was answered.
+    /// The reply to it.
     pub reply: CashReply,
 }

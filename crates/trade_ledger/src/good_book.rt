@@ -4,7 +4,7 @@ ghost use Rattle.trade_ledger.specs.Holdings.{held_after, sum_held, Stays, NoneL
 use std::marker::Model;
 use tac_base::{Party, Trade};
 
-/// How many units of one good each party holds: the agents 0..7, then the house. A party that sells more than it holds has less than 0.
+/// How many units of one good each party holds: the agents 0..7, then the house. A party that sells more than it has holds less than 0.
 #[derive(Debug, Drop)]
 pub struct GoodBook {
     holdings: [i32; 9],
@@ -18,7 +18,7 @@ impl Model for GoodBook {
     ghost view = { λ b. b.holdings };
 }
 
-/// The index of a party's holding.
+/// Returns the index of a party's holding.
 fn place(party: Party) -> usize
     ensures value { result ≡ party }
     ensures range { result ≤ 8 }
@@ -36,14 +36,14 @@ fn add(holdings: &mut [i32; 9], place: usize, units: i32)
 }
 
 impl GoodBook {
-    /// The book at first: each party holds its endowment.
+    /// Returns the book at the start: each party holds its endowment.
     pub fn new(endow: [i32; 9]) -> GoodBook
         ensures { result ≡ endow }
     {
         GoodBook { holdings: endow }
     }
 
-    /// Moves the units of a trade from its seller to its buyer. No holding may leave -1,000,000..1,000,000 by it.
+    /// Moves the units of a trade from its seller to its buyer. It must not take a holding out of -1,000,000..1,000,000.
     pub fn apply(&mut self, trade: &Trade)
         requires { NoneLeaves self.old (trade.now ∷ []) }
         ensures held { self.new ≡ held_after self.old (trade.now ∷ []) }
@@ -60,7 +60,7 @@ impl GoodBook {
         add(holdings, seller, -units);
     }
 
-    /// How many units the party holds.
+    /// Returns how many units the party holds.
     pub fn holding(&self, party: Party) -> i32
         ensures { result ≡ slice_index_or self.now party (pos 0) }
     {

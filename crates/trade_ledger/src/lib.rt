@@ -1,4 +1,4 @@
-//! What trades leave: the holdings of one good, and the cash of all parties. The cash book is a state that a turn lock keeps.
+//! What trades result in: holdings of one good, and the cash of all parties. A turn lock keeps the cash book as its state.
 #![tactic(auto)]
 
 mod cash_book;

@@ -1,10 +1,10 @@
--- When the boards that a pass recorded are those of a history.
+-- When the boards that a pass recorded are boards of a history.
 use Rattle.std.specs.Prelude.{◌≡◌, ℕ, ◌≤◌, List, take}
 use mathlib.Core.Option.{some}
 use lib.ListN.{get_elem?}
 use Rattle.tac_base.specs.declared.calls.Board.{Board}
 
 module _ {E : Type 0} where
-  -- each note, a count and a board, is of a prefix of the history: the count is its length, at most `seen`, and the board is its board
+  -- each note is a count and a board: the count is at most `seen`, and the board is that of the history's first `count` entries
   abbrev pub AreNotes : (List E → Board) → List E → ℕ → List (ℕ × Board) → Type 0
   AreNotes board history seen notes = (k : ℕ) (n : ℕ × Board) → get_elem? notes k ≡ some n → (n.0 ≤ seen) × (n.1 ≡ board (take n.0 history))

@@ -3,7 +3,7 @@ use Rattle.std.specs.Prelude.{ℕ, ◌==◌, List, filter}
 use Rattle.std.specs.List.{enumerate_from}
 
 module _ {E : Type 0} where
-  -- the entries of a caller from the position n on, each in a pair with its position
+  -- the entries of a caller, each in a pair with its position, if the first entry is at position n
   abbrev pub part_from : (E → ℕ) → ℕ → ℕ → List E → List (ℕ × E)
   part_from caller_of caller n history = filter (λ p. caller_of p.1 == caller) (enumerate_from n history)
 

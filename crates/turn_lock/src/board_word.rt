@@ -3,7 +3,7 @@ ghost use Rattle.turn_lock.specs.BoardWord.{IsSmall, packed, unpacked};
 
 use tac_base::Board;
 
-/// The board as one word, so that one swap publishes it whole.
+/// Packs the board into one word, so that a single swap publishes it.
 pub(crate) fn pack(board: &Board) -> u64
     requires { IsSmall board.now }
     ensures { result ≡ packed board.now }
@@ -15,7 +15,7 @@ pub(crate) fn pack(board: &Board) -> u64
     count + bid * (1 << 24) + ask * (1 << 38) + closed
 }
 
-/// The board of a word.
+/// Unpacks the board from a word.
 pub(crate) fn unpack(word: u64) -> Board
     ensures { result ≡ unpacked word }
 {

@@ -6,32 +6,32 @@ ghost use Rattle.turn_lock.specs.Part.{part};
 
 use tac_base::{Board, Caller};
 
-/// A value that a turn lock keeps. It means a setup, which is fixed when the value is made, and a history, the oldest entry first.
+/// A value that a turn lock keeps. It represents a setup, fixed when the value is made, and a history, oldest entry first.
 /// The history of every value is legal.
 pub trait Kept: Drop + Send {
-    /// What a caller asks.
+    /// The type of calls.
     type Call;
 
-    /// What is answered.
+    /// The type of replies.
     type Reply;
 
-    /// What is fixed when the value is made. Contracts alone see it.
+    /// What is fixed when the value is made. Only contracts use it.
     type Setup;
 
-    /// What the history is a list of. Contracts alone see it.
+    /// The type of the history's entries. Only contracts use it.
     type Entry;
 
     ghost setup: { Self → Self.Setup };
 
     ghost history: { Self → List Self.Entry };
 
-    // which histories are lawful for a setup
+    // which histories are legal for a setup
     ghost legal: { Self.Setup → List Self.Entry → Type 0 };
 
     // the board of a history
     ghost board: { Self.Setup → List Self.Entry → Board };
 
-    // the caller and the call of an entry, and the reply that it shows
+    // the caller and the call of an entry, and the reply that it records
     ghost caller_of: { Self.Entry → ℕ };
 
     ghost call_of: { Self.Entry → Self.Call };
@@ -44,7 +44,7 @@ pub trait Kept: Drop + Send {
     // the most entries that a caller may have
     ghost cap: { ℕ → ℕ };
 
-    /// Appends the one entry of the call, and answers what the entry shows. It takes no memory.
+    /// Appends the entry of the call and returns the reply that the entry records. It allocates no memory.
     fn act(&mut self, caller: Caller, call: &Self::Call) -> Self::Reply
         requires fit { fit caller call.now }
         requires room { length (part caller_of (history self.old) caller) < cap caller }
@@ -53,7 +53,7 @@ pub trait Kept: Drop + Send {
         ensures entry { (e : Self.Entry) × (history self.new ≡ history self.old ++ e ∷ [])
             × (caller_of e ≡ caller) × (call_of e ≡ call.now) × (answer e ≡ result) };
 
-    /// The board of the history, which has fewer than 16,777,216 entries. Its prices are at most 10,001 dollars.
+    /// Returns the board of the history, which has fewer than 16,777,216 entries. Its prices are at most 10,001 dollars.
     fn board(&self) -> Board
         ensures board { result ≡ board (setup self.now) (history self.now) }
         ensures count { result.count ≡ length (history self.now) }

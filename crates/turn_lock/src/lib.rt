@@ -1,6 +1,6 @@
-//! A ticket lock whose callers take turns at one state; each turn is one entry of the state's history. The clauses of its calls hold in any
-//! schedule: each caller learns its own part of the one history that the state has at the end. No clause says that a turn
-//! comes, or when.
+//! A ticket lock whose callers take turns at one state; each turn appends one entry to the state's history. The contracts hold for every
+//! schedule: each caller learns its own part of the one history that the state has at the end. No contract states that a caller gets
+//! its turn, or when.
 #![tactic(auto)]
 
 mod board_word;

@@ -18,10 +18,10 @@ use std::time::{Clock, Duration};
 use tac_base::limits::CALLERS;
 use tac_base::{Board, Caller, Memory};
 
-/// A caller that waits sleeps after polling the board this many times.
+/// A waiting caller sleeps once it has polled the board this many times.
 const LOOKS: u32 = 64;
 
-/// A state at which callers take turns. Word 0 of its table gives tickets, word 1 is the board, and the one slot has the state.
+/// A state at which callers take turns. In its table, word 0 issues tickets, word 1 is the board, and the one slot holds the state.
 #[derive(Drop)]
 pub struct TurnLock<S: Kept> {
     table: Table<S, View<S, S::Setup, S::Entry>, Snapshot<S>, TurnRule<S>, Global>,
@@ -41,7 +41,7 @@ impl<S: Kept> TurnLock<S> {
         self.table.shared.fetch_add::<Draw>(seat, 0, 1)
     }
 
-    /// Polls the board until its count is the ticket, and takes the state with that read.
+    /// Polls the board until its count equals the ticket. That same read takes the state.
     fn wait<R: Wait + Clock>(
         &self,
         rt: &R,
@@ -72,7 +72,7 @@ impl<S: Kept> TurnLock<S> {
         }
     }
 
-    /// Acts on the state, and gives it back with the swap that publishes the new board.
+    /// Makes the call on the state, and returns the state to its slot in the swap that publishes the new board.
     fn act(
         &self,
         seat: &mut Seat<S, View<S, S::Setup, S::Entry>>,
@@ -126,8 +126,8 @@ impl<S: Kept> TurnLock<S> {
     ghost use Rattle.turn_lock.specs.Turn.{ContinuesHistory};
     ghost use Rattle.turn_lock.specs.Passes.{lock_of, caller_of, turns_left, made_by, noted_by, seen_by, returned_by, lock_id, start_of, passes_of, returned_to};
 
-    /// A lock at a state with no history, and one pass for each of 1 to 9 limits: pass `i` is that of caller `i`, and may call as often
-    /// as limit `i` says. After `Memory` the state is dropped.
+    /// Returns a lock for a state without history, and one pass for each of 1 to 9 limits. Pass `i` belongs to caller `i` and allows as
+    /// many calls as limit `i`. If a memory allocation fails, it returns `Memory` and drops the state.
     pub fn begin(
         alloc: Global,
         state: S,
@@ -163,8 +163,8 @@ impl<S: Kept> TurnLock<S> {
         Ok((lock, passes))
     }
 
-    /// Takes a turn: it may wait for it, acts on the state by the call, and answers the position of its entry and the reply. The position
-    /// is not below what the pass had seen. The entry continues as many entries as its position says, and with it they are legal.
+    /// Takes a turn: waits for it if necessary, makes the call on the state, and returns the position of its entry and the reply. The
+    /// position is not below what the pass had seen. The entry follows as many entries as its position says; with it, they are legal.
     pub fn call<R: Wait + Clock>(
         &self,
         rt: &R,
@@ -188,7 +188,7 @@ impl<S: Kept> TurnLock<S> {
         answer
     }
 
-    /// The board of the history so far, which is not shorter than what the pass had seen. It does not wait.
+    /// Returns the board of the history so far, which is not shorter than what the pass had seen. It does not wait.
     pub fn peek(&self, pass: &mut Pass<S>) -> Board
         requires own { lock_of pass.old ≡ lock_id self.now }
         ensures own { (lock_of pass.new ≡ lock_of pass.old) × (caller_of pass.new ≡ caller_of pass.old)
@@ -217,7 +217,7 @@ impl<S: Kept> TurnLock<S> {
         *own = OwnSeat::put(keeper);
     }
 
-    /// The state, once all passes are back. Its history is legal, and has the calls of the passes and no others.
+    /// Returns the state after all passes are back. Its history is legal and has exactly the calls of the passes.
     pub fn close(self) -> S
         requires all_back { length (returned_to self) ≡ passes_of self }
         ensures setup { S.setup result ≡ S.setup (start_of self) }

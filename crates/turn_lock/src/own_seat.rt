@@ -5,7 +5,7 @@ use atomic_table::{Badge, Seat};
 use std::marker::Model;
 use std::mem;
 
-/// A lock's own seat at its table: a `&` to it gives no access to the seat, so threads may share it.
+/// A lock's own seat at its table. A `&` to it gives no access to the seat, so threads can share it.
 pub(crate) struct OwnSeat<V> {
     badge: Badge<V>,
 }
@@ -28,7 +28,7 @@ impl<V> OwnSeat<V> {
         badge
     }
 
-    /// Keeps a seat that holds nothing.
+    /// Stores a seat that holds nothing.
     pub(crate) fn put<S>(seat: Seat<S, V>) -> OwnSeat<V>
         requires { seat.me.1 ≡ [] }
         ensures { (result.badge.table_id ≡ seat.table_id) × (result.badge.id ≡ seat.id) × (result.badge.views ≡ seat.me.0 ∷ []) }
@@ -36,7 +36,7 @@ impl<V> OwnSeat<V> {
         OwnSeat::new(seat.into_badge())
     }
 
-    /// The seat; there has to be one.
+    /// Returns the seat, which must be there.
     pub(crate) fn into_seat<S>(self) -> Seat<S, V>
         requires { (v : V) × (self.badge.views ≡ v ∷ []) }
         ensures { (result.table_id ≡ self.badge.table_id) × (result.id ≡ self.badge.id) × (self.badge.views ≡ result.me.0 ∷ []) × (result.me.1 ≡ []) }
@@ -44,7 +44,7 @@ impl<V> OwnSeat<V> {
         self.into_badge().into_seat()
     }
 
-    /// The seat; there has to be one, and none is left here.
+    /// Takes out the seat, which must be there.
     pub(crate) fn take<S>(&mut self) -> Seat<S, V>
         requires { (v : V) × (self.old.badge.views ≡ v ∷ []) }
         ensures { (result.table_id ≡ self.old.badge.table_id) × (result.id ≡ self.old.badge.id)

@@ -5,7 +5,7 @@ use crate::view::View;
 use atomic_table::Seat;
 use tac_base::Caller;
 
-/// The right of one caller to take turns at a lock, as often as its limit says. It knows its own calls so far and the boards that it saw.
+/// One caller's permission to take turns at a lock, up to a limit. It records the caller's calls so far and the boards that it saw.
 #[derive(Drop)]
 pub struct Pass<S: Kept> {
     pub(crate) seat: Seat<S, View<S, S::Setup, S::Entry>>,
@@ -20,14 +20,14 @@ impl<S: Kept> Pass<S> {
     ghost use Rattle.std.specs.Prelude.{◌≡◌};
     ghost use Rattle.turn_lock.specs.Passes.{caller_of, turns_left};
 
-    /// How many turns the pass has left: its limit less the calls that it made.
+    /// Returns how many turns the pass has left: its limit less the calls that it made.
     pub fn left(&self) -> u32
         ensures { result ≡ turns_left self.now }
     {
         self.left
     }
 
-    /// The caller of the pass.
+    /// Returns the caller of the pass.
     pub fn caller(&self) -> Caller
         ensures { result ≡ caller_of self.now }
     {

@@ -1,4 +1,4 @@
-//! Threads can share a lock, and passes and locks can move between them. These calls prove it, for every state.
+//! Threads can share a lock, and locks and passes can move between threads. These calls prove it for all states.
 use crate::kept::Kept;
 use crate::lock::TurnLock;
 use crate::pass::Pass;

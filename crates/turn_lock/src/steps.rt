@@ -1,4 +1,4 @@
-//! The steps on the table of a lock, and what the seat that makes it knows by it.
+//! The steps on the table of a lock, and what each tells the seat that makes it.
 ghost use Rattle.turn_lock.specs.{spent, drew, looked, PublishesBoard, peeked, with_pass, next_pass, with_returned};
 
 use crate::kept::Kept;
@@ -13,7 +13,7 @@ impl<S, G, E> Play<S, View<S, G, E>> for Draw {
     ghost then = { drew };
 }
 
-/// Reads the board, and takes the state if its turn has come.
+/// Reads the board, and takes the state if it is the ticket's turn.
 pub(crate) struct TryTurn<S> {
     state: PhantomData<S>,
 }
@@ -22,7 +22,7 @@ impl<S: Kept> Play<S, View<S, S::Setup, S::Entry>> for TryTurn<S> {
     ghost then = { looked S.setup S.history S.caller_of };
 }
 
-/// Publishes the new board, and gives the state back.
+/// Publishes the new board, and returns the state to its slot.
 pub(crate) struct Publish<S> {
     state: PhantomData<S>,
 }

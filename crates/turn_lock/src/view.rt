@@ -5,7 +5,7 @@ use std::marker::PhantomData;
 use std::snapshot::Snapshot;
 use tac_base::Board;
 
-/// What a pass leaves when it is taken back. No value of it is made.
+/// The record of a pass that was taken back. Only contracts use it; no value of it is made.
 pub struct Returned<E> {
     pub caller: u64,
     /// Its own entries, with their positions.
@@ -14,14 +14,14 @@ pub struct Returned<E> {
     pub notes: LinkedList<(u64, Board)>,
 }
 
-/// What a seat at the lock's table knows. No value of it is made.
+/// What a seat at the lock's table knows. Only contracts use it; no value of it is made.
 pub struct View<S, G, E> {
-    /// The state that the lock was made with. The seat of a pass that was taken back has none.
+    /// The state that the lock was made with; none for the seat of a pass that was taken back.
     pub start: Option<S>,
-    /// 1 for the seat of a pass that is not taken back, else 0.
+    /// 1 for the seat of a pass that was not taken back, else 0.
     pub live: u64,
     pub caller: u64,
-    /// 1 while it has a ticket that it has not used up, else 0.
+    /// 1 while it has an unused ticket, else 0.
     pub waits: u64,
     pub ticket: u64,
     /// The length of the history that it has seen.
@@ -34,7 +34,7 @@ pub struct View<S, G, E> {
     pub held: Option<(G, LinkedList<E>)>,
     /// The lock's own seat only: how many passes were made.
     pub passes: u64,
-    /// The lock's own seat only: what the passes left that were taken back.
+    /// The lock's own seat only: the records of the passes that were taken back.
     pub returned: LinkedList<Returned<E>>,
 }
 
