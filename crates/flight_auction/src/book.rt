@@ -14,8 +14,8 @@ use tac_base::{Agent, Board, Call, Caller, Fills, Good, Kind, Left, Points, Repl
 /// The auction of a flight. By the game description the house sells any number of seats at a price, in
 /// dollars, that starts at 250 to 400 and stays in 150 to 800.
 ///
-/// A point of a bid is sold whole, or it stands. Points stand in the order in which they are sold: by
-/// the time of their bid, and then as in the bid. No call takes memory.
+/// A point of a bid is sold whole, or it stands. Standing points are in the order in which they are
+/// sold: by the position of their bid, and then as in the bid. No call allocates memory.
 #[derive(Debug, Drop)]
 pub struct Flight {
     good: Good,
@@ -36,7 +36,7 @@ impl Model for Flight {
 }
 
 impl Flight {
-    /// An open flight with its first price, 250 to 400 dollars, and its bound, -10 to 30. Nobody has bid.
+    /// Returns an open flight with a first price of 250 to 400 dollars and a bound of -10 to 30. Nobody has bid.
     pub fn new(good: Good, first: u16, bound: i8) -> Self
         requires kind { kind_of good ≡ Kind.Flight }
         requires first_from { 250 ≤ first }
@@ -54,9 +54,9 @@ impl Flight {
         }
     }
 
-    /// A bid of an agent. It replaces what stands of the agent's earlier one, and its points at the price
-    /// or above are sold at once: `fills` then holds the trades. If it is refused, in a closed flight
-    /// or for a point that sells, it changes nothing and has no trades.
+    /// Makes an agent's bid. It replaces what stands of the agent's earlier bid, and its points at the price
+    /// or above are sold at once: `fills` then holds the trades. The bid is refused in a closed flight
+    /// or if one of its points sells; then nothing changes and there are no trades.
     pub fn bid(&mut self, at: u32, agent: Agent, points: &Points, fills: &mut Fills) -> Reply
         ensures follows { (setup : Setup) (past : List Entry) → FlightStandsFor self.old setup past → at ≡ length past →
             Follows setup past agent (Call.Bid points.now) result fills.new (FlightStandsFor self.new setup) }
@@ -82,8 +82,8 @@ impl Flight {
         }
     }
 
-    /// An agent's withdrawal of what stands of its bid. If nothing stands, or in a
-    /// closed flight, it is refused and changes nothing.
+    /// Withdraws what stands of an agent's bid. If nothing stands, or in a closed flight,
+    /// the call is refused and changes nothing.
     pub fn withdraw(&mut self, at: u32, agent: Agent) -> Reply
         ensures follows { (setup : Setup) (past : List Entry) → FlightStandsFor self.old setup past → at ≡ length past →
             Follows setup past agent Call.Withdraw result [] (FlightStandsFor self.new setup) }
@@ -100,7 +100,7 @@ impl Flight {
         Reply::Done
     }
 
-    /// The standing points of an agent, in the order of its bid: none in a closed flight.
+    /// Returns the standing points of an agent, in the order of its bid; none in a closed flight.
     #[tactic(auto, using(crate::proofs::Keeping::idle_keeps, auction_rules::proofs::Idle::own_idle))]
     pub fn own(&self, agent: Agent) -> Left
         ensures left { (setup : Setup) (past : List Entry) → FlightStandsFor self.now setup past → result ≡ left setup.rules past agent }
@@ -111,7 +111,7 @@ impl Flight {
         Left::new(&points_of(&self.standing, agent.get()))
     }
 
-    /// The refusal of a call that flights do not have, or that the caller may not make: `Closed` in a closed
+    /// Refuses a call that flights do not have, or that the caller may not make: `Closed` in a closed
     /// flight, except for `Own`, and otherwise `WrongCall`. It changes nothing.
     #[tactic(auto, using(crate::proofs::Keeping::follows_wrong))]
     pub fn refuse(&self, caller: Caller, call: &Call) -> Reply
@@ -122,8 +122,8 @@ impl Flight {
         wrong_reply(self.closed, call)
     }
 
-    /// The clock's update of the price at a tick, 1 to 53, by a draw. The points at the new price or
-    /// above are sold: `fills` then holds the trades. In a closed flight it is refused and changes
+    /// Updates the price at a tick, 1 to 53, with a draw. The points at the new price or
+    /// above are sold: `fills` then holds the trades. In a closed flight the call is refused and changes
     /// nothing.
     pub fn update(&mut self, at: u32, tick: Tick, draw: u32, fills: &mut Fills) -> Reply
         requires { tick ≤ UPDATE_TICKS }
@@ -142,8 +142,8 @@ impl Flight {
         Reply::Done
     }
 
-    /// The clock's closing, after which nothing stands. `fills` is left empty. In a closed flight it is
-    /// refused and changes nothing.
+    /// Closes the flight, after which nothing stands. `fills` is then empty. In a closed flight the call
+    /// is refused and changes nothing.
     pub fn close(&mut self, at: u32, fills: &mut Fills) -> Reply
         ensures follows { (setup : Setup) (past : List Entry) → FlightStandsFor self.old setup past → at ≡ length past →
             Follows setup past 8 Call.Close result fills.new (FlightStandsFor self.new setup) }
@@ -159,7 +159,7 @@ impl Flight {
         Reply::Done
     }
 
-    /// The board of the flight after `count` entries. Its bid is 0, and its ask the price.
+    /// Returns the board of the flight after `count` entries. Its bid is 0, and its ask is the price.
     pub fn board(&self, count: u32) -> Board
         ensures board { (setup : Setup) (past : List Entry) → FlightStandsFor self.now setup past → count ≡ length past → result ≡ board setup.rules past }
         ensures no_bid { result.bid ≡ 0 }

@@ -1,4 +1,4 @@
-//! The auction of a flight: a price that moves by a rule, at which the house sells whole points.
+//! The auction of a flight: a rule moves its price, and the house sells whole points at that price.
 #![tactic(auto)]
 
 mod book;

@@ -15,14 +15,14 @@ fn is_of(standing: &StandingPoint, number: u8) -> bool
     standing.agent.get() == number
 }
 
-/// Whether the house sells the point at the price.
+/// Returns whether the house sells the point at the price.
 fn reaches(standing: &StandingPoint, price: u16) -> bool
     ensures { result ≡ spec.reaches price standing.now }
 {
     price <= standing.point.price
 }
 
-/// The sale of the whole point by the house at the price.
+/// Returns the sale of the whole point by the house at the price.
 fn sale(good: Good, price: u16, standing: &StandingPoint) -> Trade
     ensures { result ≡ rule.sale good price standing.now }
 {
@@ -35,7 +35,7 @@ fn sale(good: Good, price: u16, standing: &StandingPoint) -> Trade
     }
 }
 
-/// Whether some of the points belongs to the agent with this number.
+/// Returns whether one of the points belongs to the agent with this number.
 pub(crate) fn has_points(standing: &[StandingPoint], number: u8) -> bool
     ensures { result ≡ list_any (spec.is_points_agent number) standing.now }
 {
@@ -66,7 +66,7 @@ pub(crate) fn place(
     }
 }
 
-/// The points of the agent with this number, at most 16.
+/// Returns the points of the agent with this number, at most 16.
 pub(crate) fn points_of(standing: &[StandingPoint], number: u8) -> ArrayVec<Point, 16>
     requires { length (spec.agents_points number standing.now) ≤ 16 }
     ensures { result.items ≡ spec.agents_points number standing.now }
@@ -80,7 +80,7 @@ pub(crate) fn points_of(standing: &[StandingPoint], number: u8) -> ArrayVec<Poin
     points
 }
 
-/// Appends the sale of the point, if the price reaches it.
+/// Appends the sale of the point, if its price is at least the current one.
 fn push_sale(fills: &mut Fills, good: Good, price: u16, standing: &StandingPoint)
     requires { length fills.old < ENTRY_TRADES }
     ensures trades { fills.new ≡ fills.old ++ spec.sales good price (standing.now ∷ []) }
@@ -91,8 +91,8 @@ fn push_sale(fills: &mut Fills, good: Good, price: u16, standing: &StandingPoint
     }
 }
 
-/// Sells each point that the price reaches: `fills` then holds the trades, in the order of the points, in place of what it
-/// held before, and the points are removed.
+/// Sells each point whose price is at least `price`, and removes it. The trades, in the order of the points, replace
+/// those in `fills`.
 pub(crate) fn sell(
     standing: &mut ArrayVec<StandingPoint, STANDING_UNITS>,
     good: Good,

@@ -13,9 +13,9 @@ use std::marker::Model;
 use tac_base::limits::BID_PRICE;
 use tac_base::{Agent, Board, Call, Caller, Fills, Good, Kind, Left, Points, Reply, Unit};
 
-/// The auction of a hotel night, by the game description: its rooms go to the highest units, at the price of the unit that takes the last
-/// room, or at 0 if a room is left. A bid has to beat the published price, in dollars, which is a rule after TAC. If quotes are live,
-/// which is our own rule, each admitted bid publishes the ask; otherwise only publications and the closing do. No call takes memory.
+/// The auction of a hotel night, by the game description: the highest units get its rooms, at the price of the unit that takes the last
+/// room, or at 0 if a room is left. A bid must beat the published price, in dollars, which follows TAC. If quotes are live, which this
+/// project defines, each admitted bid publishes the ask; otherwise only publications and the closing do. No call allocates memory.
 #[derive(Debug, Drop)]
 pub struct Hotel {
     good: Good,
@@ -38,7 +38,7 @@ impl Model for Hotel {
 }
 
 impl Hotel {
-    /// An open hotel night in which nobody has bid, with 1 to 64 rooms, and with live quotes or not.
+    /// Returns an open hotel night in which nobody has bid, with 1 to 64 rooms, and with live quotes or not.
     pub fn new(good: Good, rooms: u8, live: bool) -> Self
         requires kind { kind_of good ≡ Kind.Hotel }
         requires rooms { 1 ≤ rooms }
@@ -55,8 +55,8 @@ impl Hotel {
         }
     }
 
-    /// A bid of an agent. It replaces the agent's earlier one, and if it is refused changes nothing.
-    /// `fills` is left empty.
+    /// Makes an agent's bid, which replaces its earlier one. A refused bid changes nothing.
+    /// `fills` is then empty.
     pub fn bid(&mut self, at: u32, agent: Agent, points: &Points, fills: &mut Fills) -> Reply
         ensures follows { (setup : Setup) (past : List Entry) →
             HotelStandsFor self.old setup past → at ≡ length past →
@@ -75,7 +75,7 @@ impl Hotel {
         }
     }
 
-    /// Keeps an admitted bid in place of the agent's earlier one.
+    /// Stores an admitted bid in place of the agent's earlier one.
     fn place(&mut self, at: u32, agent: Agent, points: &Points)
         requires { self.old.closed ≡ false }
         ensures { self.new ≡ with_bid self.old (record { agent = agent; position = at; points = points.now }) }
@@ -91,7 +91,7 @@ impl Hotel {
         self.published = after_bid(self.live, self.ranking.ask(), self.published);
     }
 
-    /// The clock's publication of the ask. In a closed hotel it is refused and changes nothing.
+    /// Publishes the ask. In a closed hotel the call is refused and changes nothing.
     pub fn publish(&mut self, at: u32) -> Reply
         ensures follows { (setup : Setup) (past : List Entry) →
             HotelStandsFor self.old setup past → at ≡ length past →
@@ -105,8 +105,8 @@ impl Hotel {
         Reply::Done
     }
 
-    /// The clock's closing, which sells the rooms and publishes the ask. `fills` then holds its trades.
-    /// In a closed hotel it is refused and changes nothing.
+    /// Closes the hotel: sells the rooms and publishes the ask. `fills` then holds the trades.
+    /// In a closed hotel the call is refused and changes nothing.
     pub fn close(&mut self, at: u32, fills: &mut Fills) -> Reply
         ensures follows { (setup : Setup) (past : List Entry) →
             HotelStandsFor self.old setup past → at ≡ length past →
@@ -131,7 +131,7 @@ impl Hotel {
         Reply::Sold { units, price }
     }
 
-    /// The standing units, in order of precedence: none in a closed hotel.
+    /// Returns the standing units in order of precedence; none in a closed hotel.
     pub fn units(&self) -> &[Unit]
         ensures units { (setup : Setup) (past : List Entry) →
             HotelStandsFor self.now setup past → IsPermutation (map shown_unit (stand setup.rules past)) result.now }
@@ -140,7 +140,7 @@ impl Hotel {
         self.ranking.units()
     }
 
-    /// The ask of the standing units, in dollars, whether it is published or not: 0 if fewer stand than there are rooms.
+    /// Returns the ask of the standing units, in dollars, published or not: 0 if fewer stand than there are rooms.
     pub fn ask(&self) -> u16
         ensures ask { (setup : Setup) (past : List Entry) →
             HotelStandsFor self.now setup past → result ≡ asks.ask self.now.rooms (stand setup.rules past) }
@@ -149,7 +149,7 @@ impl Hotel {
         self.ranking.ask()
     }
 
-    /// How many of the agent's standing units would be sold if the hotel closed now.
+    /// Returns how many of the agent's standing units would win if the hotel closed now.
     pub fn winning(&self, agent: Agent) -> u8
         ensures { (setup : Setup) (past : List Entry) →
             HotelStandsFor self.now setup past → result ≡ winning self.now.rooms (stand (Rules.Hotel self.now.rooms self.now.live) past) agent }
@@ -157,7 +157,7 @@ impl Hotel {
         self.ranking.winning(agent)
     }
 
-    /// The standing points of an agent, in the order of its bid: none in a closed hotel.
+    /// Returns the standing points of an agent, in the order of its bid; none in a closed hotel.
     #[tactic(auto, using(crate::proofs::Keeping::idle_keeps, auction_rules::proofs::Idle::own_idle))]
     pub fn own(&self, agent: Agent) -> Left
         ensures left { (setup : Setup) (past : List Entry) → HotelStandsFor self.now setup past →
@@ -172,7 +172,7 @@ impl Hotel {
         }
     }
 
-    /// The refusal of a call that hotels do not have, or that the caller may not make: `Closed` in a closed
+    /// Refuses a call that hotels do not have, or that the caller may not make: `Closed` in a closed
     /// hotel, except for `Own`, and otherwise `WrongCall`. It changes nothing.
     #[tactic(auto, using(crate::proofs::Keeping::follows_wrong))]
     pub fn refuse(&self, caller: Caller, call: &Call) -> Reply
@@ -183,7 +183,7 @@ impl Hotel {
         wrong_reply(self.closed, call)
     }
 
-    /// The board of the hotel after `count` entries. Its bid is 0, and its ask the published price.
+    /// Returns the board of the hotel after `count` entries. Its bid is 0, and its ask is the published price.
     pub fn board(&self, count: u32) -> Board
         ensures board { (setup : Setup) (past : List Entry) →
             HotelStandsFor self.now setup past → count ≡ length past → result ≡ board setup.rules past }

@@ -6,7 +6,7 @@ ghost use Rattle.hotel_book.specs.Book as spec;
 use crate::ranking::Ranking;
 use tac_base::{Agent, Fills, Good, Party, Trade};
 
-/// What an agent buys at the closing.
+/// Returns what an agent buys at the closing.
 fn trade_of(good: Good, ranking: &Ranking, agent: Agent) -> Option<Trade>
     ensures { result ≡ spec.winner_trade good (last_price ranking.now.rooms ranking.now.units) (won ranking.now.rooms ranking.now.units) agent }
 {
@@ -36,7 +36,7 @@ fn push_trade(fills: &mut Fills, trade: Option<Trade>)
     }
 }
 
-/// The trades of a closing; `fills` holds them in place of what it held before.
+/// Replaces `fills` with the trades of a closing.
 pub(crate) fn fill(fills: &mut Fills, good: Good, ranking: &Ranking)
     ensures { fills.new ≡ spec.winner_trades good (last_price ranking.now.rooms ranking.now.units) (won ranking.now.rooms ranking.now.units) }
 {

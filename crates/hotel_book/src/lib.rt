@@ -1,4 +1,4 @@
-//! The auction of a hotel night, which keeps the standing units in the order of precedence, with the ask and each agent's winning number.
+//! The auction of a hotel night. It keeps the standing units in order of precedence, the ask, and how many of each agent's units win.
 #![tactic(auto)]
 
 mod book;

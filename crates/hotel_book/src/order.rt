@@ -18,7 +18,7 @@ fn precedes(first: &Unit, second: &Unit) -> bool
                 || (first.position == second.position && first.index < second.index)))
 }
 
-/// The index of the first unit that the given unit precedes.
+/// Returns the index of the first unit that the given unit precedes.
 fn first_after(units: &[Unit], unit: &Unit) -> Option<usize>
     ensures place { result ≡ position (ranks_first unit.now) units.now }
     ensures within { IfSome result (λ place. place < length units.now) }
@@ -26,7 +26,7 @@ fn first_after(units: &[Unit], unit: &Unit) -> Option<usize>
     units.iter().position(|other| precedes(unit, other))
 }
 
-/// The index of the first unit that the given unit precedes, or the number of units if there is none.
+/// Returns the index of the first unit that the given unit precedes, or else the number of units.
 #[tactic(auto, using(auction_rules::proofs::Sorting::place_at, auction_rules::proofs::Sorting::place_at_end))]
 fn place_of(units: &[Unit], unit: &Unit) -> usize
     ensures place { result ≡ position_or_len (ranks_first unit.now) units.now }
@@ -38,7 +38,7 @@ fn place_of(units: &[Unit], unit: &Unit) -> usize
     }
 }
 
-/// Inserts a unit in its place among units in order.
+/// Inserts a unit at its place among ordered units.
 fn put(units: &mut ArrayVec<Unit, STANDING_UNITS>, unit: &Unit)
     requires room { length units.old.items < STANDING_UNITS }
     requires order { AreSortedUnits units.old.items }
@@ -53,7 +53,7 @@ fn put(units: &mut ArrayVec<Unit, STANDING_UNITS>, unit: &Unit)
     units.insert(place, *unit);
 }
 
-/// Inserts the units of a bid in their places among units in order.
+/// Inserts the units of a bid at their places among ordered units.
 pub(crate) fn put_all(units: &mut ArrayVec<Unit, STANDING_UNITS>, bid: &Placed)
     requires room { length units.old.items + BID_UNITS ≤ STANDING_UNITS }
     requires order { AreSortedUnits units.old.items }
@@ -71,7 +71,7 @@ pub(crate) fn put_all(units: &mut ArrayVec<Unit, STANDING_UNITS>, bid: &Placed)
     }
 }
 
-/// Removes the units of the agent with this number from units in order.
+/// Removes the units of the agent with this number.
 pub(crate) fn take_out(units: &mut ArrayVec<Unit, STANDING_UNITS>, number: u8)
     ensures { units.new.items ≡ filter (λ u. not (u.agent == number)) units.old.items }
 {

@@ -7,14 +7,14 @@ use auction_rules::sells;
 use tac_base::limits::{BID_PRICE, BID_UNITS};
 use tac_base::{Point, Points, Reply};
 
-/// The units that a point offers at a price or more.
+/// Returns how many units a point offers at a price or above.
 fn offered_by(point: &Point, at: u16) -> u8
     ensures { result ≡ (if nat_le at point.now.price then size_of point.now else 0) }
 {
     if at <= point.price { point.size() } else { 0 }
 }
 
-/// The units that the points offer at a price or more.
+/// Returns how many units the points offer at a price or above.
 #[tactic(auto, using(crate::proofs::Offers::offered_one))]
 fn offered(points: &[Point], at: u16) -> u8
     requires { total_size points.now ≤ BID_UNITS }
@@ -28,7 +28,7 @@ fn offered(points: &[Point], at: u16) -> u8
     total
 }
 
-/// The refusal of a bid of an agent that would win this many units, if there is one.
+/// Returns the refusal of the bid of an agent that would win `won` units, if there is one.
 pub(crate) fn refusal(won: u8, published: u16, closed: bool, points: &Points) -> Option<Reply>
     requires { published ≤ BID_PRICE }
     ensures { result ≡ book_refusal won published closed points.now }
@@ -50,7 +50,7 @@ pub(crate) fn refusal(won: u8, published: u16, closed: bool, points: &Points) ->
     }
 }
 
-/// The published price after an admitted bid: the ask if quotes are live, and otherwise the one before.
+/// Returns the published price after an admitted bid: the ask if quotes are live, or else `published`.
 pub(crate) fn after_bid(live: bool, ask: u16, published: u16) -> u16
     ensures { result ≡ (if live then ask else published) }
 {

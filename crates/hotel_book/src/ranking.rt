@@ -10,7 +10,7 @@ use std::marker::Model;
 use tac_base::limits::{BID_PRICE, BID_UNITS, STANDING_UNITS};
 use tac_base::{Agent, Unit};
 
-/// The standing units of a hotel, in order of precedence, and what the first of them determine: the ask, and how many rooms each agent wins.
+/// The standing units of a hotel, in order of precedence, with the ask and the number of rooms that each agent wins.
 /// Contracts see it as its rooms and its units.
 #[derive(Debug, Drop)]
 pub(crate) struct Ranking {
@@ -30,7 +30,7 @@ impl Model for Ranking {
     ghost invariant = { λ r. IsRanked r.rooms r.units.items r.ask r.winning };
 }
 
-/// The price of the unit that takes the last room, or 0 if a room is left.
+/// Returns the price of the unit that takes the last room, or 0 if a room is left.
 fn last_price(rooms: u8, units: &[Unit]) -> u16
     requires { 1 ≤ rooms }
     ensures { result ≡ ranked.last_price rooms units.now }
@@ -41,7 +41,7 @@ fn last_price(rooms: u8, units: &[Unit]) -> u16
     }
 }
 
-/// How many rooms the agent with this number takes.
+/// Returns how many rooms the agent with this number wins.
 fn won(rooms: u8, units: &[Unit], number: u8) -> u8
     ensures { result ≡ ranked.won rooms units.now number }
 {
@@ -52,7 +52,7 @@ fn won(rooms: u8, units: &[Unit], number: u8) -> u8
         .count() as u8
 }
 
-/// How many rooms each agent takes.
+/// Returns how many rooms each agent wins.
 fn winning_numbers(rooms: u8, units: &[Unit]) -> [u8; 8]
     ensures { result ≡ map (ranked.won rooms units.now) agents }
 {
@@ -69,7 +69,7 @@ fn winning_numbers(rooms: u8, units: &[Unit]) -> [u8; 8]
 }
 
 impl Ranking {
-    /// No units, and this many rooms.
+    /// Returns a ranking without units, with this many rooms.
     pub(crate) fn new(rooms: u8) -> Ranking
         requires { 1 ≤ rooms }
         ensures rooms { result.rooms ≡ rooms }
@@ -83,7 +83,7 @@ impl Ranking {
         }
     }
 
-    /// The units, in order of precedence.
+    /// Returns the units in order of precedence.
     pub(crate) fn units(&self) -> &[Unit]
         ensures value { result.now ≡ self.now.units }
         ensures sorted { AreSortedUnits self.now.units }
@@ -91,7 +91,7 @@ impl Ranking {
         self.units.as_slice()
     }
 
-    /// The price of the unit that takes the last room, or 0 if a room is left.
+    /// Returns the price of the unit that takes the last room, or 0 if a room is left.
     pub(crate) fn ask(&self) -> u16
         ensures value { result ≡ ranked.last_price self.now.rooms self.now.units }
         ensures within { result ≤ BID_PRICE }
@@ -101,7 +101,7 @@ impl Ranking {
         self.ask
     }
 
-    /// How many rooms the agent wins.
+    /// Returns how many rooms the agent wins.
     pub(crate) fn winning(&self, agent: Agent) -> u8
         ensures value { result ≡ ranked.won self.now.rooms self.now.units agent }
         ensures agent { agent ≤ 7 }
@@ -110,7 +110,7 @@ impl Ranking {
         self.winning[usize::from(agent.get())]
     }
 
-    /// How many rooms are taken.
+    /// Returns how many rooms are taken.
     pub(crate) fn taken(&self) -> u8
         ensures value { result ≡ min self.now.rooms (length self.now.units) }
         ensures few { length self.now.units ≤ STANDING_UNITS }
@@ -118,7 +118,7 @@ impl Ranking {
         usize::from(self.rooms).min(self.units.len()) as u8
     }
 
-    /// Replaces the units of the bid's agent by those of the bid.
+    /// Replaces the units of the bid's agent with those of the bid.
     pub(crate) fn replace(&mut self, bid: &Placed)
         requires { count_by (λ u. not (u.agent == bid.now.agent)) self.old.units + BID_UNITS ≤ STANDING_UNITS }
         ensures rooms { self.new.rooms ≡ self.old.rooms }

@@ -1,14 +1,14 @@
--- All answers that a link's lines give in turn, by its bytes alone.
+-- The answers of a link's lines, in order, as the link's bytes alone determine them.
 use Rattle.std.specs.Prelude.{zero, suc, ℕ, ◌==◌, ◌++◌, List, [], ◌∷◌, length, nat_le, if◌then◌else◌}
 use Rattle.tac_base.specs.declared.limits.TheConstants.{LINE_BYTES}
 use Rattle.tac_io.specs.declared.line_got.LineGot.{LineGot}
 use Rattle.tac_io.specs.declared.line_got.LineGot.TheVariants.{Line, TooLong, End, Budget}
 
--- a line that is at its end, with its bytes, or one that is too long
+-- the answer at a line end: the line's bytes, or that it is too long
 abbrev pub ended_line : List ℕ → LineGot × List ℕ
 ended_line line = if nat_le (length line) LINE_BYTES then (Line, line) else (TooLong, [])
 
--- The answers, each with its line. The bytes `line` stand before these ones, of which `room` may be used.
+-- The answers, each with its line. `line` is the line so far; `bytes` follow, of which at most `room` may be taken.
 abbrev pub all_answers : List ℕ → ℕ → List ℕ → List (LineGot × List ℕ)
 all_answers line zero bytes = (Budget, []) ∷ []
 all_answers line (suc room) [] = (End, []) ∷ []

@@ -1,7 +1,7 @@
 -- The calls of an object in memory.
 use Rattle.std.specs.Prelude.{ℕ, ◌+◌, ◌-◌, ◌^◌, List, Contains, min, Result, is_err, if◌then◌else◌}
 
--- Those that are to fail, counted from 1; how many were made; and how many failed. A count stays at the last value of a u64.
+-- The calls that are to fail, counted from 1; how many were made; how many failed. A count stays at the last value of a u64.
 pub record Calls : Type 0 where
   pub failing : List ℕ
   pub made : ℕ
@@ -18,11 +18,11 @@ one_call_more count = min (count + 1) (2 ^ 64 - 1)
 abbrev pub IsNextToFail : Calls → Type 0
 IsNextToFail calls = Contains calls.failing (one_call_more calls.made)
 
--- the count of faults, after a call that answered this
+-- the count of faults after a call with this result
 abbrev pub count_after : {T E : Type 0} → ℕ → Result T E → ℕ
 count_after faults result = if is_err result then one_call_more faults else faults
 
--- one more call was made, and answered this
+-- the calls after one more, with this result
 abbrev pub after_call : {T E : Type 0} → Calls → Result T E → Calls
 after_call calls result = record {
   failing = calls.failing;

@@ -9,7 +9,7 @@ use Rattle.tac_io.specs.Known.{IsAtEnd}
 use Rattle.tac_io.specs.declared.line_got.LineGot.{LineGot}
 use Rattle.tac_io.specs.declared.line_got.LineGot.TheVariants.{Line, TooLong, End, Failed, Budget}
 
--- What comes next in these bytes. `held` is what stands after it, `at_end` whether the link is at its end, and `count` how many of
+-- What comes next in these bytes. `held` is what follows it, `at_end` whether the link is at its end, and `count` how many of
 -- the link's bytes were taken. No two of the answers fit the same bytes, but for a fault and the end.
 abbrev pub IsNext : LineGot → List ℕ → Held → Type 0 → ℕ → Type 0
 IsNext Line bytes held at_end count = BeginsWithLine bytes held.line held.unread × (length held.line ≤ LINE_BYTES)
@@ -25,7 +25,7 @@ pub record Answers (before after : LinkPlace) (got : LineGot) : Type 0 where
   pub counted : after.count ≡ before.count + length more
   pub next : IsNext got (before.held.unread ++ more) after.held (IsAtEnd after.link.left) after.count
 
--- `Failed` comes exactly if a read failed, and nothing was taken after that.
+-- The answer is `Failed` exactly if a read failed, and nothing was taken after that.
 abbrev pub HasLineCause : LinkState → LinkState → LineGot → Type 0
 HasLineCause before after Failed = LastReadFails before after
 HasLineCause before after Line = NoReadFails before after

@@ -1,10 +1,10 @@
--- What was read of a link, and what it was sent.
+-- What was read from a link, and what it was sent.
 use Rattle.std.specs.Prelude.{◌≡◌, ℕ, List, Result, MatchResult}
 use Rattle.tac_io.specs.Counts.{Rose}
 use Rattle.tac_io.specs.States.{LinkState}
 use Rattle.tac_io.specs.Known.{known_then, then_known, failed_at, TakesSome}
 
--- the link gave these bytes, the first of those that it had left
+-- the link gave these bytes, the first of those that were left
 abbrev pub GaveBytes : List ℕ → LinkState → LinkState → Type 0
 GaveBytes bytes before after = (after.taken ≡ known_then before.taken bytes) × (before.left ≡ then_known bytes after.left)
 
@@ -24,7 +24,7 @@ NoWriteFails before after = (after.writes ≡ before.writes) × (after.write_fai
 abbrev pub LastWriteFails : LinkState → LinkState → Type 0
 LastWriteFails before after = Rose before.writes after.writes × (after.write_failures ≡ failed_at after.sent before.write_failures)
 
--- the call failed exactly if a write failed, and nothing was sent after that
+-- the call failed exactly if a write failed, and nothing was sent after that write
 abbrev pub FailsByWrite : {T E : Type 0} → LinkState → LinkState → Result T E → Type 0
 FailsByWrite before after result = MatchResult result (λ _. NoWriteFails before after) (λ _. LastWriteFails before after)
 
@@ -32,11 +32,11 @@ FailsByWrite before after result = MatchResult result (λ _. NoWriteFails before
 abbrev pub SendsNothing : LinkState → LinkState → Type 0
 SendsNothing before after = (after.sent ≡ before.sent) × NoWriteFails before after
 
--- nothing was taken of the link, and no read failed
+-- nothing was taken from the link, and no read failed
 abbrev pub ReadsNothing : LinkState → LinkState → Type 0
 ReadsNothing before after = (after.taken ≡ before.taken) × (after.left ≡ before.left) × NoReadFails before after
 
--- These bytes were sent; or a write failed, the last one, and some of the first of them were sent, or none, but not all. Nothing was read.
+-- All bytes were sent; or the last write failed, and some of the first bytes were sent, or none, but not all. Nothing was read.
 abbrev pub OnlySends : {T E : Type 0} → LinkState → LinkState → List ℕ → Result T E → Type 0
 OnlySends before after bytes result =
     MatchResult result (λ _. after.sent ≡ known_then before.sent bytes) (λ _. TakesSome before.sent after.sent bytes)

@@ -1,10 +1,10 @@
--- Files in memory, as their clauses show them.
+-- Files in memory, as their contracts see them.
 use Rattle.std.specs.Prelude.{ℕ, List, Bool, map, min, max, length, string_bytes, is_some, Option}
 use Rattle.tac_io.specs.Calls.{Calls}
 use Rattle.tac_io.specs.FileList.{content_of, selected_left}
 use Rattle.tac_io.specs.declared.memory.files.MemFiles.{MemFiles}
 
--- the bytes of the file of each name
+-- the bytes of the file with each name
 abbrev pub files_content : MemFiles → List ℕ → Option (List ℕ)
 files_content s = content_of s.files.items
 
@@ -20,11 +20,11 @@ files_selected s = is_some s.selected
 abbrev pub files_left : MemFiles → List ℕ
 files_left s = selected_left s.files.items s.selected s.at
 
--- how many bytes a read gives, at most
+-- the most bytes that a read gives
 abbrev pub files_most : MemFiles → ℕ
 files_most s = s.most_at_once
 
--- their calls of `select` and `read`, and the count of their faults
+-- the calls of `select` and `read`, and the count of faults
 abbrev pub files_calls : MemFiles → Calls
 files_calls s = s.faults
 

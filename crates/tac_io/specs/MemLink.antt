@@ -1,4 +1,4 @@
--- A link in memory, as its clauses show it.
+-- A link in memory, as its contracts see it.
 use Rattle.std.specs.Prelude.{◌≡◌, ◌+◌, ◌<◌, ◌⊎◌, ◌↔◌, ◌++◌, ◌∷◌, [], ℕ, List, Result, Some, IsErr, IfOk, OnErr, take, drop, min, max, length}
 use Rattle.tac_io.specs.Calls.{Calls, IsNextToFail, after_call}
 use Rattle.tac_io.specs.Counts.{HasCause}
@@ -9,11 +9,11 @@ use Rattle.tac_io.specs.declared.memory.link.MemLink.{MemLink}
 abbrev pub link_taken : MemLink → List ℕ
 link_taken s = take s.at s.bytes.items
 
--- the bytes that it still has to give
+-- the bytes that are left to read
 abbrev pub link_left : MemLink → List ℕ
 link_left s = drop s.at s.bytes.items
 
--- how many bytes a read gives, at most
+-- the most bytes that a read gives
 abbrev pub link_most : MemLink → ℕ
 link_most s = s.most_at_once
 
@@ -57,8 +57,8 @@ link_state s = record {
 abbrev pub link_share : MemLink → ℕ → ℕ
 link_share s room = min room (min (max 1 (link_most s)) (length (link_left s)))
 
--- A read gave the next bytes, none only at the end. One that failed gave none, and is noted at its place. It was counted, and nothing else
--- changed.
+-- A read gave the next bytes, none only at the end. A failed read gave none, and its position was recorded. The read was counted; nothing
+-- else changed.
 abbrev pub ReadsNext : {E : Type 0} → MemLink → MemLink → Result ℕ E → List ℕ → Type 0
 ReadsNext before after result into =
     IfOk result (λ n. (link_left before ≡ take n into ++ link_left after) × (link_taken after ≡ link_taken before ++ take n into))
@@ -74,8 +74,8 @@ ReadsNext before after result into =
     × (link_write_failures after ≡ link_write_failures before)
     × HasCause (link_reads before).faults (link_reads after).faults result
 
--- A write took the first bytes of the piece, as many as there was room for. It failed where it was to fail, or no room was left; then it
--- took none, and is noted at its place. It was counted, and nothing else changed.
+-- A write took the first bytes of the piece, as many as there was room for. It failed if it was to fail, or if no room was left; then it
+-- took none, and its position was recorded. The write was counted, and nothing else changed.
 abbrev pub WritesNext : {E : Type 0} → MemLink → MemLink → Result ℕ E → List ℕ → Type 0
 WritesNext before after result piece =
     (IsErr result ↔ (IsNextToFail (link_writes before) ⊎ (link_room before ≡ 0)))

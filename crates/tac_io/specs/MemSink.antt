@@ -1,4 +1,4 @@
--- A sink in memory, as its clauses show it.
+-- A sink in memory, as its contracts see it.
 use Rattle.std.specs.Prelude.{ℕ, List, min}
 use Rattle.tac_io.specs.Calls.{Calls}
 use Rattle.tac_io.specs.declared.memory.sink.MemSink.{MemSink}
@@ -11,7 +11,7 @@ sink_bytes s = s.bytes.items
 abbrev pub sink_room : MemSink → ℕ
 sink_room s = s.room
 
--- how many bytes it takes at once, at most
+-- the most bytes that a write takes
 abbrev pub sink_most : MemSink → ℕ
 sink_most s = s.most_at_once
 
@@ -23,6 +23,6 @@ sink_calls s = s.faults
 abbrev pub sink_failures : MemSink → List ℕ
 sink_failures s = s.failures.places
 
--- how many bytes it takes of so many
+-- how many bytes a write takes of this many
 abbrev pub sink_share : MemSink → ℕ → ℕ
 sink_share s many = min many (min (sink_most s) (sink_room s))

@@ -1,4 +1,4 @@
--- A ticker in memory, as its clauses show it.
+-- A ticker in memory, as its contracts see it.
 use Rattle.std.specs.Prelude.{ℕ, List, Option}
 use Rattle.tac_io.specs.Calls.{Calls}
 use Rattle.tac_io.specs.States.{TickWait}

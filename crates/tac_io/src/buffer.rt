@@ -1,18 +1,18 @@
-// A buffer with the last line, and the bytes that no line has yet.
+// A buffer with the last line and the unread bytes, which belong to no line yet.
 ghost use Rattle.std.specs.Prelude.{◌≡◌, [], ◌+◌, ◌<◌, ◌≤◌, IfSome, IfNone, IfOk, length, take, drop, false, MatchResult};
 ghost use Rattle.tac_io.specs.{HasCause, Fills, has_end, BeginsWithLine, SendsNothing, known_then, then_known, IsAtEnd, NotesFailure};
 
 use crate::{Failed, Link};
 use std::marker::Model;
 
-/// A buffer of 1024 bytes. It holds the last line, and the bytes that no line has yet.
+/// A buffer of 1024 bytes. It holds the last line, and the unread bytes, which have no line yet.
 #[derive(Drop)]
 pub(crate) struct Buffer {
     bytes: [u8; 1024],
     // The last line is from `line` to `line_end`.
     line: usize,
     line_end: usize,
-    // The bytes that no line has yet are from `from` to `to`.
+    // The unread bytes are from `from` to `to`.
     from: usize,
     to: usize,
 }
@@ -28,7 +28,7 @@ impl Model for Buffer {
     ghost invariant = { λ b. (b.line ≤ b.line_end) × (b.line_end ≤ 1024) × (b.from ≤ b.to) × (b.to ≤ 1024) };
 }
 
-// Where the first line end is.
+// Returns the index of the first line end.
 fn end_of_line(bytes: &[u8]) -> Option<usize>
     ensures found { IfSome result (λ i. (i < length bytes.now) × BeginsWithLine bytes.now (take i bytes.now) (drop (i + 1) bytes.now)) }
     ensures none { IfNone result (has_end bytes.now ≡ false) }
@@ -41,7 +41,7 @@ fn end_of_line(bytes: &[u8]) -> Option<usize>
     None
 }
 
-// Reads at most `most` bytes of the link into a place of the buffer.
+// Reads at most `most` bytes of the link into the buffer, at index `at`.
 fn read_at<L: Link>(link: &mut L, bytes: &mut [u8], at: usize, most: usize) -> Result<usize, Failed>
     requires most { 0 < most }
     requires room { at < length bytes.old }
@@ -76,21 +76,21 @@ impl Buffer {
         }
     }
 
-    // The last line.
+    // Returns the last line.
     pub(crate) fn line(&self) -> &[u8]
         ensures { result.now ≡ self.now.line }
     {
         &self.bytes[self.line..self.line_end]
     }
 
-    // The bytes that no line has yet.
+    // Returns the unread bytes.
     fn unread(&self) -> &[u8]
         ensures { result.now ≡ self.now.unread }
     {
         &self.bytes[self.from..self.to]
     }
 
-    // How many bytes no line has yet.
+    // Returns the number of unread bytes.
     pub(crate) fn len(&self) -> usize
         ensures count { result ≡ length self.now.unread }
         ensures most { result ≤ 1024 }
@@ -98,7 +98,7 @@ impl Buffer {
         self.to - self.from
     }
 
-    // Takes the first line, and answers its length.
+    // Takes the first line, and returns its length.
     pub(crate) fn cut_line(&mut self) -> Option<usize>
         ensures cut { IfSome result (λ n. BeginsWithLine self.old.unread self.new.line self.new.unread × (n ≡ length self.new.line)) }
         ensures none { IfNone result ((has_end self.old.unread ≡ false) × (self.new ≡ self.old)) }
@@ -110,7 +110,7 @@ impl Buffer {
         Some(length)
     }
 
-    // Drops the bytes that no line has yet.
+    // Drops the unread bytes.
     pub(crate) fn discard(&mut self)
         ensures { self.new.unread ≡ [] }
     {
@@ -118,7 +118,7 @@ impl Buffer {
         self.to = 0;
     }
 
-    // Reads at most `most` bytes of the link behind those that no line has yet. The last line is
+    // Reads at most `most` bytes of the link to behind the unread bytes. The last line is
     // dropped.
     pub(crate) fn fill<L: Link>(&mut self, link: &mut L, most: usize) -> Result<usize, Failed>
         requires most { 0 < most }

@@ -1,5 +1,5 @@
-// The fault of a call on the outside.
+// The error of calls on the outside.
 
-/// A call on the outside failed, and the object counted it.
+/// A call on the outside failed, and the object counted the fault.
 #[derive(Clone, Copy, Debug, PartialEq, Eq)]
 pub struct Failed;

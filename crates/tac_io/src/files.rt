@@ -4,15 +4,15 @@ ghost use Rattle.tac_io.specs.{HasCause, FilesState, MaySelect, Reads, known_the
 
 use crate::Failed;
 
-/// Files that are selected by name and then read from their beginning.
+/// Files that a caller selects by name and then reads from the start.
 pub trait Files {
-    /// The bytes of the file of each name, and the names that `select` was called with, where they
-    /// are known; whether a file is selected, and what is left to read of it, where it is known; and
-    /// the count of faults, which never falls and stays at its last value.
+    /// The bytes of the file with each name, and the names that `select` was called with, both if
+    /// known; whether a file is selected, and what is left to read of it, if known; and the count of
+    /// faults, which never falls and stays at its maximum.
     ghost state: { Self → FilesState };
 
-    /// Selects a file, at its beginning. A name that no file has is a fault. After a fault the
-    /// file that was selected before is still selected, at its place.
+    /// Selects a file, at its start. It is a fault if no file has the name. After a fault the
+    /// file that was selected before is still selected, at the same position.
     fn select(&mut self, name: &str) -> Result<(), Failed>
         requires { MaySelect (state self.old) name.now }
         ensures selected { MatchResult result
@@ -25,8 +25,8 @@ pub trait Files {
         ensures content { (state self.new).content ≡ (state self.old).content }
         ensures cause { HasCause (state self.old).faults (state self.new).faults result };
 
-    /// Reads some of the next bytes of the selected file, and says how many: at least one, or 0 at
-    /// its end. After a fault the file is at the same place.
+    /// Reads some of the next bytes of the selected file, and returns how many: at least one, or 0
+    /// at its end. After a fault the file is at the same position.
     fn read(&mut self, into: &mut [u8]) -> Result<usize, Failed>
         requires room { 0 < length into.old }
         requires selected { IsTrue (state self.old).selected }
@@ -36,7 +36,7 @@ pub trait Files {
         ensures content { (state self.new).content ≡ (state self.old).content }
         ensures cause { HasCause (state self.old).faults (state self.new).faults result };
 
-    /// How many calls failed so far.
+    /// Returns how many calls have failed.
     fn faults(&self) -> u64
         ensures { result ≡ (state self.now).faults };
 }

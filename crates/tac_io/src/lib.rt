@@ -1,10 +1,10 @@
-//! The outside of the server: files, a sink, links and a ticker, as traits, and their forms in
-//! memory; whole files, whole texts, and the lines of a link.
+//! The outside of the server: files, a sink, links and a ticker, as traits, with implementations in
+//! memory; reading of whole files, writing of whole texts, and the lines of a link.
 //!
-//! Each object counts its faults, in a u64 that never falls and stays at its last value. A call
-//! fails only where that count rose or was at its last value, and a call that does not fail leaves
-//! it as it was. What an object holds, has left, took or sent is known of the forms in memory, and
-//! not of those of the operating system.
+//! Each object counts its faults in a u64 that never falls and stays at its maximum. Each call that
+//! fails raises that count, unless it is at its maximum; a call that does not fail leaves it
+//! unchanged. What an object holds, has left, took or was sent is known for the objects in memory,
+//! and not for those of the operating system.
 #![tactic(auto)]
 
 mod buffer;

@@ -1,16 +1,16 @@
-// What the next line of a link is.
+// What the next read of a line gave.
 
-/// What the next line of a link is.
+/// What the next read of a line gave.
 #[derive(Clone, Copy, Debug, PartialEq, Eq)]
 pub enum LineGot {
     /// A line of at most 512 bytes, without its line end.
     Line,
-    /// A line of more than 512 bytes before its end. All of it was passed over.
+    /// A line of more than 512 bytes before its end. All of it was skipped.
     TooLong,
-    /// The link is at its end. What stood there without a line end is dropped.
+    /// The link is at its end. Bytes without a line end are dropped.
     End,
-    /// A read failed, and the link counted it.
+    /// A read failed, and the link counted the fault.
     Failed,
-    /// 67,108,864 bytes were taken from the link, and the line is not at its end.
+    /// 67,108,864 bytes were taken from the link, and the line has not ended.
     Budget,
 }

@@ -8,7 +8,7 @@ use crate::line_got::LineGot;
 use crate::{Failed, Link};
 use tac_base::limits::{LINE_BYTES, LINK_BYTES};
 
-// Drops what is held of a line that is too long already, and says whether it is.
+// Drops the unread bytes of a line that is already too long, and returns whether it is.
 fn skips(buffer: &mut Buffer, long: bool) -> bool
     ensures skips { MatchBool result
         ((buffer.new.unread ≡ []) × (long ≡ false → LINE_BYTES < length buffer.old.unread))
@@ -22,7 +22,7 @@ fn skips(buffer: &mut Buffer, long: bool) -> bool
     false
 }
 
-// A line, or one that is too long.
+// Returns `TooLong` or `Line`.
 fn kind(long: bool, length: usize) -> LineGot
     ensures { IsKind result long length }
 {
@@ -33,7 +33,7 @@ fn kind(long: bool, length: usize) -> LineGot
     }
 }
 
-// What comes next of a link.
+// Reads the next line of a link.
 fn next_line<L: Link>(link: &mut L, buffer: &mut Buffer, taken: &mut u32) -> LineGot
     requires { taken.old ≤ LINK_BYTES }
     ensures answer { Answers (record { held = buffer.old; count = taken.old; link = L.state link.old })
@@ -74,7 +74,7 @@ fn send_all<L: Link>(link: &mut L, bytes: &[u8]) -> Result<(), Failed>
     Ok(())
 }
 
-/// A link whose bytes are read line by line, with a buffer of 1024 bytes. A line ends with byte 10.
+/// A link that is read line by line, with a buffer of 1024 bytes. A line ends with byte 10.
 #[derive(Drop)]
 pub struct Lines<L> {
     link: L,
@@ -90,7 +90,7 @@ impl<L: Link> Lines<L> {
     ghost use Rattle.tac_io.specs.LineAnswers.{goes_on};
     ghost use Rattle.tac_io.specs.Lines.{KeepsPlace, count_of, held_of, last_of, link_of, link_place};
 
-    /// The lines of a link, none of which was read.
+    /// Returns the lines of a link; no line was read yet.
     pub fn new(link: L) -> Lines<L>
         ensures link { link_of result ≡ link }
         ensures unread { (held_of result).unread ≡ [] }
@@ -105,10 +105,10 @@ impl<L: Link> Lines<L> {
         }
     }
 
-    /// Reads on to the next line end, the link's end, a fault, or until 67,108,864 bytes were taken
-    /// from the link, and says which came first. After `End`, `Failed` and `Budget` there is no
-    /// next line. Where the bytes taken before decide, the link stays as it was. After a read that
-    /// failed it does not read again.
+    /// Reads until the next line end, the link's end, a fault, or until 67,108,864 bytes were taken
+    /// from the link, and returns which came first. After `End`, `Failed` and `Budget` there is no
+    /// next line. If the bytes taken before decide the result, the link is unchanged. After a failed
+    /// read it does not read again.
     pub fn next(&mut self) -> LineGot
         requires { goes_on (last_of self.old) ≡ true }
         ensures answer { Answers (link_place L.state self.old) (link_place L.state self.new) result }
@@ -124,7 +124,7 @@ impl<L: Link> Lines<L> {
         got
     }
 
-    /// The line that was read last, without its line end.
+    /// Returns the line that was read last, without its line end.
     pub fn line(&self) -> &[u8]
         requires { last_of self.now ≡ Some LineGot.Line }
         ensures { result.now ≡ (held_of self.now).line }
@@ -132,9 +132,9 @@ impl<L: Link> Lines<L> {
         self.buffer.line()
     }
 
-    /// Sends all bytes to the link, in as many writes as it asks for, and in none where there are no
-    /// bytes. `Failed` comes exactly where the link counted a fault of a write in this call. Then
-    /// some of the first bytes were sent, or none, but not all, and nothing was sent after the fault.
+    /// Sends all bytes to the link, in as many writes as needed, and in none if there are no
+    /// bytes. It returns `Failed` exactly if the link counted a write fault in this call. Then it sent
+    /// some of the first bytes, or none, but not all, and sent nothing after the fault.
     pub fn send(&mut self, bytes: &[u8]) -> Result<(), Failed>
         ensures sends { OnlySends (L.state (link_of self.old)) (L.state (link_of self.new)) bytes.now result }
         ensures place { KeepsPlace self.old self.new }
@@ -142,7 +142,7 @@ impl<L: Link> Lines<L> {
         send_all(&mut self.link, bytes)
     }
 
-    /// The link, with what was not read of it. The bytes that no line had yet are dropped.
+    /// Returns the link. It drops the bytes that were read from the link but belong to no line.
     pub fn into_link(self) -> L
         ensures { result ≡ link_of self }
     {

@@ -6,15 +6,15 @@ use crate::{Failed, Link};
 
 /// Where agents connect.
 pub trait Links {
-    /// A connection. It can be moved to another thread.
+    /// A connection. It can move to another thread.
     type Link: Link + Send + Drop;
 
-    /// Whether it listens; the ports that `listen` was called with, and the links that it still has
-    /// to give, where they are known; and the count of faults, which never falls and stays at its
-    /// last value.
+    /// Whether it listens; the ports that `listen` was called with, and the links that it has yet
+    /// to give, if known; and the count of faults, which never falls and stays at its
+    /// maximum.
     ghost state: { Self → LinksState Self.Link };
 
-    /// Begins to listen on a TCP port, once. After a fault it listens if it did before.
+    /// Starts to listen on a TCP port; only one call is allowed. After a fault it listens if it did before.
     fn listen(&mut self, port: u16) -> Result<(), Failed>
         requires { IfSome (state self.old).ports (λ ports. ports ≡ []) }
         ensures listens { MatchResult result
@@ -24,8 +24,8 @@ pub trait Links {
         ensures pending { (state self.new).pending ≡ (state self.old).pending }
         ensures cause { HasCause (state self.old).faults (state self.new).faults result };
 
-    /// Gives the next link, or None where none is left. It may wait for a peer. After a fault the
-    /// links that it has to give are the same.
+    /// Returns the next link, or `None` if none is left. It may wait for a peer. After a fault the
+    /// remaining links are the same.
     fn next(&mut self) -> Result<Option<Self::Link>, Failed>
         requires { IsTrue (state self.old).listens }
         ensures given { MatchResult result (λ given. MatchOption given
@@ -36,7 +36,7 @@ pub trait Links {
         ensures ports { (state self.new).ports ≡ (state self.old).ports }
         ensures cause { HasCause (state self.old).faults (state self.new).faults result };
 
-    /// How many calls failed so far.
+    /// Returns how many calls have failed.
     fn faults(&self) -> u64
         ensures { result ≡ (state self.now).faults };
 }

@@ -6,14 +6,14 @@ ghost use Rattle.tac_io.specs.Reading.{HasFileCause, IsFile, IsTooLong};
 use crate::{Failed, Files};
 use std::alloc::{AllocError, Global};
 
-/// Why a file was not read.
+/// Why a file could not be read.
 #[derive(Clone, Copy, Debug, PartialEq, Eq)]
 pub enum FileFault {
-    /// A call failed, and the files counted it.
+    /// A call failed, and the files counted the fault.
     Failed,
     /// No call failed, and the file has more bytes than the limit.
     TooLong,
-    /// Memory was refused.
+    /// A memory allocation failed.
     Memory,
 }
 
@@ -42,10 +42,10 @@ impl From<AllocError> for FileFault {
 /// How many bytes the first read asks for.
 const FIRST_READ: usize = 65_536;
 
-/// All bytes of the file of that name, if it has at most `limit`. It selects this name, once.
-/// `Failed` comes exactly where the files counted a fault in this call, and `TooLong` exactly where
-/// they did not and the file has more than `limit` bytes. A file that was read is at its end
-/// afterwards; otherwise it is open which file is selected, and what is left of it.
+/// Returns all bytes of the file with that name, if it has at most `limit`. It selects it once.
+/// It returns `Failed` exactly if the files counted a fault in this call. `TooLong` means that they
+/// did not and that the file has more than `limit` bytes. After success the file is at its end;
+/// otherwise the contract leaves open which file is selected, and what is left of it.
 pub fn read_file<F: Files>(
     alloc: Global,
     files: &mut F,
@@ -78,8 +78,8 @@ pub fn read_file<F: Files>(
     }
 }
 
-// Makes the buffer longer where it is filled, by as much as is filled, and by one byte past the
-// limit at most: a file that fills that byte is too long.
+// Makes a full buffer at least twice as long, but at most one byte longer than the
+// limit: a file that fills that byte is too long.
 fn grow_to_read(bytes: &mut Vec<u8>, filled: usize, limit: usize) -> Result<(), AllocError>
     requires within { filled ≤ vec_len bytes.old }
     requires limited { vec_len bytes.old ≤ limit + 1 }
@@ -97,7 +97,7 @@ fn grow_to_read(bytes: &mut Vec<u8>, filled: usize, limit: usize) -> Result<(), 
     bytes.resize(filled + more, 0)
 }
 
-// Reads into the buffer from a place on.
+// Reads into the buffer, at index `at`.
 fn read_at<F: Files>(files: &mut F, bytes: &mut [u8], at: usize) -> Result<usize, Failed>
     requires room { at < length bytes.old }
     requires selected { IsTrue (F.state files.old).selected }

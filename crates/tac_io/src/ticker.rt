@@ -9,13 +9,13 @@ use tac_base::Tick;
 
 /// What the clock waits for.
 pub trait Ticker {
-    /// What shows that a tick was waited for. A caller has no other way to one than these calls.
+    /// Evidence that a tick was waited for. A caller gets it only from these calls.
     type Due: Drop;
 
-    /// What shows that the wait for a tick failed.
+    /// Evidence that the wait for a tick failed.
     type Lapse: Drop;
 
-    /// A number for this type of ticker. The step of a desk that takes a due has it.
+    /// A number for this type of ticker. It appears in a desk's step that takes a due.
     ghost mark: { ℕ };
 
     /// The tick of a due.
@@ -25,16 +25,16 @@ pub trait Ticker {
     ghost lapse_tick: { Self.Lapse → ℕ };
 
     /// The pace, if one was set, and the waits for ticks, each with whether it lapsed and the pace
-    /// at that moment, where they are known; and the count of faults, which never falls and stays at
-    /// its last value.
+    /// at that moment, if known; and the count of faults, which never falls and stays at
+    /// its maximum.
     ghost state: { Self → TickerState };
 
-    /// Sets the pace, in milliseconds from a tick to the next.
+    /// Sets the pace, in milliseconds between two ticks.
     fn pace(&mut self, milliseconds: u16)
         ensures { state self.new
             ≡ record (state self.old) { paced = option_map (λ _. Some milliseconds) (state self.old).paced } };
 
-    /// Waits for a tick. A lapse is a fault: the wait failed, and the tick's time may be over or
+    /// Waits for a tick. A lapse is a fault: the wait failed, and the tick's time may be past or
     /// still to come.
     fn wait<R: Wait + Clock>(&mut self, rt: &R, tick: Tick) -> Result<Self::Due, Self::Lapse>
         requires { IfSome (state self.old).waited (λ waits. length waits < TICKS) }
@@ -46,12 +46,12 @@ pub trait Ticker {
         ensures paced { (state self.new).paced ≡ (state self.old).paced }
         ensures cause { HasCause (state self.old).faults (state self.new).faults result };
 
-    /// Takes a tick that lapsed as due.
+    /// Makes the due of a tick that lapsed.
     fn late(&mut self, lapse: Self::Lapse) -> Self::Due
         ensures tick { due_tick result ≡ lapse_tick lapse }
         ensures same { state self.new ≡ state self.old };
 
-    /// How many waits lapsed so far.
+    /// Returns how many waits have lapsed.
     fn faults(&self) -> u64
         ensures { result ≡ (state self.now).faults };
 }

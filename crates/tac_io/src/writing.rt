@@ -3,9 +3,9 @@ ghost use Rattle.tac_io.specs.Written.{WritesPiece};
 
 use crate::{Failed, Sink};
 
-/// Writes all bytes, in as many writes as the sink asks for, and in none where there are no bytes.
-/// `Failed` comes exactly where the sink counted a fault in this call. Then some of the first
-/// bytes were written, or none, but not all, and nothing was written after the fault.
+/// Writes all bytes to the sink, in as many writes as needed, and in none if there are no bytes.
+/// It returns `Failed` exactly if the sink counted a fault in this call. Then it wrote some of the
+/// first bytes, or none, but not all, and wrote nothing after the fault.
 pub fn write_all<K: Sink>(sink: &mut K, bytes: &[u8]) -> Result<(), Failed>
     ensures { WritesPiece bytes.now (K.state sink.old) (K.state sink.new) result }
 {

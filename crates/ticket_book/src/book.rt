@@ -10,9 +10,9 @@ use std::marker::Model;
 use tac_base::{Agent, Board, Call, Caller, Fills, Good, Kind, Left, Points, Reply, Unit};
 
 /// The auction of a ticket, in which agents trade with each other: a continuous double auction, by the
-/// game description. How units are matched is a rule after TAC. No call takes memory.
+/// game description. How units are matched follows TAC. No call allocates memory.
 ///
-/// Of each agent its last bid is kept, and of all agents the standing units, each side in its order.
+/// The book keeps the last bid of each agent, and the standing units of all agents, each side in order.
 #[derive(Debug, Drop)]
 pub struct Tickets {
     good: Good,
@@ -30,7 +30,7 @@ impl Model for Tickets {
 }
 
 impl Tickets {
-    /// An open ticket auction in which nobody has bid.
+    /// Returns an open ticket auction in which nobody has bid.
     pub fn new(good: Good) -> Self
         requires { kind_of good ≡ Kind.Ticket }
         ensures { (setup : Setup) → setup.good ≡ good → setup.rules ≡ Rules.Tickets → TicketsStandFor result setup [] }
@@ -43,10 +43,10 @@ impl Tickets {
         }
     }
 
-    /// A bid of an agent. It replaces what stands of the agent's earlier one, and its units
-    /// then trade with those of other agents, one by one: `fills` holds the trades. If it is refused,
-    /// in a closed auction or for a buying point that reaches one of its own selling points, it changes
-    /// nothing and has no trades. An agent may sell what it does not have.
+    /// Makes an agent's bid. It replaces what stands of the agent's earlier bid; its units then
+    /// trade one by one with those of other agents, and `fills` holds the trades. The bid is refused
+    /// in a closed auction, or if a buying point reaches one of the bid's own selling points; then nothing
+    /// changes and there are no trades. An agent can sell what it does not have.
     pub fn bid(&mut self, at: u32, agent: Agent, points: &Points, fills: &mut Fills) -> Reply
         ensures follows { (setup : Setup) (past : List Entry) → TicketsStandFor self.old setup past → at ≡ length past →
             Follows setup past agent (Call.Bid points.now) result fills.new (TicketsStandFor self.new setup) }
@@ -75,8 +75,8 @@ impl Tickets {
         }
     }
 
-    /// An agent's withdrawal of what stands of its bid. If nothing stands, even because the
-    /// whole bid was traded, or in a closed auction, it is refused and changes nothing.
+    /// Withdraws what stands of an agent's bid. The call is refused and changes nothing if nothing
+    /// stands, even because the whole bid was traded, or if the auction is closed.
     pub fn withdraw(&mut self, at: u32, agent: Agent) -> Reply
         ensures { (setup : Setup) (past : List Entry) → TicketsStandFor self.old setup past → at ≡ length past →
             Follows setup past agent Call.Withdraw result [] (TicketsStandFor self.new setup) }
@@ -92,7 +92,7 @@ impl Tickets {
         Reply::Done
     }
 
-    /// The standing points of an agent, in the order of its bid: none in a closed auction.
+    /// Returns the standing points of an agent, in the order of its bid; none in a closed auction.
     pub fn own(&self, agent: Agent) -> Left
         ensures left { (setup : Setup) (past : List Entry) → TicketsStandFor self.now setup past → result ≡ left setup.rules past agent }
         // Reading changes nothing.
@@ -105,7 +105,7 @@ impl Tickets {
         }
     }
 
-    /// The refusal of a call that ticket auctions do not have, or that the caller may not make: `Closed`
+    /// Refuses a call that ticket auctions do not have, or that the caller may not make: `Closed`
     /// after the closing, except for `Own`, and otherwise `WrongCall`. It changes nothing.
     pub fn refuse(&self, caller: Caller, call: &Call) -> Reply
         requires { IsTrue (is_wrong_caller caller call.now || is_wrong_place Rules.Tickets call.now) }
@@ -115,8 +115,8 @@ impl Tickets {
         wrong_reply(self.closed, call)
     }
 
-    /// The clock's closing, after which nothing stands. `fills` is left empty. In a closed auction it is
-    /// refused and changes nothing.
+    /// Closes the auction, after which nothing stands. `fills` is then empty. In a closed auction the
+    /// call is refused and changes nothing.
     pub fn close(&mut self, at: u32, fills: &mut Fills) -> Reply
         ensures follows { (setup : Setup) (past : List Entry) → TicketsStandFor self.old setup past → at ≡ length past →
             Follows setup past clock Call.Close result fills.new (TicketsStandFor self.new setup) }
@@ -131,9 +131,9 @@ impl Tickets {
         Reply::Done
     }
 
-    /// The board of the auction after `count` entries: the highest standing bid and the lowest
-    /// standing ask, in dollars, 0 if there is none. After entries that the rules allow, the bid is
-    /// below the ask if both are there.
+    /// Returns the board of the auction after `count` entries: the highest standing bid and the lowest
+    /// standing ask, in dollars, 0 if there is none. After entries that the rules give, the bid is
+    /// below the ask if there are both.
     pub fn board(&self, count: u32) -> Board
         ensures board { (setup : Setup) (past : List Entry) → TicketsStandFor self.now setup past → count ≡ length past → result ≡ board setup.rules past }
         ensures bid_within { result.bid ≤ 10000 }
@@ -149,8 +149,8 @@ impl Tickets {
         }
     }
 
-    /// The standing units that buy: those of the highest price first, at one price those of the earlier bid first, and in one bid those of the
-    /// lower index first. None in a closed auction.
+    /// Returns the standing units that buy, the highest price first; at equal prices the earlier bid first, and in one bid the lower
+    /// index first. There are none in a closed auction.
     pub fn buys(&self) -> &[Unit]
         ensures units { (setup : Setup) (past : List Entry) → TicketsStandFor self.now setup past →
             IsPermutation (map shown_unit (filter (λ u. u.buys) (stand setup.rules past))) result.now }
@@ -159,8 +159,8 @@ impl Tickets {
         self.sides.side(true)
     }
 
-    /// The standing units that sell: those of the lowest price first, at one price those of the earlier bid first, and in one bid those of the
-    /// lower index first. None in a closed auction.
+    /// Returns the standing units that sell, the lowest price first; at equal prices the earlier bid first, and in one bid the lower
+    /// index first. There are none in a closed auction.
     pub fn sells(&self) -> &[Unit]
         ensures units { (setup : Setup) (past : List Entry) → TicketsStandFor self.now setup past →
             IsPermutation (map shown_unit (filter (λ u. not u.buys) (stand setup.rules past))) result.now }

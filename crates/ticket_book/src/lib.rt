@@ -1,4 +1,4 @@
-//! The auction of a ticket: agents buy from and sell to each other, at the price of the standing unit.
+//! The auction of a ticket: agents trade with each other, at the price of the standing unit.
 #![tactic(auto)]
 
 mod book;

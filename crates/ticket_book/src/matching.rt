@@ -1,4 +1,4 @@
-// The units of a new bid trade with those that stand.
+// How the units of a new bid trade with those that stand.
 ghost use Rattle.std.specs.Prelude.{All, ◌≡◌, ◌+◌, ◌<◌, ◌≤◌, ◌++◌, ℕ, length, map, filter};
 ghost use Rattle.auction_rules.specs.Units as spec;
 ghost use Rattle.auction_rules.specs.Shown.{on_side};
@@ -19,7 +19,7 @@ fn same_unit(first: &BidUnit, second: &BidUnit) -> bool
     first == second
 }
 
-/// Whether some of the units is this one.
+/// Returns whether a unit is among the units.
 fn is_among(units: &[BidUnit], unit: &BidUnit) -> bool
     ensures { result ≡ spec.among unit.now units.now }
 {
@@ -44,7 +44,7 @@ fn units_of(bid: &Placed) -> ArrayVec<BidUnit, 16>
     units
 }
 
-/// Whether the buying price is at least the selling price.
+/// Returns whether the buying price is at least the selling price.
 fn crosses(arriving: &BidUnit, standing: &BidUnit) -> bool
     ensures { result ≡ rule.crosses arriving.now standing.now }
 {
@@ -68,7 +68,7 @@ fn with_side(buys: bool, unit: &Unit) -> BidUnit
     }
 }
 
-/// The trade of one unit at the standing unit's price.
+/// Returns the trade of one unit at the standing unit's price.
 fn trade_of(good: Good, arriving: &BidUnit, standing: &BidUnit) -> Trade
     ensures { result ≡ rule.pair_trade good (arriving.now, standing.now) }
 {
@@ -87,7 +87,7 @@ fn trade_of(good: Good, arriving: &BidUnit, standing: &BidUnit) -> Trade
 }
 
 impl Sides {
-    /// The first unit of another agent on the other side.
+    /// Returns the first unit of another agent on the other side.
     fn front(&self, arriving: &BidUnit) -> Option<BidUnit>
         ensures { result ≡ rule.best (filter (rule.faces arriving.now) (both self.now)) }
     {
@@ -98,7 +98,7 @@ impl Sides {
         }
     }
 
-    /// The unit that the arriving one trades with: the front of the other side, if the two cross.
+    /// Returns the unit that the arriving one trades with: the front of the other side, if the prices cross.
     fn partner(&self, arriving: &BidUnit) -> Option<BidUnit>
         ensures { result ≡ rule.partner (both self.now) arriving.now }
     {
@@ -108,7 +108,7 @@ impl Sides {
         }
     }
 
-    /// An arriving unit trades with its partner, if it has one. The partner is then no longer among the standing units.
+    /// Trades an arriving unit with its partner, if it has one, and removes the partner from the standing units.
     fn match_unit(
         &mut self,
         good: Good,
@@ -135,8 +135,8 @@ impl Sides {
         }
     }
 
-    /// The units arrive in order and trade with those that stand, which are then no longer among them. `fills` then holds the trades.
-    /// Answers all units that traded.
+    /// Trades the arriving units in order with the standing ones, and removes those that traded from the standing units. `fills`
+    /// then holds the trades. Returns all units that traded.
     fn match_units(
         &mut self,
         good: Good,
@@ -158,7 +158,7 @@ impl Sides {
         gone
     }
 
-    /// The units of a bid trade with those of other agents. What is left of them then replaces the agent's earlier units. `fills`
+    /// Trades the units of a bid with those of other agents, and replaces the agent's earlier units with what is left. `fills`
     /// then holds the trades.
     pub(crate) fn trade(&mut self, good: Good, bid: &Placed, fills: &mut Fills)
         ensures trades { fills.new ≡ rule.ticket_trades good (both self.old) (spec.units_of bid.now) }
@@ -166,7 +166,7 @@ impl Sides {
         ensures priced { All (λ u. u.price ≤ BID_PRICE) (both self.old) }
         ensures units { HaveSame (both self.new) (after_bid (both self.old) bid.now.agent (spec.units_of bid.now)) }
     {
-        // No standing unit costs more than 10000 dollars.
+        // No standing unit has a price above 10000 dollars.
         let _ = self.side(true);
         let mut left = units_of(bid);
         let gone = self.match_units(good, &left, fills);

@@ -29,7 +29,7 @@ fn is_same(first: &Unit, second: &Unit) -> bool
     first == second
 }
 
-/// The index of the first unit of a side that the given unit goes before.
+/// Returns the index of the first unit of a side that the given unit goes before.
 fn first_after(units: &[Unit], buys: bool, unit: &Unit) -> Option<usize>
     ensures place { result ≡ position (spec.goes_first buys unit.now) units.now }
     ensures within { IfSome result (λ place. place < length units.now) }
@@ -37,7 +37,7 @@ fn first_after(units: &[Unit], buys: bool, unit: &Unit) -> Option<usize>
     units.iter().position(|other| goes_first(buys, unit, other))
 }
 
-/// The index of the first unit of a side that the given unit goes before, or the number of units if there is none.
+/// Returns the index of the first unit that the given unit goes before, or the number of units if there is none.
 #[tactic(auto, using(auction_rules::proofs::Sorting::place_at, auction_rules::proofs::Sorting::place_at_end))]
 fn place_of(units: &[Unit], buys: bool, unit: &Unit) -> usize
     ensures place { result ≡ position_or_len (spec.goes_first buys unit.now) units.now }
@@ -49,7 +49,7 @@ fn place_of(units: &[Unit], buys: bool, unit: &Unit) -> usize
     }
 }
 
-/// Inserts a unit in its place among those of a side.
+/// Inserts a unit at its place in the order of a side.
 pub(crate) fn put(units: &mut ArrayVec<Unit, STANDING_UNITS>, buys: bool, unit: &Unit)
     requires { length units.old.items < STANDING_UNITS }
     ensures { units.new.items ≡ insert units.old.items (position_or_len (spec.goes_first buys unit.now) units.old.items) unit.now }
@@ -79,7 +79,7 @@ pub(crate) fn is_on(units: &[Unit], unit: &Unit) -> bool
     units.iter().any(|other| is_same(unit, other))
 }
 
-/// The first unit of a side that is not of the agent with this number.
+/// Returns the first unit of a side that does not belong to the agent with this number.
 pub(crate) fn first_of_others(units: &[Unit], number: u8) -> Option<Unit>
     ensures { result ≡ find (λ u. not (number == u.agent)) units.now }
 {

@@ -9,7 +9,7 @@ use arrayvec::ArrayVec;
 use auction_rules::{BidUnit, Placed, push_point};
 use tac_base::{Left, Point};
 
-/// How many units of a point of the bid stand, if `from` units of the bid come before it.
+/// Returns how many units of the bid's point stand, if `from` units of the bid come before it.
 fn units_left(standing: &Sides, bid: &Placed, from: u8, point: &Point) -> u8
     requires { from + size_of point.now ≤ 16 }
     ensures value { result ≡ units.common_units (units.point_units bid.now.agent bid.now.position from point.now) (both standing.now) }
@@ -20,7 +20,7 @@ fn units_left(standing: &Sides, bid: &Placed, from: u8, point: &Point) -> u8
     own.iter().filter(|unit| standing.contains(unit)).count() as u8
 }
 
-/// This many units at the point's price, bought or sold like the point's.
+/// Returns a point like the given one, with this many units.
 fn with_units(point: &Point, count: u8) -> Point
     requires { count ≤ 16 }
     ensures { result ≡ remains.with_units point.now count }
@@ -32,7 +32,7 @@ fn with_units(point: &Point, count: u8) -> Point
     }
 }
 
-/// Appends what is left of a point, if anything is.
+/// Appends what is left of a point, if any unit is.
 fn push_left(left: &mut ArrayVec<Point, 16>, point: &Point, count: u8)
     requires room { length left.old.items < 16 }
     requires few { count ≤ 16 }
@@ -44,7 +44,7 @@ fn push_left(left: &mut ArrayVec<Point, 16>, point: &Point, count: u8)
     }
 }
 
-/// What is left of a bid if these units stand.
+/// Returns what is left of a bid if these units stand.
 pub(crate) fn left_of(bid: &Placed, standing: &Sides) -> Left
     ensures { result ≡ spec.left_points (both standing.now) bid.now.agent bid.now.position 0 bid.now.points }
 {

@@ -1,4 +1,4 @@
-// The units that stand, each side in its order.
+// The standing units, each side in order.
 ghost use Rattle.std.specs.Prelude.{All, Some, ◌≡◌, ◌+◌, ◌<◌, ◌≤◌, ◌==◌, [], ◌∷◌, ◌++◌, length, count_by};
 ghost use Rattle.std.specs.List.{list_any};
 ghost use Rattle.ticket_book.specs.{among, not_taken, IsSideSorted, HaveSame, both, of_side, others};
@@ -11,7 +11,7 @@ use std::marker::Model;
 use tac_base::limits::{BID_PRICE, BID_UNITS, STANDING_UNITS};
 use tac_base::{Agent, Unit};
 
-/// The standing units of a ticket auction, those that buy and those that sell, each in the order in which they trade. Contracts see them as
+/// The standing units of a ticket auction: those that buy and those that sell, each in the order in which they trade. Contracts see
 /// two lists.
 #[derive(Debug, Drop)]
 pub(crate) struct Sides {
@@ -106,7 +106,7 @@ impl Sides {
         take_out_of(&mut self.sells, number);
     }
 
-    /// Inserts a unit in its place. Its agent has fewer than 16 others.
+    /// Inserts a unit at its place. Its agent must have fewer than 16 others.
     fn put(&mut self, unit: &BidUnit)
         requires owned { unit.now.agent ≤ 7 }
         requires priced { unit.now.price ≤ BID_PRICE }
@@ -121,7 +121,7 @@ impl Sides {
         }
     }
 
-    /// Inserts the units of the agent in their places. No other unit of the agent stands.
+    /// Inserts the units of the agent at their places. The agent must have at most 16 units then.
     pub(crate) fn put_all(&mut self, agent: Agent, units: &[BidUnit])
         requires owned { All (λ u. u.agent ≡ agent) units.now }
         requires priced { All (λ u. u.price ≤ BID_PRICE) units.now }

@@ -3,8 +3,8 @@ ghost use base.Fml.{ftrue};
 
 use std::marker::Model;
 
-/// How many bytes there were at each call that failed, in order. It takes no bytes: only clauses
-/// read it.
+/// The number of bytes before each call that failed, in order. It has size 0: only contracts
+/// use it.
 #[derive(Drop)]
 pub(crate) struct Failures {
     pub(crate) ghost places: { List ℕ },
@@ -15,14 +15,14 @@ impl Model for Failures {
 }
 
 impl Failures {
-    /// No call failed.
+    /// Returns the failures if no call has failed.
     pub(crate) fn none() -> Failures
         ensures { result.places ≡ [] }
     {
         Failures {}
     }
 
-    /// These failures and one more, at this many bytes.
+    /// Returns these failures and one more, at this many bytes.
     pub(crate) fn with(&self, _bytes: &usize) -> Failures
         ensures { result.places ≡ self.now.places ++ _bytes.now ∷ [] }
     {

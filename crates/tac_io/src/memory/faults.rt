@@ -6,7 +6,7 @@ ghost use Rattle.tac_io.specs.Counts.{Rose};
 use crate::Failed;
 use std::marker::Model;
 
-/// The calls that are to fail, counted from 1, how many were made, and how many failed.
+/// The calls that are to fail, counted from 1; how many were made; and how many failed.
 #[derive(Drop)]
 pub(crate) struct Faults {
     failing: Vec<u64>,
@@ -33,14 +33,14 @@ impl Faults {
         }
     }
 
-    // The number of the next call.
+    // Returns the number of the next call.
     pub(crate) fn next(&self) -> u64
         ensures { result ≡ one_call_more self.now.made }
     {
         self.made.saturating_add(1)
     }
 
-    // Counts a call, and says whether it is to fail.
+    // Counts a call, and returns whether it is to fail.
     pub(crate) fn next_fails(&mut self) -> bool
         ensures fails { IsTrue result ↔ IsNextToFail self.old }
         ensures made { self.new ≡ record self.old { made = one_call_more self.old.made } }
@@ -49,7 +49,7 @@ impl Faults {
         self.failing.contains(&self.made)
     }
 
-    // Counts a fault, and is what the call answers.
+    // Counts a fault, and returns the error of the call.
     pub(crate) fn add(&mut self) -> Failed
         ensures rose { Rose self.old.faults self.new.faults }
         ensures counted { self.new ≡ record self.old { faults = one_call_more self.old.faults } }

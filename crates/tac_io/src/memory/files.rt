@@ -14,24 +14,24 @@ use tac_base::limits::{FILE_NAMES, NAME_BYTES};
 /// A file in memory.
 #[derive(Drop)]
 pub struct MemFile {
-    /// The name that `select` finds it by.
+    /// The name by which `select` finds it.
     pub name: String,
     /// All its bytes.
     pub bytes: Vec<u8>,
 }
 
-/// Files in memory. They have room for 128 selected names of 1024 bytes each, and fail at stated
-/// calls.
+/// Files in memory. They have room for 128 selected names of 1024 bytes each, and fail at the
+/// calls that the caller lists.
 #[derive(Drop)]
 pub struct MemFiles {
     files: Vec<MemFile>,
     names: Vec<String>,
     // Empty texts, one for each name that can still be selected.
     spare: Vec<String>,
-    // The place of the selected file in the list, and how many of its bytes were read.
+    // The index of the selected file, and how many of its bytes were read.
     selected: Option<usize>,
     at: usize,
-    // How many bytes a read gives at most.
+    // The most bytes that a read gives.
     most_at_once: usize,
     faults: Faults,
     ghost spares: { All IsSpare spare.items },
@@ -44,9 +44,9 @@ impl MemFiles {
     ghost use Rattle.std.specs.Prelude.{false};
     ghost use Rattle.tac_io.specs.MemFiles.{files_calls, files_content, files_most, files_names, files_selected};
 
-    /// Files, none of which is selected. Of two files of one name the first is found. A read gives
-    /// at most `most_at_once` bytes, and at least one where one is left. The calls that are to fail
-    /// are listed in `failing`, those of `select` and `read` counted together from 1.
+    /// Returns files, none of which is selected. Of two files with one name, the first is found. A
+    /// read gives at most `most_at_once` bytes, and at least one if one is left. `failing` lists the calls
+    /// that are to fail; calls of `select` and `read` are counted together, from 1.
     pub fn new(
         alloc: Global,
         files: Vec<MemFile>,
@@ -138,14 +138,14 @@ impl Files for MemFiles {
     }
 }
 
-// The place of the first file of that name.
+// Returns the index of the first file with that name.
 fn place_of(files: &[MemFile], name: &str) -> Option<usize>
     ensures { result ≡ position (is_named name.now) files.now }
 {
     files.iter().position(|file| file.name.as_str() == name)
 }
 
-// Gives the next bytes of a file from a place on, which is moved on.
+// Gives the next bytes of a file from the position `at`, and advances `at`.
 fn give_from(files: &[MemFile], place: usize, at: &mut usize, most: usize, into: &mut [u8]) -> usize
     requires within { place < length files.now }
     requires room { 0 < length into.old }
@@ -163,7 +163,7 @@ fn give_from(files: &[MemFile], place: usize, at: &mut usize, most: usize, into:
     count
 }
 
-// Empty texts, each with room for a name.
+// Returns empty texts, each with room for a name.
 fn spares(alloc: Global) -> Result<Vec<String>, AllocError>
     ensures { IfOk result (λ spares. (vec_len spares ≡ FILE_NAMES) × All IsSpare spares.items) }
 {
@@ -174,7 +174,7 @@ fn spares(alloc: Global) -> Result<Vec<String>, AllocError>
     Ok(spares)
 }
 
-// Keeps a name in one of the spare texts, which takes no memory.
+// Stores a name in one of the spare texts, which allocates no memory.
 fn keep(names: &mut Vec<String>, spare: &mut Vec<String>, name: &str)
     requires one { 0 < vec_len spare.old }
     requires spares { All IsSpare spare.old.items }

@@ -1,8 +1,8 @@
 // What a read in memory gives.
 ghost use Rattle.std.specs.Prelude.{◌≡◌, ◌++◌, ◌<◌, [], length, min, max, take, drop};
 
-// Gives the first bytes of what is left: as many as there is room for, but at most `most`, and at
-// least one where one is left.
+// Gives the first bytes of what is left: as many as fit, but at most `most`, and at
+// least one if one is left.
 pub(crate) fn give(left: &[u8], most: usize, into: &mut [u8]) -> usize
     requires { 0 < length into.old }
     ensures count { result ≡ min (length into.new) (min (max 1 most) (length left.now)) }

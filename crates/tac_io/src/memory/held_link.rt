@@ -1,4 +1,4 @@
-// A link in memory that gives line by line, and may wait for another.
+// A link in memory that gives one line at a time, and may wait for another link.
 ghost use Rattle.std.specs.Prelude.{◌≡◌, ◌<◌, ◌≤◌, ◌==◌, ◌^◌, [], ℕ, MatchBool, IfSome, count_by, false, length, position, true};
 ghost use Rattle.tac_io.specs.LineText.{line_length};
 ghost use Rattle.tac_io.specs.Looks.{SawEnough, SawFewer};
@@ -7,27 +7,27 @@ use crate::{Failed, Link, MemLink};
 use std::sync::Arc;
 use std::sync::atomic::{AtomicU64, Ordering};
 
-/// How often a wait for lines looks, where nothing else is said.
+/// How often a wait for lines looks by default.
 pub const MOST_TURNS: u32 = 1_000_000_000;
 
-/// How many lines a link was sent so far. It is shared by the link and those that wait for it.
+/// How many lines a link was sent so far. The link shares it with those that wait for it.
 pub type LinesSent = Arc<AtomicU64>;
 
-/// A read that answers only after another link was sent a number of lines.
+/// A read that returns only after another link was sent a number of lines.
 #[derive(Drop)]
 pub struct Hold<C = LinesSent> {
-    /// Which read it is, counted from 1. The first is never held up.
+    /// Which read it is, counted from 1. A link never holds up its first read.
     pub read: u64,
-    /// The other link, by the lines that it was sent.
+    /// The count of the lines that the other link was sent.
     pub other: C,
-    /// How many lines the read waits for, those of the welcome included.
+    /// How many lines the read waits for, including those of the welcome.
     pub lines: u64,
     ghost later: { 1 < read },
 }
 
-/// A `MemLink` of which each read gives a line at most, and one may be held up until another link
-/// was sent a number of lines: it looks at that number again and again, 1,000,000,000 times if
-/// nothing else is said, and then fails.
+/// A `MemLink` whose reads give at most one line each. One read can be held up until another link
+/// was sent a number of lines: it looks at that number up to 1,000,000,000 times, or as often as
+/// the caller set, and then fails.
 #[derive(Drop)]
 pub struct HeldLink<C = LinesSent> {
     link: MemLink,
@@ -36,7 +36,7 @@ pub struct HeldLink<C = LinesSent> {
     turns: u32,
 }
 
-// Where the first line ends.
+// Returns the index of the first line end.
 fn line_end(bytes: &[u8]) -> Option<usize>
     ensures place { result ≡ position (λ byte. byte == 10) bytes.now }
     ensures within { IfSome result (λ place. place < length bytes.now) }
@@ -44,7 +44,7 @@ fn line_end(bytes: &[u8]) -> Option<usize>
     bytes.iter().position(|byte| *byte == b'\n')
 }
 
-// How many bytes the first line has, with its end.
+// Returns the length of the first line, with its end.
 fn line_len(bytes: &[u8]) -> usize
     ensures value { result ≡ line_length bytes.now }
     ensures within { result ≤ length bytes.now }
@@ -56,24 +56,24 @@ fn line_len(bytes: &[u8]) -> usize
     }
 }
 
-// How many lines end in the bytes.
+// Returns how many lines end in the bytes.
 fn line_ends(bytes: &[u8]) -> u64
     ensures { result ≡ count_by (λ byte. byte == 10) bytes.now }
 {
     bytes.iter().filter(|byte| **byte == b'\n').count() as u64
 }
 
-/// A count of lines that others add to.
+/// A count of lines to which others add.
 pub trait LineCount {
-    /// What a look may show, and what it leaves.
+    /// Whether a look may return this number and leave the count in this state.
     ghost shows: { Self → ℕ → Self → Type 0 };
 
-    /// Looks at it once.
+    /// Looks at the count once.
     fn look(&mut self) -> u64
         ensures { shows self.old result self.new };
 }
 
-// Of what an atomic shows, std says nothing, since any thread may change it.
+// std says nothing about the number that an atomic shows, since any thread may change it.
 impl LineCount for LinesSent {
     ghost shows = { λ _ _ _. Unit {0} };
 
@@ -82,7 +82,7 @@ impl LineCount for LinesSent {
     }
 }
 
-/// Looks at a count until it shows so many lines, `turns` times at most, and says whether it did.
+/// Looks at a count until it shows at least `lines`, but at most `turns` times, and returns whether it did.
 pub fn was_sent<C: LineCount>(count: &mut C, lines: u64, turns: u32) -> bool
     ensures { MatchBool result
         (SawEnough C.shows count.old count.new lines turns)
@@ -100,7 +100,7 @@ impl<C: LineCount> HeldLink<C> {
     ghost use Rattle.tac_io.specs.HeldLink.{IsNextHeld, Waits, held_hold, held_link, held_turns};
     ghost use Rattle.tac_io.specs.MemLink.{link_sent};
 
-    /// A link over `link`. Each line end that it is sent is counted in `lines_sent`.
+    /// Returns a held link over `link`. It counts each line end that it is sent in `lines_sent`.
     pub fn new(link: MemLink, lines_sent: LinesSent, hold: Option<Hold<C>>) -> HeldLink<C>
         ensures { result ≡ record { link = link; hold = hold; lines_sent = lines_sent; turns = 10 ^ 9 } }
     {
@@ -112,7 +112,7 @@ impl<C: LineCount> HeldLink<C> {
         }
     }
 
-    /// The same link, but that its read which is held up looks `turns` times at most.
+    /// Returns the same link, whose held-up read looks at most `turns` times.
     pub fn giving_up_after(mut self, turns: u32) -> HeldLink<C>
         ensures { result ≡ record self { turns = turns } }
     {
@@ -120,14 +120,14 @@ impl<C: LineCount> HeldLink<C> {
         self
     }
 
-    /// The bytes that it was sent, in order.
+    /// Returns the bytes that it was sent, in order.
     pub fn sent(&self) -> &[u8]
         ensures { result.now ≡ link_sent (held_link self.now) }
     {
         self.link.sent()
     }
 
-    // Waits if the next read is held up, and says whether it answers.
+    // Waits if the next read is held up, and returns whether the read can proceed.
     fn answers(&mut self) -> bool
         ensures waits { IsNextHeld self.old → Waits C.shows self.old (held_hold self.new) result }
         ensures held { result ≡ false → IsNextHeld self.old }
@@ -152,7 +152,7 @@ impl<C: LineCount> Link for HeldLink<C> {
 
     fn read(&mut self, into: &mut [u8]) -> Result<usize, Failed>
         requires { 0 < length into.old }
-        // It fails only where the link fails, or where it saw fewer lines at each of its looks. A read that is held up looks first, also one that then fails.
+        // It fails only if the link fails, or if each of its looks saw fewer lines. A held-up read looks first, even if it then fails.
         ensures fails { IsErr result → Waits C.shows self.old (held_hold self.new) false ⊎ IsNextToFail (link_reads (held_link self.old)) }
         ensures failing { IsNextToFail (link_reads (held_link self.old)) → IsErr result }
         ensures waits { IsNextHeld self.old → Waits C.shows self.old (held_hold self.new) true ⊎ Waits C.shows self.old (held_hold self.new) false }

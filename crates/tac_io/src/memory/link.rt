@@ -8,18 +8,18 @@ use crate::memory::give::give;
 use crate::{Failed, Link};
 use std::alloc::{AllocError, Global};
 
-/// A link in memory. It gives stated bytes, keeps those that it is sent, as many as it has room
-/// for, and fails at stated reads and writes.
+/// A link in memory. It gives the bytes it was made with, keeps those it is sent, as many as it has
+/// room for, and fails at the reads and writes that the caller lists.
 #[derive(Drop)]
 pub struct MemLink {
     bytes: Vec<u8>,
     // How many of its bytes were read.
     at: usize,
-    // How many bytes a read gives at most.
+    // The most bytes that a read gives.
     most_at_once: usize,
     reads: Faults,
     sent: Vec<u8>,
-    // How many more bytes there is room for.
+    // How many more bytes it has room for.
     room: usize,
     writes: Faults,
     read_failures: Failures,
@@ -33,10 +33,10 @@ impl MemLink {
     ghost use Rattle.tac_io.specs.Calls.{one_call_more};
     ghost use Rattle.tac_io.specs.MemLink.{ReadsNext, link_left, link_most, link_read_failures, link_reads, link_room, link_sent, link_taken, link_write_failures, link_writes};
 
-    /// A link that gives `bytes`, and has room for `room` bytes that it is sent. A read gives at
-    /// most `most_at_once` bytes, and at least one where one is left. The reads that are to fail are
-    /// listed in `failing_reads`, and the writes in `failing_writes`, each counted from 1. A write
-    /// that finds no room left fails too.
+    /// Returns a link that gives `bytes`, and has room for `room` bytes that it is sent. A read gives
+    /// at most `most_at_once` bytes, and at least one if one is left. `failing_reads` lists the reads
+    /// that are to fail, and `failing_writes` the writes, each counted from 1. A write
+    /// without room left also fails.
     pub fn new(
         alloc: Global,
         bytes: Vec<u8>,
@@ -67,7 +67,7 @@ impl MemLink {
         })
     }
 
-    // The number of the next read, counted from 1.
+    // Returns the number of the next read, counted from 1.
     pub(crate) fn next_read(&self) -> u64
         ensures { result ≡ one_call_more (link_reads self.now).made }
     {
@@ -83,14 +83,14 @@ impl MemLink {
         self.reads.add()
     }
 
-    // The bytes that it still has to give.
+    // Returns the bytes that are left to read.
     pub(crate) fn left(&self) -> &[u8]
         ensures { result.now ≡ link_left self.now }
     {
         &self.bytes[self.at..]
     }
 
-    /// The bytes that it was sent, in order.
+    /// Returns the bytes that it was sent, in order.
     pub fn sent(&self) -> &[u8]
         ensures { result.now ≡ link_sent self.now }
     {

@@ -1,4 +1,4 @@
-// A ticker in memory that asks which ticks are due.
+// A ticker in memory that asks whether a tick is due.
 ghost use Rattle.std.specs.Prelude.{◌≡◌};
 
 use crate::{MemDue, MemLapse, Ticker};
@@ -6,15 +6,15 @@ use std::rt::Clock;
 use std::sync::Wait;
 use tac_base::Tick;
 
-/// What a ticker looks at.
+/// Decides whether a tick is due.
 pub trait Look {
-    /// Looks, as long as it has to, whether a tick that is waited for is due. It is given the pace in
+    /// Returns whether a tick is due; it may look for as long as it needs. `pace` is the pace in
     /// milliseconds, if one was set.
     fn is_due(&mut self, pace: Option<u16>, tick: Tick) -> bool;
 }
 
-/// A ticker in memory. At each wait it looks, and lapses where the tick is not due. Its pace is
-/// known, and not the ticks that were waited for.
+/// A ticker in memory. At each wait it looks, and lapses if the tick is not due. Its pace is
+/// known, and the ticks that it waited for are not.
 #[derive(Drop)]
 pub struct LookingTicker<L> {
     look: L,
@@ -25,7 +25,7 @@ pub struct LookingTicker<L> {
 impl<L> LookingTicker<L> {
     ghost use Rattle.std.specs.Prelude.{None};
 
-    /// A ticker without a pace that has waited for no tick.
+    /// Returns a ticker without a pace that has waited for no tick.
     pub fn new(look: L) -> LookingTicker<L>
         ensures { result ≡ record { look = look; pace = None; lapses = 0 } }
     {

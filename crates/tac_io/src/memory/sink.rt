@@ -8,11 +8,11 @@ use crate::{Failed, Sink};
 use std::alloc::{AllocError, Global};
 
 /// A sink in memory. It keeps the bytes that it took, as many as it has room for, and fails at
-/// stated writes.
+/// the writes that the caller lists.
 #[derive(Drop)]
 pub struct MemSink {
     bytes: Vec<u8>,
-    // How many more bytes there is room for.
+    // How many more bytes it has room for.
     room: usize,
     most_at_once: usize,
     faults: Faults,
@@ -23,9 +23,9 @@ pub struct MemSink {
 impl MemSink {
     ghost use Rattle.tac_io.specs.MemSink.{sink_bytes, sink_calls, sink_failures, sink_most, sink_room};
 
-    /// An empty sink with room for `room` bytes. A write takes at most `most_at_once` of them. The
-    /// writes that are to fail are listed in `failing`, counted from 1. A write that finds no room
-    /// left fails too, and so does each write where `most_at_once` is 0.
+    /// Returns an empty sink with room for `room` bytes. A write takes at most `most_at_once` bytes.
+    /// `failing` lists the writes that are to fail, counted from 1. A write without room left also
+    /// fails, and if `most_at_once` is 0, so does every write.
     pub fn new(
         alloc: Global,
         room: usize,
@@ -47,7 +47,7 @@ impl MemSink {
         })
     }
 
-    /// The bytes that it took, in order.
+    /// Returns the bytes that it took, in order.
     pub fn bytes(&self) -> &[u8]
         ensures { result.now ≡ sink_bytes self.now }
     {

@@ -12,7 +12,7 @@ use std::sync::Wait;
 use tac_base::Tick;
 use tac_base::limits::TICKS;
 
-/// A tick that was waited for.
+/// A tick after its wait.
 #[derive(Drop)]
 pub struct MemDue {
     pub(crate) tick: Tick,
@@ -57,7 +57,7 @@ impl Model for MemWait {
     ghost view = { λ wait. record { tick = wait.tick; lapsed = wait.lapsed; paced = Some wait.pace } };
 }
 
-/// A ticker in memory, with room for 54 ticks. It does not wait, and lapses at stated waits.
+/// A ticker in memory, with room for 54 ticks. It does not wait, and lapses at listed waits.
 #[derive(Drop)]
 pub struct MemTicker {
     pace: Option<u16>,
@@ -69,8 +69,8 @@ pub struct MemTicker {
 impl MemTicker {
     ghost use Rattle.tac_io.specs.MemTicker.{ticker_calls, ticker_pace, ticker_waited};
 
-    /// A ticker without a pace that has waited for no tick. The waits that are to lapse are listed
-    /// in `lapsing`, counted from 1: where the ticks are waited for in order, those ticks lapse.
+    /// Returns a ticker without a pace that has waited for no tick. `lapsing` lists the waits that
+    /// are to lapse, counted from 1. If the ticks are waited for in order, those ticks lapse.
     pub fn new(alloc: Global, lapsing: Vec<u64>) -> Result<MemTicker, AllocError>
         ensures pace { IfOk result (λ ticker. ticker_pace ticker ≡ None) }
         ensures waited { IfOk result (λ ticker. ticker_waited ticker ≡ []) }
