@@ -1,4 +1,4 @@
--- What a contract sees of a game whose calls are over.
+-- What a contract sees of a game that accepts no more calls.
 use Rattle.std.specs.Prelude.{ℕ, List, [], ◌∷◌}
 use Rattle.trade_ledger.specs.declared.cash_calls.CashEntry.{CashEntry}
 use Rattle.auction_core.specs.Auctions.{AuctionHistory}

@@ -1,4 +1,4 @@
--- The ranges of an auction's entries, in which a log shows them.
+-- The ranges of an auction's entries in a log.
 use Rattle.std.specs.Prelude.{ℕ, ◌≤◌, ⊤, List, length, All}
 use Rattle.auction_core.specs.Prelude.{Reply, AUCTION_ENTRIES, BID_PRICE, ENTRY_TRADES, SHOWN_PRICE, clock, IsCall, IsReply, IsTrade, IsHolding}
 use Rattle.tac_base.specs.declared.calls.Reply.TheVariants.{Own, Sold, BelowQuote}
@@ -17,7 +17,7 @@ pub record IsHistory (good : ℕ) (history : List Entry) : Type 0 where
   pub few : length history ≤ AUCTION_ENTRIES
   pub entries : All (IsEntry good) history
 
--- what an auction answers: a holding in -200000..200000, rooms that are sold at 0..10000 dollars, and a price to offer of at most 10001
+-- the ranges of replies: a holding in -200000..200000, a room price of 0..10000 dollars, and a price to offer of at most 10001 dollars
 abbrev pub IsToldInRange : Reply → Type 0
 IsToldInRange (Own holding left) = IsHolding holding
 IsToldInRange (Sold units price) = price ≤ BID_PRICE

@@ -1,18 +1,18 @@
--- What a game says of an auction.
+-- What a game defines for an auction.
 use Rattle.std.specs.Prelude.{ℕ, ◌-◌, ◌≤◌, ⊤, List, ℤ, pos, negsuc, ◌≤ℤ◌, map, replicate, slice_index_or}
 use Rattle.auction_core.specs.Prelude.{AGENTS, NIGHT_ROOMS, kind_of, GameFile, Setup, Rules}
 use Rattle.tac_base.specs.declared.numbers.Kind.{Kind}
 use Rattle.tac_base.specs.declared.numbers.Kind.TheVariants.{Flight, Hotel, Ticket}
 use Rattle.auction_rules.specs.declared.rules.Rules.TheVariants.{Flight as FlightRules, Hotel as HotelRules, Tickets as TicketRules}
 
--- the rules of a good, by its kind: the first price and the bound of a flight, the rooms of a hotel night
+-- the rules of a good, by its kind: a flight's first price and bound, a hotel night's rooms and whether quotes are live
 abbrev pub rules_by : GameFile → ℕ → Kind → Rules
 rules_by game good Flight =
     FlightRules (slice_index_or (map (λ flight. flight.first) game.flights) good 0) (slice_index_or (map (λ flight. flight.bound) game.flights) good (pos 0))
 rules_by game good Hotel = HotelRules (slice_index_or game.rooms (good - 8) 0) game.live
 rules_by game good Ticket = TicketRules
 
--- what the agents have of a good at first, by its kind: the endowment of tickets, and none of the others
+-- what the agents have of a good at the start, by its kind: the endowment of tickets, and nothing of other goods
 abbrev pub endow_by : GameFile → ℕ → Kind → List ℤ
 endow_by game good Ticket = map (λ tickets. pos (slice_index_or tickets (good - 16) 0)) game.endow
 endow_by game good kind = replicate AGENTS (pos 0)
@@ -21,18 +21,18 @@ endow_by game good kind = replicate AGENTS (pos 0)
 abbrev pub setup_of : ℕ → GameFile → Setup
 setup_of good game = record { good = good; rules = rules_by game good (kind_of good); endow = endow_by game good (kind_of good) }
 
--- the kind of the goods that have these rules
+-- the kind of goods with these rules
 abbrev pub kind_by : Rules → Kind
 kind_by (FlightRules first bound) = Flight
 kind_by (HotelRules rooms live) = Hotel
 kind_by TicketRules = Ticket
 
--- rules that a game may have: a flight begins at 250..400 and has a bound of -10..30, and a hotel night has 1..64 rooms
+-- rules that a game can have: a flight starts at 250..400 and has a bound of -10..30, and a hotel night has 1..64 rooms
 abbrev pub AreInRange : Rules → Type 0
 AreInRange (FlightRules first bound) = (250 ≤ first) × (first ≤ 400) × (negsuc 9 ≤ℤ bound) × (bound ≤ℤ pos 30)
 AreInRange (HotelRules rooms live) = (1 ≤ rooms) × (rooms ≤ NIGHT_ROOMS)
 AreInRange TicketRules = ⊤
 
--- no agent has more than 16 units at first
+-- each agent has 0 to 16 units at the start
 abbrev pub AreEndowed : List ℤ → Type 0
 AreEndowed endow = (agent : ℕ) → (pos 0 ≤ℤ slice_index_or endow agent (pos 0)) × (slice_index_or endow agent (pos 0) ≤ℤ pos 16)

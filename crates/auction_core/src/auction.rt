@@ -19,8 +19,8 @@ use turn_lock::Kept;
 /// The most trades of a history: 16 for each entry, and those of a hotel's closing.
 const TRADES: usize = 132_224;
 
-/// The auction of one good with its whole history, and what each party holds of the good. Contracts see it as its setup and its history,
-/// the oldest entry first. All its memory is taken when it is made.
+/// The auction of one good with its whole history, and what each party holds of the good. Contracts see its setup and its history,
+/// oldest entry first. It allocates all its memory when it is made.
 #[derive(Debug, Drop)]
 pub struct Auction {
     terms: AuctionSetup,
@@ -42,7 +42,7 @@ impl Model for Auction {
 }
 
 impl Auction {
-    /// The auction of a good in a game, in which nobody has called. After `Memory` nothing was made.
+    /// Returns the auction of a good in a game, in which nobody has called. After `Memory` nothing was made.
     pub fn begin(alloc: Global, good: Good, game: &Game) -> Result<Auction, Memory>
         ensures setup { IfOk result (λ auction. auction.setup ≡ setup_of good game.now) }
         ensures history { IfOk result (λ auction. auction.history ≡ []) }
@@ -61,14 +61,14 @@ impl Auction {
         })
     }
 
-    /// The auction's good.
+    /// Returns the auction's good.
     pub fn good(&self) -> Good
         ensures { result ≡ self.now.setup.good }
     {
         self.terms.good
     }
 
-    /// How many entries the history has, at most 8,256. It is legal, a log can show each entry, and each reply is in the range of an auction's.
+    /// Returns the number of entries, at most 8,256. The history is legal, a log can show each entry, and each reply is in an auction's range.
     pub fn len(&self) -> u32
         ensures value { result ≡ length self.now.history }
         ensures few { result ≤ AUCTION_ENTRIES }
@@ -79,14 +79,14 @@ impl Auction {
         self.entries.len() as u32
     }
 
-    /// The entry at a position, None exactly past the end.
+    /// Returns the entry at a position, or `None` exactly if the position is past the end.
     pub fn entry(&self, position: u32) -> Option<&Entry>
         ensures { IsShown self.now.history position (option_copied result) }
     {
         entry_at(&self.entries, position)
     }
 
-    /// The trades of the entry at a position, which is there.
+    /// Returns the trades of the entry at a position, where there must be one.
     pub fn trades_of(&self, position: u32) -> &[Trade]
         requires { position < length self.now.history }
         ensures { slice_get (map (λ e. e.trades) self.now.history) position ≡ Some result.now }
@@ -99,7 +99,7 @@ impl Auction {
         )
     }
 
-    /// How many units of the good the party holds, including what it had at first. A party that sells more than it has holds less than 0.
+    /// Returns how many units of the good the party holds, including its endowment. A party that sells more than it has holds less than 0.
     pub fn holding(&self, party: Party) -> i32
         ensures value { result ≡ effects.holding self.now.setup (reverse self.now.history) party }
         ensures range { IsHolding result }
@@ -141,7 +141,7 @@ impl Kept for Auction {
 
     ghost cap = { rules.cap };
 
-    /// Appends the entry that the rules give to the call, and answers what it shows.
+    /// Appends the entry that the rules give for the call, and returns what it records.
     fn act(&mut self, caller: Caller, call: &Call) -> Struck
         requires fit { IsFit call.now }
         requires room { length (part (λ e. e.caller) self.old.history caller) < rules.cap caller }

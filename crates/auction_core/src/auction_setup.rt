@@ -8,13 +8,13 @@ use game_text::Game;
 use std::marker::Model;
 use tac_base::{Good, Kind};
 
-/// What is fixed of an auction before its first call: its good, and what the game says of that good. Contracts see it as the setup of
+/// What is fixed for an auction before its first call: its good, and what the game defines for that good. Contracts see the setup of
 /// the rules.
 #[derive(Debug, Drop)]
 pub struct AuctionSetup {
     pub(crate) good: Good,
     pub(crate) rules: Rules,
-    /// How many units each agent has at first.
+    /// How many units each agent has at the start.
     endow: [i32; 8],
 }
 
@@ -26,7 +26,7 @@ impl Model for AuctionSetup {
     ghost view = { λ t. record { good = t.good; rules = t.rules; endow = t.endow } };
 }
 
-/// The rules of a good.
+/// Returns the rules of a good.
 fn rules_by(good: Good, game: &Game) -> Rules
     ensures value { result ≡ setups.rules_by game.now good (kind_of good) }
     ensures kind { kind_by result ≡ kind_of good }
@@ -48,7 +48,7 @@ fn rules_by(good: Good, game: &Game) -> Rules
     }
 }
 
-/// How many of a ticket each agent has at first.
+/// Returns how many units of a ticket each agent has at the start.
 fn ticket_endowments(good: Good, game: &Game) -> [i32; 8]
     requires { kind_of good ≡ Kind.Ticket }
     ensures value { result ≡ map (λ tickets. pos (slice_index_or tickets (good - 16) 0)) game.now.endow }
@@ -62,7 +62,7 @@ fn ticket_endowments(good: Good, game: &Game) -> [i32; 8]
     held
 }
 
-/// How many units of a good each agent has at first.
+/// Returns how many units of a good each agent has at the start.
 fn endowments(good: Good, game: &Game) -> [i32; 8]
     ensures value { result ≡ endow_by game.now good (kind_of good) }
     ensures few { AreEndowed result }
@@ -74,7 +74,7 @@ fn endowments(good: Good, game: &Game) -> [i32; 8]
 }
 
 impl AuctionSetup {
-    /// What a game says of a good.
+    /// Returns the setup that a game defines for a good.
     pub(crate) fn new(good: Good, game: &Game) -> AuctionSetup
         ensures value { result ≡ setup_of good game.now }
         ensures kind { kind_by result.rules ≡ kind_of good }
@@ -88,7 +88,7 @@ impl AuctionSetup {
         }
     }
 
-    /// What the parties have at first: the agents, and then the house, which has nothing.
+    /// Returns what the parties hold at the start: the agents, and then the house, which has nothing.
     pub(crate) fn holdings(&self) -> [i32; 9]
         ensures { result ≡ held_by self.now [] }
     {

@@ -12,7 +12,7 @@ use tac_base::{Board, Call, Caller, Fills, Good, Reply};
 use ticket_book::Tickets;
 use trade_ledger::GoodBook;
 
-/// The book of an auction, by the kind of its good.
+/// The book of an auction, for each kind of good.
 #[derive(Debug, Drop)]
 pub(crate) enum Book {
     Flight(Flight),
@@ -21,7 +21,7 @@ pub(crate) enum Book {
 }
 
 impl Book {
-    /// The book of a good with its rules, in which nobody has bid.
+    /// Returns the book of a good with its rules, in which nobody has bid.
     pub(crate) fn new(good: Good, rules: Rules) -> Book
         requires kind { kind_by rules ≡ kind_of good }
         requires range { AreInRange rules }
@@ -34,7 +34,7 @@ impl Book {
         }
     }
 
-    /// The board of the auction after `count` entries.
+    /// Returns the board of the auction after `count` entries.
     pub(crate) fn board(&self, count: u32) -> Board
         ensures board { (setup : Setup) (past : List Entry) → Stands self.now setup past → count ≡ length past → result ≡ boards.board setup.rules past }
         ensures bid_within { result.bid ≤ BID_PRICE }

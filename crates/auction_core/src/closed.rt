@@ -2,7 +2,7 @@ use crate::auction::Auction;
 use std::marker::Model;
 use trade_ledger::CashBook;
 
-/// A game whose calls are over: the auctions of the 28 goods in order, and the cash book.
+/// A game that accepts no more calls: the auctions of the 28 goods in order, and the cash book.
 #[derive(Drop)]
 pub struct Closed {
     pub auctions: Vec<Auction>,

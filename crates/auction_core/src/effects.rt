@@ -6,7 +6,7 @@ use tac_base::limits::ENTRY_TRADES;
 use tac_base::{Nets, Trade};
 use trade_ledger::GoodBook;
 
-/// What a trade costs, in dollars.
+/// Returns the price of all units of a trade, in dollars.
 fn cost(trade: &Trade) -> u32
     ensures value { result ≡ trade.now.units * trade.now.price }
     ensures bound { result ≤ 16711425 }
@@ -14,7 +14,7 @@ fn cost(trade: &Trade) -> u32
     u32::from(trade.units) * u32::from(trade.price)
 }
 
-/// What the party with the number is paid in the trades.
+/// Returns what the party with the number is paid in the trades.
 fn earned(trades: &[Trade], number: u8) -> u32
     requires { length trades.now ≤ ENTRY_TRADES }
     ensures value { result ≡ sum_by (λ t. t.units * t.price) (effects.sales_by trades.now number) }
@@ -29,7 +29,7 @@ fn earned(trades: &[Trade], number: u8) -> u32
     dollars
 }
 
-/// What the party with the number pays in the trades.
+/// Returns what the party with the number pays in the trades.
 fn paid(trades: &[Trade], number: u8) -> u32
     requires { length trades.now ≤ ENTRY_TRADES }
     ensures value { result ≡ sum_by (λ t. t.units * t.price) (effects.buys_by trades.now number) }
@@ -44,7 +44,7 @@ fn paid(trades: &[Trade], number: u8) -> u32
     dollars
 }
 
-/// What the party with the number gains in the trades.
+/// Returns what the party with the number gains in the trades.
 fn net(trades: &[Trade], number: u8) -> i32
     requires { length trades.now ≤ ENTRY_TRADES }
     ensures { result ≡ effects.dollars trades.now number }
@@ -52,7 +52,7 @@ fn net(trades: &[Trade], number: u8) -> i32
     earned(trades, number) as i32 - paid(trades, number) as i32
 }
 
-/// What each party gains in the trades of an entry. The gains of 128 trades of 255 units at 65,535 dollars fit the number.
+/// Returns what each party gains in an entry's trades. The gains of 128 trades of 255 units at 65,535 dollars fit in 32 bits.
 pub(crate) fn nets(trades: &[Trade]) -> Nets
     requires { length trades.now ≤ ENTRY_TRADES }
     ensures { result.dollars ≡ effects.nets trades.now }

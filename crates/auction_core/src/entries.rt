@@ -1,14 +1,14 @@
 use std::marker::Model;
 use tac_base::{Call, Caller, Fills, Nets, Reply};
 
-/// What a caller is answered.
+/// The result of a call.
 #[derive(Debug, Drop)]
 pub struct Struck {
-    /// The answer to its call.
+    /// The reply to the call.
     pub reply: Reply,
-    /// What the entry's trades gave each party, in dollars.
+    /// What the entry's trades give each party, in dollars.
     pub nets: Nets,
-    /// How many trades the entry has, at most 128.
+    /// The number of the entry's trades, at most 128.
     pub trades: u8,
 }
 

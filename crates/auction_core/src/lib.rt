@@ -1,5 +1,5 @@
-//! One auction: the book of its good, and the history of its calls. An auction is a state that a turn lock keeps (`Kept`, given
-//! again from `turn_lock`).
+//! One auction: the book of its good, and the history of its calls. An auction is a state that a turn lock keeps; this crate
+//! re-exports `Kept` from `turn_lock`.
 #![tactic(auto)]
 
 mod auction;

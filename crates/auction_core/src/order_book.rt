@@ -6,7 +6,7 @@ use tac_base::limits::BID_UNITS;
 use tac_base::{Agent, Call, Caller, Fills, Left, Reply};
 use trade_ledger::GoodBook;
 
-/// A book that answers calls by the rules, whatever the kind of its good.
+/// A book that answers calls by the rules, for any kind of good.
 pub(crate) trait OrderBook {
     // the book stands for this past of an auction with this setup
     ghost stands: { Self → Setup → List Entry → Type 0 };
@@ -14,7 +14,7 @@ pub(crate) trait OrderBook {
     // how many units the calls of the clock alone may still trade
     ghost units_left: { Self → ℕ };
 
-    /// Answers a call by the rules, given the holdings of all parties. `fills` then holds its trades.
+    /// Makes a call by the rules, given the holdings of all parties. `fills` then holds the trades.
     fn act(
         &mut self,
         held: &GoodBook,
@@ -31,14 +31,14 @@ pub(crate) trait OrderBook {
         ensures short { All IsShort fills.new };
 }
 
-/// The agent that a caller is, and None for the clock.
+/// Returns the caller as an agent, or `None` for the clock.
 pub(crate) fn agent_of(caller: Caller) -> Option<Agent>
     ensures { result ≡ (if caller == clock then None else Some caller) }
 {
     Agent::new(caller.get()).ok()
 }
 
-/// The answer to an agent's reading: how many units it holds, and its standing points.
+/// Returns the reply to an agent's reading: how many units it holds, and its standing points.
 pub(crate) fn owned(held: &GoodBook, agent: Agent, left: Left) -> Reply
     ensures { result ≡ Reply.Own (slice_index_or held.now agent (pos 0)) left }
 {

@@ -4,14 +4,14 @@ ghost use Rattle.auction_core.specs.Stored.{entry_behind};
 use tac_base::limits::ENTRY_TRADES;
 use tac_base::{Call, Caller, Entry, Reply, Trade};
 
-/// The entry at a position, None past the end.
+/// Returns the entry at a position, or `None` past the end.
 pub(crate) fn entry_at(entries: &[Entry], position: u32) -> Option<&Entry>
     ensures { option_copied result ≡ slice_get entries.now position }
 {
     entries.get(position as usize)
 }
 
-/// The first trades, this many.
+/// Returns `count` trades from index `first` on.
 pub(crate) fn part_of(trades: &[Trade], first: usize, count: usize) -> &[Trade]
     requires { first + count ≤ length trades.now }
     ensures { result.now ≡ take count (drop first trades.now) }
@@ -19,7 +19,7 @@ pub(crate) fn part_of(trades: &[Trade], first: usize, count: usize) -> &[Trade]
     &trades[first..first + count]
 }
 
-/// Appends trades, for which there is room.
+/// Appends trades; the capacity must suffice.
 fn append(trades: &mut Vec<Trade>, more: &[Trade])
     requires { vec_len trades.old + length more.now ≤ vec_capacity trades.old }
     ensures items { trades.new.items ≡ trades.old.items ++ more.now }
@@ -30,7 +30,7 @@ fn append(trades: &mut Vec<Trade>, more: &[Trade])
     }
 }
 
-/// Stores an entry with its trades, for which there is room.
+/// Stores an entry with its trades; the capacity must suffice.
 pub(crate) fn store(
     entries: &mut Vec<Entry>,
     trades: &mut Vec<Trade>,

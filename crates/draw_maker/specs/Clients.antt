@@ -1,17 +1,17 @@
--- The clients of a made game.
+-- The clients of a generated game.
 use Rattle.std.specs.Prelude.{ℕ, ◌+◌, ◌%◌, List, [], ◌∷◌, map, drop, slice_index, slice_index_or}
 use Rattle.tac_base.specs.Clients.{Preferences}
 use Rattle.draw_maker.specs.Words.{parts}
 
--- the days of arrival and departure, by rank
+-- the days of arrival and departure, in the order of their ranks
 abbrev pub drawn_trips : List (ℕ × ℕ)
 drawn_trips = (1, 2) ∷ (1, 3) ∷ (1, 4) ∷ (1, 5) ∷ (2, 3) ∷ (2, 4) ∷ (2, 5) ∷ (3, 4) ∷ (3, 5) ∷ (4, 5) ∷ []
 
--- the trip of a rank below 10
+-- the trip with a rank below 10
 unfoldable pub drawn_trip : ℕ → ℕ × ℕ
 drawn_trip rank = slice_index_or drawn_trips rank (0, 0)
 
--- 5 words: the trip, the premium and the three values
+-- 5 words: one for the trip, one for the premium, and three for the values
 abbrev pub made_client : List ℕ → Preferences
 made_client words = record {
   arrive = (drawn_trip (slice_index words 0 % 10)).0;

@@ -1,6 +1,6 @@
--- The endowments of a made game.
+-- The endowments of a generated game.
 use Rattle.std.specs.Prelude.{ℕ, ◌%◌, List, map}
 
--- 12 words: none, one or two of each ticket
+-- 12 words: zero, one or two of each ticket
 abbrev pub made_endowment : List ℕ → List ℕ
 made_endowment words = map (λ word. word % 3) words

@@ -1,4 +1,4 @@
--- The game made from a seed.
+-- The game that a seed gives.
 use Rattle.std.specs.Prelude.{ℕ, List, false, map, replicate, take, drop}
 use Rattle.draw_maker.specs.Prelude.{AGENTS, numbered_seats, GameFile}
 use Rattle.draw_maker.specs.Words.{generator, next_words, parts}
@@ -7,7 +7,7 @@ use Rattle.draw_maker.specs.ClosingOrders.{made_order}
 use Rattle.draw_maker.specs.Endowments.{made_endowment}
 use Rattle.draw_maker.specs.Clients.{made_clients}
 
--- the numbered seat words, for which no word is drawn, and 863 words: 55 for each flight, 7 for the closing order, 12 for each endowment and 40 for the clients of each agent
+-- the numbered seat words, which need no word, and 863 words: 55 for each flight, 7 for the closing order, 12 for each endowment and 40 for the clients of each agent
 unfoldable pub game_of_words : List ℕ → GameFile
 game_of_words words = record {
   version = 1;

@@ -4,7 +4,7 @@ use Rattle.rand_core.specs.Steps.{first_words}
 use Rattle.rand_pcg.specs.Lcg.{Lcg, started, increment_of}
 use Rattle.rand_pcg.specs.Pcg.{multiplier_64, pcg32}
 
--- the generator of a seed, on a stream
+-- the generator with a seed, on a stream
 abbrev pub generator : ℕ → ℕ → Lcg
 generator seed stream = started 64 multiplier_64 seed (increment_of 64 stream)
 
@@ -12,12 +12,12 @@ generator seed stream = started 64 multiplier_64 seed (increment_of 64 stream)
 abbrev pub next_words : ℕ → Lcg → List ℕ
 next_words count words = first_words pcg32 count words
 
--- the generator after this many words
+-- the generator after it gave this many words
 unfoldable pub after : ℕ → Lcg → Lcg
 after zero words = words
 after (suc count) words = after count (pcg32 words).1
 
--- this many parts of a list, each of a given number of items, one after the other
+-- consecutive parts of a list: `count` of them, each of `size` items
 unfoldable pub parts : {A : Type 0} → ℕ → ℕ → List A → List (List A)
 parts zero size items = []
 parts (suc count) size items = take size items ∷ parts count size (drop size items)

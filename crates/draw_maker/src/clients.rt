@@ -5,7 +5,7 @@ use crate::drawing::{Drawn, draw_below, draw_each, draw_words};
 use rand_pcg::Lcg64Xsh32;
 use tac_base::Client;
 
-/// The days of arrival and departure, by rank.
+/// The days of arrival and departure, in the order of their ranks.
 static TRIPS: [(u8, u8); 10] = [
     (1, 2),
     (1, 3),
@@ -19,7 +19,7 @@ static TRIPS: [(u8, u8); 10] = [
     (4, 5),
 ];
 
-/// The days of arrival and departure of a trip.
+/// Returns the days of arrival and departure of the trip with a rank.
 #[tactic(auto, unfolding(crate::specs::Clients::drawn_trip))]
 fn trip_of(rank: u32) -> (u8, u8)
     requires { rank < 10 }

@@ -29,23 +29,23 @@ pub(crate) fn draw_below<const N: usize>(generator: &mut Lcg64Xsh32, limit: u8) 
     numbers
 }
 
-/// What is made of the next words of a generator.
+/// A value that is made from the next words of a generator.
 pub(crate) trait Drawn: Sized + Drop {
     ghost use Rattle.std.specs.Prelude.{ℕ, List};
 
-    // how many words it takes
+    // how many words it uses
     ghost size: { ℕ };
 
-    // what is made of them
+    // the value that they make
     ghost made: { List ℕ → Self };
 
-    /// Draws the words, and makes a value of them.
+    /// Draws the words, and makes a value from them.
     fn draw(generator: &mut Lcg64Xsh32) -> Self
         ensures value { result ≡ made (words.next_words size generator.old) }
         ensures left { generator.new ≡ words.after size generator.old };
 }
 
-/// Draws each of the values, the first one first.
+/// Draws each of the values, in order.
 pub(crate) fn draw_each<T: Drawn>(values: &mut [T], generator: &mut Lcg64Xsh32)
     ensures value { values.new ≡ map T.made (words.parts (length values.old) T.size (words.next_words (length values.old * T.size) generator.old)) }
     ensures left { generator.new ≡ words.after (length values.old * T.size) generator.old }

@@ -4,7 +4,7 @@ use crate::drawing::{Drawn, draw_words};
 use game_text::FlightLine;
 use rand_pcg::Lcg64Xsh32;
 
-/// The first price is 250 dollars plus a word modulo 151, the bound is -10 dollars plus a word modulo 41.
+/// The first price is 250 dollars plus a word modulo 151; the bound is -10 dollars plus a word modulo 41.
 impl Drawn for FlightLine {
     ghost size = { 55 };
 

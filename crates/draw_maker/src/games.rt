@@ -8,11 +8,11 @@ use game_text::{FlightLine, Game, SeatWord};
 use rand_pcg::Lcg64Xsh32;
 use tac_base::Client;
 
-/// The stream of the generator from which games are made.
+/// The stream of the generator for games.
 const GAME_STREAM: u64 = 54;
 
-/// Makes the game of a seed, of version 1: everything except its seat words comes from the words of a PCG generator. The rule is our
-/// own. It takes no memory.
+/// Makes the game of a seed, in version 1: everything except its seat words comes from the words of a PCG generator. This project
+/// defines the rule. It allocates no memory.
 pub fn make_game(seed: u64) -> Game
     ensures exact { result ≡ made_game seed }
     ensures range { IsGame result }

@@ -10,24 +10,24 @@ use std::alloc::{AllocError, Global};
 use tac_base::limits::{AGENTS, GOODS, TICKS};
 use tac_base::{Good, Kind, Memory, Point, Text, print_numeral};
 
-/// The stream of the generator from which scripts are made.
+/// The stream of the generator for scripts.
 const SCRIPT_STREAM: u64 = 55;
 
-/// The good that a word draws.
+/// Returns the good that a word selects.
 fn good_of(word: u32) -> Good
     ensures { result ≡ word % GOODS }
 {
     Good::new((word % u32::from(GOODS)) as u8).unwrap()
 }
 
-/// The units of a bid for a ticket: one is bought or sold.
+/// Returns the units of a bid for a ticket: it buys or sells one.
 fn ticket_units(side: u32) -> i8
     ensures { result ≡ scripts.ticket_units side }
 {
     if side % 2 == 0 { 1 } else { -1 }
 }
 
-/// The point of a bid for a good of the kind.
+/// Returns the point of a bid for a good of the kind.
 fn made_point(kind: Kind, side: u32, units: u32, price: u32) -> Point
     ensures { result ≡ scripts.made_point kind side units price }
 {
@@ -47,7 +47,7 @@ fn made_point(kind: Kind, side: u32, units: u32, price: u32) -> Point
     }
 }
 
-/// The request of five words.
+/// Returns the request that five words make.
 fn made_request(words: &[u32; 5]) -> Text
     ensures { result ≡ scripts.made_request words.now }
 {
@@ -81,7 +81,7 @@ fn push_ticks(count: u32, out: &mut Vec<u8>) -> Result<(), AllocError>
     Ok(())
 }
 
-/// How many ticks come before the request of this number.
+/// Returns how many ticks precede the request with this number.
 fn ticks_before(count: u32, i: u32) -> u32
     requires many { count ≤ MADE_REQUESTS }
     requires inside { i < count }
@@ -90,7 +90,7 @@ fn ticks_before(count: u32, i: u32) -> u32
     u32::from(TICKS) * i / count
 }
 
-/// How many ticks come between the request of this number and the one before it.
+/// Returns how many ticks come between the request with this number and the one before it.
 fn new_ticks(count: u32, i: u32) -> u32
     requires many { count ≤ MADE_REQUESTS }
     requires inside { i < count }
@@ -99,7 +99,7 @@ fn new_ticks(count: u32, i: u32) -> u32
     ticks_before(count, i) - ticks_before(count, i.saturating_sub(1))
 }
 
-/// Appends the ticks that are due, and the request of the words. After an error the text may end within them.
+/// Appends the ticks before a request, and the request of the words. After an error the text may end within them.
 fn push_request(count: u32, i: u32, words: &[u32; 5], out: &mut Vec<u8>) -> Result<(), AllocError>
     requires many { count ≤ MADE_REQUESTS }
     requires inside { i < count }
@@ -110,9 +110,9 @@ fn push_request(count: u32, i: u32, words: &[u32; 5], out: &mut Vec<u8>) -> Resu
     Ok(())
 }
 
-/// Makes the game script of a seed: this many requests, at most 50000, each a bid of one point, with ticks between them
-/// in even steps. All of it comes from the words of a PCG generator, and it is the same at each call. The rule is our
-/// own. With no request the script is empty. `Memory` leaves nothing.
+/// Makes the game script of a seed: `count` requests, at most 50000, each a bid of one point, with evenly spaced ticks
+/// between them. All of it comes from the words of a PCG generator, and is the same at each call. This project defines
+/// the rule. Without requests the script is empty. `Memory` leaves nothing.
 pub fn make_script(alloc: Global, seed: u64, count: u32) -> Result<Vec<u8>, Memory>
     requires { count ≤ MADE_REQUESTS }
     ensures exact { IfOk result (λ text. text.items ≡ scripts.made_script seed count) }

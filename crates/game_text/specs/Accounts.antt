@@ -38,7 +38,7 @@ hold_of line = row (codes "hold") (replicate GOODS hold_column) line
 abbrev pub hold_text : List ℤ → List ℕ
 hold_text holdings = row_text (codes "hold") holdings
 
--- the line of a client is that of a game file's agent 0 without the agent's number
+-- the line of a client: as for agent 0 in a game file, but without the agent's number
 abbrev pub owned_columns : List Column
 owned_columns = drop 1 client_columns
 
@@ -58,7 +58,7 @@ account_lines account =
     ++ (lines_of_parts (one_line owned_text) 0 account.clients
     ++ codes "end" ∷ [])
 
--- a text of an account: the lines that are neither empty nor comments are the canonical ones, each with its line end
+-- a text of an account: its lines that are neither empty nor comments are the canonical ones, each with its line end
 abbrev pub IsAccountText : AccountFile → List ℕ → Type 0
 IsAccountText account text = AreLinesLeft (account_lines account) (lines_from true 1 (parts_of 10 text))
 
@@ -67,7 +67,7 @@ IsAccountText account text = AreLinesLeft (account_lines account) (lines_from tr
 abbrev pub owned_part : ℕ → Remaining → Result (Preferences × Remaining) BadLine
 owned_part client left = read_by (owned_of client) left
 
--- the account of the lines of a text, each read by its form in turn
+-- the account in the lines of a text, each line read by its form in turn
 unfoldable pub account_in : Remaining → Result AccountFile BadLine
 account_in left = do
   title ← read_by title_of left
@@ -77,6 +77,6 @@ account_in left = do
   done ← nothing_left end.1
   Ok (record { clients = clients.0; holdings = holdings.0 })
 
--- the account of a text, or why it is refused
+-- the account in a text, or why the text is refused
 unfoldable pub account_of : List ℕ → Result AccountFile GameFault
 account_of text = if nat_lt TEXT_BYTES (length text) then Err TooLong else or_game_fault (account_in (lines_from true 1 (parts_of 10 text)))

@@ -1,4 +1,4 @@
--- What a game file says of the agents: the lines between the closing order and the last line.
+-- What a game file defines for the agents: the lines of the endowments and of the clients.
 use Rattle.std.specs.Prelude.{◌≡◌, ℕ, List, ◌++◌, Result, Ok, length, All}
 use Rattle.game_text.specs.Prelude.{Preferences, IsClient, AGENTS, BadLine, Remaining, ◌>>=◌, read_by, repeat, lines_of_parts, one_line}
 use Rattle.game_text.specs.declared.agents.Agents.{Agents}

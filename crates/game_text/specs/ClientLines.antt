@@ -10,14 +10,14 @@ client_columns = within 0 4294967295 ∷ within 0 4294967295 ∷ within 1 4 ∷ 
 abbrev pub natural_at : List ℤ → ℕ → ℕ
 natural_at numbers i = unsigned_abs (slice_index_or numbers i (pos 0))
 
--- the client of a row of this agent and number; it departs after it arrives
+-- the client in a row with this agent and number; it departs after it arrives
 abbrev pub client_from : ℕ → ℕ → List ℤ → Result Preferences Reason
 client_from agent client numbers =
     if not (nat_lt (natural_at numbers 2) (natural_at numbers 3)) then Err OutOfRange
     else if not (natural_at numbers 0 == agent && natural_at numbers 1 == client) then Err NotDue
     else Ok (record { arrive = natural_at numbers 2; depart = natural_at numbers 3; premium = natural_at numbers 4; values = map unsigned_abs (drop 5 numbers) })
 
--- the client of a line of this agent and number, or the first reason that applies
+-- the client in a line with this agent and number, or the first reason that applies
 unfoldable pub client_of : ℕ → ℕ → List ℕ → Result Preferences Reason
 client_of agent client line = row (codes "client") client_columns line >>= client_from agent client
 

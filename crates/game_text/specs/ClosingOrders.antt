@@ -3,7 +3,7 @@ use Rattle.std.specs.Prelude.{◌≡◌, ℕ, ◌==◌, ◌&&◌, not, if◌then
 use Rattle.std.specs.List.{list_any}
 use Rattle.game_text.specs.Prelude.{Reason, Repeated, Column, within, row, row_text, AllBetween, ◌>>=◌}
 
--- no number comes twice
+-- no number occurs twice
 abbrev pub is_distinct : List ℕ → Bool
 is_distinct [] = true
 is_distinct (n ∷ ns) = not (list_any (λ m. m == n) ns) && is_distinct ns
@@ -20,7 +20,7 @@ order_columns = replicate 8 (within 8 15)
 abbrev pub order_from : List ℤ → Result (List ℕ) Reason
 order_from numbers = if is_distinct (map unsigned_abs numbers) then Ok (map unsigned_abs numbers) else Err Repeated
 
--- the closing order of a line, or the first reason that applies
+-- the closing order in a line, or the first reason that applies
 unfoldable pub order_of : List ℕ → Result (List ℕ) Reason
 order_of line = row (codes "close") order_columns line >>= order_from
 

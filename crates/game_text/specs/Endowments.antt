@@ -10,11 +10,11 @@ pub record IsEndowment (endow : List ℕ) : Type 0 where
 abbrev pub endow_columns : List Column
 endow_columns = within 0 4294967295 ∷ replicate 12 (within 0 16)
 
--- the endowment of a row of this agent
+-- the endowment in a row with this agent
 abbrev pub endow_from : ℕ → List ℤ → Result (List ℕ) Reason
 endow_from agent numbers = if unsigned_abs (slice_index_or numbers 0 (pos 0)) == agent then Ok (map unsigned_abs (drop 1 numbers)) else Err NotDue
 
--- the endowment of a line of this agent, or the first reason that applies
+-- the endowment in a line with this agent, or the first reason that applies
 unfoldable pub endow_of : ℕ → List ℕ → Result (List ℕ) Reason
 endow_of agent line = row (codes "endow") endow_columns line >>= endow_from agent
 

@@ -4,11 +4,11 @@ use Rattle.game_text.specs.Prelude.{BadLine, reason_number}
 use Rattle.game_text.specs.declared.fault.GameFault.{GameFault}
 use Rattle.game_text.specs.declared.fault.GameFault.TheVariants.{Line}
 
--- a bad line as it is reported
+-- a bad line with its reason as a number
 abbrev pub game_fault : BadLine → GameFault
 game_fault bad = Line bad.line (reason_number bad.reason)
 
--- a bad line as the refusal that it is
+-- a bad line as a refusal
 abbrev pub or_game_fault : {A : Type 0} → Result A BadLine → Result A GameFault
 or_game_fault (Ok x) = Ok x
 or_game_fault (Err bad) = Err (game_fault bad)

@@ -17,7 +17,7 @@ pub record IsFlight (flight : FlightTerms) : Type 0 where
   pub count : length flight.draws ≡ FLIGHT_DRAWS
   pub draws : AllBetween 0 4294967295 flight.draws
 
--- a numeral of 32 bits
+-- a column of all numbers of 32 bits
 abbrev pub any : Column
 any = within 0 4294967295
 
@@ -27,14 +27,14 @@ bound_column = record { signed = true; digits = Ten; low = negsuc 9; high = pos 
 abbrev pub flight_columns : List Column
 flight_columns = any ∷ within 250 400 ∷ bound_column ∷ replicate FLIGHT_DRAWS any
 
--- the flight of a row of this good
+-- the flight in a row with this good
 abbrev pub flight_from : ℕ → List ℤ → Result FlightTerms Reason
 flight_from good numbers =
     if unsigned_abs (slice_index_or numbers 0 (pos 0)) == good
     then Ok (record { first = unsigned_abs (slice_index_or numbers 1 (pos 0)); bound = slice_index_or numbers 2 (pos 0); draws = map unsigned_abs (drop 3 numbers) })
     else Err NotDue
 
--- the flight of a line of this good, or the first reason that applies
+-- the flight in a line with this good, or the first reason that applies
 unfoldable pub flight_of : ℕ → List ℕ → Result FlightTerms Reason
 flight_of good line = row (codes "flight") flight_columns line >>= flight_from good
 

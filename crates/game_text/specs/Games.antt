@@ -13,7 +13,7 @@ use Rattle.game_text.specs.declared.hotel_nights.HotelNights.{HotelNights}
 use Rattle.game_text.specs.HotelNights.{AreNights, nights_in, night_lines}
 use Rattle.game_text.specs.Headers.{header_of, header_text, read_end_line}
 
--- what a game file says
+-- the content of a game file
 pub record GameFile : Type 0 where
   pub version : ℕ
   pub words : List (List ℕ)
@@ -24,15 +24,15 @@ pub record GameFile : Type 0 where
   pub endow : List (List ℕ)
   pub clients : List (List Preferences)
 
--- what it says of the hotel nights
+-- the part of it for the hotel nights
 abbrev pub nights_of : GameFile → HotelNights
 nights_of game = record { rooms = game.rooms; live = game.live }
 
--- what it says of the agents
+-- the part of it for the agents
 abbrev pub agents_of : GameFile → Agents
 agents_of game = record { endow = game.endow; clients = game.clients }
 
--- the same game as one of version 2
+-- the same game in version 2
 abbrev pub upgraded : GameFile → GameFile
 upgraded game = record game { version = 2 }
 
@@ -63,7 +63,7 @@ game_lines game =
 abbrev pub canonical_text : GameFile → List ℕ
 canonical_text game = text_of (game_lines game)
 
--- a text of a game: the lines that are neither empty nor comments are the canonical ones, each with its line end
+-- a text of a game: its lines that are neither empty nor comments are the canonical ones, each with its line end
 abbrev pub IsTextOf : GameFile → List ℕ → Type 0
 IsTextOf game text = AreLinesLeft (game_lines game) (lines_from true 1 (parts_of 10 text))
 
@@ -72,7 +72,7 @@ IsTextOf game text = AreLinesLeft (game_lines game) (lines_from true 1 (parts_of
 abbrev pub flight_part : ℕ → Remaining → Result (FlightTerms × Remaining) BadLine
 flight_part good left = read_by (flight_of good) left
 
--- the game of the lines of a text, each read by its form in turn
+-- the game in the lines of a text, each line read by its form in turn
 unfoldable pub game_in : Remaining → Result GameFile BadLine
 game_in left = do
   header ← read_by header_of left
@@ -85,6 +85,6 @@ game_in left = do
   done ← nothing_left end.1
   Ok (record { version = header.0; words = words.0; flights = flights.0; order = order.0; rooms = nights.0.rooms; live = nights.0.live; endow = agents.0.endow; clients = agents.0.clients })
 
--- the game of a text, or why it is refused
+-- the game in a text, or why the text is refused
 unfoldable pub game_of : List ℕ → Result GameFile GameFault
 game_of text = if nat_lt GAME_BYTES (length text) then Err TooLong else or_game_fault (game_in (lines_from true 1 (parts_of 10 text)))

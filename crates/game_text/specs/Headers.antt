@@ -2,7 +2,7 @@
 use Rattle.std.specs.Prelude.{ℕ, ◌==◌, not, if◌then◌else◌, List, [], ◌∷◌, ℤ, Result, Ok, Err, codes, length, slice_index_or, bytes_eq}
 use Rattle.game_text.specs.Prelude.{Reason, Keyword, WordCount, words_of, row, ◌>>=◌}
 
--- the version of the second word; if it is none, the line counts as one with a wrong first word
+-- the version in the second word; any other word counts as a wrong first word
 abbrev pub version_of : List ℕ → Result ℕ Reason
 version_of word =
     if bytes_eq word (codes "1") then Ok 1
@@ -16,11 +16,11 @@ header_of_words (first ∷ words) =
     else if not (length words == 1) then Err WordCount
     else version_of (slice_index_or words 0 [])
 
--- the version of the first line, or the first reason that applies
+-- the version in the first line, or the first reason that applies
 unfoldable pub header_of : List ℕ → Result ℕ Reason
 header_of line = header_of_words (words_of line)
 
--- the first line of a version, 1 or 2
+-- the first line for a version, 1 or 2
 abbrev pub header_text : ℕ → List ℕ
 header_text version = if version == 2 then codes "tac 2" else codes "tac 1"
 

@@ -1,13 +1,13 @@
--- The lines of the hotel nights, which only a file of version 2 has: how many rooms each night has, and when its quote changes.
+-- The lines of the hotel nights, which only files of version 2 have: how many rooms each night has, and when its quote changes.
 use Rattle.std.specs.Prelude.{◌≡◌, ℕ, ◌==◌, not, if◌then◌else◌, List, [], ◌∷◌, Bool, true, false, ℤ, pos, unsigned_abs, length, Result, Ok, Err, map, replicate, codes, slice_index_or, bytes_eq}
 use Rattle.game_text.specs.Prelude.{NIGHT_ROOMS, BadLine, Reason, Keyword, WordCount, Spelling, Column, words_of, Remaining, within, row, row_text, AllBetween, ◌>>=◌, read_by}
 use Rattle.game_text.specs.declared.hotel_nights.HotelNights.{HotelNights}
 
--- the nights of every game of version 1: 16 rooms each, and quotes by the minute
+-- the nights of every game of version 1: 16 rooms each, and quotes that are not live
 abbrev pub plain_nights : HotelNights
 plain_nights = record { rooms = replicate 8 16; live = false }
 
--- the nights of a game of this version
+-- the nights of a game of this version, in their ranges
 pub record AreNights (version : ℕ) (nights : HotelNights) : Type 0 where
   pub count : length nights.rooms ≡ 8
   pub range : AllBetween 1 NIGHT_ROOMS nights.rooms
@@ -21,7 +21,7 @@ room_columns = replicate 8 (within 1 NIGHT_ROOMS)
 abbrev pub rooms_from : List ℤ → Result (List ℕ) Reason
 rooms_from numbers = Ok (map unsigned_abs numbers)
 
--- the rooms of a line, or the first reason that applies
+-- the rooms in a line, or the first reason that applies
 unfoldable pub read_rooms : List ℕ → Result (List ℕ) Reason
 read_rooms line = row (codes "rooms") room_columns line >>= rooms_from
 
@@ -29,7 +29,7 @@ read_rooms line = row (codes "rooms") room_columns line >>= rooms_from
 abbrev pub rooms_text : List ℕ → List ℕ
 rooms_text rooms = row_text (codes "rooms") (map pos rooms)
 
--- ---- the quotes: by the minute, or live
+-- ---- the quotes: live or not
 
 abbrev pub live_of : List ℕ → Result Bool Reason
 live_of word =
@@ -44,7 +44,7 @@ quotes_of_words (first ∷ words) =
     else if not (length words == 1) then Err WordCount
     else live_of (slice_index_or words 0 [])
 
--- whether the quotes of a line are live, or the first reason that applies
+-- whether the quotes in a line are live, or the first reason that applies
 unfoldable pub quotes_of : List ℕ → Result Bool Reason
 quotes_of line = quotes_of_words (words_of line)
 
@@ -54,7 +54,7 @@ quotes_text live = if live then codes "quotes live" else codes "quotes minute"
 
 -- ---- both lines
 
--- what a file of this version says of its nights
+-- the lines of the hotel nights in a file of this version
 abbrev pub night_lines : ℕ → HotelNights → List (List ℕ)
 night_lines version nights = if version == 2 then rooms_text nights.rooms ∷ quotes_text nights.live ∷ [] else []
 

@@ -4,10 +4,10 @@ use Rattle.game_text.specs.Endowments.{endow_text}
 use Rattle.game_text.specs.AgentLines.{client_lines}
 use Rattle.game_text.specs.Games.{GameFile}
 
--- what it has at the start, and then its clients
+-- its endowment, and then its clients
 abbrev pub lines_of_agent : GameFile → ℕ → List (List ℕ)
 lines_of_agent game agent = endow_text agent (slice_index_or game.endow agent []) ∷ client_lines agent (slice_index_or game.clients agent [])
 
--- one of these lines, by number from 0
+-- one of these lines, numbered from 0
 abbrev pub agent_line : GameFile → ℕ → ℕ → List ℕ
 agent_line game agent n = slice_index_or (lines_of_agent game agent) n []

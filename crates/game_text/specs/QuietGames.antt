@@ -1,4 +1,4 @@
--- The quiet game: flights stay at 300 dollars, nobody has a ticket at the start, the hotels close in rising order, and each client
+-- The quiet game: flights stay at 300 dollars, nobody has a ticket at the start, hotels close in ascending order, and each client
 -- prefers to come on day 1 and leave on day 2, with a value of 100 dollars for the better hotel and for the museum.
 use Rattle.std.specs.Prelude.{[], ◌∷◌, false, pos, replicate}
 use Rattle.game_text.specs.Prelude.{AGENTS, FLIGHT_DRAWS, Preferences}

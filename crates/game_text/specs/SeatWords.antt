@@ -11,7 +11,7 @@ is_seat_byte b = (nat_le 97 b && nat_le b 122) || (nat_le 48 b && nat_le b 57)
 abbrev pub is_seat_word : List ℕ → Bool
 is_seat_word word = nat_lt 0 (length word) && nat_le (length word) 16 && list_all is_seat_byte word
 
--- a seat word of this length with zeros after it
+-- a seat word of this length, padded with zeros
 pub record IsPadded (bytes : List ℕ) (len : ℕ) : Type 0 where
   pub whole : length bytes ≡ 16
   pub few : len ≤ 16
@@ -22,7 +22,7 @@ pub record IsPadded (bytes : List ℕ) (len : ℕ) : Type 0 where
 abbrev pub numbered_seats : List (List ℕ)
 numbered_seats = codes "seat0" ∷ codes "seat1" ∷ codes "seat2" ∷ codes "seat3" ∷ codes "seat4" ∷ codes "seat5" ∷ codes "seat6" ∷ codes "seat7" ∷ []
 
--- no word comes twice
+-- no word occurs twice
 abbrev pub are_distinct : List (List ℕ) → Bool
 are_distinct [] = true
 are_distinct (word ∷ words) = not (list_any (λ other. bytes_eq other word) words) && are_distinct words
@@ -36,7 +36,7 @@ seats_of_words (first ∷ words) =
     else if not (are_distinct words) then Err Repeated
     else Ok words
 
--- the seat words of a line, or the first reason that applies
+-- the seat words in a line, or the first reason that applies
 unfoldable pub seats_of : List ℕ → Result (List (List ℕ)) Reason
 seats_of line = seats_of_words (words_of line)
 

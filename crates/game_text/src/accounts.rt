@@ -12,12 +12,12 @@ use tac_base::Client;
 use tac_base::limits::{GOODS, HOLDING, TEXT_BYTES};
 use text_forms::{BadLine, Column, Digits, Part, Reason, TextLines, at_line, read_row, repeat};
 
-/// An agent's clients and its holdings of the goods. The ranges are our own.
+/// An agent's clients and its holdings of the goods. This project defines the ranges.
 #[derive(Clone, Copy, Debug, PartialEq, Eq)]
 pub struct Account {
     /// The clients 0..7.
     pub clients: [Client; 8],
-    /// How many of each good 0..27 the agent has, -200000..200000; below 0 it is short of them.
+    /// How many units of each good 0..27 the agent holds, -200000..200000; below 0 it is short of the good.
     pub holdings: [i32; 28],
 }
 
@@ -33,7 +33,7 @@ impl Model for Account {
     ghost inverse = { λ a. record { clients = a.clients; holdings = a.holdings } };
 }
 
-/// The numbers of the line of the holdings.
+/// Returns the columns of the line of the holdings.
 fn hold_columns() -> [Column; 28]
     ensures { result ≡ replicate GOODS accounts.hold_column }
 {
@@ -45,7 +45,7 @@ fn hold_columns() -> [Column; 28]
     }; 28]
 }
 
-/// The holdings, each as a number of 32 bits.
+/// Returns the holdings, each as a number of 32 bits.
 fn holdings_of(numbers: &[i64; 28]) -> [i32; 28]
     requires { IsTrue (list_all (λ n. rows.is_in accounts.hold_column n) numbers.now) }
     ensures { result ≡ numbers.now }
@@ -57,7 +57,7 @@ fn holdings_of(numbers: &[i64; 28]) -> [i32; 28]
     holdings
 }
 
-/// The holdings of a line, or the first reason that applies.
+/// Returns the holdings of a line, or the first reason that applies.
 #[tactic(auto, unfolding(crate::specs::Accounts::hold_of))]
 fn hold_of(line: &[u8]) -> Result<[i32; 28], Reason>
     ensures { result ≡ accounts.hold_of line.now }
@@ -104,7 +104,7 @@ impl Part for Owned {
     }
 }
 
-/// The account of the lines that are left.
+/// Reads the account from the lines that are left.
 #[tactic(auto, unfolding(crate::specs::Accounts::account_in))]
 fn account_in(lines: TextLines<'_>) -> Result<Account, BadLine>
     ensures { result ≡ accounts.account_in lines.entry }
@@ -128,9 +128,9 @@ fn account_of(text: &[u8]) -> Result<Account, GameFault>
     Ok(account_in(TextLines::without_comments(text))?)
 }
 
-/// Reads an account file. It takes no memory.
+/// Reads an account file. It allocates no memory.
 pub fn read_account(text: &[u8]) -> Result<Account, GameFault>
-    // Which account it is, or the first bad line with its first reason.
+    // The result is the account, or the first bad line with its first reason.
     ensures exact { result ≡ accounts.account_of text.now }
     ensures too_long { (result ≡ Err GameFault.TooLong) ↔ (TEXT_BYTES < length text.now) }
     // The lines that are neither empty nor comments are those of the account, and the account is in its ranges.

@@ -16,7 +16,7 @@ fn print_number(number: i64, out: &mut Text)
     print_signed(number, out);
 }
 
-/// Appends a line of a keyword and numbers without a line end, where 20 bytes more are free.
+/// Appends a line of a keyword and numbers without a line end; 20 more bytes must be free.
 fn print_line(keyword: &[u8], numbers: &[i64], out: &mut Text)
     requires { length out.old + length (row_text keyword.now numbers.now) + 20 ≤ 640 }
     ensures { out.new ≡ out.old ++ row_text keyword.now numbers.now }
@@ -49,15 +49,15 @@ fn print_client(agent: u8, number: u8, wants: &Client, out: &mut Text)
     print_line(b"client", &client_numbers(agent, number, wants), out);
 }
 
-/// Appends a line of an agent without its line end; 256 bytes have to be free. Line 0 has its endowment, and the lines 1..8 its clients
-/// 0..7. They are the lines of the game file. It takes no memory.
+/// Appends a line of an agent, as in the game file, without its line end; at least 256 bytes must be free. Line 0 has its endowment, and
+/// lines 1..8 its clients 0..7. It allocates no memory.
 pub fn print_agent_line(game: &Game, agent: Agent, n: u8, out: &mut Text)
     requires number { n ≤ 8 }
     requires room { length out.old + 256 ≤ 640 }
     ensures text { out.new ≡ out.old ++ agent_line game.now agent n }
     ensures len { length (agent_line game.now agent n) ≤ 256 }
     ensures one_line { All (λ byte. byte ≢ 10) (agent_line game.now agent n) }
-    // So the lines 0..8 are all of the agent's lines.
+    // So lines 0..8 are all of the agent's lines.
     ensures count { length (lines_of_agent game.now agent) ≡ 9 }
 {
     let who = agent.get();

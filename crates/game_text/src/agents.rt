@@ -6,14 +6,14 @@ use crate::endowments::Endowments;
 use tac_base::Client;
 use text_forms::{BadLine, TextLines, repeat};
 
-/// What a game file says of the agents.
+/// What a game file defines for the agents.
 #[derive(Drop)]
 pub(crate) struct Agents {
     pub(crate) endow: [[u8; 12]; 8],
     pub(crate) clients: [[Client; 8]; 8],
 }
 
-/// Reads the lines between the closing order and the last line.
+/// Reads the lines of the endowments and of the clients.
 #[tactic(auto, unfolding(crate::specs::AgentLines::agents_in))]
 pub(crate) fn agents_in(lines: TextLines<'_>) -> Result<(Agents, TextLines<'_>), BadLine>
     ensures { result ≡ agents.agents_in lines.entry }

@@ -12,7 +12,7 @@ use text_forms::{
     read_row, repeat,
 };
 
-/// The numbers of a client's line: the agent, the client, the days, the premium and the values.
+/// Returns the columns of a client's line: agent, client, days, premium and values.
 fn client_columns() -> [Column; 8]
     ensures { result ≡ clients.client_columns }
 {
@@ -49,7 +49,7 @@ fn client_from(agent: u8, client: u8, numbers: &[i64]) -> Result<Client, Reason>
     })
 }
 
-/// The numbers of a client's line in an account file, where no agent is named.
+/// Returns the columns of a client's line in an account file, which names no agent.
 fn owned_columns() -> [Column; 7]
     ensures { result ≡ accounts.owned_columns }
 {
@@ -58,7 +58,7 @@ fn owned_columns() -> [Column; 7]
     columns
 }
 
-/// The client of an account's row: that of agent 0 in a game file.
+/// Returns the client of an account's row: as for agent 0 in a game file.
 fn owned_from(client: u8, numbers: &[i64; 7]) -> Result<Client, Reason>
     requires { IsTrue (rows.all_in accounts.owned_columns numbers.now) }
     ensures { result ≡ accounts.owned_from client numbers.now }
@@ -68,7 +68,7 @@ fn owned_from(client: u8, numbers: &[i64; 7]) -> Result<Client, Reason>
     client_from(0, client, &with_agent)
 }
 
-/// The client of an account's line of this number, or the first reason that applies.
+/// Returns the client of an account's line with this number, or the first reason that applies.
 #[tactic(auto, unfolding(crate::specs::Accounts::owned_of))]
 pub(crate) fn owned_of(client: u8, line: &[u8]) -> Result<Client, Reason>
     ensures { result ≡ accounts.owned_of client line.now }
@@ -77,7 +77,7 @@ pub(crate) fn owned_of(client: u8, line: &[u8]) -> Result<Client, Reason>
     owned_from(client, &numbers)
 }
 
-/// The client of a line of this agent and number, or the first reason that applies.
+/// Returns the client of a line with this agent and number, or the first reason that applies.
 #[tactic(auto, unfolding(crate::specs::ClientLines::client_of))]
 fn client_of(agent: u8, client: u8, line: &[u8]) -> Result<Client, Reason>
     ensures { result ≡ clients.client_of agent client line.now }
@@ -86,7 +86,7 @@ fn client_of(agent: u8, client: u8, line: &[u8]) -> Result<Client, Reason>
     client_from(agent, client, &numbers)
 }
 
-/// The clients of an agent, each in a line of its own.
+/// The clients of an agent, each in its own line.
 #[derive(Drop)]
 struct AgentClients {
     agent: u8,
@@ -108,7 +108,7 @@ impl Part for AgentClients {
     }
 }
 
-/// The numbers of a client's line.
+/// Returns the numbers of a client's line.
 pub(crate) fn client_numbers(agent: u8, client: u8, wants: &Client) -> [i64; 8]
     ensures { result ≡ clients.client_numbers agent client wants.now }
 {

@@ -7,14 +7,14 @@ use crate::numbers::byte_at;
 use tac_base::Good;
 use text_forms::{Column, Reason, read_row};
 
-/// Whether the good is among the goods.
+/// Returns whether the good is among the goods.
 fn contains(goods: &[Good], good: Good) -> bool
     ensures { result ≡ list_any (λ other. other == good) goods.now }
 {
     goods.iter().any(|other| *other == good)
 }
 
-/// Whether no good comes twice.
+/// Returns whether no good occurs twice.
 fn is_distinct(goods: &[Good]) -> bool
     ensures { result ≡ orders.is_distinct goods.now }
 {
@@ -26,7 +26,7 @@ fn is_distinct(goods: &[Good]) -> bool
     true
 }
 
-/// The good of a number.
+/// Returns the good with the i-th number.
 fn good_at(numbers: &[i64], i: usize) -> Good
     requires index { i < length numbers.now }
     requires low { pos 0 ≤ℤ slice_index_or numbers.now i (pos 0) }
@@ -36,7 +36,7 @@ fn good_at(numbers: &[i64], i: usize) -> Good
     Good::new(byte_at(numbers, i)).unwrap()
 }
 
-/// The goods of a row's numbers.
+/// Returns the goods with a row's numbers.
 fn goods_of(numbers: &[i64]) -> [Good; 8]
     requires count { length numbers.now ≡ 8 }
     requires range { IsTrue (list_all (λ n. rows.is_in (rows.within 8 15) n) numbers.now) }
@@ -62,7 +62,7 @@ fn order_from(numbers: &[i64]) -> Result<[Good; 8], Reason>
     }
 }
 
-/// The closing order of a line, or the first reason that applies.
+/// Returns the closing order of a line, or the first reason that applies.
 #[tactic(auto, unfolding(crate::specs::ClosingOrders::order_of))]
 pub(crate) fn order_of(line: &[u8]) -> Result<[Good; 8], Reason>
     ensures { result ≡ orders.order_of line.now }
@@ -71,7 +71,7 @@ pub(crate) fn order_of(line: &[u8]) -> Result<[Good; 8], Reason>
     order_from(&numbers)
 }
 
-/// The numbers of the closing order's line.
+/// Returns the numbers of the closing order's line.
 pub(crate) fn order_numbers(order: &[Good; 8]) -> [i64; 8]
     ensures { result ≡ map pos order.now }
 {

@@ -9,7 +9,7 @@ use text_forms::{
     BadLine, Column, Part, PrintedPart, Reason, TextLines, at_line, print_row, read_row,
 };
 
-/// The numbers of an endowment's line: the agent, and how many of each ticket it has.
+/// Returns the columns of an endowment's line: the agent, and how many of each ticket it has.
 fn endow_columns() -> [Column; 13]
     ensures { result ≡ endowments.endow_columns }
 {
@@ -30,7 +30,7 @@ fn endow_from(agent: u8, numbers: &[i64]) -> Result<[u8; 12], Reason>
     }
 }
 
-/// The endowment of a line of this agent, or the first reason that applies.
+/// Returns the endowment of a line with this agent, or the first reason that applies.
 #[tactic(auto, unfolding(crate::specs::Endowments::endow_of))]
 fn endow_of(agent: u8, line: &[u8]) -> Result<[u8; 12], Reason>
     ensures { result ≡ endowments.endow_of agent line.now }
@@ -39,7 +39,7 @@ fn endow_of(agent: u8, line: &[u8]) -> Result<[u8; 12], Reason>
     endow_from(agent, &numbers)
 }
 
-/// The endowments, each in a line of its own.
+/// The endowments, each in its own line.
 #[derive(Drop)]
 pub(crate) struct Endowments;
 
@@ -59,7 +59,7 @@ impl Part for Endowments {
     }
 }
 
-/// The numbers of an endowment's line.
+/// Returns the numbers of an endowment's line.
 pub(crate) fn endow_numbers(agent: u8, endow: &[u8; 12]) -> [i64; 13]
     ensures { result ≡ pos agent ∷ map pos endow.now }
 {

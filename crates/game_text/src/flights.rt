@@ -13,7 +13,7 @@ use text_forms::{
     BadLine, Column, Digits, Part, PrintedPart, Reason, TextLines, at_line, print_row, read_row,
 };
 
-/// How the price of a flight moves: the game description's flight rule, with draws from the file.
+/// How the price of a flight changes: the parameters of the flight rule, with draws from the file.
 #[derive(Clone, Copy, Debug, PartialEq, Eq)]
 pub struct FlightLine {
     /// The first price, 250..400 dollars.
@@ -37,7 +37,7 @@ impl Model for FlightLine {
 }
 
 impl FlightLine {
-    /// A flight with the draws of the ticks 1..53; each number of 32 bits is a draw.
+    /// Returns a flight with the draws of ticks 1..53; each number of 32 bits is a draw.
     pub fn new(first: u16, bound: i8, draws: &[u32]) -> Self
         requires first_low { 250 ≤ first }
         requires first_high { first ≤ 400 }
@@ -56,7 +56,7 @@ impl FlightLine {
     }
 }
 
-/// The numbers of a flight's line: the good, the first price, the bound and the draws.
+/// Returns the columns of a flight's line: the good, the first price, the bound and the draws.
 fn flight_columns() -> [Column; 56]
     ensures { result ≡ flights.flight_columns }
 {
@@ -71,7 +71,7 @@ fn flight_columns() -> [Column; 56]
     columns
 }
 
-/// The draws, each as a number of 32 bits.
+/// Returns the draws, each as a number of 32 bits.
 fn draws_of(numbers: &[i64]) -> [u32; FLIGHT_DRAWS]
     requires count { length numbers.now ≡ FLIGHT_DRAWS }
     requires range { IsTrue (list_all (λ n. rows.is_in flights.any n) numbers.now) }
@@ -99,7 +99,7 @@ fn flight_from(good: u8, numbers: &[i64]) -> Result<FlightLine, Reason>
     ))
 }
 
-/// The flight of a line of this good, or the first reason that applies.
+/// Returns the flight of a line with this good, or the first reason that applies.
 #[tactic(auto, unfolding(crate::specs::Flights::flight_of))]
 fn flight_of(good: u8, line: &[u8]) -> Result<FlightLine, Reason>
     ensures { result ≡ flights.flight_of good line.now }
@@ -108,7 +108,7 @@ fn flight_of(good: u8, line: &[u8]) -> Result<FlightLine, Reason>
     flight_from(good, &numbers)
 }
 
-/// The flight of the least first price, with bound 10 and draws 0.
+/// The flight with the lowest first price, with bound 10 and draws 0.
 impl Default for FlightLine {
     fn default() -> Self
         ensures { result ≡ record { first = 250; bound = pos 10; draws = replicate FLIGHT_DRAWS 0 } }
@@ -117,7 +117,7 @@ impl Default for FlightLine {
     }
 }
 
-/// The flights, each in a line of its own.
+/// The flights, each in its own line.
 #[derive(Drop)]
 pub(crate) struct Flights;
 
@@ -137,7 +137,7 @@ impl Part for Flights {
     }
 }
 
-/// The numbers of a flight's line.
+/// Returns the numbers of a flight's line.
 fn flight_numbers(good: u8, flight: &FlightLine) -> [i64; 56]
     ensures { result ≡ flights.flight_numbers good flight.now }
 {

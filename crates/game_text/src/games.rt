@@ -17,20 +17,20 @@ use tac_base::limits::GAME_BYTES;
 use tac_base::{Client, Good};
 use text_forms::{BadLine, TextLines, at_line, repeat};
 
-/// What a game file says. The ranges are those of the game description; the form of the file is our own.
+/// The content of a game file. The ranges are those of the game description; this project defines the form of the file.
 #[derive(Debug, Drop)]
 pub struct Game {
-    /// The version of the file's form, 1 or 2. In a game of version 1 each hotel night has 16 rooms and quotes are not live.
+    /// The version of the file, 1 or 2. In a game of version 1 each hotel night has 16 rooms and quotes are not live.
     pub version: u8,
-    /// The word of each agent's seat, all different.
+    /// The seat word of each agent, all different.
     pub words: [SeatWord; 8],
-    /// The flights, by good 0..7.
+    /// The flights, goods 0..7.
     pub flights: [FlightLine; 8],
     /// The hotel nights, goods 8..15, in the order in which they close.
     pub order: [Good; 8],
-    /// How many rooms each hotel night has, by good 8..15: 1..64.
+    /// How many rooms each hotel night, goods 8..15, has: 1..64.
     pub rooms: [u8; 8],
-    /// Whether each admitted bid changes a hotel's quote, and not only the clock.
+    /// Whether each admitted bid publishes a hotel's ask, in addition to the clock.
     pub live: bool,
     /// How many of the tickets 16..27 each agent has at the start, 0..16 of each.
     pub endow: [[u8; 12]; 8],
@@ -49,7 +49,7 @@ impl Model for Game {
 }
 
 impl Game {
-    /// The same game in version 2.
+    /// Returns the same game in version 2.
     pub fn upgraded(self) -> Game
         ensures { result ≡ games.upgraded self }
     {
@@ -84,7 +84,7 @@ fn order_at(lines: TextLines<'_>) -> Result<([Good; 8], TextLines<'_>), BadLine>
     Ok((order, left))
 }
 
-/// The game of the lines that are left.
+/// Reads the game from the lines that are left.
 #[tactic(auto, unfolding(crate::specs::Games::game_in))]
 fn game_in(lines: TextLines<'_>) -> Result<Game, BadLine>
     ensures { result ≡ games.game_in lines.entry }
@@ -120,9 +120,9 @@ fn game_of(text: &[u8]) -> Result<Game, GameFault>
     Ok(game_in(TextLines::without_comments(text))?)
 }
 
-/// Reads a game file, version 1 or 2. It takes no memory.
+/// Reads a game file, version 1 or 2. It allocates no memory.
 pub fn read_game(text: &[u8]) -> Result<Game, GameFault>
-    // Which game it is, or the first bad line with its first reason.
+    // The result is the game, or the first bad line with its first reason.
     ensures exact { result ≡ games.game_of text.now }
     ensures too_long { (result ≡ Err GameFault.TooLong) ↔ (GAME_BYTES < length text.now) }
     // The lines that are neither empty nor comments are those of the game, and the game is in its ranges.

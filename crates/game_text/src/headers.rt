@@ -6,7 +6,7 @@ ghost use Rattle.text_forms.specs.Steps as steps;
 use std::alloc::AllocError;
 use text_forms::{BadLine, Reason, TextLines, Words, at_line, read_row};
 
-/// The version of the first line's second word.
+/// Returns the version that the first line's second word gives.
 fn version_of(word: &[u8]) -> Result<u8, Reason>
     ensures { result ≡ headers.version_of word.now }
 {
@@ -19,7 +19,7 @@ fn version_of(word: &[u8]) -> Result<u8, Reason>
     }
 }
 
-/// The version of the first line, or the first reason that applies.
+/// Returns the version of the first line, or the first reason that applies.
 #[tactic(auto, unfolding(crate::specs::Headers::header_of))]
 pub(crate) fn header_of(line: &[u8]) -> Result<u8, Reason>
     ensures { result ≡ headers.header_of line.now }
@@ -40,7 +40,7 @@ pub(crate) fn header_of(line: &[u8]) -> Result<u8, Reason>
     version_of(version)
 }
 
-/// Appends the first line of a game file of this version. After an error the text may end within it.
+/// Appends the first line of a game file with this version. After an error the text may end within it.
 pub(crate) fn print_header(version: u8, out: &mut Vec<u8>) -> Result<(), AllocError>
     ensures { OnOk result (out.new.items ≡ out.old.items ++ (headers.header_text version ++ 10 ∷ [])) }
 {

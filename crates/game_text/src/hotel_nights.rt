@@ -1,4 +1,4 @@
-// What a game file of version 2 says of the hotel nights.
+// What a game file of version 2 defines for the hotel nights.
 ghost use Rattle.std.specs.Prelude.{◌≡◌, ◌++◌, pos, length, map, replicate, IsTrue, OnOk};
 ghost use Rattle.text_forms.specs.Lines.{text_of};
 ghost use Rattle.text_forms.specs.Steps as steps;
@@ -9,14 +9,14 @@ use std::alloc::AllocError;
 use tac_base::limits::NIGHT_ROOMS;
 use text_forms::{BadLine, Column, Reason, TextLines, Words, at_line, print_row, read_row};
 
-/// The rooms of each hotel night, by good 8..15, and whether quotes are live.
+/// The rooms of each hotel night, goods 8..15, and whether quotes are live.
 #[derive(Drop)]
 pub(crate) struct HotelNights {
     pub(crate) rooms: [u8; 8],
     pub(crate) live: bool,
 }
 
-/// The rooms of a line, or the first reason that applies.
+/// Returns the rooms of a line, or the first reason that applies.
 #[tactic(auto, unfolding(crate::specs::HotelNights::read_rooms))]
 fn rooms_of(line: &[u8]) -> Result<[u8; 8], Reason>
     ensures { result ≡ nights.read_rooms line.now }
@@ -38,7 +38,7 @@ fn rooms_at(lines: TextLines<'_>) -> Result<([u8; 8], TextLines<'_>), BadLine>
     Ok((rooms, left))
 }
 
-/// Whether the quotes of a word are live.
+/// Returns whether the word stands for live quotes.
 fn live_of(word: &[u8]) -> Result<bool, Reason>
     ensures { result ≡ nights.live_of word.now }
 {
@@ -51,7 +51,7 @@ fn live_of(word: &[u8]) -> Result<bool, Reason>
     }
 }
 
-/// Whether the quotes of a line are live, or the first reason that applies.
+/// Returns whether the quotes of a line are live, or the first reason that applies.
 #[tactic(auto, unfolding(crate::specs::HotelNights::quotes_of))]
 fn quotes_of(line: &[u8]) -> Result<bool, Reason>
     ensures { result ≡ nights.quotes_of line.now }
@@ -81,7 +81,7 @@ fn quotes_at(lines: TextLines<'_>) -> Result<(bool, TextLines<'_>), BadLine>
     Ok((live, left))
 }
 
-/// Reads the hotel nights of a file of this version; version 1 has no lines for them.
+/// Reads the hotel nights from a file of this version; version 1 has no lines for them.
 #[tactic(auto, unfolding(crate::specs::HotelNights::nights_in))]
 pub(crate) fn nights_in(
     version: u8,
@@ -101,7 +101,7 @@ pub(crate) fn nights_in(
     Ok((HotelNights { rooms, live }, left))
 }
 
-/// The numbers of the line of the rooms.
+/// Returns the numbers of the line of the rooms.
 fn room_numbers(rooms: &[u8; 8]) -> [i64; 8]
     ensures { result ≡ map pos rooms.now }
 {
@@ -112,7 +112,7 @@ fn room_numbers(rooms: &[u8; 8]) -> [i64; 8]
     numbers
 }
 
-/// Appends the lines of the hotel nights that a file of this version has. After an error the text may end within them.
+/// Appends the lines of the hotel nights in a file of this version. After an error the text may end within them.
 pub(crate) fn print_nights(
     version: u8,
     rooms: &[u8; 8],

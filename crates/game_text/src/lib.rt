@@ -1,4 +1,4 @@
-//! Game files and account files.
+//! The reading and printing of game files and account files.
 #![tactic(auto)]
 
 mod accounts;

@@ -2,7 +2,7 @@ ghost use Rattle.std.specs.Prelude.{◌≡◌, ◌<◌, ◌==◌, pos, negsuc, �
 ghost use Rattle.std.specs.List.{list_all};
 ghost use Rattle.text_forms.specs.Rows as rows;
 
-/// A number of a row, if it has at most 8 bits.
+/// Returns a number of a row, which must fit in 8 bits.
 pub(crate) fn byte_at(numbers: &[i64], i: usize) -> u8
     requires index { i < length numbers.now }
     requires low { pos 0 ≤ℤ slice_index_or numbers.now i (pos 0) }
@@ -12,7 +12,7 @@ pub(crate) fn byte_at(numbers: &[i64], i: usize) -> u8
     numbers[i] as u8
 }
 
-/// A number of a row, if it has at most 16 bits.
+/// Returns a number of a row, which must fit in 16 bits.
 pub(crate) fn dollars_at(numbers: &[i64], i: usize) -> u16
     requires index { i < length numbers.now }
     requires low { pos 0 ≤ℤ slice_index_or numbers.now i (pos 0) }
@@ -22,7 +22,7 @@ pub(crate) fn dollars_at(numbers: &[i64], i: usize) -> u16
     numbers[i] as u16
 }
 
-/// A number of a row, if it has at most 8 bits with its sign.
+/// Returns a number of a row, which must fit in 8 bits with its sign.
 pub(crate) fn signed_at(numbers: &[i64], i: usize) -> i8
     requires index { i < length numbers.now }
     requires low { negsuc 127 ≤ℤ slice_index_or numbers.now i (pos 0) }
@@ -32,7 +32,7 @@ pub(crate) fn signed_at(numbers: &[i64], i: usize) -> i8
     numbers[i] as i8
 }
 
-/// Whether a number of a row is the one that is due.
+/// Returns whether a number of a row is the expected one.
 pub(crate) fn is_due(numbers: &[i64], i: usize, due: u8) -> bool
     requires { i < length numbers.now }
     ensures { result ≡ (unsigned_abs (slice_index_or numbers.now i (pos 0)) == due) }
@@ -40,7 +40,7 @@ pub(crate) fn is_due(numbers: &[i64], i: usize, due: u8) -> bool
     numbers[i].unsigned_abs() == u64::from(due)
 }
 
-/// The numbers of a row, if each has at most 8 bits.
+/// Returns the numbers of a row, each of which must fit in 8 bits.
 pub(crate) fn bytes_of<const N: usize>(numbers: &[i64]) -> [u8; N]
     requires count { length numbers.now ≡ N }
     requires range { IsTrue (list_all (λ n. rows.is_in (rows.within 0 255) n) numbers.now) }

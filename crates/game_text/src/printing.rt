@@ -29,10 +29,10 @@ fn print_lines(game: &Game, out: &mut Vec<u8>) -> Result<(), AllocError>
     Ok(())
 }
 
-/// The canonical text of a game, in its version.
+/// Returns the canonical text of a game, in its version.
 pub fn print_game(alloc: Global, game: &Game) -> Result<Vec<u8>, Memory>
     ensures text { IfOk result (λ text. text.items ≡ games.canonical_text game.now) }
-    // What is printed is read as the game again.
+    // Reading the printed text gives the same game.
     ensures again { IfOk result (λ text. games.game_of text.items ≡ Ok game.now) }
 {
     let mut out = Vec::new(alloc);

@@ -1,4 +1,4 @@
-// A game in which only the clock acts.
+// A game in which flight prices stay the same and nobody has a ticket.
 ghost use Rattle.std.specs.Prelude.{◌≡◌};
 ghost use Rattle.game_text.specs.QuietGames as quiet;
 
@@ -6,9 +6,9 @@ use crate::{FlightLine, Game, SeatWord};
 use tac_base::limits::FLIGHT_DRAWS;
 use tac_base::{Client, Good};
 
-/// The quiet game: each flight stays at 300 dollars, nobody has a ticket, and the hotels close in rising order. Each client prefers to come on
-/// day 1 and leave on day 2, with a premium of 100 dollars for the better hotel and 100 dollars for the museum. The seat words are `seat0`
-/// to `seat7`. It takes no memory.
+/// The quiet game: each flight stays at 300 dollars, nobody has a ticket, and the hotels close in ascending order. Each client prefers to come
+/// on day 1 and leave on day 2, with a premium of 100 dollars for the better hotel and 100 dollars for the museum. The seat words are `seat0`
+/// to `seat7`. It allocates no memory.
 impl Default for Game {
     #[tactic(auto, unfolding(crate::specs::QuietGames::quiet_game))]
     fn default() -> Self

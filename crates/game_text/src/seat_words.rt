@@ -13,7 +13,7 @@ use tac_base::OutOfRange;
 use tac_base::limits::AGENTS;
 use text_forms::{Reason, Words};
 
-/// The word by which an agent takes its seat: 1 to 16 bytes of `a`..`z` and `0`..`9`. The rule is our own.
+/// The word with which an agent takes its seat: 1 to 16 bytes of `a`..`z` and `0`..`9`, as this project defines.
 #[derive(Clone, Copy, Debug)]
 pub struct SeatWord {
     bytes: [u8; 16],
@@ -78,7 +78,7 @@ fn is_seat_word(text: &[u8]) -> bool
     0 < text.len() && text.len() <= 16 && all_seat_bytes(text)
 }
 
-/// The bytes of a short text, and zeros after them.
+/// Returns the bytes of a short text, followed by zeros.
 fn padded(text: &[u8]) -> [u8; 16]
     requires { length text.now ≤ 16 }
     ensures { result ≡ text.now ++ replicate (16 - length text.now) 0 }
@@ -88,7 +88,7 @@ fn padded(text: &[u8]) -> [u8; 16]
     bytes
 }
 
-/// The seat word of a text, if it is one.
+/// Returns the seat word with a text, which must have the form of one.
 fn seat_word(text: &[u8]) -> SeatWord
     requires { IsTrue (seats.is_seat_word text.now) }
     ensures { result ≡ text.now }
@@ -97,7 +97,7 @@ fn seat_word(text: &[u8]) -> SeatWord
 }
 
 impl SeatWord {
-    /// The seat word of a text, which is refused exactly if it is none.
+    /// Returns the seat word of a text, or `OutOfRange` exactly if the text does not have its form.
     pub fn new(text: &[u8]) -> Result<Self, OutOfRange>
         ensures form { IsOk result ↔ IsTrue (seats.is_seat_word text.now) }
         ensures value { IfOk result (λ word. word ≡ text.now) }
@@ -112,7 +112,7 @@ impl SeatWord {
         }
     }
 
-    /// The words `seat0` to `seat7`.
+    /// Returns the words `seat0` to `seat7`.
     pub fn numbered() -> [Self; 8]
         ensures { result ≡ seats.numbered_seats }
     {
@@ -128,7 +128,7 @@ impl SeatWord {
         ]
     }
 
-    /// The bytes of the word.
+    /// Returns the bytes of the word.
     pub fn as_slice(&self) -> &[u8]
         ensures value { result.now ≡ self.now }
         ensures form { IsTrue (seats.is_seat_word self.now) }
@@ -149,7 +149,7 @@ fn next_seat(words: &mut Words<'_>) -> Option<SeatWord>
     }
 }
 
-/// The eight words that are left, if each is a seat word.
+/// Returns the eight words that are left, if each is a seat word.
 fn all_seats(mut words: Words<'_>) -> Option<[SeatWord; 8]>
     requires { length words ≡ AGENTS }
     ensures { result ≡ (if list_all seats.is_seat_word words.entry then Some words.entry else None) }
@@ -167,14 +167,14 @@ fn all_seats(mut words: Words<'_>) -> Option<[SeatWord; 8]>
     Some(seats)
 }
 
-/// Whether the word is among the words.
+/// Returns whether the word is among the words.
 fn contains(words: &[SeatWord], word: &[u8]) -> bool
     ensures { result ≡ list_any (λ other. bytes_eq other word.now) words.now }
 {
     words.iter().any(|other| other.as_slice() == word)
 }
 
-/// Whether no word comes twice.
+/// Returns whether no word occurs twice.
 fn are_distinct(words: &[SeatWord]) -> bool
     ensures { result ≡ seats.are_distinct words.now }
 {
@@ -186,7 +186,7 @@ fn are_distinct(words: &[SeatWord]) -> bool
     true
 }
 
-/// The seat words of a line, or the first reason that applies.
+/// Returns the seat words of a line, or the first reason that applies.
 #[tactic(auto, unfolding(crate::specs::SeatWords::seats_of))]
 pub(crate) fn seats_of(line: &[u8]) -> Result<[SeatWord; 8], Reason>
     ensures { result ≡ seats.seats_of line.now }

@@ -1,4 +1,4 @@
--- What eight packages use and are worth together, and the best that they can be worth.
+-- What eight packages use and are worth together, and the highest total that they can reach.
 use Rattle.std.specs.Prelude.{◌≡◌, ℕ, ◌+◌, ◌<◌, ◌≤◌, List, [], ◌∷◌, length, All, sum_by}
 use Rattle.tac_base.specs.Clients.{Preferences}
 use Rattle.tac_base.specs.declared.limits.TheConstants.{GOODS}
@@ -7,7 +7,7 @@ use Rattle.packages.specs.declared.travel_packages.Package.{Package}
 use Rattle.packages.specs.Packages.{IsPackage, use_of, utility_of}
 use Rattle.packages.specs.Stocks.{stock_of}
 
--- how many of a good an allocation uses
+-- how many units of a good an allocation uses
 abbrev pub used_by : List Package → ℕ → ℕ
 used_by allocation good = sum_by (λ p. use_of p good) allocation
 
@@ -17,7 +17,7 @@ total_of [] ps = 0
 total_of (client ∷ clients) [] = 0
 total_of (client ∷ clients) (p ∷ ps) = utility_of client p + total_of clients ps
 
--- a package for each of the eight clients, which together use no more of any good than there is
+-- a package for each of the eight clients; together they use no more of any good than the stock
 pub record IsFeasible (account : AccountFile) (allocation : List Package) : Type 0 where
   pub eight : length allocation ≡ 8
   pub lawful : All IsPackage allocation

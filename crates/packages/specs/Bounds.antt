@@ -1,4 +1,4 @@
--- What prices say about every allocation.
+-- The bounds that prices give for every allocation.
 use Rattle.std.specs.Prelude.{ℕ, zero, suc, ◌+◌, ◌*◌, ℤ, pos, ◌+ℤ◌, ◌-ℤ◌, Bool, List, [], ◌∷◌, map, Option, Some, None, slice_index, filter}
 use Rattle.std.specs.Int.{int_max}
 use Rattle.tac_base.specs.Clients.{Preferences}
@@ -9,7 +9,7 @@ use Rattle.packages.specs.declared.travel_packages.Package.{Package}
 use Rattle.packages.specs.Packages.{use_of, utility_of}
 use Rattle.packages.specs.Listing.{packages}
 
--- which packages each client has left
+-- which packages are left to each client
 abbrev pub Narrowing : Type 0
 Narrowing = ℕ → Package → Bool
 
@@ -36,26 +36,26 @@ greater None b = b
 greater (Some a) None = Some a
 greater (Some a) (Some b) = Some (int_max a b)
 
--- the greatest number of a list, None if it is empty
+-- the greatest number of a list; None if it is empty
 abbrev pub greatest : List ℤ → Option ℤ
 greatest [] = None
 greatest (n ∷ ns) = greater (Some n) (greatest ns)
 
--- the sum of two numbers, if both are there
+-- the sum of two numbers, if there are both
 abbrev pub plus : Option ℤ → Option ℤ → Option ℤ
 plus None b = None
 plus (Some a) None = None
 plus (Some a) (Some b) = Some (a +ℤ b)
 
--- a client's greatest margin among the packages that it has left
+-- a client's greatest margin among the packages that are left to it
 abbrev pub best_margin : Preferences → List ℕ → (Package → Bool) → Option ℤ
 best_margin client prices left = greatest (map (margin_of client prices) (filter left packages))
 
--- the sum of the greatest margins of clients, the first of which has this number
+-- the sum of the greatest margins of clients; the first of them has this number
 abbrev pub margins : Narrowing → List ℕ → ℕ → List Preferences → Option ℤ
 margins left prices number [] = Some (pos 0)
 margins left prices number (client ∷ clients) = plus (best_margin client prices (left number)) (margins left prices (number + 1) clients)
 
--- the leaf bound, None if some client has no package left
+-- the leaf bound; None if no package is left to some client
 abbrev pub leaf_bound : AccountFile → Narrowing → List ℕ → Option ℤ
 leaf_bound account left prices = plus (Some (pos (stock_value account.holdings prices))) (margins left prices 0 account.clients)

@@ -19,7 +19,7 @@ good_number (outbound day) = outbound_flight day
 good_number (room hotel night) = hotel_night hotel night
 good_number (ticket kind night) = ticket_night kind night
 
--- the good of a number
+-- the good with a number
 abbrev pub thing_of : ℕ → Thing
 thing_of good =
     if nat_lt good 4 then inbound (good + 1)

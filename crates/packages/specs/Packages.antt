@@ -11,12 +11,12 @@ use Rattle.packages.specs.Goods.{Thing, inbound, outbound, room, ticket, thing_o
 abbrev pub is_night : ℕ → ℕ → ℕ → Bool
 is_night arrive depart night = night == 0 || (nat_le arrive night && nat_lt night depart)
 
--- no night is named twice
+-- no night occurs twice
 abbrev pub are_apart : List ℕ → Bool
 are_apart [] = true
 are_apart (night ∷ nights) = (night == 0 || not (list_any (λ n. n == night) nights)) && are_apart nights
 
--- none, or a hotel, a stay, and for each ticket type no night or a night of the stay
+-- none, or a hotel, a stay, and for each ticket type no night or a night of the stay, all different
 abbrev pub is_package : Package → Bool
 is_package None = true
 is_package (Trip hotel arrive depart nights) =
@@ -29,7 +29,7 @@ IsPackage p = IsTrue (is_package p)
 abbrev pub one_if : Bool → ℕ
 one_if b = if b then 1 else 0
 
--- how many of a thing a package uses
+-- how many units of a thing a package uses
 abbrev pub used : Package → Thing → ℕ
 used None thing = 0
 used (Trip hotel arrive depart nights) (inbound day) = one_if (day == arrive)
@@ -37,11 +37,11 @@ used (Trip hotel arrive depart nights) (outbound day) = one_if (day == depart)
 used (Trip hotel arrive depart nights) (room other night) = one_if (other == hotel && nat_le arrive night && nat_lt night depart)
 used (Trip hotel arrive depart nights) (ticket kind night) = one_if (slice_index nights kind == night)
 
--- how many of a good a package uses
+-- how many units of a good a package uses
 abbrev pub use_of : Package → ℕ → ℕ
 use_of p good = used p (thing_of good)
 
--- the value of a ticket type, if it has a night
+-- the value of a ticket type, or 0 if it has no night
 abbrev pub fun_of : List ℕ → List ℕ → ℕ → ℕ
 fun_of values nights kind = if slice_index nights kind == 0 then 0 else slice_index values kind
 

@@ -1,4 +1,4 @@
-// What eight packages use and are worth together.
+// How many goods eight packages use together, and what they are worth.
 ghost use Rattle.std.specs.Prelude.{◌≡◌, ℕ, ◌<◌, ◌≤◌, false, nat_le, length, IsTrue, All};
 ghost use Rattle.tac_base.specs.declared.limits.TheConstants.{BEST_TOTAL};
 ghost use Rattle.packages.specs.BestTotal.{total_of, used_by};
@@ -13,7 +13,7 @@ use game_text::Account;
 use tac_base::Good;
 use tac_base::limits::GOODS;
 
-/// The good of a number, 0..27.
+/// Returns the good with a number, 0..27.
 fn good(number: u8) -> Good
     requires { number ≤ 27 }
     ensures { result ≡ number }
@@ -21,7 +21,7 @@ fn good(number: u8) -> Good
     Good::new(number).unwrap()
 }
 
-/// How many of a good the packages use together.
+/// Returns how many units of a good the packages use together.
 fn used(allocation: &[Package; 8], good: Good) -> u32
     requires { All IsPackage allocation.now }
     ensures value { result ≡ used_by allocation.now good }
@@ -34,8 +34,8 @@ fn used(allocation: &[Package; 8], good: Good) -> u32
     total
 }
 
-/// Whether the packages, each one of the 393, use up the good of a number, 0..27: nothing of it is left, or more is used than
-/// there is.
+/// Returns whether the packages, each one of the 393, use at least as much of a good, 0..27, as the agent can use: nothing of
+/// it is left, or there is too little.
 pub fn is_used_up(account: &Account, allocation: &[Package; 8], number: u8) -> bool
     requires lawful { All IsPackage allocation.now }
     requires good { number < GOODS }
@@ -44,7 +44,7 @@ pub fn is_used_up(account: &Account, allocation: &[Package; 8], number: u8) -> b
     stock(account, usize::from(number)) <= used(allocation, good(number))
 }
 
-/// Whether the packages, each one of the 393, use no more of any good than there is.
+/// Returns whether the packages, each one of the 393, use no more of any good than the agent can use.
 pub fn is_enough(account: &Account, allocation: &[Package; 8]) -> bool
     requires { All IsPackage allocation.now }
     ensures enough { IsTrue result → (good : ℕ) → good < GOODS → used_by allocation.now good ≤ stock_of account.now.holdings good }
@@ -58,7 +58,7 @@ pub fn is_enough(account: &Account, allocation: &[Package; 8]) -> bool
     true
 }
 
-/// What the packages, each one of the 393, are worth to the clients together, in dollars.
+/// Returns what the packages, each one of the 393, are worth to the clients together, in dollars.
 pub fn allocation_worth(account: &Account, allocation: &[Package; 8]) -> u32
     requires lawful { All IsPackage allocation.now }
     requires eight { length allocation.now ≡ 8 }

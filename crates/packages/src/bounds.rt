@@ -15,18 +15,18 @@ use game_text::Account;
 use tac_base::Client;
 use tac_base::limits::GOODS;
 
-/// Which packages each client has left.
+/// Which packages are left to each client.
 pub trait Narrowing {
     ghost left: { Self → ℕ → Package → Bool };
 
-    /// Whether the client of a number, 0..7, has the package left.
+    /// Returns whether a package is left to the client with a number, 0..7.
     fn keeps(&self, client: usize, package: &Package) -> bool
         requires client { client < 8 }
         requires lawful { IsPackage «package».now }
         ensures { result ≡ left self.now client «package».now };
 }
 
-/// How many units of a good can be used: none if the agent is short of it. The good's number is 0..27.
+/// Returns how many units of a good, 0..27, the agent can use: none if it is short of the good.
 pub fn stock(account: &Account, good: usize) -> u32
     requires { good < GOODS }
     ensures value { result ≡ stock_of account.now.holdings good }
@@ -36,7 +36,7 @@ pub fn stock(account: &Account, good: usize) -> u32
     if held > 0 { held.unsigned_abs() } else { 0 }
 }
 
-/// What the stock of one good costs.
+/// Returns what the stock of one good costs.
 fn stock_value_at(account: &Account, prices: &Prices, good: usize) -> u64
     requires { good < GOODS }
     ensures value { result ≡ slice_index prices.now good * stock_of account.now.holdings good }
@@ -45,7 +45,7 @@ fn stock_value_at(account: &Account, prices: &Prices, good: usize) -> u64
     u64::from(prices.dollars[good]) * u64::from(stock(account, good))
 }
 
-/// What the goods that an agent can use cost together at the prices, in dollars; a good of which it is short costs nothing.
+/// Returns what the goods that an agent can use cost at the prices, in dollars; a good that it is short of costs nothing.
 #[tactic(auto, using(crate::proofs::Sums::sum_below_more, crate::proofs::Sums::sum_below_none))]
 pub fn stock_value(account: &Account, prices: &Prices) -> u64
     ensures value { result ≡ bounds.stock_value account.now.holdings prices.now }
@@ -58,7 +58,7 @@ pub fn stock_value(account: &Account, prices: &Prices) -> u64
     total
 }
 
-/// What the package is worth to the client beyond its cost, in dollars. The package is one of the 393.
+/// Returns what the package, one of the 393, is worth to the client beyond its cost, in dollars.
 fn margin(client: &Client, prices: &Prices, package: &Package) -> i64
     requires { IsPackage «package».now }
     ensures value { result ≡ bounds.margin_of client.now prices.now «package».now }
@@ -68,7 +68,7 @@ fn margin(client: &Client, prices: &Prices, package: &Package) -> i64
     i64::from(utility(client, package)) - i64::from(cost(prices, package))
 }
 
-/// The greater of a margin so far and the package's margin.
+/// Returns the greater of the margin so far and the package's margin.
 fn raised(most: Option<i64>, client: &Client, prices: &Prices, package: &Package) -> Option<i64>
     requires lawful { IsPackage «package».now }
     requires low { ForSome most (λ n. negsuc (9 * DUAL_PRICE) ≤ℤ n) }
@@ -84,8 +84,8 @@ fn raised(most: Option<i64>, client: &Client, prices: &Prices, package: &Package
     }
 }
 
-/// The greatest margin of a client among the packages that it has left; None if it has none left. The client's number
-/// is 0..7.
+/// Returns the greatest margin of a client, 0..7, among the packages that are left to it; `None` if none
+/// is left.
 fn best_margin<N: Narrowing>(
     client: &Client,
     prices: &Prices,
@@ -108,7 +108,7 @@ fn best_margin<N: Narrowing>(
     most
 }
 
-/// The sum of a bound so far, after this many clients, and one more client's margin.
+/// Adds one more client's margin to the bound over the clients before it, `number` of them.
 fn added(bound: Option<i64>, other: Option<i64>, number: usize) -> Option<i64>
     requires number { number < 8 }
     requires low { ForSome bound (λ n. negsuc (2000000 * number) ≤ℤ n) }
@@ -125,8 +125,8 @@ fn added(bound: Option<i64>, other: Option<i64>, number: usize) -> Option<i64>
     }
 }
 
-/// The leaf bound, in dollars: what the stock costs and the greatest margin of each client among the packages that it has
-/// left. None if some client has no package left. That bounds use prices is our own rule.
+/// Returns the leaf bound, in dollars: what the stock costs, plus the greatest margin of each client among the packages left
+/// to it. It is `None` if no package is left to some client. This project defines that bounds use prices.
 pub fn leaf_bound<N: Narrowing>(account: &Account, narrowing: &N, prices: &Prices) -> Option<i64>
     ensures { result ≡ bounds.leaf_bound account.now (N.left narrowing.now) prices.now }
 {

@@ -15,7 +15,7 @@ fn price_at(prices: &Prices, good: Good) -> u32
     u32::from(prices.dollars[usize::from(good.get())])
 }
 
-/// What the rooms of a stay cost.
+/// Returns what the rooms of a stay cost.
 #[tactic(auto, using(crate::proofs::Trips::rooms_none, crate::proofs::Trips::rooms_more))]
 fn rooms_cost(prices: &Prices, hotel: u8, arrive: u8, depart: u8) -> u32
     requires hotel { hotel < 2 }
@@ -32,7 +32,7 @@ fn rooms_cost(prices: &Prices, hotel: u8, arrive: u8, depart: u8) -> u32
     total
 }
 
-/// What the ticket of a type costs; no night costs nothing.
+/// Returns what the ticket of a type costs; without a night it costs nothing.
 fn ticket_cost(prices: &Prices, kind: u8, night: u8) -> u32
     requires kind { kind < 3 }
     requires night { night < 5 }
@@ -46,7 +46,7 @@ fn ticket_cost(prices: &Prices, kind: u8, night: u8) -> u32
     }
 }
 
-/// What the goods that a package uses cost at the prices, in dollars. The package is one of the 393.
+/// Returns what the goods that a package, one of the 393, uses cost at the prices, in dollars.
 pub fn cost(prices: &Prices, package: &Package) -> u32
     requires { IsPackage «package».now }
     ensures value { result ≡ cost_of prices.now «package».now }

@@ -4,7 +4,7 @@ ghost use Rattle.packages.specs.Packages.{IsPackage};
 
 use crate::travel_packages::Package;
 
-/// The place of a trip in the order of days.
+/// Returns the rank of a trip in the order of days.
 fn rank(arrive: u8, depart: u8) -> u8
     requires days { arrive < depart }
     requires last { depart < 6 }
@@ -23,9 +23,9 @@ fn rank(arrive: u8, depart: u8) -> u8
     first + (depart - arrive - 1)
 }
 
-/// The value of a package's feature. Feature 0 is the trip: 0 if there is none, and otherwise 1 to 20, by hotel and then by
-/// days. The features 1 to 3 are the nights of the ticket types, 0 to 4, 0 if there is none. That a search and a
-/// certificate split on these is our own rule.
+/// Returns the value of a package's feature. Feature 0 is the trip: 0 if there is none, and otherwise 1 to 20, by hotel and
+/// then days. Features 1 to 3 are the nights of the ticket types, 0 to 4, 0 if there is none. This project defines that a
+/// search and a certificate split by them.
 pub fn feature_value(package: &Package, feature: u8) -> u8
     requires { IsPackage «package».now }
     ensures { result ≡ feature_of feature «package».now }
@@ -49,7 +49,7 @@ pub fn feature_value(package: &Package, feature: u8) -> u8
     }
 }
 
-/// How many values a feature has: 21 for the trip, 5 for the night of a ticket type.
+/// Returns how many values a feature has: 21 for the trip, 5 for the night of a ticket type.
 pub fn value_count(feature: u8) -> u8
     ensures { result ≡ values_of feature }
 {

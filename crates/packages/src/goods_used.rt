@@ -5,14 +5,14 @@ ghost use Rattle.packages.specs.Packages.{IsPackage, use_of};
 use crate::travel_packages::Package;
 use tac_base::Good;
 
-/// How many of a good the package uses: a seat of the day of arrival and of that of departure, a room of its hotel for each
-/// night of the stay, and the tickets named. The package is one of the 393.
+/// Returns how many units of a good the package, one of the 393, uses: a seat on the days of arrival and departure, a room
+/// of its hotel for each night of the stay, and the tickets named.
 pub fn uses(package: &Package, good: Good) -> u8
     requires { IsPackage «package».now }
     ensures value { result ≡ use_of «package».now good }
     ensures few { result ≤ 1 }
 
-    // Decoding a good and encoding it again gives its number.
+    // Decoding a good's number and encoding it again gives the same number.
     ensures number { good_number (thing_of good) ≡ good }
 {
     let number = good.get();

@@ -1,5 +1,5 @@
-//! What a client's trip uses and is worth, all such packages, sums over those of eight clients, and what prices say about every
-//! allocation of them.
+//! Packages: what a client's trip uses and is worth, the list of all trips, totals over eight clients, and the bounds that prices
+//! give for every allocation.
 #![tactic(auto)]
 
 mod allocations;

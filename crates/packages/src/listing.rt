@@ -5,7 +5,7 @@ ghost use Rattle.packages.specs.Decoding.{trip_at, nights_at};
 
 use crate::travel_packages::Package;
 
-/// The nights of three tickets in a stay whose first night is 1, ordered by the latest night.
+/// The nights of the three tickets in a stay whose first night is 1, ordered by the latest night.
 static NIGHTS: [[u8; 3]; 73] = [
     [0, 0, 0],
     [0, 0, 1],
@@ -82,7 +82,7 @@ static NIGHTS: [[u8; 3]; 73] = [
     [4, 3, 2],
 ];
 
-/// The days of the trip to which the ticket choice of a number belongs, and the first such number.
+/// Returns the days of the trip of the ticket choice with a number, and that trip's first number.
 fn trip_at(left: u16) -> (u8, u8, u16)
     ensures { result ≡ trip_at left }
 {
@@ -109,7 +109,7 @@ fn trip_at(left: u16) -> (u8, u8, u16)
     }
 }
 
-/// The nights of a ticket choice.
+/// Returns the nights of a ticket choice.
 #[tactic(auto, unfolding(crate::specs::Decoding::nights_at))]
 fn nights_at(number: usize) -> [u8; 3]
     requires { number < 73 }
@@ -118,7 +118,7 @@ fn nights_at(number: usize) -> [u8; 3]
     NIGHTS[number]
 }
 
-/// A night of a stay that begins on a day, counted from that day's night as 1; 0 is no night.
+/// Returns a night of a stay that begins on `arrive`, whose first night is 1; 0 is no night.
 fn night_at(arrive: u8, night: u8) -> u8
     requires few { arrive < 5 }
     requires short { night < 5 }
@@ -127,7 +127,7 @@ fn night_at(arrive: u8, night: u8) -> u8
     if night == 0 { 0 } else { arrive + night - 1 }
 }
 
-/// The package of a number, by arithmetic.
+/// Computes the package with a number.
 fn decoded(n: u16) -> Option<Package>
     ensures { result ≡ slice_get packages n }
 {
@@ -153,13 +153,13 @@ fn decoded(n: u16) -> Option<Package>
     })
 }
 
-/// The package of a number, 0..392, and none past the last one: all 393 packages, each once.
+/// Returns the package with a number, 0..392, or `None` past the last. Each package has one number.
 pub fn package(n: u16) -> Option<Package>
     ensures value { result ≡ slice_get packages n }
     ensures variant { IsSome result ↔ (n < 393) }
     ensures lawful { IfSome result (λ p. IsPackage p) }
 
-    // The list has every package, and no other, and each once.
+    // The list has exactly the packages, each once.
     ensures each { (p : Package) → Contains packages p ↔ IsPackage p }
     ensures once { (k m : ℕ) → k < m → m < 393 → slice_get packages k ≢ slice_get packages m }
 {

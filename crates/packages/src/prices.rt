@@ -1,10 +1,10 @@
 use std::marker::Model;
 
-/// A price for each good, in whole dollars. That a price is at most 14001, one more than eight clients can be worth
-/// together, is our own rule.
+/// A price for each good, in whole dollars. This project defines that a price is at most 14001, one more than eight
+/// clients' packages can be worth together.
 #[derive(Clone, Copy, Debug, PartialEq, Eq)]
 pub struct Prices {
-    /// By good 0..27, each 0..14001.
+    /// For goods 0..27, each 0..14001.
     pub dollars: [u16; 28],
 }
 

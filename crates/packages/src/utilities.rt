@@ -5,14 +5,14 @@ ghost use Rattle.packages.specs.Packages.{IsPackage, fun_of, utility_of};
 use crate::travel_packages::Package;
 use tac_base::Client;
 
-/// How many days lie between.
+/// Returns the number of days between two days.
 fn days_between(a: u8, b: u8) -> u32
     ensures { result ≡ abs_diff a b }
 {
     u32::from(a.abs_diff(b))
 }
 
-/// The value of a ticket type, if it has a night.
+/// Returns the value of a ticket type, or 0 if it has no night.
 fn fun(client: &Client, nights: &[u8; 3], kind: usize) -> u32
     requires { kind < 3 }
     ensures value { result ≡ fun_of client.now.values nights.now kind }
@@ -25,9 +25,9 @@ fn fun(client: &Client, nights: &[u8; 3], kind: usize) -> u32
     }
 }
 
-/// What the package is worth to the client, in dollars: 1000 for a trip, less 100 for each day by which arrival and
-/// departure miss the preferred days, plus its premium in Tampa Towers and its values of the ticket types used. The package is one
-/// of the 393. The numbers are the game description's.
+/// Returns what the package, one of the 393, is worth to the client, in dollars: 1000 for a trip, less 100 for each day by
+/// which arrival and departure differ from the preferred days, plus the client's premium in Tampa Towers and its values of the
+/// ticket types used. The numbers are the game description's.
 pub fn utility(client: &Client, package: &Package) -> u32
     requires { IsPackage «package».now }
     ensures value { result ≡ utility_of client.now «package».now }

@@ -8,6 +8,6 @@ use Rattle.tac_io.specs.Known.{known_then, failed_at, TakesSome}
 abbrev pub TookWhole : SinkState → SinkState → List ℕ → Type 0
 TookWhole sink sink' text = (sink'.taken ≡ known_then sink.taken text) × (sink'.faults ≡ sink.faults) × (sink'.failures ≡ sink.failures)
 
--- One write failed, and nothing was written after it: some of the first bytes were taken, or none, but not all.
+-- One write failed, and nothing was written after it: some of the first bytes were taken, not all.
 abbrev pub TookPart : SinkState → SinkState → List ℕ → Type 0
 TookPart sink sink' text = TakesSome sink.taken sink'.taken text × Rose sink.faults sink'.faults × (sink'.failures ≡ failed_at sink'.taken sink.failures)
