@@ -1,22 +1,22 @@
--- When a certificate holds, and what it then says.
+-- When a certificate holds, and what follows if it does.
 use Rattle.std.specs.Prelude.{◌≡◌, ℕ, ◌+◌, ◌<◌, ◌≤◌, ◌==◌, ◌&&◌, ℤ, pos, Bool, true, List, Option, Some, None, int_le, slice_index_or}
 use Rattle.bound_cert.specs.Prelude.{AccountFile, Package, Narrowing, leaf_bound, values_of, narrowed, IsFeasible, total_of}
 use Rattle.packages.specs.declared.travel_packages.Package.TheVariants as kinds
 use Rattle.bound_cert.specs.Trees.{Tree, leaf, split, Trees, no_trees, more, tree_count}
 
--- a leaf bound is at most the claim, or some client has no package left
+-- whether a leaf bound is at most the claim, or no package is left to some client
 abbrev pub is_within : Option ℤ → ℕ → Bool
 is_within None claim = true
 is_within (Some bound) claim = int_le bound (pos claim)
 
 module _ (account : AccountFile) (claim : ℕ) where
   abbrev mutual
-    -- the part of a certificate holds, if these packages are left
+    -- whether a part of a certificate holds, if these packages are left
     pub holds : Narrowing → Tree → Bool
     holds left (leaf prices) = is_within (leaf_bound account left prices) claim
     holds left (split client feature children) = tree_count children == values_of feature && all_hold left client feature 0 children
 
-    -- the children of a split hold, the first being for this value
+    -- whether the children of a split hold; the first of them is for this value
     pub all_hold : Narrowing → ℕ → ℕ → ℕ → Trees → Bool
     all_hold left client feature value no_trees = true
     all_hold left client feature value (more tree trees) = holds (narrowed left client feature value) tree && all_hold left client feature (value + 1) trees

@@ -28,7 +28,7 @@ split_of line = do
   numbers ← row (codes "split") split_columns line
   Ok (Split (unsigned_abs (slice_index_or numbers 0 (pos 0))) (unsigned_abs (slice_index_or numbers 1 (pos 0))))
 
--- what a line says, or the first reason that applies
+-- the content of a line, or the first reason that applies
 abbrev pub node_line_of : List ℕ → Result NodeLine Reason
 node_line_of line = if is_leaf (words_of line) then leaf_of line else split_of line
 

@@ -4,7 +4,7 @@ use Rattle.bound_cert.specs.Prelude.{AccountFile, Package, IsBest, IsFeasible, t
 use Rattle.bound_cert.specs.Certificate.{holds, all_left}
 use Rattle.bound_cert.specs.Trees.{Tree, IsCertificate}
 
--- a feasible allocation that is worth the total, than which none is worth more, and a certificate that holds for the total
+-- a feasible allocation that is worth the total, which is the greatest, and a certificate that holds for the total
 pub record IsSolution (account : AccountFile) (total : ℕ) (allocation : List Package) (tree : Tree) : Type 0 where
   pub feasible : IsFeasible account allocation
   pub worth : total_of account.clients allocation ≡ total

@@ -18,11 +18,11 @@ abbrev pub tree_count : Trees → ℕ
 tree_count no_trees = 0
 tree_count (more tree trees) = tree_count trees + 1
 
--- a price for each good, none above the highest
+-- whether there is a price for each good, and none is above the highest
 abbrev pub are_prices : List ℕ → Bool
 are_prices prices = length prices == GOODS && list_all (λ price. nat_le price DUAL_PRICE) prices
 
--- a split names a client and a feature and has a child for each value of the feature, and at most this many splits are above each leaf
+-- whether each split names a client and a feature and has a child for each value, and at most this many splits are above each leaf
 abbrev mutual
   pub is_tree : ℕ → Tree → Bool
   is_tree depth (leaf prices) = are_prices prices

@@ -7,7 +7,7 @@ use crate::ways::Way;
 use game_text::Account;
 use packages::{Narrowing, Prices, leaf_bound, value_count};
 
-/// Whether the prices bound by a claim in dollars what a narrowing leaves. They do if some client has no package left.
+/// Returns whether the prices bound what a narrowing leaves by a claim in dollars, or some client has no package left.
 fn leaf_holds<N: Narrowing>(account: &Account, claim: u32, narrowing: &N, prices: &Prices) -> bool
     ensures { result ≡ is_within (leaf_bound account.now (N.left narrowing.now) prices.now) claim }
 {
@@ -17,7 +17,7 @@ fn leaf_holds<N: Narrowing>(account: &Account, claim: u32, narrowing: &N, prices
     }
 }
 
-/// Whether the part of a certificate after these splits holds.
+/// Returns whether the part of a certificate after these splits holds.
 #[cycle(holding)]
 #[tactic(auto, using(crate::proofs::Views::views))]
 fn node_holds(account: &Account, claim: u32, way: &Way<'_>, node: &CertNode) -> bool
@@ -36,7 +36,7 @@ fn node_holds(account: &Account, claim: u32, way: &Way<'_>, node: &CertNode) -> 
     }
 }
 
-/// Whether the children of a split hold, the first being for the value 0.
+/// Returns whether the children of a split hold; the first child is for value 0.
 #[cycle(holding)]
 #[tactic(auto, using(crate::proofs::Views::views))]
 fn children_hold(
@@ -64,13 +64,13 @@ fn children_hold(
     true
 }
 
-/// Whether the certificate holds for a claim in dollars: each leaf bounds what the splits on the way to it leave.
+/// Returns whether the certificate holds for a claim in dollars: each leaf bounds what the splits above it leave.
 pub fn check(account: &Account, claim: u32, cert: &Cert) -> bool
     ensures value { result ≡ holds account.now claim all_left (tree_of cert.now.root) }
-    // Then no feasible allocation is worth more than the claim.
+    // If it holds, no feasible allocation is worth more than the claim.
     ensures bounds { IsTrue result → BoundsAll account.now claim }
 {
-    // The law rests on the account's ranges, which are known where it is read.
+    // The law needs the account's ranges, which are known once the account is read.
     let _holdings = &account.holdings;
     node_holds(account, claim, &Way::Start, &cert.root)
 }

@@ -3,14 +3,14 @@ ghost use Rattle.bound_cert.specs.Faults.{cert_fault};
 
 use text_forms::BadLine;
 
-/// Why a text is not read as a certificate. Nothing was made.
+/// Why a text cannot be read as a certificate. No certificate was made.
 #[derive(Clone, Copy, Debug, PartialEq, Eq)]
 pub enum CertFault {
     /// The first bad line, counted from 1, with the number of the first reason that applies to it: 1 to 4, 7 or 8.
     Line { line: u32, reason: u8 },
     /// The text has more than 67,108,864 bytes.
     TooLong,
-    /// There is not enough memory for the certificate.
+    /// A memory allocation failed.
     Memory,
 }
 

@@ -8,14 +8,14 @@ use packages::Prices;
 use tac_base::limits::DUAL_PRICE;
 use text_forms::{Column, Reason, Words, read_row};
 
-/// What the line of a node says.
+/// The content of a node's line.
 #[derive(Clone, Copy)]
 pub(crate) enum NodeLine {
     Leaf(Prices),
     Split { client: u8, feature: u8 },
 }
 
-/// Whether the first word of a line is `leaf`.
+/// Returns whether the first word of a line is `leaf`.
 fn is_leaf(line: &[u8]) -> bool
     ensures { result ≡ nodes.is_leaf (words_of line.now) }
 {
@@ -25,7 +25,7 @@ fn is_leaf(line: &[u8]) -> bool
     }
 }
 
-/// The prices of a row.
+/// Returns the prices of a row.
 fn prices_of(numbers: &[i64; 28]) -> Prices
     requires { IsTrue (list_all (λ n. rows.is_in (rows.within 0 DUAL_PRICE) n) numbers.now) }
     ensures { result ≡ map unsigned_abs numbers.now }
@@ -37,14 +37,14 @@ fn prices_of(numbers: &[i64; 28]) -> Prices
     Prices { dollars }
 }
 
-/// The numbers of a leaf's line.
+/// Returns the columns of a leaf's line.
 fn leaf_columns() -> [Column; 28]
     ensures { result ≡ nodes.leaf_columns }
 {
     [Column::within(0, u32::from(DUAL_PRICE)); 28]
 }
 
-/// The leaf of a line, or the first reason that applies.
+/// Returns the leaf of a line, or the first reason that applies.
 fn leaf_of(line: &[u8]) -> Result<NodeLine, Reason>
     ensures { result ≡ nodes.leaf_of line.now }
 {
@@ -52,7 +52,7 @@ fn leaf_of(line: &[u8]) -> Result<NodeLine, Reason>
     Ok(NodeLine::Leaf(prices_of(&numbers)))
 }
 
-/// The split of a line, or the first reason that applies.
+/// Returns the split of a line, or the first reason that applies.
 fn split_of(line: &[u8]) -> Result<NodeLine, Reason>
     ensures { result ≡ nodes.split_of line.now }
 {
@@ -64,7 +64,7 @@ fn split_of(line: &[u8]) -> Result<NodeLine, Reason>
     })
 }
 
-/// What the line of a node says, or the first reason that applies.
+/// Returns the content of a node's line, or the first reason that applies.
 pub(crate) fn node_line_of(line: &[u8]) -> Result<NodeLine, Reason>
     ensures { result ≡ nodes.node_line_of line.now }
 {

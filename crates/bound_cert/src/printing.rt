@@ -7,7 +7,7 @@ use std::alloc::{AllocError, Global};
 use tac_base::Memory;
 use text_forms::print_row;
 
-/// The numbers of a leaf's line.
+/// Returns the numbers of a leaf's line.
 fn leaf_numbers(prices: &Prices) -> [i64; 28]
     ensures { result ≡ map pos prices.now }
 {
@@ -63,12 +63,12 @@ fn print_children(children: &Vec<CertNode>, out: &mut Vec<u8>) -> Result<(), All
     Ok(())
 }
 
-/// The text of a certificate. `Memory` leaves no text.
+/// Returns the text of a certificate. `Memory` leaves no text.
 pub fn print_cert(alloc: Global, cert: &Cert) -> Result<Vec<u8>, Memory>
     ensures text { IfOk result (λ text. text.items ≡ cert_text (tree_of cert.now.root)) }
-    // There is a line for each leaf and each split, and each line has its line end.
+    // The text has a line for each leaf and each split, and each line has its line end.
     ensures lines { IfOk result (λ text. length (parts_of 10 text.items) ≡ length (tree_lines (tree_of cert.now.root)) + 1) }
-    // What is printed is read as the certificate again, if it is short enough to be read.
+    // If the text is within the limit of reading, reading it gives the same certificate.
     ensures again { IfOk result (λ text. length text.items ≤ TEXT_BYTES → cert_of text.items ≡ Ok (tree_of cert.now.root)) }
 {
     let mut out = Vec::new(alloc);

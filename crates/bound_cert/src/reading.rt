@@ -10,7 +10,7 @@ use std::alloc::Global;
 use tac_base::limits::{CERTIFICATE_DEPTH, TEXT_BYTES};
 use text_forms::{TextLines, at_line};
 
-/// The number of the next line, what the line says, and the lines after it.
+/// Returns the number of the next line, its content, and the lines after it.
 fn node_line_in<'a>(lines: TextLines<'a>) -> Result<(u32, NodeLine, TextLines<'a>), CertFault>
     ensures { result ≡ reading.node_line_in lines.entry }
 {
@@ -19,7 +19,7 @@ fn node_line_in<'a>(lines: TextLines<'a>) -> Result<(u32, NodeLine, TextLines<'a
     Ok((line.number(), node, left))
 }
 
-/// Reads a node and all below it, with at most this many levels of splits, and gives the lines after them.
+/// Reads a node and all below it, at most this many levels of splits, and also returns the lines after it.
 #[cycle(reading)]
 fn read_node<'a>(
     alloc: Global,
@@ -51,7 +51,7 @@ fn read_node<'a>(
     }
 }
 
-/// Reads this many nodes, one after another, and gives the lines after them.
+/// Reads this many consecutive nodes, and returns them with the lines after them.
 #[cycle(reading)]
 fn read_children<'a>(
     alloc: Global,
@@ -73,7 +73,7 @@ fn read_children<'a>(
     Ok((children, left))
 }
 
-/// Reads a node and all below it, after which no line may be left.
+/// Reads a node and all below it; no line may be left then.
 fn root_in(alloc: Global, lines: TextLines<'_>) -> Result<CertNode, CertFault>
     ensures { IsCertReading tree_of result (reading.root_in lines.entry) }
 {
@@ -82,7 +82,7 @@ fn root_in(alloc: Global, lines: TextLines<'_>) -> Result<CertNode, CertFault>
     Ok(root)
 }
 
-/// The root of the certificate of a text.
+/// Returns the root of the certificate in a text.
 fn root_of(alloc: Global, text: &[u8]) -> Result<CertNode, CertFault>
     ensures exact { IsCertReading tree_of result (reading.cert_of text.now) }
     ensures too_long { (result ≡ Err CertFault.TooLong) ↔ (TEXT_BYTES < length text.now) }
@@ -93,14 +93,14 @@ fn root_of(alloc: Global, text: &[u8]) -> Result<CertNode, CertFault>
     root_in(alloc, TextLines::new(text))
 }
 
-/// Reads the text of a certificate. Its depth is at most 32 splits, whatever the text is.
+/// Reads a certificate from its text. It is at most 32 splits deep, whatever the text is.
 pub fn read_cert(alloc: Global, text: &[u8]) -> Result<Cert, CertFault>
-    // Which certificate it is, or the first bad line with its first reason, unless memory was refused.
+    // The result is the certificate, or the first bad line and its reason, unless a memory allocation failed.
     ensures exact { IsCertReading (λ cert. tree_of cert.root) result (reading.cert_of text.now) }
     ensures too_long { (result ≡ Err CertFault.TooLong) ↔ (TEXT_BYTES < length text.now) }
-    // The text is the one of the certificate.
+    // The text is the canonical text of the certificate.
     ensures same { IfOk result (λ cert. text.now ≡ cert_text (tree_of cert.root)) }
-    // The text of each certificate is read as that certificate.
+    // Each text of a certificate is read as that certificate.
     ensures only { (tree : Tree) → IsCertificate tree → length text.now ≤ TEXT_BYTES → text.now ≡ cert_text tree → reading.cert_of text.now ≡ Ok tree }
 {
     let root = root_of(alloc, text)?;

@@ -1,11 +1,11 @@
 use packages::{Narrowing, Package, feature_value};
 
-/// The splits on the way to a part of a certificate, the last one first.
+/// The splits above a part of a certificate, last one first.
 #[derive(Clone, Copy)]
 pub enum Way<'a> {
-    /// No split: each client has every package left.
+    /// No split: every package is left to every client.
     Start,
-    /// A client, a feature and its value, to which the client's packages are narrowed, and the splits before.
+    /// A client, and the value of a feature to which its packages are narrowed, with the splits before it.
     Turn {
         client: u8,
         feature: u8,

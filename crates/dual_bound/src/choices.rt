@@ -5,10 +5,10 @@ ghost use Rattle.dual_bound.specs.Choices as choices;
 use packages::{Narrowing, Package, feature_value};
 use std::marker::Model;
 
-/// A narrowing of the packages of eight clients: those that have the fixed values of their features.
+/// A narrowing of the packages of eight clients: it keeps those with the fixed values of the clients' features.
 #[derive(Clone, Copy, Debug, PartialEq, Eq)]
 pub struct Choice {
-    /// By client 0..7 and feature 0..3: a value, 0..20 of the trip and 0..4 of a night, or none where nothing is fixed.
+    /// For clients 0..7 and features 0..3: a value, 0..20 for a trip and 0..4 for a night, or `None` if nothing is fixed.
     pub fixed: [[Option<u8>; 4]; 8],
 }
 
@@ -25,7 +25,7 @@ impl Model for Choice {
     ghost inverse = { λ fixed. record { fixed = fixed } };
 }
 
-/// Whether the package's feature has the fixed value, if one is fixed.
+/// Returns whether the package's feature has the fixed value, if one is fixed.
 fn fits(fixed: Option<u8>, package: &Package, feature: u8) -> bool
     requires { IsPackage «package».now }
     ensures { result ≡ choices.fits fixed (feature_of feature «package».now) }
@@ -52,7 +52,7 @@ impl Narrowing for Choice {
 }
 
 impl Choice {
-    /// Nothing is fixed.
+    /// Returns the choice that fixes nothing.
     pub fn none() -> Choice
         ensures { result ≡ choices.nothing_fixed }
     {
@@ -61,7 +61,7 @@ impl Choice {
         }
     }
 
-    /// The fixed value of a client's feature, if there is one.
+    /// Returns the fixed value of a client's feature, if there is one.
     pub(crate) fn at(&self, client: u8, feature: u8) -> Option<u8>
         requires client { client < 8 }
         requires feature { feature < 4 }
@@ -71,7 +71,7 @@ impl Choice {
         fixed[usize::from(feature)]
     }
 
-    /// A client's feature has a value.
+    /// Fixes a client's feature to a value.
     fn placed(&self, client: u8, feature: u8, value: u8) -> Choice
         requires client { client < 8 }
         requires feature { feature < 4 }
@@ -84,8 +84,8 @@ impl Choice {
         Choice { fixed }
     }
 
-    /// A client's feature is fixed besides, which was not fixed. The client's number is 0..7, the feature's 0..3, and the value
-    /// is one of the feature's.
+    /// Also fixes a feature, 0..3, of a client, 0..7, which must not be fixed yet. The value must be one of
+    /// the feature's.
     pub fn with(&self, client: u8, feature: u8, value: u8) -> Choice
         requires client { client < 8 }
         requires feature { feature < 4 }
@@ -95,7 +95,7 @@ impl Choice {
         ensures left { choices.chosen result ≡ narrowed (choices.chosen self.now) client feature value }
         ensures count { choices.fixed_count result ≡ choices.fixed_count self.now + 1 }
     {
-        // The laws rest on the choice's form, which is known where it is read.
+        // The laws need the choice's form, which is known once the choice is read.
         let _fixed = &self.fixed;
         self.placed(client, feature, value)
     }

@@ -1,4 +1,4 @@
-//! Whole prices that bound what is left of an account's packages.
+//! Whole prices that bound the worth of the packages that are left.
 #![tactic(auto)]
 
 mod choices;

@@ -1,4 +1,4 @@
-// Prices with what they say of all packages.
+// Prices with the bounds that they give for all packages.
 ghost use Rattle.std.specs.Prelude.{◌≡◌, ℕ, ◌+◌, ◌*◌, ◌<◌, ◌≤◌, ◌^◌, ◌⊎◌, pos, negsuc, ◌+ℤ◌, ◌-ℤ◌, ◌≤ℤ◌, true, false, slice_index};
 ghost use Rattle.dual_bound.specs.{GOODS, AccountFile, IsAccount, is_within, dollars_at, AreCosts, HasMore, IsCeiling};
 ghost use Rattle.packages.specs.Bounds as bounds;
@@ -7,11 +7,11 @@ use game_text::Account;
 use packages::{Prices, cost, package, stock_value};
 use relaxation::WorthTable;
 
-/// Prices, what each package costs at them, and what all goods cost that there are.
+/// Prices, what each package costs at them, and what the stock costs.
 #[derive(Clone, Copy)]
 pub struct Quote {
     pub prices: Prices,
-    /// By the package's number 0..392.
+    /// For packages 0..392.
     pub(crate) costs: [u32; 393],
     pub stock_value: u64,
     ghost costs_are: { AreCosts prices costs },
@@ -19,7 +19,7 @@ pub struct Quote {
 }
 
 impl Quote {
-    /// What an account's goods and all packages cost at the prices, in dollars.
+    /// Computes what an account's stock and all packages cost at the prices, in dollars.
     pub fn new(account: &Account, prices: &Prices) -> Quote
         ensures prices { result.prices ≡ prices.now }
         ensures stock { result.stock_value ≡ bounds.stock_value account.now.holdings prices.now }
@@ -31,7 +31,7 @@ impl Quote {
         }
     }
 
-    /// Whether the prices bound by a claim in dollars what is left of an account's packages, by a table of upper bounds of their worths.
+    /// Returns whether the prices bound the worth of what is left by a claim in dollars, given a table of upper bounds of the worths.
     pub fn holds(&self, left: &WorthTable, claim: u32) -> bool
         ensures bounds { (account : AccountFile) (narrowing : bounds.Narrowing) → IsAccount account
             → self.now.stock_value ≡ bounds.stock_value account.holdings self.now.prices
@@ -47,7 +47,7 @@ impl Quote {
     }
 }
 
-/// The sum of a bound so far, after so many clients, and what one more client adds at most.
+/// Adds the most that one more client can add to the bound over the clients before it, `client` of them.
 fn added(bound: i64, most: i64, client: usize) -> i64
     requires client { client < 8 }
     requires low { negsuc (2 ^ 34 * client) ≤ℤ bound }
@@ -61,7 +61,7 @@ fn added(bound: i64, most: i64, client: usize) -> i64
     bound + most
 }
 
-/// What each package costs, by number 0..392.
+/// Returns what each package, 0..392, costs.
 fn costs(prices: &Prices) -> [u32; 393]
     ensures { AreCosts prices.now result }
 {
@@ -74,7 +74,7 @@ fn costs(prices: &Prices) -> [u32; 393]
     costs
 }
 
-/// The most that any package is worth to a client, 0..7, beyond its cost, as the table has it.
+/// Returns the most that any package is worth to a client, 0..7, beyond its cost, according to the table.
 fn most(left: &WorthTable, client: usize, costs: &[u32; 393]) -> i64
     requires { client < 8 }
     ensures bound { (n : ℕ) → n < 393 → (dollars_at left.now.dollars client n -ℤ pos (slice_index costs.now n)) ≤ℤ result }
@@ -90,7 +90,7 @@ fn most(left: &WorthTable, client: usize, costs: &[u32; 393]) -> i64
     most
 }
 
-/// What dollars are beyond a cost.
+/// Returns the difference between dollars and a cost.
 fn margin(dollars: i32, cost: u32) -> i64
     ensures value { result ≡ dollars -ℤ pos cost }
     ensures low { negsuc (2 ^ 33) ≤ℤ result }
@@ -99,7 +99,7 @@ fn margin(dollars: i32, cost: u32) -> i64
     i64::from(dollars) - i64::from(cost)
 }
 
-/// The greater of two margins.
+/// Returns the greater of two margins.
 fn greater(one: i64, other: i64) -> i64
     ensures value { (result ≡ one) ⊎ (result ≡ other) }
     ensures one { one ≤ℤ result }

@@ -1,4 +1,4 @@
-// Prices of which none is worth moving by 50.
+// Prices that no move of a single price by 50 improves.
 ghost use Rattle.std.specs.Prelude.{◌≡◌, ℕ, ◌/◌, ◌%◌, ◌<◌, ◌≤◌, true, false, set, length, IfSome, IfNone, All};
 ghost use Rattle.dual_bound.specs.{IsLeft, IsPackage, leaf_bound, stock_value, fixed_at, chosen, IsCeiling, IsNarrowedBy, IsRestricted};
 ghost use Rattle.packages.specs.Prices.{ArePrices};
@@ -11,7 +11,7 @@ use packages::{Narrowing, Package, Prices, allocation_worth, is_enough, leaf_bou
 use relaxation::{Relaxation, WorthTable};
 use tac_base::limits::{DUAL_PRICE, GOODS};
 
-/// Whether a bound is lower than another, where both are there.
+/// Returns whether a bound is lower than another, if there are both.
 fn is_lower(bound: Option<i64>, other: Option<i64>) -> bool
     ensures { result ≡ settled.is_lower bound other }
 {
@@ -21,7 +21,7 @@ fn is_lower(bound: Option<i64>, other: Option<i64>) -> bool
     }
 }
 
-/// The prices with another one for a good, 0..27.
+/// Returns the prices with another price for a good, 0..27.
 fn with_price(prices: &Prices, good: usize, price: u16) -> Prices
     requires good { good < GOODS }
     requires price { price ≤ DUAL_PRICE }
@@ -33,7 +33,7 @@ fn with_price(prices: &Prices, good: usize, price: u16) -> Prices
     other
 }
 
-/// Prices with a lower leaf bound than so much, in which the good of a number, 0..27, has another price, if they are lower.
+/// Returns the prices with another price for a good, 0..27, if their leaf bound is lower than `bound`.
 fn lower_with(
     account: &Account,
     choice: &Choice,
@@ -55,7 +55,7 @@ fn lower_with(
     }
 }
 
-/// Prices with a lower leaf bound, in which one good has a price that is 50 higher or lower, if there are such.
+/// Returns prices with a lower leaf bound, in which this good's price is 50 higher or lower, if there are any.
 fn lower_at(
     account: &Account,
     choice: &Choice,
@@ -79,7 +79,7 @@ fn lower_at(
     None
 }
 
-/// Prices with a lower leaf bound, in which some good has a price that is 50 higher or lower, if there are such.
+/// Returns prices with a lower leaf bound, in which one good's price is 50 higher or lower, if there are any.
 fn lower_prices(
     account: &Account,
     choice: &Choice,
@@ -97,7 +97,7 @@ fn lower_prices(
     None
 }
 
-/// Moves single prices by 50 as long as that gives a lower leaf bound.
+/// Moves single prices by 50 as long as this gives a lower leaf bound.
 fn settle(account: &Account, choice: &Choice, start: Prices) -> Prices
     ensures range { ArePrices result }
     ensures settled { settled.IsSettled account.now (chosen choice.now) result }
@@ -108,12 +108,12 @@ fn settle(account: &Account, choice: &Choice, start: Prices) -> Prices
         prices = other;
         bound = leaf_bound(account, choice, &prices);
     }
-    // The range of the prices is known where they are read.
+    // The range of the prices is known once they are read.
     let _dollars = &prices.dollars;
     prices
 }
 
-/// Whether each client has its package left.
+/// Returns whether each client's package is left to it.
 fn are_left(choice: &Choice, allocation: &[Package; 8]) -> bool
     requires lawful { All IsPackage allocation.now }
     requires eight { length allocation.now ≡ 8 }
@@ -127,8 +127,8 @@ fn are_left(choice: &Choice, allocation: &[Package; 8]) -> bool
     true
 }
 
-/// Whether packages that are left reach what a quote's prices bound, by a table of upper bounds of what is left, so that no prices bound it
-/// lower.
+/// Returns whether packages that are left reach the bound of a quote's prices, given a table of upper bounds of what is left. If they
+/// do, no prices give a lower bound.
 fn is_reached(
     account: &Account,
     choice: &Choice,
@@ -142,14 +142,14 @@ fn is_reached(
     requires eight { length allocation.now ≡ 8 }
     ensures { result ≡ true → settled.IsSettled account.now (chosen choice.now) quote.now.prices }
 {
-    // The law of prices rests on the account's ranges, which are known where it is read.
+    // The law of prices needs the account's ranges, which are known once the account is read.
     let _holdings = &account.holdings;
     are_left(choice, allocation)
         && is_enough(account, allocation)
         && quote.holds(left, allocation_worth(account, allocation))
 }
 
-/// The clients keep what a choice leaves; it is not solved yet.
+/// Narrows the packages to what a choice leaves, without solving the relaxation.
 fn choose(relaxation: &mut Relaxation, choice: &Choice)
     ensures { IsRestricted (chosen choice.now) relaxation.old.worths.dollars relaxation.new.worths.dollars }
 {
@@ -158,7 +158,7 @@ fn choose(relaxation: &mut Relaxation, choice: &Choice)
     }
 }
 
-/// Narrows by what a choice fixes at a place 0..31, four features for each client.
+/// Narrows the packages to what a choice fixes at a place 0..31; there are four features for each client.
 fn narrow_at(relaxation: &mut Relaxation, choice: &Choice, place: u8)
     requires { place < 32 }
     ensures { IsNarrowedBy (fixed_at choice.now (place / 4) (place % 4)) (place / 4) (place % 4) relaxation.old.worths.dollars relaxation.new.worths.dollars }
@@ -169,25 +169,25 @@ fn narrow_at(relaxation: &mut Relaxation, choice: &Choice, place: u8)
     }
 }
 
-/// Whole prices for what a choice leaves of an account's packages, by which the leaf bound is low. No single price is worth
-/// moving by 50. That prices are found so is our own rule; any prices bound what is left.
+/// Finds whole prices with a low leaf bound for what a choice leaves of an account's packages. No move of a single price by
+/// 50 lowers the bound. This project defines how it finds them; any prices bound what is left.
 pub fn dual_prices(account: &Account, choice: &Choice) -> Prices
     ensures range { ArePrices result }
     ensures settled { settled.IsSettled account.now (chosen choice.now) result }
 {
-    // The proof rests on the account's ranges, which are known where it is read.
+    // The proof needs the account's ranges, which are known once the account is read.
     let _holdings = &account.holdings;
     let mut left = Relaxation::new(account);
     choose(&mut left, choice);
     left.repair(0);
     let quote = settled_from(account, choice, &left, &left.prices());
-    // The range of the prices is known where they are read.
+    // The range of the prices is known once they are read.
     let _dollars = &quote.prices.dollars;
     quote.prices
 }
 
-/// A quote of whole prices for what a choice leaves, of which no single one is worth moving by 50; none if the relaxation, which is of what the
-/// choice leaves, is worth more than a total in dollars.
+/// Returns a quote of whole prices for what a choice leaves, whose leaf bound no move of a single price by 50 lowers; `None` if the relaxation,
+/// which must be that of the choice, is worth more than a total in dollars.
 pub fn settled_quote(
     account: &Account,
     choice: &Choice,
@@ -202,8 +202,8 @@ pub fn settled_quote(
     Some(settled_from(account, choice, left, &prices))
 }
 
-/// A quote of the prices to start from if packages that are left reach their bound, and else of prices moved from there until no single one
-/// is worth moving by 50. The relaxation is of what the choice leaves.
+/// Returns a quote of the prices to start from, if packages that are left reach their bound. Otherwise it moves single prices by 50 until
+/// no move lowers the bound. The relaxation must be that of the choice.
 fn settled_from(account: &Account, choice: &Choice, left: &Relaxation, start: &Prices) -> Quote
     requires { IsCeiling account.now (chosen choice.now) left.now.worths.dollars }
     ensures settled { settled.IsSettled account.now (chosen choice.now) result.prices }

@@ -1,4 +1,4 @@
--- The JSON text of what an agent is answered. The texts are our own.
+-- The JSON text of the server's lines to an agent. This project defines the texts.
 use Rattle.std.specs.Prelude.{ℕ, ℤ, List, [], ◌∷◌, ◌++◌, Bool, true, false, if◌then◌else◌, nat_lt, decimal, codes, map}
 use Rattle.std.specs.Fmt.{signed_decimal}
 use Rattle.std.specs.List.{concat, join_with_byte}
@@ -15,7 +15,7 @@ pair_text first second = concat (codes "[" ∷ first ∷ codes "," ∷ second �
 abbrev pub json_point_text : Point → List ℕ
 json_point_text point = pair_text (signed_decimal point.units) (decimal point.price)
 
--- the text that a point adds to the points before it
+-- the text that the next point adds after `count` others
 abbrev pub json_next_text : ℕ → Point → List ℕ
 json_next_text count point = if nat_lt 0 count then 44 ∷ json_point_text point else json_point_text point
 
@@ -23,15 +23,15 @@ json_next_text count point = if nat_lt 0 count then 44 ∷ json_point_text point
 abbrev pub points_text : List Point → List ℕ
 points_text points = concat (codes "[" ∷ join_with_byte 44 (map json_point_text points) ∷ codes "]" ∷ [])
 
--- a holding and standing points
+-- the members for a holding and standing points
 abbrev pub own_members : ℤ → List Point → List ℕ
 own_members holding left = concat (codes "\"own\":" ∷ signed_decimal holding ∷ codes ",\"points\":" ∷ points_text left ∷ [])
 
--- the numbers of a hotel bid that is below the quote
+-- the members for a hotel bid below the quote
 abbrev pub below_members : ℕ → ℕ → ℕ → List ℕ
 below_members need at offered = concat (codes "\"no\":\"belowquote\",\"need\":" ∷ decimal need ∷ codes ",\"price\":" ∷ decimal at ∷ codes ",\"offered\":" ∷ decimal offered ∷ [])
 
--- the members that a reply gives, after that of its position
+-- the members for a reply, after that for its position
 abbrev pub reply_members : Reply → List ℕ
 reply_members (Taken bought sold) = codes "\"taken\":" ++ pair_text (decimal bought) (decimal sold)
 reply_members (Own holding left) = own_members holding left
@@ -47,7 +47,7 @@ reply_members (BelowQuote need at offered) = below_members need at offered
 abbrev pub cash_members : ℤ → List ℕ
 cash_members dollars = codes "\"cash\":" ++ signed_decimal dollars
 
--- whether an auction is open
+-- whether an auction is open, given whether it is closed
 abbrev pub openness : Bool → List ℕ
 openness true = codes "false"
 openness false = codes "true"

@@ -1,4 +1,4 @@
--- What a JSON line asks. The forms are our own; which value a line has is serde_json's own definition of reading.
+-- What a JSON line requests. This project defines the forms; serde_json's definition of reading determines the value of a line.
 use Rattle.std.specs.Prelude.{ℕ, suc, ◌==◌, nat_le, if◌then◌else◌, List, [], ℤ, pos, negsuc, unsigned_abs, Option, Some, None, Result, Ok, Err, codes, option_and_then, bytes_eq}
 use Rattle.std.specs.Str.{is_utf8}
 use Rattle.serde_json.specs.Data.{Data, Items, no_items, item, Members, no_members, member}
@@ -9,17 +9,17 @@ use Rattle.line_protocol.specs.declared.asking.Request.TheVariants as requests
 use Rattle.line_protocol.specs.declared.asking.RequestFault.TheVariants as faults
 use Rattle.text_forms.specs.Steps.{◌>>=◌}
 
--- the value that serde_json reads in a line; bytes that are not UTF-8 have none
+-- the value that serde_json reads from a line; bytes that are not UTF-8 have none
 abbrev pub value_of : List ℕ → Option Data
 value_of line = if is_utf8 line then read line else None
 
 -- ---- numbers
 
--- a whole number, if the value is one of 64 bits
+-- the value as a whole number, if it is one of 64 bits
 abbrev pub whole : Data → Option ℤ
 whole value = option_and_then as_i64 (as_number value)
 
--- a number that is not below 0 and at most a limit
+-- a number, if it is at least 0 and at most a limit
 abbrev pub json_at_most : ℕ → ℤ → Option ℕ
 json_at_most limit (pos n) = if nat_le n limit then Some n else None
 json_at_most limit (negsuc n) = None
@@ -62,7 +62,7 @@ abbrev pub count_members : Members → ℕ
 count_members no_members = 0
 count_members (member key value members) = suc (count_members members)
 
--- what the word at `do` asks of an auction
+-- the request about an auction that the word at `do` gives
 abbrev pub about : List ℕ → Option Data → Result Request RequestFault
 about word None = Err faults.Syntax
 about word (Some auction) =
@@ -84,7 +84,7 @@ plain word =
     else if bytes_eq word (codes "quit") then Ok requests.Quit
     else Err faults.Syntax
 
--- what an object with this many members and this word at `do` asks: with no other key, with `auction` too, or with `auction` and `points`
+-- the request of an object with this many members and this word at `do`: it has no other key, or `auction`, or `auction` and `points`
 abbrev pub asked_by : List ℕ → ℕ → Option Data → Option Data → Result Request RequestFault
 asked_by word count auction points =
     if count == 1 then plain word
@@ -104,6 +104,6 @@ abbrev pub asked_by_value : Option Data → Result Request RequestFault
 asked_by_value None = Err faults.Syntax
 asked_by_value (Some value) = asked_by_object (as_object value)
 
--- what a line asks, or the first fault
+-- what a line requests, or its first fault
 unfoldable pub asks_json : List ℕ → Result Request RequestFault
 asks_json line = asked_by_value (value_of line)

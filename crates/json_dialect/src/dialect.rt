@@ -7,15 +7,15 @@ use line_protocol::{Request, RequestFault, Said};
 use std::alloc::Global;
 use tac_base::Text;
 
-/// Lines that are JSON objects. Reading takes memory of the allocator, and a line for which there is none is answered with the
-/// fault `Memory`; printing takes none.
+/// A dialect whose lines are JSON objects. Reading allocates memory; if an allocation fails, the fault is `Memory`.
+/// Printing allocates none.
 #[derive(Clone, Copy)]
 pub struct JsonDialect {
     alloc: Global,
 }
 
 impl JsonDialect {
-    /// The dialect, which reads with memory of this allocator.
+    /// Returns the dialect. It reads with memory of this allocator.
     pub fn new(alloc: Global) -> Self
         ensures { result.alloc ≡ alloc }
     {

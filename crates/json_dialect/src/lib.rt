@@ -1,5 +1,5 @@
-//! The lines of agents as JSON texts, one object per line: requests are read as what their objects ask, and replies
-//! are printed as objects. The objects and their texts are our own.
+//! The lines of agents in JSON, one object per line: it reads requests from objects, and prints replies
+//! as objects. This project defines the objects and their texts.
 #![tactic(auto)]
 
 mod dialect;

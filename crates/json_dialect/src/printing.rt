@@ -36,7 +36,7 @@ fn print_point(point: &Point, out: &mut Text)
     out.push(b']');
 }
 
-/// Appends the array of the next point.
+/// Appends the array of the next point, after `count` others.
 fn print_next(count: usize, point: &Point, out: &mut Text)
     requires { length out.old + 44 ≤ REPLY_TEXT }
     ensures value { out.new ≡ out.old ++ json.json_next_text count point.now }
@@ -85,7 +85,7 @@ fn print_own(holding: i32, left: &Left, out: &mut Text)
     print_left(left, out);
 }
 
-/// Appends the numbers of a hotel bid that is below the quote.
+/// Appends the members of the refusal of a hotel bid that is below the quote.
 fn print_below(need: u8, at: u16, offered: u8, out: &mut Text)
     requires { length out.old + 288 ≤ REPLY_TEXT }
     ensures value { out.new ≡ out.old ++ json.below_members need at offered }
@@ -164,7 +164,7 @@ fn print_cash(position: u32, dollars: i64, out: &mut Text)
     out.push(b'}');
 }
 
-/// Whether an auction is open, as a JSON word.
+/// Returns the JSON word for whether an auction is open.
 fn openness(closed: bool) -> &'static [u8]
     ensures value { result.now ≡ json.openness closed }
     ensures len { length result.now ≤ 5 }
@@ -215,7 +215,7 @@ fn print_fault(fault: RequestFault, out: &mut Text)
     }
 }
 
-/// Appends the object of a reply, without a line end; 512 bytes have to be free.
+/// Appends the object of a reply, without a line end; at least 512 bytes must be free.
 pub(crate) fn print_said(said: &Said, out: &mut Text)
     requires { length out.old + LINE_BYTES ≤ REPLY_TEXT }
     ensures value { out.new ≡ out.old ++ json.json_text said.now }
@@ -233,8 +233,8 @@ pub(crate) fn print_said(said: &Said, out: &mut Text)
     }
 }
 
-/// The law of the texts, as this call's contract: different replies in the ranges of `read_reply` have different texts,
-/// so JSON tells an agent as much as words do.
+/// The law of these texts: different replies in the ranges of `read_reply` have different texts.
+/// So an agent learns as much from JSON as from words.
 pub fn one_json_text()
     ensures { (one other : Said) → IsSaid one → IsSaid other → json.json_text one ≡ json.json_text other → one ≡ other }
 {}

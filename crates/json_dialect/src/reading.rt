@@ -12,10 +12,10 @@ use std::alloc::Global;
 use std::marker::Model;
 use tac_base::{BidDraft, BidFault, Good, Points};
 
-/// The greatest number that is read.
+/// The greatest number that is accepted.
 const HIGHEST: i64 = 99_999;
 
-/// A whole number in 0..99999.
+/// Returns a whole number in 0..99999.
 fn number_of(value: &Value) -> Option<u64>
     ensures { result ≡ json.json_number (view value.now) }
 {
@@ -25,7 +25,7 @@ fn number_of(value: &Value) -> Option<u64>
     }
 }
 
-/// A whole number in -99999..99999.
+/// Returns a whole number in -99999..99999.
 fn signed_number_of(value: &Value) -> Option<i64>
     ensures { result ≡ json.signed_number_of (view value.now) }
 {
@@ -35,7 +35,7 @@ fn signed_number_of(value: &Value) -> Option<i64>
     }
 }
 
-/// The good of a number.
+/// Returns the good with a number.
 fn good_of(value: &Value) -> Result<Good, RequestFault>
     ensures { result ≡ asked.read_good (json.json_number (view value.now)) }
 {
@@ -51,7 +51,7 @@ fn good_of(value: &Value) -> Result<Good, RequestFault>
     }
 }
 
-/// A point as it was read, within no limits yet.
+/// A point as it was read, before any check of its limits.
 #[derive(Drop)]
 struct ReadPoint {
     units: i64,
@@ -67,7 +67,7 @@ impl Model for ReadPoint {
 }
 
 impl ReadPoint {
-    /// Adds the point to a bid, unless it brings a fault.
+    /// Adds the point to a bid, or returns the fault that it causes.
     fn add_to(&self, draft: &mut BidDraft) -> Result<(), BidFault>
         ensures fault { IfErr result (λ fault. left_fault (draft.old ++ self.now ∷ []) ≡ Some fault) }
         ensures ok { OnOk result (draft.new ≡ draft.old ++ self.now ∷ []) }
@@ -76,7 +76,7 @@ impl ReadPoint {
     }
 }
 
-/// The point of an array of two numbers.
+/// Returns the point of an array of two numbers.
 #[tactic(auto, using(crate::proofs::Views::not_two))]
 fn point_of(value: &Value) -> Option<ReadPoint>
     ensures { result ≡ json.json_point (view value.now) }
@@ -95,7 +95,7 @@ fn point_of(value: &Value) -> Option<ReadPoint>
     }
 }
 
-/// Whether each value is a point.
+/// Returns whether each value is a point.
 fn are_points(values: &[Value]) -> bool
     ensures { result ≡ is_some (json.json_points_from (items_view values.now)) }
 {
@@ -107,7 +107,7 @@ fn are_points(values: &[Value]) -> bool
     true
 }
 
-/// The bid of these points, or the first fault from the left.
+/// Returns the bid of these points, or the first fault from the left.
 fn judged_points(values: &[Value]) -> Result<Points, BidFault>
     requires { is_some (json.json_points_from (items_view values.now)) ≡ true }
     ensures { result ≡ judged (json.json_points_from (items_view values.now)) }
@@ -124,7 +124,7 @@ fn judged_points(values: &[Value]) -> Result<Points, BidFault>
     draft.finish()
 }
 
-/// The bid of an array of points, or what is wrong with it: its form first.
+/// Returns the bid of an array of points, or its fault; a fault of the form comes first.
 fn points_of(value: &Value) -> Result<Points, BidFault>
     ensures { result ≡ judged (json.json_points (view value.now)) }
 {
@@ -138,7 +138,7 @@ fn points_of(value: &Value) -> Result<Points, BidFault>
     }
 }
 
-/// The bid in an auction.
+/// Returns the bid in an auction.
 fn bid(word: &str, number: Option<&Value>, points: Option<&Value>) -> Result<Request, RequestFault>
     ensures { result ≡ json.bid word.now (option_map (λ v. view v.now) number.entry) (option_map (λ v. view v.now) points.entry) }
 {
@@ -158,7 +158,7 @@ fn bid(word: &str, number: Option<&Value>, points: Option<&Value>) -> Result<Req
     }
 }
 
-/// The request with only the word at `do`.
+/// Returns the request of an object with only the member `do`.
 fn plain(word: &str) -> Result<Request, RequestFault>
     ensures { result ≡ json.plain word.now }
 {
@@ -171,7 +171,7 @@ fn plain(word: &str) -> Result<Request, RequestFault>
     }
 }
 
-/// The request about an auction.
+/// Returns the request about an auction.
 fn about(word: &str, number: Option<&Value>) -> Result<Request, RequestFault>
     ensures { result ≡ json.about word.now (option_map (λ v. view v.now) number.entry) }
 {
@@ -192,7 +192,7 @@ fn about(word: &str, number: Option<&Value>) -> Result<Request, RequestFault>
     }
 }
 
-/// What an object with this many members asks, by the word at `do`.
+/// Returns the request of an object with this many members, by the word at `do`.
 fn asked_by(
     word: &str,
     count: usize,
@@ -209,14 +209,14 @@ fn asked_by(
     }
 }
 
-/// How many members an object has.
+/// Returns how many members an object has.
 fn count_members(members: &Map<String, Value>) -> usize
     ensures { result ≡ json.count_members (members_view members.now.entries) }
 {
     members.len()
 }
 
-/// What a value asks.
+/// Returns the request of a value, or its fault.
 fn asked_by_value(value: &Value) -> Result<Request, RequestFault>
     ensures { result ≡ json.asked_by_value (Some (view value.now)) }
 {
@@ -230,7 +230,7 @@ fn asked_by_value(value: &Value) -> Result<Request, RequestFault>
     asked_by(word, count, value.get("auction"), value.get("points"))
 }
 
-/// What a line asks, or the first fault; or there was no memory to read it.
+/// Returns the request of a line, or the first fault; `Memory` means that a memory allocation failed.
 pub(crate) fn read_line(alloc: Global, line: &[u8]) -> Result<Request, RequestFault>
     ensures { (result ≡ json.asks_json line.now) ⊎ (result ≡ Err Memory) }
 {
@@ -244,7 +244,7 @@ pub(crate) fn read_line(alloc: Global, line: &[u8]) -> Result<Request, RequestFa
     }
 }
 
-/// The law of requests, as this call's contract: the plain object of a request in range is read as that request.
+/// The law of requests: the plain object of a request in range is read as that request.
 pub fn one_json_request()
     ensures { (request : Request) → IsRequest request → json.asks_json (object_text request) ≡ Ok request }
 {}

@@ -1,11 +1,11 @@
--- How a game was played, as its log says it.
+-- How a game was played, as its log says.
 use Rattle.std.specs.Prelude.{ℕ, List}
 use Rattle.line_protocol.specs.declared.admission.Verdict.{Verdict}
 use Rattle.line_protocol.specs.declared.admission.Cause.{Cause}
 use Rattle.line_protocol.specs.declared.head.LogHead.{LogHead}
 use Rattle.line_protocol.specs.declared.head.LogHead.TheVariants as kept
 
--- From a script; or over links, with what became of each link in order of arrival, why the session of each seated agent ended, and how
+-- From a script; or over links, with the verdict on each link in order of arrival, why the session of each seated agent ended, and how
 -- many ticks were missed.
 pub data Head : Type 0 where
   Play : Head

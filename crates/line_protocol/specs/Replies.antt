@@ -1,4 +1,4 @@
--- The text of what an agent is answered.
+-- The text of the server's lines to an agent.
 use Rattle.std.specs.Prelude.{ℕ, ◌≢◌, List, [], ◌∷◌, if◌then◌else◌, All, decimal, codes}
 use Rattle.std.specs.Fmt.{signed_decimal}
 use Rattle.std.specs.List.{join_with_byte}

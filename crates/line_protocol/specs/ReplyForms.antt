@@ -22,7 +22,7 @@ ended value (word ∷ words) = None
 abbrev pub at_most : ℕ → ℕ → Option ℕ
 at_most limit number = if nat_le number limit then Some number else None
 
--- a numeral of a number that is at most a limit
+-- the number of a numeral, if it is at most a limit
 abbrev pub read_at_most : ℕ → List ℕ → Option ℕ
 read_at_most limit word = numeral 10 word >>= at_most limit
 
@@ -49,7 +49,7 @@ abbrev pub points_or_none : Result (List Point) BidFault → Option (List Point)
 points_or_none (Err fault) = None
 points_or_none (Ok points) = Some points
 
--- standing points
+-- standing points, or none
 abbrev pub read_left : List ℕ → Option (List Point)
 read_left text = if bytes_eq text (codes "()") then Some [] else points_or_none (judged (points_of text))
 
@@ -150,7 +150,7 @@ said_of_words (first ∷ words) =
     else if bytes_eq first (codes "no") then unplaced_of words
     else (read_place first >>= λ position. placed_of position words)
 
--- what a line says
+-- the reply that a line gives
 unfoldable pub read_said : List ℕ → Option Said
 read_said line = said_of_words (words_of line)
 
@@ -160,6 +160,6 @@ abbrev pub answer_of_words : List (List ℕ) → Option Reply
 answer_of_words [] = None
 answer_of_words (keyword ∷ words) = read_reply_words keyword words
 
--- the reply of a text without a position
+-- the reply that a text without a position gives
 unfoldable pub answer_of : List ℕ → Option Reply
 answer_of text = answer_of_words (words_of text)

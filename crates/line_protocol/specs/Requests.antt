@@ -1,4 +1,4 @@
--- What a line asks.
+-- What a line requests.
 use Rattle.std.specs.Prelude.{ℕ, nat_lt, if◌then◌else◌, List, [], ◌∷◌, Option, Some, None, Result, Ok, Err, codes, bytes_eq}
 use Rattle.std.specs.List.{join_with_byte}
 use Rattle.line_protocol.specs.Prelude.{Point, BidFault, numeral, ◌>>=◌, words_of, points_of, judged}
@@ -7,11 +7,11 @@ use Rattle.line_protocol.specs.declared.asking.Request.TheVariants as requests
 use Rattle.line_protocol.specs.declared.asking.RequestFault.{RequestFault}
 use Rattle.line_protocol.specs.declared.asking.RequestFault.TheVariants as faults
 
--- a line of no form
+-- the fault of a line without any of the forms
 abbrev pub syntax : RequestFault
 syntax = faults.Syntax
 
--- the good of a numeral
+-- the good with a number, if a word gives one
 abbrev pub read_good : Option ℕ → Result ℕ RequestFault
 read_good None = Err faults.Syntax
 read_good (Some number) = if nat_lt 27 number then Err faults.NoSuchAuction else Ok number
@@ -29,12 +29,12 @@ about_of keyword good =
     else if bytes_eq keyword (codes "own") then (good >>= λ g. Ok (requests.Own g))
     else if bytes_eq keyword (codes "quote") then (good >>= λ g. Ok (requests.Quote g)) else Err faults.Syntax
 
--- a bid of points that were read, or not
+-- a bid with the points that were read, or their fault
 abbrev pub with_points : ℕ → Result (List Point) BidFault → Result Request RequestFault
 with_points good (Ok points) = Ok (requests.Bid good points)
 with_points good (Err fault) = Err (faults.Bid fault)
 
--- a line of a keyword, a number and the rest of the line
+-- a line of a keyword, a number and more text
 abbrev pub bid_request : List ℕ → Result ℕ RequestFault → List ℕ → Result Request RequestFault
 bid_request keyword good points =
     if bytes_eq keyword (codes "bid") then (good >>= λ g. with_points g (judged (points_of points))) else Err faults.Syntax
@@ -45,6 +45,6 @@ request_of_words (keyword ∷ []) = plain_of keyword
 request_of_words (keyword ∷ number ∷ []) = about_of keyword (read_good (numeral 5 number))
 request_of_words (keyword ∷ number ∷ word ∷ words) = bid_request keyword (read_good (numeral 5 number)) (join_with_byte 32 (word ∷ words))
 
--- what a line asks, or the first fault
+-- what a line requests, or its first fault
 unfoldable pub request_of : List ℕ → Result Request RequestFault
 request_of line = request_of_words (words_of line)

@@ -1,6 +1,6 @@
 use tac_base::Agent;
 
-/// The verdict on a link that asked for a seat. The answers and their order are our own.
+/// The verdict on a link that asked for a seat. This project defines the verdicts and their order.
 #[derive(Clone, Copy, Debug, PartialEq, Eq)]
 pub enum Verdict {
     /// It plays as this agent.
@@ -11,14 +11,14 @@ pub enum Verdict {
     WrongWord,
     /// The seat of its word is already taken.
     Taken,
-    /// Its first line had no end within the bytes that a link may give, or a read failed before.
+    /// Its first line did not end within the bytes that a link may give, or a read failed first.
     Lost,
 }
 
 /// Why the session of a seated link ended.
 #[derive(Clone, Copy, Debug, PartialEq, Eq)]
 pub enum Cause {
-    /// The agent sent `quit` and was sent `bye`.
+    /// The agent sent `quit` and got `bye`.
     Quit,
     /// The link had no more bytes.
     End,

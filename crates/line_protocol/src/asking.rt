@@ -1,23 +1,23 @@
 use tac_base::{BidFault, Good, Points};
 
-/// What an agent asks in a line.
+/// What an agent requests in a line.
 #[derive(Debug, Drop)]
 pub enum Request {
-    /// A bid in the auction of the good, in place of the whole earlier bid.
+    /// To bid in the auction of the good. The bid replaces the whole earlier bid.
     Bid { good: Good, points: Points },
-    /// The standing bid in the auction of the good is withdrawn.
+    /// To withdraw the standing bid in the auction of the good.
     Withdraw { good: Good },
-    /// The agent's holding of the good and its standing points.
+    /// To read the agent's holding of the good and its standing points.
     Own { good: Good },
-    /// The board of the good's auction.
+    /// To read the board of the good's auction.
     Quote { good: Good },
-    /// The agent's net cash.
+    /// To read the agent's net cash.
     Cash,
-    /// The session is to end.
+    /// To end the session.
     Quit,
 }
 
-/// Why a line is no request. The faults are tried in this order, which is our own rule.
+/// Why a line is not a request. The faults are tested in this order, which this project defines.
 /// Such a line changes nothing.
 #[derive(Clone, Copy, Debug, PartialEq, Eq)]
 pub enum RequestFault {
@@ -27,6 +27,6 @@ pub enum RequestFault {
     NoSuchAuction,
     /// The points are refused.
     Bid(BidFault),
-    /// There was no memory to read the line. A line of words is never answered so.
+    /// A memory allocation for reading the line failed. No line of words has this fault.
     Memory,
 }

@@ -1,4 +1,4 @@
-//! The lines that an agent and the server exchange: requests are read, replies are printed and read again.
+//! The lines between an agent and the server: reads requests, and prints and reads replies.
 #![tactic(auto)]
 
 mod admission;

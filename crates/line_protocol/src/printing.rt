@@ -51,8 +51,8 @@ fn print_left(left: &Left, out: &mut Text)
     print_points(left.as_slice(), out);
 }
 
-/// Appends the text of a reply without its position, as a log shows it; 288 bytes have to be free. It takes at most 288
-/// of them, and none of them is a line end.
+/// Appends the text of a reply without its position, as a log shows it; at least 288 bytes must be free. Appends at most
+/// 288 bytes, none of which is a line end.
 pub fn print_answer(reply: &Reply, out: &mut Text)
     requires { length out.old + 288 ≤ REPLY_TEXT }
     ensures value { out.new ≡ out.old ++ reply_text reply.now }
@@ -90,7 +90,7 @@ pub fn print_answer(reply: &Reply, out: &mut Text)
     }
 }
 
-/// The number of a bid's fault, 1 to 5.
+/// Returns the number of a bid's fault, 1 to 5.
 pub fn number_of(fault: BidFault) -> u32
     ensures { result ≡ fault_number fault }
 {
@@ -145,8 +145,8 @@ fn print_board(board: &Board, out: &mut Text)
     out.push_bytes(state_of(board.closed));
 }
 
-/// Appends the line of a reply, without its line end; 512 bytes have to be free. It takes at most 512 of them,
-/// and none of them is a line end. The lines are our own.
+/// Appends the line of a reply, without its line end; at least 512 bytes must be free. Appends at most 512 bytes, none
+/// of which is a line end. This project defines the lines.
 pub fn print_reply(said: &Said, out: &mut Text)
     requires { length out.old + LINE_BYTES ≤ REPLY_TEXT }
     ensures value { out.new ≡ out.old ++ said_text said.now }

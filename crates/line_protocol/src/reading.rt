@@ -10,7 +10,7 @@ use tac_base::limits::{CASH_DIGITS, POSITION, SHOWN_HOLDING, SHOWN_PRICE};
 use tac_base::{BidFault, Board, Left, Reply, read_numeral, read_signed};
 use text_forms::Words;
 
-/// The value, if no word is left.
+/// Returns the value, if no word is left.
 fn ended<T: Drop>(value: T, mut words: Words<'_>) -> Option<T>
     ensures { result ≡ forms.ended value words.entry }
 {
@@ -20,7 +20,7 @@ fn ended<T: Drop>(value: T, mut words: Words<'_>) -> Option<T>
     }
 }
 
-/// The number of a numeral, if it is at most the limit.
+/// Returns the number of a numeral, if it is at most the limit.
 fn number_within(word: &[u8], limit: u64) -> Option<u64>
     ensures value { result ≡ forms.read_at_most limit word.now }
     ensures bound { IfSome result (λ n. n ≤ limit) }
@@ -29,7 +29,7 @@ fn number_within(word: &[u8], limit: u64) -> Option<u64>
     if number <= limit { Some(number) } else { None }
 }
 
-/// The number of the next word, if it is at most the limit, and the words after it.
+/// Returns the number of the next word, if it is at most the limit, and the words after it.
 fn next_within<'a>(mut words: Words<'a>, limit: u64) -> Option<(u64, Words<'a>)>
     ensures value { result ≡ forms.next_within limit words.entry }
     ensures bound { IfSome result (λ x. x.0 ≤ limit) }
@@ -39,7 +39,7 @@ fn next_within<'a>(mut words: Words<'a>, limit: u64) -> Option<(u64, Words<'a>)>
     Some((number, words))
 }
 
-/// A number of units, and the words after it.
+/// Returns a number of units, and the words after it.
 fn next_units<'a>(words: Words<'a>) -> Option<(u8, Words<'a>)>
     ensures { result ≡ forms.next_within 255 words.entry }
 {
@@ -47,7 +47,7 @@ fn next_units<'a>(words: Words<'a>) -> Option<(u8, Words<'a>)>
     Some((units as u8, words))
 }
 
-/// A price in dollars, and the words after it.
+/// Returns a price in dollars, and the words after it.
 fn next_price<'a>(words: Words<'a>) -> Option<(u16, Words<'a>)>
     ensures { result ≡ forms.next_within SHOWN_PRICE words.entry }
 {
@@ -55,7 +55,7 @@ fn next_price<'a>(words: Words<'a>) -> Option<(u16, Words<'a>)>
     Some((price as u16, words))
 }
 
-/// The holding of a word.
+/// Returns the holding that a word gives.
 fn holding_of(word: &[u8]) -> Option<i32>
     ensures { result ≡ forms.holding_of word.now }
 {
@@ -67,7 +67,7 @@ fn holding_of(word: &[u8]) -> Option<i32>
     }
 }
 
-/// The position of a word that begins with `@`.
+/// Returns the position in a word that begins with `@`.
 fn place_of(word: &[u8]) -> Option<u32>
     ensures { result ≡ forms.read_place word.now }
 {
@@ -83,7 +83,7 @@ fn place_of(word: &[u8]) -> Option<u32>
     }
 }
 
-/// The standing points of a text.
+/// Returns the standing points that a text gives.
 #[tactic(auto, using(tac_base::proofs::Faults::bid_left))]
 fn left_of(text: &[u8]) -> Option<Left>
     ensures { result ≡ forms.read_left text.now }
@@ -97,7 +97,7 @@ fn left_of(text: &[u8]) -> Option<Left>
     }
 }
 
-/// The reply of the words after `taken`.
+/// Returns the reply that the words after `taken` give.
 fn taken_of(words: Words<'_>) -> Option<Reply>
     ensures { result ≡ forms.taken_of words.entry }
 {
@@ -106,7 +106,7 @@ fn taken_of(words: Words<'_>) -> Option<Reply>
     ended(Reply::Taken { bought, sold }, words)
 }
 
-/// The reply of the words after `sold`.
+/// Returns the reply that the words after `sold` give.
 fn sold_of(words: Words<'_>) -> Option<Reply>
     ensures { result ≡ forms.sold_of words.entry }
 {
@@ -115,7 +115,7 @@ fn sold_of(words: Words<'_>) -> Option<Reply>
     ended(Reply::Sold { units, price }, words)
 }
 
-/// The refusal of the words after `no belowquote`.
+/// Returns the refusal that the words after `no belowquote` give.
 fn below_of(words: Words<'_>) -> Option<Reply>
     ensures { result ≡ forms.below_of words.entry }
 {
@@ -125,7 +125,7 @@ fn below_of(words: Words<'_>) -> Option<Reply>
     ended(Reply::BelowQuote { need, at, offered }, words)
 }
 
-/// The reply of the words after `own`: a holding, and the rest of the line, which is the standing points.
+/// Returns the reply that the words after `own` give: a holding, and in the rest of the line the standing points.
 fn own_of(mut words: Words<'_>) -> Option<Reply>
     ensures { result ≡ forms.own_of words.entry }
 {
@@ -136,7 +136,7 @@ fn own_of(mut words: Words<'_>) -> Option<Reply>
     Some(Reply::Own { holding, left })
 }
 
-/// The refusal after `no`.
+/// Returns the refusal that the words after `no` give.
 fn refused_of(mut words: Words<'_>) -> Option<Reply>
     ensures { result ≡ forms.refused_of words.entry }
 {
@@ -158,7 +158,7 @@ fn refused_of(mut words: Words<'_>) -> Option<Reply>
     }
 }
 
-/// The reply of a keyword and the words after it.
+/// Returns the reply that a keyword and the words after it give.
 fn reply_of(keyword: &[u8], words: Words<'_>) -> Option<Reply>
     ensures { result ≡ forms.read_reply_words keyword.now words.entry }
 {
@@ -177,7 +177,7 @@ fn reply_of(keyword: &[u8], words: Words<'_>) -> Option<Reply>
     }
 }
 
-/// The reply of the words after `cash`.
+/// Returns the reply that the words after `cash` give.
 fn cash_of(position: u32, mut words: Words<'_>) -> Option<Said>
     ensures { result ≡ forms.read_cash position words.entry }
 {
@@ -186,7 +186,7 @@ fn cash_of(position: u32, mut words: Words<'_>) -> Option<Said>
     ended(Said::Cash(position, dollars), words)
 }
 
-/// Whether a word says that an auction is closed.
+/// Returns whether the word says that an auction is closed.
 fn state_of(word: &[u8]) -> Option<bool>
     ensures { result ≡ forms.read_state word.now }
 {
@@ -199,7 +199,7 @@ fn state_of(word: &[u8]) -> Option<bool>
     }
 }
 
-/// Whether the next word says that an auction is closed, and the words after it.
+/// Returns whether the next word says that an auction is closed, and the words after it.
 fn next_state<'a>(mut words: Words<'a>) -> Option<(bool, Words<'a>)>
     ensures { result ≡ forms.next_state words.entry }
 {
@@ -208,7 +208,7 @@ fn next_state<'a>(mut words: Words<'a>) -> Option<(bool, Words<'a>)>
     Some((closed, words))
 }
 
-/// The board of the words after `quote`.
+/// Returns the board that the words after `quote` give.
 fn quote_of(count: u32, words: Words<'_>) -> Option<Said>
     ensures { result ≡ forms.quote_of count words.entry }
 {
@@ -224,7 +224,7 @@ fn quote_of(count: u32, words: Words<'_>) -> Option<Said>
     ended(Said::Quote(board), words)
 }
 
-/// The reply of the words after a position.
+/// Returns the reply that the words after a position give.
 fn placed_of(position: u32, mut words: Words<'_>) -> Option<Said>
     ensures { result ≡ forms.placed_of position words.entry }
 {
@@ -239,7 +239,7 @@ fn placed_of(position: u32, mut words: Words<'_>) -> Option<Said>
     Some(Said::At(position, reply))
 }
 
-/// The bid's fault of a number.
+/// Returns the bid's fault with a number.
 fn fault_at(number: u64) -> Option<BidFault>
     ensures { result ≡ forms.fault_at number }
 {
@@ -253,7 +253,7 @@ fn fault_at(number: u64) -> Option<BidFault>
     }
 }
 
-/// The fault of the words after `no bid`.
+/// Returns the fault that the words after `no bid` give.
 fn bid_fault_of(words: Words<'_>) -> Option<Said>
     ensures { result ≡ forms.bid_fault_of words.entry }
 {
@@ -262,7 +262,7 @@ fn bid_fault_of(words: Words<'_>) -> Option<Said>
     ended(Said::Fault(RequestFault::Bid(fault)), words)
 }
 
-/// The reply of the words after `no`, if no position stands before it.
+/// Returns the reply that the words after `no` give, if no position precedes it.
 fn unplaced_of(mut words: Words<'_>) -> Option<Said>
     ensures { result ≡ forms.unplaced_of words.entry }
 {
@@ -284,7 +284,7 @@ fn unplaced_of(mut words: Words<'_>) -> Option<Said>
     }
 }
 
-/// The reply of a line, over the definition of its form.
+/// Returns the reply of a line. Only this function unfolds the definition of its form.
 #[tactic(auto, unfolding(crate::specs::ReplyForms::read_said))]
 fn said_of(line: &[u8]) -> Option<Said>
     ensures { result ≡ forms.read_said line.now }
@@ -301,8 +301,8 @@ fn said_of(line: &[u8]) -> Option<Said>
     placed_of(position, words)
 }
 
-/// The reply of a line without its line end. There is none exactly if the line is no text that `print_reply` appends
-/// for a value in these ranges: positions and counts 0..16777215, prices at most 10001 dollars, units at most 255,
+/// Reads a reply from a line without its line end. It returns `None` exactly if `print_reply` appends this line for no value
+/// in these ranges: positions and counts 0..16777215, prices at most 10001 dollars, units at most 255,
 /// holdings -1000000..1000000, cash of at most 18 digits, and standing points within the limits of a bid.
 pub fn read_reply(line: &[u8]) -> Option<Said>
     ensures found { IfSome result (λ said. IsSaidText line.now said) }
@@ -311,7 +311,7 @@ pub fn read_reply(line: &[u8]) -> Option<Said>
     said_of(line)
 }
 
-/// The reply of a text, over the definition of its form.
+/// Returns the reply of a text. Only this function unfolds the definition of its form.
 #[tactic(auto, unfolding(crate::specs::ReplyForms::answer_of))]
 fn answer_of(text: &[u8]) -> Option<Reply>
     ensures { result ≡ forms.answer_of text.now }
@@ -321,8 +321,8 @@ fn answer_of(text: &[u8]) -> Option<Reply>
     reply_of(keyword, words)
 }
 
-/// The reply of a text as `print_answer` appends it, without a position. There is none exactly if the text is no such text of a
-/// reply in the ranges of `read_reply`.
+/// Reads a reply from a text without a position. It returns `None` exactly if `print_answer` appends this text for no reply
+/// in the ranges of `read_reply`.
 pub fn read_answer(text: &[u8]) -> Option<Reply>
     ensures exact { result ≡ forms.answer_of text.now }
     ensures found { IfSome result (λ reply. IsReplyText text.now reply) }

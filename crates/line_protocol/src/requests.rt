@@ -9,7 +9,7 @@ use bid_strings::read_points;
 use tac_base::{Good, read_numeral};
 use text_forms::Words;
 
-/// The good of a numeral.
+/// Returns the good whose number the numeral gives.
 fn good_of(word: &[u8]) -> Result<Good, RequestFault>
     ensures { result ≡ asked.read_good (numeral 5 word.now) }
 {
@@ -19,7 +19,7 @@ fn good_of(word: &[u8]) -> Result<Good, RequestFault>
     }
 }
 
-/// The good of a number.
+/// Returns the good with a number.
 fn good_at(number: u64) -> Result<Good, RequestFault>
     ensures { result ≡ asked.read_good (Some number) }
 {
@@ -32,7 +32,7 @@ fn good_at(number: u64) -> Result<Good, RequestFault>
     }
 }
 
-/// The request of a line of one word.
+/// Returns the request of a line of one word.
 fn plain_of(keyword: &[u8]) -> Result<Request, RequestFault>
     ensures { result ≡ asked.plain_of keyword.now }
 {
@@ -45,7 +45,7 @@ fn plain_of(keyword: &[u8]) -> Result<Request, RequestFault>
     }
 }
 
-/// The request of a line of a keyword and a number.
+/// Returns the request of a line of a keyword and a number.
 fn about_of(keyword: &[u8], number: &[u8]) -> Result<Request, RequestFault>
     ensures { result ≡ asked.about_of keyword.now (asked.read_good (numeral 5 number.now)) }
 {
@@ -63,7 +63,7 @@ fn about_of(keyword: &[u8], number: &[u8]) -> Result<Request, RequestFault>
     }
 }
 
-/// The bid of a text of points in the auction of a good.
+/// Returns the bid of a text of points in the auction of a good.
 fn with_points(good: Good, points: &[u8]) -> Result<Request, RequestFault>
     ensures { result ≡ asked.with_points good (judged (points_of points.now)) }
 {
@@ -73,7 +73,7 @@ fn with_points(good: Good, points: &[u8]) -> Result<Request, RequestFault>
     }
 }
 
-/// The request of a line of a keyword, a number and the rest of the line.
+/// Returns the request of a line of a keyword, a number and more text.
 fn bid_of(keyword: &[u8], number: &[u8], points: &[u8]) -> Result<Request, RequestFault>
     ensures { result ≡ asked.bid_request keyword.now (asked.read_good (numeral 5 number.now)) points.now }
 {
@@ -85,17 +85,17 @@ fn bid_of(keyword: &[u8], number: &[u8], points: &[u8]) -> Result<Request, Reque
     }
 }
 
-/// The request of a line without its line end, or the first fault: the form of the line comes first, then the number of the
-/// auction, then the points. The requests and their forms are our own.
+/// Reads a request from a line without its line end, or returns the first fault: of the form of the line, then of the number
+/// of the good, then of the points. This project defines the requests and their forms.
 pub fn read_request(line: &[u8]) -> Result<Request, RequestFault>
     ensures exact { result ≡ asked.request_of line.now }
-    // What is read is the text of the request, in range.
+    // A line that is read is the text of its request, in range.
     ensures found { IfOk result (λ request. forms.IsRequestText line.now request) }
 {
     request_of(line)
 }
 
-/// The request of a line, over the definition of its form.
+/// Returns the request of a line. Only this function unfolds the definition of a request.
 #[tactic(auto, unfolding(crate::specs::Requests::request_of))]
 fn request_of(line: &[u8]) -> Result<Request, RequestFault>
     ensures { result ≡ asked.request_of line.now }
@@ -113,8 +113,8 @@ fn request_of(line: &[u8]) -> Result<Request, RequestFault>
     }
 }
 
-/// The law of requests, as this call's contract. A line of a form is answered by its number and its points, and any other line
-/// is `Syntax`. What is read is the text of the request, and each text of a request is read as it.
+/// The law of requests. If a line has one of the forms, its number and its points determine the result; any other line is
+/// `Syntax`. A line that is read is the text of its request, and each text of a request is read as that request.
 pub fn one_request()
     ensures formed { (form : forms.Form) → forms.IsForm form → asked.request_of (forms.form_text form) ≡ forms.answer_to form }
     ensures syntax { (line : List ℕ) → (asked.request_of line ≡ Err asked.syntax) ⊎ forms.HasForm line }

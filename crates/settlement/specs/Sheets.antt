@@ -1,4 +1,4 @@
--- The sheet of a game: what each agent's score is, and why.
+-- The sheet of a game: the score of each agent, and why.
 use Rattle.std.specs.Prelude.{◌≡◌, ℕ, List, [], ℤ, pos, Some, length, slice_get, slice_index_or}
 use Rattle.settlement.specs.Prelude.{AGENTS, AccountFile}
 use Rattle.game_text.specs.Games.{GameFile}
@@ -8,7 +8,7 @@ use Rattle.bound_cert.specs.Solutions.{IsSolution}
 use Rattle.settlement.specs.Settlement.{Settlement}
 use Rattle.settlement.specs.Score.{short_of, score_of}
 
--- an agent's score with its parts, in dollars and tickets, and an allocation that reaches the best total, with its certificate
+-- an agent's score with its parts, in dollars and tickets; and an allocation that reaches the best total, with its certificate
 pub record Scored : Type 0 where
   pub best : ℕ
   pub cash : ℤ
@@ -17,22 +17,22 @@ pub record Scored : Type 0 where
   pub allocation : List Package
   pub tree : Tree
 
--- an agent's account: its clients of the game, and its holdings
+-- an agent's account: its clients in the game, and its holdings
 abbrev pub agents_account : GameFile → Settlement → ℕ → AccountFile
 agents_account game settlement agent = record { clients = slice_index_or game.clients agent []; holdings = slice_index_or settlement.holdings agent [] }
 
--- the score of an agent with this account and this cash
+-- a score of an agent with this account and this cash
 pub record IsScored (account : AccountFile) (gained : ℤ) (scored : Scored) : Type 0 where
   pub cash : scored.cash ≡ gained
   pub short : scored.short ≡ short_of account.holdings
   pub score : scored.score ≡ score_of scored.best scored.cash scored.short
   pub solution : IsSolution account scored.best scored.allocation scored.tree
 
--- the score that is due to an agent
+-- a score of an agent of the game, with its own account and cash
 abbrev pub IsDueScore : GameFile → Settlement → ℕ → Scored → Type 0
 IsDueScore game settlement agent scored = IsScored (agents_account game settlement agent) (slice_index_or settlement.cash agent (pos 0)) scored
 
--- the scores of the eight agents, in their order
+-- one such score for each of the eight agents, in order
 pub record IsSheet (game : GameFile) (settlement : Settlement) (sheet : List Scored) : Type 0 where
   pub count : length sheet ≡ AGENTS
   pub due : (agent : ℕ) (scored : Scored) → slice_get sheet agent ≡ Some scored → IsDueScore game settlement agent scored

@@ -6,7 +6,7 @@ use auction_core::Auction;
 use tac_base::limits::GOODS;
 use tac_base::{Entry, Party, Trade};
 
-/// What a trade moves from its buyer to its seller.
+/// Returns what a trade moves from its buyer to its seller.
 fn cost(trade: &Trade) -> i64
     ensures value { result ≡ pos (trade.now.units * trade.now.price) }
     ensures bound { IsWithin 16711425 result }
@@ -14,7 +14,7 @@ fn cost(trade: &Trade) -> i64
     i64::from(trade.units) * i64::from(trade.price)
 }
 
-/// What one trade gives a party.
+/// Returns what one trade gives a party.
 fn gain(trade: &Trade, party: Party) -> i64
     ensures value { result ≡ dollars (trade.now ∷ []) party }
     ensures bound { IsWithin 16711425 result }
@@ -30,7 +30,7 @@ fn gain(trade: &Trade, party: Party) -> i64
     gain
 }
 
-/// What the trades of an entry give a party.
+/// Returns what the trades of an entry give a party.
 fn gain_of_trades(trades: &[Trade], party: Party) -> i64
     requires { length trades.now ≤ 255 }
     ensures value { result ≡ dollars trades.now party }
@@ -43,7 +43,7 @@ fn gain_of_trades(trades: &[Trade], party: Party) -> i64
     sum
 }
 
-/// How many trades an entry has, at most 255.
+/// Returns how many trades an entry has, at most 255.
 fn trade_count(entry: &Entry) -> u8
     ensures value { result ≡ entry.now.trades }
     ensures few { result ≤ 255 }
@@ -51,7 +51,7 @@ fn trade_count(entry: &Entry) -> u8
     entry.trades
 }
 
-/// The trades of the entry at a position, which is there.
+/// Returns the trades of the entry at a position, where there must be one.
 fn trades_at(auction: &Auction, position: u32) -> &[Trade]
     requires { position < length auction.now.history }
     ensures value { slice_get (map (λ e. e.trades) auction.now.history) position ≡ Some result.now }
@@ -61,7 +61,7 @@ fn trades_at(auction: &Auction, position: u32) -> &[Trade]
     auction.trades_of(position)
 }
 
-/// What the entries of an auction give a party.
+/// Returns what the entries of an auction give a party.
 fn gain_of_auction(auction: &Auction, party: Party) -> i64
     ensures value { result ≡ dollars (all_trades (reverse auction.now.history)) party }
     ensures bound { IsWithin 35182228824000 result }
@@ -73,7 +73,7 @@ fn gain_of_auction(auction: &Auction, party: Party) -> i64
     sum
 }
 
-/// What all auctions of a game give a party.
+/// Returns what all auctions of a game give a party.
 pub(crate) fn gain_of_game(auctions: &[Auction], party: Party) -> i64
     requires { length auctions.now ≡ GOODS }
     ensures value { result ≡ cash_gained auctions.now party }

@@ -1,4 +1,4 @@
-//! What a game leaves to each agent: the goods that it holds and the dollars that it has gained; and what its score is.
+//! What each agent has at the end of a game, the goods that it holds and the dollars that it has gained; and its score.
 #![tactic(auto)]
 
 mod gains;

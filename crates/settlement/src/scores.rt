@@ -12,13 +12,13 @@ use tac_base::limits::GOODS;
 pub struct AgentScore {
     /// The most that the agent's goods are worth to its clients, in dollars: 0..14000 if `sheet` computed it.
     pub best: u32,
-    /// What it has earned less what it has paid, in dollars: at most 1000000000000000, gained or lost, if `sheet` computed it.
+    /// Its cash, earned less paid, in dollars: at most 1000000000000000, gained or lost, if `sheet` computed it.
     pub cash: i64,
     /// How many tickets it is short, over all goods 16..27: 0..2400000 if `sheet` computed it.
     pub short: u32,
-    /// The best total and the cash, less 200 dollars for each ticket short: the penalty is after TAC.
+    /// The best total plus the cash, less 200 dollars for each ticket short. The penalty follows TAC.
     pub score: i64,
-    /// An allocation that reaches the best total, which is its total, with its certificate.
+    /// A best allocation, with its certificate. Its total is the best total.
     pub solved: Solved,
 }
 
@@ -66,7 +66,7 @@ impl Model for Sheet {
     ghost invariant = { λ s. length s.agents.items ≡ 8 };
 }
 
-/// By how many units a holding is below 0.
+/// Returns by how many units a holding is below 0.
 fn lacking(holding: i32) -> u32
     ensures { result ≡ rules.lacking holding }
 {
@@ -77,7 +77,7 @@ fn lacking(holding: i32) -> u32
     }
 }
 
-/// By how many units all these holdings are below 0.
+/// Returns by how many units all these holdings together are below 0.
 fn all_lacking(holdings: &[i32]) -> u32
     requires few { length holdings.now ≤ 28 }
     requires range { All IsHolding holdings.now }
@@ -91,7 +91,7 @@ fn all_lacking(holdings: &[i32]) -> u32
     units
 }
 
-/// How many entertainment tickets an agent with these holdings of the 28 goods is short of.
+/// Returns how many tickets an agent with these holdings of the 28 goods is short.
 pub fn short(holdings: &[i32]) -> u32
     requires { AreHoldings holdings.now }
     ensures value { result ≡ rules.short_of holdings.now }

@@ -1,4 +1,4 @@
-// What a game leaves to each agent.
+// What each agent has at the end of a game.
 ghost use Rattle.std.specs.Prelude.{◌≡◌, length, map, All};
 ghost use Rattle.settlement.specs.{IsWithin, agents, holdings_of, cash_gained, settlement_of, AreHoldings};
 
@@ -8,12 +8,12 @@ use std::marker::Model;
 use tac_base::limits::GOODS;
 use tac_base::{Agent, Party};
 
-/// What each agent has when a game is over. The ranges are our own.
+/// What each agent has at the end of a game. This project defines the ranges.
 #[derive(Clone, Copy, Debug, PartialEq, Eq)]
 pub struct Accounts {
-    /// How many of each good 0..27 each agent has, -200000..200000; below 0 it is short of them.
+    /// How many units of each good 0..27 each agent holds, -200000..200000; below 0 it is short of the good.
     pub holdings: [[i32; 28]; 8],
-    /// What each agent has earned less what it has paid, in dollars, -1000000000000000..1000000000000000.
+    /// The cash of each agent, earned less paid, in dollars, -1000000000000000..1000000000000000.
     pub cash: [i64; 8],
 }
 
@@ -30,7 +30,7 @@ impl Model for Accounts {
     ghost inverse = { λ a. record { holdings = a.holdings; cash = a.cash } };
 }
 
-/// What a party holds of each good.
+/// Returns how much a party holds of each good.
 fn holdings_after(auctions: &[Auction], party: Party) -> [i32; 28]
     requires { length auctions.now ≡ GOODS }
     ensures value { result ≡ holdings_of auctions.now party }
@@ -43,7 +43,7 @@ fn holdings_after(auctions: &[Auction], party: Party) -> [i32; 28]
     held
 }
 
-/// What each agent holds of each good.
+/// Returns how much each agent holds of each good.
 fn all_holdings(auctions: &[Auction]) -> [[i32; 28]; 8]
     requires { length auctions.now ≡ GOODS }
     ensures value { result ≡ map (holdings_of auctions.now) agents }
@@ -56,7 +56,7 @@ fn all_holdings(auctions: &[Auction]) -> [[i32; 28]; 8]
     holdings
 }
 
-/// What each agent has gained.
+/// Returns what each agent has gained.
 fn all_cash(auctions: &[Auction]) -> [i64; 8]
     requires { length auctions.now ≡ GOODS }
     ensures value { result ≡ map (cash_gained auctions.now) agents }
@@ -69,8 +69,8 @@ fn all_cash(auctions: &[Auction]) -> [i64; 8]
     cash
 }
 
-/// Computes how many of each good each agent has, -200000..200000, and its cash from the trades of the 28 auctions, in dollars,
-/// -1000000000000000..1000000000000000.
+/// Computes from the trades of the 28 auctions how many units of each good each agent holds, -200000..200000, and its cash in
+/// dollars, -1000000000000000..1000000000000000.
 pub fn settle_auctions(auctions: &[Auction]) -> Accounts
     requires { length auctions.now ≡ GOODS }
     ensures { result ≡ settlement_of auctions.now }
@@ -81,7 +81,7 @@ pub fn settle_auctions(auctions: &[Auction]) -> Accounts
     }
 }
 
-/// Settles a game whose calls are over; the cash book is not read.
+/// Settles a game that accepts no more calls. It does not read the cash book.
 pub fn settle(closed: &Closed) -> Accounts
     ensures { result ≡ settlement_of closed.now.auctions }
 {
