@@ -1,4 +1,4 @@
-// The branching priorities of features, and the one that is fixed in a dive.
+// The branching priorities of features, and the feature that a dive fixes next.
 ghost use Rattle.std.specs.Prelude.{◌≡◌, ◌<◌, false, IfSome, IsTrue};
 ghost use Rattle.packages.specs.Features.{values_of};
 ghost use Rattle.relaxation.specs.Tables.{IsNarrowedSomewhere};
@@ -7,12 +7,12 @@ use crate::relaxing::Relaxation;
 use crate::tableau::TOLERANCE;
 use packages::value_count;
 
-/// At most so many basic variables are pivoted out to see what a part of a split is worth.
+/// The most basic variables that are pivoted out to estimate the worth of a part of a split.
 const MOST_TRIED: u32 = 8;
 
 impl Relaxation {
-    /// The branching priority of a client's feature, 0..3: 0 where the feature has one value, and else more for a trip than for a ticket, and
-    /// more where no value has a great share.
+    /// Returns the branching priority of a client's feature, 0..3: 0 if the feature has one value, and otherwise more for a trip than for a
+    /// ticket, and more if no value has a large share.
     fn branching_priority(&self, client: usize, feature: usize) -> f64
         requires { feature < 4 }
     {
@@ -26,7 +26,7 @@ impl Relaxation {
         }
     }
 
-    /// The branching priority of the client's feature at each place 0..31, four features for each client.
+    /// Returns the branching priority of the client's feature at each place 0..31; there are four features for each client.
     pub(crate) fn priorities(&self) -> [f64; 32] {
         let mut priorities = [0.0; 32];
         for place in 0..32 {
@@ -35,9 +35,9 @@ impl Relaxation {
         priorities
     }
 
-    /// Fixes the feature of the greatest branching priority to that of its values with a share whose part is worth most, and solves what is
-    /// left as far as that tells whether it is worth more than a total in dollars. Where it is worth no more already, or there is no such
-    /// feature, it says no and changes nothing.
+    /// Fixes the feature of the greatest branching priority to the value with a share whose part is worth most, and solves what is left,
+    /// far enough to tell whether it is worth more than a total in dollars. If it already is not worth more, or there is no such
+    /// feature, returns `false` and changes nothing.
     pub fn decide(&mut self, total: u32) -> bool
         ensures decided { IsTrue result → IsNarrowedSomewhere self.old.worths.dollars self.new.worths.dollars }
         ensures undecided { result ≡ false → self.new ≡ self.old }
@@ -55,8 +55,8 @@ impl Relaxation {
         true
     }
 
-    /// The value of a client's feature, 0..3, whose part is worth most, among those with a share. Values with half a share each are
-    /// common, and only what is left after them tells which one to keep.
+    /// Returns the value of a client's feature, 0..3, whose part is worth most, among those with a share. Often two values have half a
+    /// share each, and only what each of them leaves tells which one to keep.
     fn best_value(&self, client: usize, feature: usize, total: f64) -> u8
         requires client { client < 8 }
         requires feature { feature < 4 }
@@ -77,7 +77,7 @@ impl Relaxation {
         found
     }
 
-    /// What the relaxation of one part of a split is worth in dollars, as far as it is more than a total in dollars.
+    /// Returns what the relaxation of one part of a split is worth in dollars, computed only as far as it exceeds a total in dollars.
     #[inline(never)]
     pub(crate) fn value_of_part(&self, client: usize, feature: usize, value: u8, total: f64) -> f64
         requires client { client < 8 }
@@ -91,7 +91,7 @@ impl Relaxation {
     }
 }
 
-/// The place of the greatest branching priority, if one is above 0.
+/// Returns the place of the greatest branching priority, if one is above 0.
 pub(crate) fn first_place(priorities: &[f64; 32]) -> Option<usize>
     ensures { IfSome result (λ place. place < 32) }
 {
@@ -106,7 +106,7 @@ pub(crate) fn first_place(priorities: &[f64; 32]) -> Option<usize>
     found
 }
 
-/// The greatest number.
+/// Returns the greatest number.
 pub(crate) fn greatest(row: &[f64; 21]) -> f64 {
     let mut most = row[0];
     for place in 1..21 {

@@ -1,4 +1,4 @@
-// What the goods of packages cost at prices that may be fractions.
+// What the goods of packages cost at prices that can be fractions.
 ghost use Rattle.std.specs.Prelude.{◌<◌, ◌≤◌};
 
 use crate::columns::row_of_good;
@@ -9,13 +9,13 @@ use tac_base::Good;
 /// What each value of a package's features costs.
 #[derive(Drop)]
 struct ValueCharges {
-    /// By the trip's value, 0..20.
+    /// For trip values 0..20.
     trips: [f64; 21],
-    /// By the ticket type, 0..2, and the night, 0..4.
+    /// For ticket types 0..2 and nights 0..4.
     tickets: [[f64; 5]; 3],
 }
 
-/// What the seats and the rooms of a trip cost.
+/// Returns what the seats and the rooms of a trip cost.
 fn trip_charge(prices: &Row, hotel: u8, arrive: u8, depart: u8) -> f64
     requires hotel { hotel < 2 }
     requires first { 1 ≤ arrive }
@@ -30,7 +30,7 @@ fn trip_charge(prices: &Row, hotel: u8, arrive: u8, depart: u8) -> f64
     total
 }
 
-/// The days of arrival and departure of a trip, by its rank 0..9.
+/// Returns the days of arrival and departure of the trip with a rank, 0..9.
 fn days(rank: u8) -> (u8, u8)
     requires { rank < 10 }
     ensures first { 1 ≤ result.0 }
@@ -48,7 +48,7 @@ fn days(rank: u8) -> (u8, u8)
     }
 }
 
-/// What the ticket of a type, 0..2, costs on each night; no night costs nothing.
+/// Returns what the ticket of a type, 0..2, costs on each night; no night costs nothing.
 fn ticket_charges(prices: &Row, kind: u8) -> [f64; 5]
     requires { kind < 3 }
 {
@@ -59,7 +59,7 @@ fn ticket_charges(prices: &Row, kind: u8) -> [f64; 5]
     charges
 }
 
-/// What each value of a package's features costs at the prices.
+/// Returns what each value of a package's features costs at the prices.
 fn value_charges(prices: &Row) -> ValueCharges {
     let mut trips = [0.0; 21];
     for trip in 0..20 {
@@ -76,7 +76,7 @@ fn value_charges(prices: &Row) -> ValueCharges {
     }
 }
 
-/// Puts down what each package costs, by number 0..392. The second hotel has the ticket choices of the first.
+/// Stores what each package, 0..392, costs. The second hotel has the ticket choices of the first.
 pub(crate) fn charge(charges: &mut [f64; 393], features: &Features, prices: &Row) {
     let of = value_charges(prices);
     for number in 1..197 {

@@ -7,20 +7,20 @@ use packages::{Package, package};
 use tac_base::Good;
 use tac_base::limits::{AGENTS, GOODS};
 
-/// The first rows of the linear program: one for each good, of which no more is used than there is.
+/// The number of the first rows of the linear program: one for each good, whose use is limited to its stock.
 pub(crate) const GOOD_ROWS: usize = GOODS as usize;
 
-/// All rows: those of the goods, and then one for each of 8 clients, whose shares of packages add up to one.
+/// The number of all rows: those of the goods, and then one for each of 8 clients, whose shares of packages add up to one.
 pub(crate) const ROWS: usize = GOOD_ROWS + AGENTS as usize;
 
-/// A good, by the number of its row.
+/// A good, as the number of its row.
 #[derive(Clone, Copy)]
 pub(crate) struct GoodRow {
     pub(crate) good: usize,
     ghost is_good: { good < GOODS },
 }
 
-/// A package of a client, both by number.
+/// A client and a package, both as numbers.
 #[derive(Clone, Copy)]
 pub(crate) struct ClientPackage {
     pub(crate) client: usize,
@@ -32,9 +32,9 @@ pub(crate) struct ClientPackage {
 /// A column, whose amount is a variable of the linear program.
 #[derive(Clone, Copy)]
 pub(crate) enum SimplexColumn {
-    /// The slack of a good: what is left over of it.
+    /// The slack of a good: the units of it that are left over.
     Slack(GoodRow),
-    /// The surplus of a good: what is got of it beyond what there is.
+    /// The surplus of a good: the units of it beyond the stock.
     Surplus(GoodRow),
     /// The share that a client has of a package.
     Share(ClientPackage),
@@ -44,12 +44,12 @@ pub(crate) enum SimplexColumn {
 #[derive(Clone, Copy)]
 pub(crate) struct Entering {
     pub(crate) column: SimplexColumn,
-    /// What one more of the column adds to the value; below 0 in a dual step.
+    /// What one more unit of the column adds to the value; below 0 in a dual step.
     pub(crate) reduced_cost: f64,
 }
 
 impl ClientPackage {
-    /// The package.
+    /// Returns the package.
     pub(crate) fn package(&self) -> Package
         ensures { IsPackage result }
     {
@@ -58,8 +58,8 @@ impl ClientPackage {
 }
 
 impl SimplexColumn {
-    /// The place of a column in the order that breaks ties, so that the simplex cannot cycle: slack and surplus of each good, and then the
-    /// shares of each client.
+    /// Returns the rank of a column in the order that breaks ties, so that the simplex cannot cycle: slack and surplus of each good, then
+    /// the shares of each client.
     pub(crate) fn order(&self) -> usize {
         match self {
             SimplexColumn::Slack(row) => 2 * row.good,
@@ -69,7 +69,7 @@ impl SimplexColumn {
     }
 }
 
-/// The row of a good.
+/// Returns the row of a good.
 pub(crate) fn row_of_good(good: Good) -> usize
     ensures { result < GOODS }
 {

@@ -1,4 +1,4 @@
-// The dual simplex: pivots out the basic variables that may not keep their amounts.
+// The dual simplex: pivots out the basic variables whose amounts are infeasible.
 ghost use Rattle.std.specs.Prelude.{◌<◌};
 ghost use Rattle.relaxation.specs.declared.columns.TheConstants.{ROWS};
 
@@ -8,11 +8,11 @@ use crate::rounding::best_margin;
 use crate::tableau::{AMOUNT, Row, TOLERANCE, Tableau, WIDTH};
 use crate::worth_table::WorthTable;
 
-/// Dual steps stop at this margin below a total, in dollars, so that the prices mostly bound what is left by the total too when they are
-/// cut to whole dollars.
+/// Dual steps stop at this margin below a total, in dollars, so that the prices mostly still bound what is left by the total after they
+/// are rounded down to whole dollars.
 const MARGIN: f64 = 4.0;
 
-/// A row whose basic variable may not keep its amount: it is below 0 (sign -1), or that of an excluded package above 0 (sign 1).
+/// A row whose basic variable is infeasible: its amount is below 0 (sign -1), or it is an excluded package's and above 0 (sign 1).
 #[derive(Clone, Copy)]
 pub(crate) struct Infeasible {
     row: usize,
@@ -23,15 +23,15 @@ pub(crate) struct Infeasible {
 /// The direction in which a dual step moves the prices.
 #[derive(Drop)]
 struct Direction {
-    /// The infeasible row, by its sign.
+    /// The infeasible row, times its sign.
     row: Row,
-    /// What a step of one takes from the charge of each package.
+    /// By how much a step of one lowers the charge of each package.
     falls: [f64; 393],
 }
 
 impl Tableau {
-    /// Pivots out excluded packages by at most so many dual simplex steps, as long as more may be left than a total. The prices bound what is
-    /// left after each step, but for errors of rounding.
+    /// Pivots out excluded packages in at most `steps` dual simplex steps, as long as what is left may be worth more than a total. After each
+    /// step the prices bound what is left, except for rounding errors.
     pub(crate) fn repair(&mut self, worths: &WorthTable, total: f64, steps: u32) {
         let mut charges = [0.0; 393];
         charge(&mut charges, &worths.features, &self.prices);
@@ -46,7 +46,7 @@ impl Tableau {
         }
     }
 
-    /// The row whose basic variable is furthest from an amount that it may keep, if there is one.
+    /// Returns the row whose basic variable is furthest from a feasible amount, if there is one.
     pub(crate) fn infeasible(&self, worths: &WorthTable) -> Option<Infeasible> {
         let mut found = None;
         let mut most = TOLERANCE;
@@ -63,7 +63,7 @@ impl Tableau {
         found
     }
 
-    /// Whether the basic variable of a row is the share of an excluded package.
+    /// Returns whether the basic variable of a row is the share of an excluded package.
     fn is_excluded(&self, worths: &WorthTable, row: usize) -> bool
         requires { row < ROWS }
     {
@@ -73,8 +73,8 @@ impl Tableau {
         }
     }
 
-    /// A dual simplex step: replaces the basic variable of an infeasible row by the column that costs least for it, and says whether that was
-    /// done. Where none costs less than so many dollars together, the prices alone move, by these dollars. The charges of packages go
+    /// Makes a dual simplex step: the column that costs least replaces the basic variable of an infeasible row. Returns whether one did.
+    /// If no column costs less than `dollars` in all, only the prices move, by these dollars. The charges of packages move
     /// with the prices.
     fn dual_step(
         &mut self,
@@ -109,8 +109,8 @@ impl Tableau {
         true
     }
 
-    /// The ratio test of the dual simplex: the nonbasic column whose reduced cost comes to 0 first as the prices move, if one does before they
-    /// have moved so far. Before they move, packages have these charges.
+    /// The ratio test of the dual simplex: returns the nonbasic column whose reduced cost reaches 0 first as the prices move, if one does
+    /// within the limit of the move. `charges` are those of the packages before the move.
     fn dual_entering(
         &self,
         worths: &WorthTable,
@@ -137,7 +137,7 @@ impl Tableau {
         found
     }
 
-    /// The share of a client, 0..7, whose reduced cost comes to 0 first as the prices move so far at most, and how far that is.
+    /// Returns the share of a client, 0..7, whose reduced cost reaches 0 first as the prices move within the limit, and how far that is.
     fn entering_share(
         &self,
         worths: &WorthTable,
@@ -176,14 +176,14 @@ impl Tableau {
     }
 }
 
-/// Takes from the charge of each package what it falls by as the prices move so far.
+/// Lowers the charge of each package by as much as it falls when the prices move by `far`.
 fn lower(charges: &mut [f64; 393], direction: &Direction, far: f64) {
     for number in 0..393 {
         charges[number] -= far * direction.falls[number];
     }
 }
 
-/// The slack whose reduced cost comes to 0 first as the prices move, if one does before they have moved so far, and how far that is.
+/// Returns the slack whose reduced cost reaches 0 first as the prices move, if one does within the limit, and how far that is.
 fn entering_slack(prices: &Row, direction: &Direction, most: f64) -> (Option<Entering>, f64) {
     let mut found = None;
     let mut least = most;
@@ -200,7 +200,7 @@ fn entering_slack(prices: &Row, direction: &Direction, most: f64) -> (Option<Ent
     (found, least)
 }
 
-/// Adds so many times a row to another one.
+/// Adds a multiple of a row to another one.
 fn add(row: &mut Row, other: &Row, times: f64) {
     for place in 0..WIDTH {
         row[place] += times * other[place];

@@ -7,7 +7,7 @@ use packages::{Package, feature_value, package};
 /// The features of all packages.
 #[derive(Clone, Copy)]
 pub(crate) struct Features {
-    /// By the package's number 0..392 and the feature 0..3.
+    /// For packages 0..392 and features 0..3.
     values: [[u8; 4]; 393],
     ghost are: { AreEntries features_of [] values },
 }
@@ -17,7 +17,7 @@ impl Features {
         Features { values: table() }
     }
 
-    /// The features of the package of a number, 0..392.
+    /// Returns the features of the package with a number, 0..392.
     fn of(&self, number: usize) -> &[u8; 4]
         requires { number < 393 }
         ensures { (p : Package) → slice_get packages number ≡ Some p → result.now ≡ features_of p }
@@ -25,7 +25,7 @@ impl Features {
         &self.values[number]
     }
 
-    /// The value of a feature, 0..3, of the package of a number, 0..392.
+    /// Returns the value of a feature, 0..3, of the package with a number, 0..392.
     pub(crate) fn value_of(&self, number: usize, feature: usize) -> u8
         requires number { number < 393 }
         requires feature { feature < 4 }
@@ -36,7 +36,7 @@ impl Features {
         values[feature]
     }
 
-    /// The trip's value of the package of a number, 0..392.
+    /// Returns the trip's value of the package with a number, 0..392.
     pub(crate) fn trip_of(&self, number: usize) -> usize
         requires { number < 393 }
         ensures { result < 21 }
@@ -44,7 +44,7 @@ impl Features {
         usize::from(self.value_of(number, 0))
     }
 
-    /// The night of a ticket type, 0..2, of the package of a number, 0..392.
+    /// Returns the night of a ticket type, 0..2, in the package with a number, 0..392.
     pub(crate) fn night_of(&self, number: usize, kind: usize) -> usize
         requires number { number < 393 }
         requires kind { kind < 3 }
@@ -54,7 +54,7 @@ impl Features {
     }
 }
 
-/// The features of all packages, by number.
+/// Returns the features of all packages, by number.
 fn table() -> [[u8; 4]; 393]
     ensures { AreEntries features_of [] result }
 {
@@ -67,7 +67,7 @@ fn table() -> [[u8; 4]; 393]
     values
 }
 
-/// The four features of a package.
+/// Returns the four features of a package.
 fn features_of(package: &Package) -> [u8; 4]
     requires { IsPackage «package».now }
     ensures { result ≡ features_of «package».now }

@@ -1,5 +1,5 @@
-//! The linear relaxation of an account's allocation problem, in which each client may have fractions of packages: solved by the simplex with
-//! columns made on demand, narrowed feature by feature, and rounded to whole prices.
+//! The linear relaxation of an account's allocation problem, in which clients can have fractions of packages. The simplex solves it with
+//! columns generated on demand; it can be narrowed feature by feature, and its prices rounded to whole dollars.
 #![tactic(auto)]
 
 mod branching;

@@ -1,4 +1,4 @@
-// The primal simplex, with columns of packages made on demand.
+// The primal simplex, which generates columns of packages on demand.
 ghost use Rattle.std.specs.Prelude.{◌≡◌, ◌<◌, length};
 
 use crate::charges::charge;
@@ -7,13 +7,13 @@ use crate::tableau::{Row, TOLERANCE, Tableau};
 use crate::worth_table::WorthTable;
 use tac_base::limits::{DUAL_PRICE, GOODS};
 
-/// At most so many columns enter.
+/// The most columns that enter.
 const MOST_STEPS: u32 = 2000;
 
-/// After so many steps in a row that gain nothing, the first column that gains enters.
+/// After this many consecutive steps without gain, the first column that gains enters.
 const MOST_IDLE: u32 = 100;
 
-/// What the price of each good may be at least and at most, in dollars.
+/// The lowest and the highest price of each good, in dollars.
 #[derive(Clone, Copy)]
 pub(crate) struct Limits {
     pub(crate) low: [f64; 28],
@@ -21,7 +21,7 @@ pub(crate) struct Limits {
 }
 
 impl Limits {
-    /// The limits of all prices.
+    /// Returns the limits of all prices.
     pub(crate) fn none() -> Limits {
         Limits {
             low: [0.0; 28],
@@ -31,8 +31,8 @@ impl Limits {
 }
 
 impl Tableau {
-    /// Finds the shares that are worth most together, as far as a bounded number of steps leads. Slack at the lower limit of a price and
-    /// surplus at the upper one keep the price between them. After many steps that gain nothing the first column that gains enters, so that
+    /// Finds the shares that are worth most together, as far as a bounded number of steps allows. Slack at the lower limit of a price and
+    /// surplus at the upper limit keep the price between them. After many steps without gain the first column that gains enters, so that
     /// the simplex cannot cycle.
     pub(crate) fn solve(&mut self, worths: &WorthTable, limits: &Limits) {
         let mut turn = 0;
@@ -62,7 +62,7 @@ impl Tableau {
         }
     }
 
-    /// The first column with a reduced cost above 0: of a good whose price is beyond its limits, or of a client's package.
+    /// Returns the first column with a reduced cost above 0: for a good whose price is beyond its limits, or for a client's package.
     fn first_entering(&self, worths: &WorthTable, limits: &Limits) -> Option<Entering> {
         for good in 0..GOOD_ROWS {
             let entering = beyond(&self.prices, limits, good);
@@ -88,8 +88,8 @@ impl Tableau {
         None
     }
 
-    /// A column with a reduced cost above 0: of the good whose price is furthest beyond its limits, or of the best package of the next client
-    /// from a turn on that has a better one.
+    /// Returns a column with a reduced cost above 0: for the good whose price is furthest beyond its limits, or for the best package of the
+    /// first client, from client `turn` on, for which one is above 0.
     fn entering(&self, worths: &WorthTable, limits: &Limits, turn: usize) -> Option<Entering>
         requires { turn < 8 }
     {
@@ -109,7 +109,7 @@ impl Tableau {
         None
     }
 
-    /// The package of a client, 0..7, with the greatest reduced cost, if that is above 0.
+    /// Returns the package of a client, 0..7, with the greatest reduced cost, if it is above 0.
     fn entering_of(
         &self,
         worths: &WorthTable,
@@ -131,7 +131,7 @@ impl Tableau {
     }
 }
 
-/// The client that is asked next once a column has entered: the one after its own.
+/// Returns the client to test first after a column has entered: the one after the column's client.
 fn after(turn: usize, column: &SimplexColumn) -> usize
     requires { turn < 8 }
     ensures { result < 8 }
@@ -142,8 +142,8 @@ fn after(turn: usize, column: &SimplexColumn) -> usize
     }
 }
 
-/// The slack or the surplus of a good, 0..27, whichever keeps its price to the nearer limit; the reduced cost is below 0 where the price is
-/// within the limits.
+/// Returns the slack or the surplus of a good, 0..27, whichever keeps its price to the nearer limit; the reduced cost is below 0 if the
+/// price is within the limits.
 fn beyond(prices: &Row, limits: &Limits, good: usize) -> Entering
     requires { good < GOODS }
 {
@@ -162,7 +162,7 @@ fn beyond(prices: &Row, limits: &Limits, good: usize) -> Entering
     }
 }
 
-/// The slack or the surplus of the good whose price is furthest beyond its limits, or least within them.
+/// Returns the slack or the surplus of the good whose price is furthest beyond its limits, or nearest to them.
 fn furthest_beyond(prices: &Row, limits: &Limits) -> Entering {
     let mut most = beyond(prices, limits, 0);
     for good in 1..GOOD_ROWS {
@@ -174,7 +174,7 @@ fn furthest_beyond(prices: &Row, limits: &Limits) -> Entering {
     most
 }
 
-/// The package that is worth most beyond its charge, and how much that is.
+/// Returns the package that is worth most beyond its charge, and by how much.
 pub(crate) fn best_package(worths: &[i32], charges: &[f64; 393]) -> (usize, f64)
     requires { length worths.now ≡ 393 }
     ensures { result.0 < 393 }

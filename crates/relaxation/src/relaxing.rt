@@ -9,10 +9,10 @@ use crate::worth_table::WorthTable;
 use game_text::Account;
 use packages::stock;
 
-/// At most so many basic variables are pivoted out where packages are excluded.
+/// The most basic variables that are pivoted out after packages are excluded.
 const MOST_REPAIRS: u32 = 100;
 
-/// What the clients have left where each may have fractions of packages that add up to one, and prices for that.
+/// What is left to the clients if each can have fractions of packages that add up to one, and prices for it.
 #[derive(Clone, Copy)]
 pub struct Relaxation {
     pub worths: WorthTable,
@@ -21,7 +21,7 @@ pub struct Relaxation {
 }
 
 impl Relaxation {
-    /// Every client has every package left; solved.
+    /// Returns the solved relaxation in which every package is left to every client.
     #[inline(never)]
     pub fn new(account: &Account) -> Relaxation
         ensures { HasWorths account.now.clients result.worths.dollars }
@@ -39,7 +39,7 @@ impl Relaxation {
         relaxation
     }
 
-    /// A client, 0..7, keeps those packages whose feature, 0..3, has the value; what is left is not solved yet.
+    /// Leaves a client, 0..7, only the packages whose feature, 0..3, has the value. It does not solve what is left.
     pub fn narrow(&mut self, client: u8, feature: u8, value: u8)
         requires client { client < 8 }
         requires feature { feature < 4 }
@@ -49,7 +49,7 @@ impl Relaxation {
             .narrow(usize::from(client), usize::from(feature), value);
     }
 
-    /// Solves what is left, as far as that tells whether it is worth more than a total in dollars.
+    /// Solves what is left, far enough to tell whether it is worth more than a total in dollars.
     pub fn repair(&mut self, total: u32)
         ensures { self.new.worths ≡ self.old.worths }
     {
@@ -57,13 +57,13 @@ impl Relaxation {
             .repair(&self.worths, f64::from(total), MOST_REPAIRS);
     }
 
-    /// Whether the fractions are worth more together than a total in dollars.
+    /// Returns whether the fractions together are worth more than a total in dollars.
     pub fn is_worth_more(&self, total: u32) -> bool {
         self.tableau.value() > f64::from(total) + TOLERANCE
     }
 }
 
-/// How many there are of each good.
+/// Returns the stock of each good.
 fn amounts(account: &Account) -> [f64; 28] {
     let mut amounts = [0.0; 28];
     for good in 0..28 {

@@ -11,17 +11,17 @@ use packages::Prices;
 use std::num::saturating_f64_to_u16;
 use tac_base::limits::{DUAL_PRICE, GOODS};
 
-/// One more than the prices that can be kept at whole dollars in turn.
+/// One more than the number of prices that can be fixed at whole dollars in turn.
 const MOST_KEPT: u32 = 29;
 
-/// The whole number below a price, at most the greatest price.
+/// Rounds a price down to a whole number, at most the greatest price.
 fn whole(price: f64) -> u16
     ensures { result ≤ DUAL_PRICE }
 {
     saturating_f64_to_u16(price).min(DUAL_PRICE)
 }
 
-/// The margin of the package of a number.
+/// Returns the margin of the package with a number.
 fn margin_at(worths: &[i32], charges: &[f64; 393], number: usize) -> f64
     requires all { length worths.now ≡ 393 }
     requires number { number < 393 }
@@ -29,7 +29,7 @@ fn margin_at(worths: &[i32], charges: &[f64; 393], number: usize) -> f64
     f64::from(worths[number]) - charges[number]
 }
 
-/// The greatest of the margins of a client's packages, by four at a time.
+/// Returns the greatest of the margins of a client's packages. It computes four at a time.
 pub(crate) fn best_margin(worths: &[i32], charges: &[f64; 393]) -> f64
     requires { length worths.now ≡ 393 }
 {
@@ -45,7 +45,7 @@ pub(crate) fn best_margin(worths: &[i32], charges: &[f64; 393]) -> f64
     most[0].max(most[1]).max(most[2]).max(most[3])
 }
 
-/// The row of prices that are whole.
+/// Returns the row with these whole prices.
 pub(crate) fn row_of(prices: &Prices) -> Row {
     let mut row = [0.0; WIDTH];
     for good in 0..28 {
@@ -55,7 +55,7 @@ pub(crate) fn row_of(prices: &Prices) -> Row {
 }
 
 impl Relaxation {
-    /// What whole prices bound, in dollars, as far as each client has a package left.
+    /// Returns the bound that whole prices give, in dollars, if each client has a package left.
     pub(crate) fn bound_at(&self, prices: &Prices) -> f64 {
         let row = row_of(prices);
         let mut charges = [0.0; 393];
@@ -70,7 +70,7 @@ impl Relaxation {
         bound
     }
 
-    /// Whole prices near those of the relaxation. Where it is worth no more than a total in dollars, others are sought too that may
+    /// Returns whole prices near those of the relaxation. If it is not worth more than a total in dollars, also seeks others that may
     /// bound what is left by the total.
     pub fn prices_for(&self, total: u32) -> Prices
         ensures { ArePrices result }
@@ -82,14 +82,14 @@ impl Relaxation {
         }
     }
 
-    /// Whole prices by which the bound is low.
+    /// Returns whole prices with a low bound.
     pub fn prices(&self) -> Prices
         ensures { ArePrices result }
     {
         self.prices_within(f64::from(whole(self.tableau.value() + 1.0 - TOLERANCE)))
     }
 
-    /// `prices` where the relaxation is worth no more than a total in dollars, and else none.
+    /// Returns `prices`, or `None` if the relaxation is worth more than a total in dollars.
     pub fn prices_if_worth_no_more(&self, total: u32) -> Option<Prices>
         ensures { IfSome result ArePrices }
     {
@@ -100,7 +100,7 @@ impl Relaxation {
         }
     }
 
-    /// Whole prices by which the bound is no more than so much, if they are found, and else near those of the relaxation.
+    /// Returns whole prices whose bound is at most `most`, if it finds them, and otherwise whole prices near those of the relaxation.
     fn prices_within(&self, most: f64) -> Prices {
         let (near, bound) = self.rounded(most);
         if bound > most && self.tableau.infeasible(&self.worths).is_none() {
@@ -111,8 +111,8 @@ impl Relaxation {
         near
     }
 
-    /// The prices of the relaxation, each to the nearest whole dollar, cut or raised, whichever bound is the lowest or is no more than
-    /// so much, and that bound.
+    /// Returns the prices of the relaxation, rounded to the nearest dollar, down or up, with the lowest bound or the first bound of
+    /// at most `most`, and that bound.
     fn rounded(&self, most: f64) -> (Prices, f64) {
         let mut best = self.tableau.prices_at(0.5);
         let mut bound = self.bound_at(&best);
@@ -132,7 +132,7 @@ impl Relaxation {
 }
 
 impl Tableau {
-    /// The price of a good, 0..27, raised by a part of a dollar and then cut to whole dollars.
+    /// Returns the price of a good, 0..27, plus a part of a dollar, rounded down to whole dollars.
     fn price(&self, good: usize, shift: f64) -> u16
         requires { good < GOODS }
         ensures { result ≤ DUAL_PRICE }
@@ -140,7 +140,7 @@ impl Tableau {
         whole(self.prices[good] + shift)
     }
 
-    /// The prices, each raised by a part of a dollar and then cut to whole dollars.
+    /// Returns the prices, each plus a part of a dollar, rounded down to whole dollars.
     fn prices_at(&self, shift: f64) -> Prices {
         let mut dollars = [0; 28];
         for good in 0..28 {
@@ -149,7 +149,7 @@ impl Tableau {
         Prices { dollars }
     }
 
-    /// Whether the price of a good, 0..27, is between whole dollars.
+    /// Returns whether the price of a good, 0..27, is not a whole number of dollars.
     pub(crate) fn is_between(&self, good: usize) -> bool
         requires { good < GOODS }
     {
@@ -157,7 +157,7 @@ impl Tableau {
         price - f64::from(self.price(good, TOLERANCE)) > TOLERANCE
     }
 
-    /// A good whose price is between whole dollars.
+    /// Returns a good whose price is not a whole number of dollars.
     fn fractional(&self) -> Option<usize>
         ensures { IfSome result (λ good. good < GOODS) }
     {
@@ -169,8 +169,8 @@ impl Tableau {
         None
     }
 
-    /// Whole prices with which the relaxation is worth no more than so much, if they are found: one price after the other is kept at the
-    /// whole dollar above it or, if that is worth too much, below it.
+    /// Returns whole prices with which the relaxation is worth at most `most`, if it finds them: it fixes the prices one by one at the
+    /// whole dollar above or, if the relaxation is then worth too much, below.
     #[inline(never)]
     fn whole_prices(&self, worths: &WorthTable, most: f64) -> Option<Prices> {
         let mut limits = Limits::none();

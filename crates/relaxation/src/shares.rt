@@ -1,4 +1,4 @@
-// The shares that clients have of packages, and the packages that they have whole.
+// The shares of packages that clients have, and the packages of which they have the whole.
 ghost use Rattle.std.specs.Prelude.{◌≡◌, ◌<◌, length, IfSome, All};
 ghost use Rattle.packages.specs.Packages.{IsPackage};
 
@@ -11,7 +11,7 @@ use crate::tableau::{AMOUNT, TOLERANCE};
 use packages::{Package, Prices};
 
 impl Relaxation {
-    /// The packages that the clients have whole; a client that has none whole stays at home.
+    /// Returns the packages of which the clients have the whole; a client without one stays at home.
     pub fn packages(&self) -> [Package; 8]
         ensures eight { length result ≡ 8 }
         ensures lawful { All IsPackage result }
@@ -23,7 +23,7 @@ impl Relaxation {
         packages
     }
 
-    /// `packages` where the relaxation is worth more than a total in dollars, and else none.
+    /// Returns `packages`, or `None` if the relaxation is not worth more than a total in dollars.
     pub fn packages_if_worth_more(&self, total: u32) -> Option<[Package; 8]>
         ensures eight { IfSome result (λ packages. length packages ≡ 8) }
         ensures lawful { IfSome result (All IsPackage) }
@@ -35,7 +35,7 @@ impl Relaxation {
         }
     }
 
-    /// The package that a client, 0..7, has whole, if it has one.
+    /// Returns the package of which a client, 0..7, has the whole, or else the package of a client at home.
     fn package_of(&self, client: usize) -> Package
         requires { client < 8 }
         ensures { IsPackage result }
@@ -51,8 +51,8 @@ impl Relaxation {
         ClientPackage { client, number }.package()
     }
 
-    /// The package that is worth most to a client, 0..7, beyond its cost at the prices: one that is left to it, or the one that
-    /// it has.
+    /// Returns the package that is worth most to a client, 0..7, beyond its cost at the prices, of those left to it and the one
+    /// that it has.
     pub fn best_left(&self, client: usize, prices: &Prices, has: &Package) -> Package
         requires client { client < 8 }
         requires lawful { IsPackage has.now }
@@ -68,7 +68,7 @@ impl Relaxation {
         }
     }
 
-    /// How much of a client's packages have each value of a feature, 0..3.
+    /// Returns how much of a client's packages have each value of a feature, 0..3.
     pub(crate) fn shares(&self, client: usize, feature: usize) -> [f64; 21]
         requires { feature < 4 }
     {

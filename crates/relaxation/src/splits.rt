@@ -10,13 +10,13 @@ use crate::rounding::row_of;
 use crate::tableau::{Row, TOLERANCE};
 use packages::Prices;
 
-/// More than any split leaves to search.
+/// A number greater than what any split leaves to search.
 const MOST_LEFT: f64 = 1.0e30;
 
-/// The unit in dollars by which prices are moved a little: by 121 to 1,444 of it, a different number for each good.
+/// The unit in dollars of small moves of prices: each good's price moves by a different number of units, 121 to 1,444.
 const MOVED: f64 = 0.00001;
 
-/// Below the margin of any package that is left.
+/// A number below the margin of any package that is left.
 const LEAST_MARGIN: f64 = -1000000.0;
 
 /// A client, 0..7, and a feature of its package, 0..3.
@@ -26,24 +26,24 @@ pub struct Split {
     pub feature: u8,
 }
 
-/// How a search chooses what to split by next. Which rule leaves fewer parts differs from account to account.
+/// How a search chooses the next split. Accounts differ in which rule leaves fewer parts.
 #[derive(Clone, Copy)]
 pub enum SplitRule {
     /// The split whose parts are worth least beyond the total.
     LeastLeft,
-    /// The split of the greatest branching priority: a trip before a ticket. Where clients want the same, one takes the other's place and no
-    /// part is worth less until trips are fixed, so that what parts are worth does not tell which split is better.
+    /// The split with the greatest branching priority: a trip before a ticket. If clients want the same goods, one replaces another and no
+    /// part is worth less until trips are fixed. The worth of parts then does not tell which split is better.
     GreatestPriority,
 }
 
-/// What packages cost at whole prices, and what these prices bound, both in dollars, as far as floating point tells.
+/// What packages cost at whole prices, and the bound that these prices give, both in dollars, up to rounding errors.
 #[derive(Clone, Copy)]
 struct Priced {
     charges: [f64; 393],
     bound: f64,
 }
 
-/// What packages cost at the prices of the relaxation, and where those prices that are between whole dollars are a little higher or lower.
+/// What packages cost at the prices of the relaxation, and after those prices that are not whole move a little up or down.
 #[derive(Drop)]
 struct Moved {
     at: [f64; 393],
@@ -51,19 +51,19 @@ struct Moved {
     below: [f64; 393],
 }
 
-/// The parts of a split that prices leave open. Of two splits the lesser one leaves less to search.
+/// The parts of a split that prices leave open. The lesser of two splits leaves less to search.
 #[derive(Clone, Copy, PartialEq, Eq, PartialOrd, Ord)]
 struct OpenParts {
-    /// Whether ties that hold the prices of the relaxation between whole dollars are as many in some part as in all.
+    /// Whether in some part the ties that keep prices of the relaxation from whole dollars are as many as in all parts together.
     is_tied: bool,
-    /// Whether the split leaves the prices of the relaxation as little room as they have.
+    /// Whether the split gives the prices of the relaxation no more room than they have.
     is_tight: bool,
     /// How many parts are open, at most 21.
     count: u8,
 }
 
 impl Split {
-    /// The client and the feature of a place 0..31, four features for each client.
+    /// Returns the client and the feature at a place 0..31; there are four features for each client.
     fn at(place: usize) -> Split
         requires { place < 32 }
         ensures client { result.client ≡ place / 4 }
@@ -75,7 +75,7 @@ impl Split {
         }
     }
 
-    /// Whether the client's feature has a fixed value. The client's number is 0..7, the feature's 0..3.
+    /// Returns whether the client's feature has a fixed value. The client must be 0..7 and the feature 0..3.
     pub fn is_fixed(self, fixed: &[[Option<u8>; 4]; 8]) -> bool
         requires client { self.client < 8 }
         requires feature { self.feature < 4 }
@@ -87,9 +87,9 @@ impl Split {
 }
 
 impl Relaxation {
-    /// The client's feature to split by next, of those that are not fixed; None where all are fixed. It is the one that the rule says, or
-    /// where the relaxation is worth no more than a total in dollars or nothing has a branching priority, the one with the fewest parts open
-    /// at the prices. `fixed` has, by client 0..7 and feature 0..3, the fixed value, or none.
+    /// Returns the feature of a client to split by next, among those that are not fixed; `None` if all are fixed. The rule selects it. But if
+    /// the relaxation is not worth more than a total in dollars, or no feature has a branching priority, it is the one with the fewest parts
+    /// open at the prices. `fixed` has a fixed value or `None` for each client 0..7 and feature 0..3.
     #[inline(never)]
     pub fn next_split(
         &self,
@@ -115,7 +115,7 @@ impl Relaxation {
         self.least_open(fixed, prices, f64::from(total))
     }
 
-    /// The split of the greatest branching priority of those that are not fixed, if one has any.
+    /// Returns the split with the greatest branching priority among those that are not fixed, if one has any.
     fn first_split(&self, fixed: &[[Option<u8>; 4]; 8]) -> Option<Split>
         ensures client { IfSome result (λ split. split.client < 8) }
         ensures feature { IfSome result (λ split. split.feature < 4) }
@@ -133,8 +133,8 @@ impl Relaxation {
         None
     }
 
-    /// The split that leaves least to search of those with a branching priority. Those of the greatest priority are looked at first, so
-    /// that the others need not be looked at for long.
+    /// Returns the split that leaves least to search among those with a branching priority. It looks at those with the greatest priority
+    /// first, so that it can soon stop looking at each of the others.
     fn least_split(
         &self,
         fixed: &[[Option<u8>; 4]; 8],
@@ -167,8 +167,8 @@ impl Relaxation {
         best
     }
 
-    /// The split with the fewest parts open. Those that keep the ties which hold prices between whole dollars come after all others, and of equal
-    /// ones those that leave the prices no more room.
+    /// Returns the split with the fewest parts open. Splits that keep the ties between prices that are not whole come after all others, and
+    /// among equal ones those that give the prices no more room.
     fn least_open(&self, fixed: &[[Option<u8>; 4]; 8], prices: &Prices, total: f64) -> Option<Split>
         ensures client { IfSome result (λ split. split.client < 8) }
         ensures feature { IfSome result (λ split. split.feature < 4) }
@@ -201,9 +201,9 @@ impl Relaxation {
         best
     }
 
-    /// How much a split by a client's feature leaves to search: for each part of it that whole prices do not bound by a total in
-    /// dollars, one and the square of the dollars that its relaxation is worth beyond the total. No more parts are looked at where
-    /// the sum has come to `most`.
+    /// Returns how much a split by a client's feature leaves to search: for each part that whole prices do not bound by a total in
+    /// dollars, 1 plus the square of the dollars that its relaxation is worth beyond the total. It looks at no more parts once the
+    /// sum has reached `most`.
     fn after_split(
         &self,
         client: usize,
@@ -228,7 +228,7 @@ impl Relaxation {
         sum
     }
 
-    /// The parts of a split by a client's feature in which whole prices leave more than a total in dollars.
+    /// Returns the parts of a split by a client's feature in which whole prices leave more than a total in dollars.
     fn open_parts(
         &self,
         client: usize,
@@ -255,8 +255,8 @@ impl Relaxation {
         }
     }
 
-    /// Whether packages with several values of a client's feature gain as much for it, at the prices of the relaxation, as it gains. Each
-    /// such package keeps the prices from moving, and each part of a split is rid of those with another value. `at` has the best margin of each value.
+    /// Returns whether packages with several values of a client's feature gain as much at the prices of the relaxation as the client gains. Each
+    /// such package keeps the prices from moving, and each part of a split excludes those with another value. `at` has the best margin of each value.
     fn gives_room(&self, client: usize, at: &[f64; 21]) -> bool
         requires { client < 8 }
     {
@@ -269,8 +269,8 @@ impl Relaxation {
         count > 1
     }
 
-    /// Whether each part of a split has a smaller bend than all of the client's packages together. What a client gains is convex in the prices. It
-    /// has a bend where its best packages use different goods at prices between whole dollars, and that keeps these prices from whole dollars.
+    /// Returns whether each part of a split has a smaller bend than all of the client's packages together. A client's gain is convex in the
+    /// prices. It bends where the best packages use different goods at prices that are not whole, which keeps these prices from whole dollars.
     fn unties(&self, client: usize, feature: usize, moved: &Moved, at: &[f64; 21]) -> bool
         requires client { client < 8 }
         requires feature { feature < 4 }
@@ -290,7 +290,7 @@ impl Relaxation {
         most < bend - TOLERANCE
     }
 
-    /// Puts down what packages cost at the prices of the relaxation, and near them.
+    /// Stores what packages cost at the prices of the relaxation, and near them.
     fn charge_moved(&self, moved: &mut Moved) {
         let features = &self.worths.features;
         charge(&mut moved.at, features, &self.tableau.prices);
@@ -298,8 +298,8 @@ impl Relaxation {
         charge(&mut moved.below, features, &self.prices_moved(-MOVED));
     }
 
-    /// The prices of the relaxation with those between whole dollars moved, each good's by the square of another number: sums of squares rarely agree,
-    /// so that packages that use different goods are moved apart.
+    /// Returns the prices of the relaxation after those that are not whole move, each by the square of a different number: sums of squares rarely
+    /// agree, so packages that use different goods move apart.
     fn prices_moved(&self, step: f64) -> Row {
         let mut prices = self.tableau.prices;
         let mut weight = 10.0;
@@ -312,7 +312,7 @@ impl Relaxation {
         prices
     }
 
-    /// What packages cost at whole prices, and what these bound, in dollars.
+    /// Returns what packages cost at whole prices, and the bound that these give, in dollars.
     fn priced(&self, prices: &Prices) -> Priced {
         let mut priced = Priced {
             charges: [0.0; 393],
@@ -322,7 +322,7 @@ impl Relaxation {
         priced
     }
 
-    /// What whole prices bound, in dollars, in each part of a split by a client's feature.
+    /// Returns the bound that whole prices give in each part of a split by a client's feature, in dollars.
     fn bounds_of_parts(&self, client: usize, feature: usize, priced: &Priced) -> [f64; 21]
         requires client { client < 8 }
         requires feature { feature < 4 }
@@ -335,7 +335,7 @@ impl Relaxation {
         margins
     }
 
-    /// The most that a client's packages with each value of a feature are worth beyond their charges.
+    /// Returns the most that a client's packages with each value of a feature are worth beyond their charges.
     fn best_margins(&self, client: usize, feature: usize, charges: &[f64; 393]) -> [f64; 21]
         requires client { client < 8 }
         requires feature { feature < 4 }

@@ -9,16 +9,16 @@ use packages::Package;
 use tac_base::Good;
 use tac_base::limits::DUAL_PRICE;
 
-/// Differences below this are taken for errors of rounding.
+/// Smaller differences count as rounding errors.
 pub(crate) const TOLERANCE: f64 = 0.0000001;
 
-/// No basic variable leaves at a ratio from here on.
+/// No basic variable leaves at this ratio or a greater one.
 const GREATEST_RATIO: f64 = 1000000.0;
 
-/// The place of the right-hand side in a row, after an entry for each row of the linear program.
+/// The index of the right-hand side in a row, after an entry for each row of the linear program.
 pub(crate) const AMOUNT: usize = ROWS;
 
-/// The numbers of a row.
+/// The number of entries in a row.
 pub(crate) const WIDTH: usize = ROWS + 1;
 
 /// A row of the tableau.
@@ -29,14 +29,14 @@ pub(crate) type Row = [f64; WIDTH];
 pub(crate) struct Tableau {
     /// The rows of the inverse, each with the amount of its basic variable last.
     pub(crate) rows: [Row; ROWS],
-    /// The dual prices: of the goods and then of the clients, of which each is what the client gains; last the value.
+    /// The dual prices: those of the goods, then for each client its gain, and last the value.
     pub(crate) prices: Row,
     /// The basic variable of each row.
     pub(crate) basis: [SimplexColumn; ROWS],
 }
 
 impl Tableau {
-    /// No basis yet.
+    /// Returns a tableau without a basis.
     pub(crate) fn nothing() -> Tableau {
         Tableau {
             rows: [[0.0; WIDTH]; ROWS],
@@ -45,9 +45,9 @@ impl Tableau {
         }
     }
 
-    /// Puts down, where there was no basis, the slack basis: all goods are left over, of which there are so many, and each client stays at
-    /// home. Of a good of which eight clients can't use up all, one more than they can use is as good as any number, and so it gets no price. A
-    /// good of which there is none has the greatest price, and nobody wants it.
+    /// Sets the slack basis in a tableau without a basis: all goods are left over, as many as `stock` says, and each client stays at
+    /// home. If eight clients cannot use up the stock of a good, one unit more than they can use is as good as any stock, and the good has no
+    /// price. A good without stock has the greatest price, and nobody wants it.
     pub(crate) fn begin(&mut self, stock: &[f64; 28]) {
         for good in 0..GOOD_ROWS {
             self.rows[good][good] = 1.0;
@@ -65,12 +65,12 @@ impl Tableau {
         }
     }
 
-    /// What the basic variables are worth together, in dollars.
+    /// Returns what the basic variables are worth together, in dollars.
     pub(crate) fn value(&self) -> f64 {
         self.prices[AMOUNT]
     }
 
-    /// The pivot column: what one more of a column takes from each basic variable.
+    /// Returns the pivot column: what one more unit of a column takes from each basic variable.
     pub(crate) fn pivot_column(&self, column: &SimplexColumn) -> [f64; ROWS] {
         let mut entries = [0.0; ROWS];
         match column {
@@ -94,8 +94,8 @@ impl Tableau {
         entries
     }
 
-    /// The ratio test: the row whose basic variable is used up first as a column enters; of several the first, or where steps are idle the one
-    /// whose variable comes first in the order of columns.
+    /// The ratio test: returns the row whose basic variable is used up first as a column enters; of several, the first one, or in idle steps
+    /// the one whose variable comes first in the order of columns.
     pub(crate) fn leaving(&self, pivot_column: &[f64; ROWS], is_idle: bool) -> Option<usize>
         ensures { IfSome result (λ row. row < ROWS) }
     {
@@ -118,7 +118,7 @@ impl Tableau {
         first
     }
 
-    /// Pivots: the column becomes the basic variable of the leaving row.
+    /// Pivots: makes the column the basic variable of the leaving row.
     pub(crate) fn pivot(&mut self, entering: &Entering, pivot_column: &[f64; ROWS], leaving: usize)
         requires { leaving < ROWS }
     {
@@ -134,7 +134,7 @@ impl Tableau {
     }
 }
 
-/// What a good costs at first, of which there are so many.
+/// Returns the first price of a good with this stock.
 fn first_price(stock: f64) -> f64 {
     if stock < 0.5 {
         f64::from(DUAL_PRICE)
@@ -143,7 +143,7 @@ fn first_price(stock: f64) -> f64 {
     }
 }
 
-/// The entry of a row in the column of a client's package.
+/// Returns the entry of a row in the column of a client's package.
 fn share_entry(row: &Row, client: usize, package: &Package) -> f64
     requires client { client < 8 }
     requires lawful { IsPackage «package».now }
@@ -178,7 +178,7 @@ fn scale(row: &mut Row, by: f64) {
     }
 }
 
-/// Subtracts so many times a row from another one.
+/// Subtracts a multiple of a row from another one.
 fn subtract(row: &mut Row, other: &Row, times: f64) {
     if times != 0.0 {
         for place in 0..WIDTH {

@@ -1,4 +1,4 @@
-// What the packages are worth to the clients that have them left, in one table.
+// One table of what the packages are worth to the clients that they are left to.
 ghost use Rattle.std.specs.Prelude.{◌≡◌, Some, slice_get, ◌<◌, ◌≤ℤ◌, pos, length};
 ghost use Rattle.relaxation.specs.{Preferences, IsPackage, utility_of, feature_of, HasWorths, IsNarrowed, IsPut};
 
@@ -7,19 +7,19 @@ use crate::features::Features;
 use game_text::Account;
 use packages::{Package, package, utility};
 
-/// The worth of an excluded package: so little that whatever a client has left is worth more.
+/// The worth of an excluded package: so low that every package that is left is worth more.
 const EXCLUDED: i32 = -1_000_000;
 
-/// What each package is worth to each client that has it left, in dollars.
+/// What each package is worth to each client that it is left to, in dollars.
 #[derive(Clone, Copy)]
 pub struct WorthTable {
-    /// By client 0..7 and then the package's number 0..392.
+    /// For clients 0..7, and within a client for packages 0..392.
     pub dollars: [i32; 3144],
     pub(crate) features: Features,
 }
 
 impl WorthTable {
-    /// No package is worth anything.
+    /// Returns a table in which no package is worth anything.
     pub(crate) fn nothing() -> WorthTable {
         WorthTable {
             dollars: [0; 3144],
@@ -27,12 +27,12 @@ impl WorthTable {
         }
     }
 
-    /// Each package is left to each client.
+    /// Leaves each package to each client.
     #[inline(never)]
     pub(crate) fn fill(&mut self, account: &Account)
         ensures { HasWorths account.now.clients self.new.dollars }
     {
-        // The proof rests on the account's ranges, which are known where it is read.
+        // The proof needs the account's ranges, which are known once the account is read.
         let _holdings = &account.holdings;
         for number in 0..393 {
             if let Some(choice) = package(number) {
@@ -41,7 +41,7 @@ impl WorthTable {
         }
     }
 
-    /// A client, 0..7, keeps those packages whose feature, 0..3, has the value.
+    /// Leaves a client, 0..7, only the packages whose feature, 0..3, has the value.
     pub(crate) fn narrow(&mut self, client: usize, feature: usize, value: u8)
         requires client { client < 8 }
         requires feature { feature < 4 }
@@ -54,7 +54,7 @@ impl WorthTable {
         }
     }
 
-    /// The dollars of a client, 0..7, by the package's number.
+    /// Returns the dollars of a client, 0..7, by package number.
     pub(crate) fn row(&self, client: usize) -> &[i32]
         requires { client < 8 }
         ensures { length result.now ≡ 393 }
@@ -62,13 +62,13 @@ impl WorthTable {
         &self.dollars[393 * client..393 * client + 393]
     }
 
-    /// Whether a package is excluded for its client.
+    /// Returns whether a package is excluded for its client.
     pub(crate) fn is_excluded(&self, of: &ClientPackage) -> bool {
         self.dollars[393 * of.client + of.number] < 0
     }
 }
 
-/// What a package is worth to a client, 0..7.
+/// Returns what a package is worth to a client, 0..7.
 fn worth_to(account: &Account, client: usize, choice: &Package) -> i32
     requires client { client < 8 }
     requires lawful { IsPackage choice.now }
@@ -79,7 +79,7 @@ fn worth_to(account: &Account, client: usize, choice: &Package) -> i32
     utility(&account.clients[client], choice) as i32
 }
 
-/// Puts down what the package of a number, 0..392, is worth to each client.
+/// Stores what the package with a number, 0..392, is worth to each client.
 fn put(dollars: &mut [i32; 3144], account: &Account, number: u16, choice: &Package)
     requires number { number < 393 }
     requires lawful { IsPackage choice.now }
