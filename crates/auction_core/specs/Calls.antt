@@ -1,4 +1,4 @@
--- Which calls an auction may be asked.
+-- The calls that a caller can make in an auction.
 use Rattle.std.specs.Prelude.{⊤, ◌≤◌}
 use Rattle.auction_core.specs.Prelude.{UPDATE_TICKS, Call}
 use Rattle.tac_base.specs.declared.calls.Call.TheVariants.{Bid, Withdraw, Own, Update, Publish, Close}

@@ -44,7 +44,7 @@ KeepsSum before after = sum_held (held_by after.setup (auction_past after)) ≡ 
 abbrev pub HasNoSelfTrade : AuctionHistory → Type 0
 HasNoSelfTrade after = All HasTwoParties (newest_trades (auction_past after))
 
--- a flight's price lies in 150..800
+-- a flight's price is in 150..800
 abbrev pub IsPriced : Rules → List Entry → Type 0
 IsPriced (FlightRules first bound) past = IsFlightPrice (price first bound past)
 IsPriced rules past = ⊤

@@ -52,7 +52,7 @@ fn net(trades: &[Trade], number: u8) -> i32
     earned(trades, number) as i32 - paid(trades, number) as i32
 }
 
-/// Returns what each party gains in an entry's trades. The gains of 128 trades of 255 units at 65,535 dollars fit in 32 bits.
+/// Returns what each party gains in an entry's trades. The gains of 128 trades of 255 units at 65,535 dollars fit 32 bits.
 pub(crate) fn nets(trades: &[Trade]) -> Nets
     requires { length trades.now ≤ ENTRY_TRADES }
     ensures { result.dollars ≡ effects.nets trades.now }

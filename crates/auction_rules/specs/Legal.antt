@@ -74,8 +74,8 @@ entries_of history caller = count_by (λ e. e.caller == caller) history
 abbrev pub cap : ℕ → ℕ
 cap caller = if caller == clock then CLOCK_CALLS else AGENT_CALLS
 
--- a history, oldest entry first, is legal: the rules give its entries, each caller is an agent or the clock, and no caller has more
--- entries than its cap
+-- a history, oldest entry first, is legal: the rules give its entries, each caller is an agent or the clock, and none of them has
+-- more entries than its cap
 pub record Legal (setup : Setup) (history : List Entry) : Type 0 where
   pub lawful : IsLawful setup (reverse history)
   pub called : AllByRecursion (λ e. e.caller ≤ clock) history

@@ -32,8 +32,8 @@ impl WrittenPoint {
     }
 }
 
-/// Reads a bid from a text of points, each with units and a price in dollars, such as `((2 150) (1 100))`. Returns `Syntax` if
-/// the text lacks this form, and otherwise the first fault from the left, if any. This project defines the form and limits.
+/// Reads a bid from a text of points, each with units and a price in dollars, as `((2 150) (1 100))`. Returns `Syntax`
+/// if the text lacks this form, and otherwise the first fault from the left, if any. This project defines form and limits.
 pub fn read_points(text: &[u8]) -> Result<Points, BidFault>
     ensures exact { result ≡ bid_form.judged (bid_form.points_of text.now) }
     // A text that is read is the spelling of its points.

@@ -1,5 +1,5 @@
-//! Certificates, which are trees of splits and prices that prove that no feasible allocation is worth more than a claim; and the
-//! definition of a best allocation with its certificate.
+//! Certificates, which are trees of splits and prices that prove that no feasible allocation is worth more than a claim; and
+//! the definition of a best allocation with its certificate.
 #![tactic(auto)]
 
 mod checking;

@@ -95,7 +95,7 @@ fn root_of(alloc: Global, text: &[u8]) -> Result<CertNode, CertFault>
 
 /// Reads a certificate from its text. It is at most 32 splits deep, whatever the text is.
 pub fn read_cert(alloc: Global, text: &[u8]) -> Result<Cert, CertFault>
-    // The result is the certificate, or the first bad line and its reason, unless a memory allocation failed.
+    // The result is the certificate, or the first bad line and its reason, unless an allocation failed.
     ensures exact { IsCertReading (λ cert. tree_of cert.root) result (reading.cert_of text.now) }
     ensures too_long { (result ≡ Err CertFault.TooLong) ↔ (TEXT_BYTES < length text.now) }
     // The text is the canonical text of the certificate.

@@ -9,7 +9,7 @@ use Rattle.draw_maker.specs.Words.{generator, next_words, after}
 abbrev pub ticket_units : ℕ → ℤ
 ticket_units side = if side % 2 == 0 then pos 1 else negsuc 0
 
--- 3 words: the point of a bid for a good of this kind; bids for flights and hotel nights buy, whatever the first word is
+-- 3 words: the point of a bid for a good of this kind; bids for flights and hotel nights buy, whatever the first word
 abbrev pub made_point : Kind → ℕ → ℕ → ℕ → Point
 made_point Flight side units price = point_at (pos (1 + units % 2)) (150 + price % 651)
 made_point Hotel side units price = point_at (pos (1 + units % 4)) (1 + price % 400)

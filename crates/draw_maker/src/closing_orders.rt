@@ -6,8 +6,8 @@ use crate::drawing::draw_words;
 use rand_pcg::Lcg64Xsh32;
 use tac_base::Good;
 
-/// Returns the hotel nights, shuffled by the words: from the last index to the second, each index swaps its good
-/// with that at an index up to it.
+/// Returns the hotel nights, shuffled by the words: from the last index to the second, the good at it is swapped
+/// with one at an index up to it.
 fn order_of(drawn: &[u32; 7]) -> [Good; 8]
     ensures { result ≡ made_order drawn.now }
 {

@@ -1,4 +1,4 @@
--- What is left of the packages where features of them are fixed.
+-- What fixed values of features leave of the packages.
 use Rattle.std.specs.Prelude.{◌≡◌, ℕ, ◌<◌, ◌==◌, ◌&&◌, nat_lt, Bool, true, List, [], length, Option, Some, None, is_some, count_by, set, replicate, slice_index_or, IsTrue, sum_by}
 use Rattle.dual_bound.specs.Prelude.{Package, Narrowing, feature_of, values_of, fixed_at}
 
@@ -25,7 +25,7 @@ fixed_count choice = sum_by (count_by is_some) choice
 abbrev pub nothing_fixed : List (List (Option ℕ))
 nothing_fixed = replicate 8 (replicate 4 None)
 
--- a client's feature is fixed besides
+-- one more feature of a client is fixed
 abbrev pub with_fixed : List (List (Option ℕ)) → ℕ → ℕ → ℕ → List (List (Option ℕ))
 with_fixed choice client feature value = set choice client (set (slice_index_or choice client []) feature (Some value))
 

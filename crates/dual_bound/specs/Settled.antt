@@ -1,8 +1,8 @@
--- When no single price is worth moving.
+-- When no move of a single price improves the bound.
 use Rattle.std.specs.Prelude.{◌≡◌, ℕ, ◌+◌, ◌<◌, ◌≤◌, ◌⊎◌, ℤ, Bool, false, List, Option, Some, None, set, slice_index, int_lt}
 use Rattle.dual_bound.specs.Prelude.{DUAL_PRICE, GOODS, AccountFile, Narrowing, leaf_bound}
 
--- a bound is lower than another, where both are there
+-- a bound is lower than another, if there are both
 abbrev pub is_lower : Option ℤ → Option ℤ → Bool
 is_lower None other = false
 is_lower (Some bound) None = false
@@ -12,7 +12,7 @@ is_lower (Some bound) (Some other) = int_lt bound other
 abbrev pub IsPriceStep : ℕ → ℕ → Type 0
 IsPriceStep price other = (price ≡ other + 50) ⊎ (price + 50 ≡ other)
 
--- no price of a good, raised or lowered by 50 within the range, gives a lower leaf bound than so much
+-- no price of a good, raised or lowered by 50 within the range, gives a leaf bound lower than `bound`
 abbrev pub IsSettledAt : AccountFile → Narrowing → List ℕ → Option ℤ → ℕ → Type 0
 IsSettledAt account left prices bound good =
     (price : ℕ) → price ≤ DUAL_PRICE → IsPriceStep price (slice_index prices good) → is_lower (leaf_bound account left (set prices good price)) bound ≡ false

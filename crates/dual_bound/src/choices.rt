@@ -84,7 +84,7 @@ impl Choice {
         Choice { fixed }
     }
 
-    /// Also fixes a feature, 0..3, of a client, 0..7, which must not be fixed yet. The value must be one of
+    /// Fixes another feature, 0..3, of a client, 0..7, which must not be fixed yet. The value must be one of
     /// the feature's.
     pub fn with(&self, client: u8, feature: u8, value: u8) -> Choice
         requires client { client < 8 }

@@ -36,7 +36,7 @@ impl Model for Flight {
 }
 
 impl Flight {
-    /// Returns an open flight with a first price of 250 to 400 dollars and a bound of -10 to 30. Nobody has bid.
+    /// Returns an open flight with a first price of 250 to 400 dollars, a bound of -10 to 30, and no bids.
     pub fn new(good: Good, first: u16, bound: i8) -> Self
         requires kind { kind_of good ≡ Kind.Flight }
         requires first_from { 250 ≤ first }

@@ -8,7 +8,7 @@ use auction_rules::StandingPoint;
 use tac_base::limits::{ENTRY_TRADES, STANDING_UNITS};
 use tac_base::{Agent, Fills, Good, Party, Point, Trade};
 
-/// Whether the point belongs to the agent with this number.
+/// Returns whether the point belongs to the agent with this number.
 fn is_of(standing: &StandingPoint, number: u8) -> bool
     ensures { result ≡ spec.is_points_agent number standing.now }
 {

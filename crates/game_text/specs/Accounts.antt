@@ -12,7 +12,7 @@ pub record AccountFile : Type 0 where
   pub clients : List Preferences
   pub holdings : List ℤ
 
--- a holding lies in -200000..200000
+-- a holding is in -200000..200000
 abbrev pub IsHolding : ℤ → Type 0
 IsHolding held = (neg_ℤ HOLDING ≤ℤ held) × (held ≤ℤ HOLDING)
 

@@ -1,5 +1,5 @@
--- The schedule of the clock: the calls of each tick in order, each to the auction of a good. This project defines their order. By the
--- game description, hotels close one after the other, in an order that no agent knows.
+-- The schedule of the clock: the calls of each tick in order, each to the auction of a good. This project defines their order. By
+-- the game description, hotels close one after the other, in an order that no agent knows.
 use Rattle.std.specs.Prelude.{ℕ, ◌-◌, ◌/◌, ◌%◌, ◌==◌, if◌then◌else◌, List, [], ◌∷◌, ◌++◌, map, take, filter, not, get_or, flat_map}
 use Rattle.std.specs.List.{list_any, enumerate_from, range_with_len}
 use Rattle.tac_base.specs.declared.calls.Call.{Call}

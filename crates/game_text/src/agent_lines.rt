@@ -49,8 +49,8 @@ fn print_client(agent: u8, number: u8, wants: &Client, out: &mut Text)
     print_line(b"client", &client_numbers(agent, number, wants), out);
 }
 
-/// Appends a line of an agent, as in the game file, without its line end; at least 256 bytes must be free. Line 0 has its endowment, and
-/// lines 1..8 its clients 0..7. It allocates no memory.
+/// Appends a line of an agent, as in the game file, without its line end; at least 256 bytes must be free. Line 0 has its endowment,
+/// and lines 1..8 its clients 0..7. It allocates no memory.
 pub fn print_agent_line(game: &Game, agent: Agent, n: u8, out: &mut Text)
     requires number { n ≤ 8 }
     requires room { length out.old + 256 ≤ 640 }

@@ -40,7 +40,7 @@ pub(crate) fn header_of(line: &[u8]) -> Result<u8, Reason>
     version_of(version)
 }
 
-/// Appends the first line of a game file with this version. After an error the text may end within it.
+/// Appends the first line of a game file with this version. On error the text may end within it.
 pub(crate) fn print_header(version: u8, out: &mut Vec<u8>) -> Result<(), AllocError>
     ensures { OnOk result (out.new.items ≡ out.old.items ++ (headers.header_text version ++ 10 ∷ [])) }
 {

@@ -13,7 +13,7 @@ use tac_base::OutOfRange;
 use tac_base::limits::AGENTS;
 use text_forms::{Reason, Words};
 
-/// The word with which an agent takes its seat: 1 to 16 bytes of `a`..`z` and `0`..`9`, as this project defines.
+/// The word with which an agent takes its seat: 1 to 16 bytes of `a`..`z`, `0`..`9`. The project defines it.
 #[derive(Clone, Copy, Debug)]
 pub struct SeatWord {
     bytes: [u8; 16],

@@ -56,6 +56,6 @@ book_refusal won price closed points = if closed then Some Closed else hotel_ref
 abbrev pub winner_trade : ℕ → ℕ → (ℕ → ℕ) → ℕ → Option Trade
 winner_trade good price won agent = if won agent == 0 then None else Some (record { buyer = agent; seller = house; good = good; units = won agent; price = price })
 
--- one trade for each agent that wins a unit, in rising agent number
+-- one trade for each agent that wins a unit, in ascending order of agents
 abbrev pub winner_trades : ℕ → ℕ → (ℕ → ℕ) → List Trade
 winner_trades good price won = filter_map (winner_trade good price won) agents

@@ -8,7 +8,7 @@ use auction_rules::{BidUnit, Placed, push_units};
 use tac_base::Unit;
 use tac_base::limits::{BID_PRICE, BID_UNITS, STANDING_UNITS};
 
-/// Whether the first unit precedes the second.
+/// Returns whether the first unit precedes the second.
 fn precedes(first: &Unit, second: &Unit) -> bool
     ensures { result ≡ ranks_first first.now second.now }
 {

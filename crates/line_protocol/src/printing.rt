@@ -51,7 +51,7 @@ fn print_left(left: &Left, out: &mut Text)
     print_points(left.as_slice(), out);
 }
 
-/// Appends the text of a reply without its position, as a log shows it; at least 288 bytes must be free. Appends at most
+/// Appends the text of a reply without its position, as in a log; at least 288 bytes must be free. Appends at most
 /// 288 bytes, none of which is a line end.
 pub fn print_answer(reply: &Reply, out: &mut Text)
     requires { length out.old + 288 ≤ REPLY_TEXT }
@@ -121,7 +121,7 @@ fn print_fault(fault: RequestFault, out: &mut Text)
     }
 }
 
-/// The word for whether an auction is closed.
+/// Returns the word for whether an auction is closed.
 fn state_of(closed: bool) -> &'static [u8]
     ensures value { result.now ≡ (if closed then codes "closed" else codes "open") }
     ensures len { length result.now ≤ 6 }

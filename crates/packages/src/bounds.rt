@@ -125,8 +125,8 @@ fn added(bound: Option<i64>, other: Option<i64>, number: usize) -> Option<i64>
     }
 }
 
-/// Returns the leaf bound, in dollars: what the stock costs, plus the greatest margin of each client among the packages left
-/// to it. It is `None` if no package is left to some client. This project defines that bounds use prices.
+/// Returns the leaf bound, in dollars: what the stock costs, plus each client's greatest margin among its packages left.
+/// It is `None` if no package is left to some client. This project defines that bounds use prices.
 pub fn leaf_bound<N: Narrowing>(account: &Account, narrowing: &N, prices: &Prices) -> Option<i64>
     ensures { result ≡ bounds.leaf_bound account.now (N.left narrowing.now) prices.now }
 {

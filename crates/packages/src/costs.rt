@@ -7,7 +7,7 @@ use crate::prices::Prices;
 use crate::travel_packages::Package;
 use tac_base::Good;
 
-/// The price of a good.
+/// Returns the price of a good.
 fn price_at(prices: &Prices, good: Good) -> u32
     ensures value { result ≡ slice_index prices.now good }
     ensures few { result ≤ DUAL_PRICE }

@@ -1,4 +1,4 @@
-//! Packages: what a client's trip uses and is worth, the list of all trips, totals over eight clients, and the bounds that prices
+//! Packages: what a client's trip uses and is worth, the list of all trips, totals over eight clients, and bounds that prices
 //! give for every allocation.
 #![tactic(auto)]
 

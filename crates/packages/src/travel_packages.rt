@@ -1,5 +1,5 @@
-/// What an agent gives to a client. By the game description, a stay has its nights in one hotel and at most one night for
-/// each ticket type, all different.
+/// What an agent gives to a client. By the game description, a stay has its nights in one hotel and at most one night
+/// for each ticket type, all different.
 #[derive(Clone, Copy, Debug, PartialEq, Eq)]
 pub enum Package {
     /// The client stays at home.

@@ -39,7 +39,7 @@ impl Relaxation {
         relaxation
     }
 
-    /// Leaves a client, 0..7, only the packages whose feature, 0..3, has the value. It does not solve what is left.
+    /// Leaves a client, 0..7, only the packages whose feature, 0..3, has the value, without solving the rest.
     pub fn narrow(&mut self, client: u8, feature: u8, value: u8)
         requires client { client < 8 }
         requires feature { feature < 4 }

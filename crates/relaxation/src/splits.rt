@@ -256,7 +256,7 @@ impl Relaxation {
     }
 
     /// Returns whether packages with several values of a client's feature gain as much at the prices of the relaxation as the client gains. Each
-    /// such package keeps the prices from moving, and each part of a split excludes those with another value. `at` has the best margin of each value.
+    /// such package keeps the prices from moving, and each part of a split excludes those with another value. `at` has each value's best margin.
     fn gives_room(&self, client: usize, at: &[f64; 21]) -> bool
         requires { client < 8 }
     {

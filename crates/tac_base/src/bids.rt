@@ -46,7 +46,7 @@ pub enum BidFault {
     ZeroUnits,
 }
 
-/// Returns the fault of the next point, after `count` points with `used` units. This project defines the order.
+/// Returns the next point's fault, after `count` points with `used` units. This project defines the order of tests.
 fn fault_at(count: usize, used: u8, size: u64, price: u64) -> Option<BidFault>
     requires { used ≤ BID_UNITS }
     ensures { result ≡ point_fault count used (point_at (pos size) price) }

@@ -1,5 +1,5 @@
-//! The vocabulary of all other crates: the numbers of agents, goods and ticks, bids, trades, calls and
-//! replies of the auctions, clients, short texts and numerals. Each value keeps its range, and no call allocates memory.
+//! The vocabulary of all other crates: numbers of agents, goods and ticks, bids, trades, calls and replies
+//! of the auctions, clients, short texts and numerals. Each value keeps its range, and no call allocates memory.
 #![tactic(auto)]
 
 mod bids;

@@ -84,7 +84,7 @@ pub const PACE: u16 = 60_000;
 /// The highest price of a bid, in dollars; the lowest is 1.
 pub const BID_PRICE: u16 = 10_000;
 
-/// The highest price that a board or a reply shows, in dollars: one more than the highest price of a bid.
+/// The highest price that a board or a reply shows, in dollars: one more than the highest price of a bid, so no bid can offer it.
 pub const SHOWN_PRICE: u16 = 10_001;
 
 /// The most points of a bid.

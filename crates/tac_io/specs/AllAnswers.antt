@@ -8,7 +8,7 @@ use Rattle.tac_io.specs.declared.line_got.LineGot.TheVariants.{Line, TooLong, En
 abbrev pub ended_line : List ℕ → LineGot × List ℕ
 ended_line line = if nat_le (length line) LINE_BYTES then (Line, line) else (TooLong, [])
 
--- The answers, each with its line. `line` is the line so far; `bytes` follow, of which at most `room` may be taken.
+-- The answers, each with its line. `line` precedes `bytes`, of which at most `room` may be taken.
 abbrev pub all_answers : List ℕ → ℕ → List ℕ → List (LineGot × List ℕ)
 all_answers line zero bytes = (Budget, []) ∷ []
 all_answers line (suc room) [] = (End, []) ∷ []

@@ -6,11 +6,11 @@ use Rattle.tac_io.specs.declared.line_got.LineGot.{LineGot}
 use Rattle.tac_io.specs.declared.line_got.LineGot.TheVariants.{Line, TooLong, End, Failed, Budget}
 use Rattle.tac_io.specs.AllAnswers.{all_answers}
 
--- the answers that are still to come, where these bytes are held and left, and so many were taken
+-- the answers that are still to come, if these bytes are held and left, and this many were taken
 abbrev pub answers_left : Held → List ℕ → ℕ → List (LineGot × List ℕ)
 answers_left held left count = all_answers [] (LINK_BYTES - count + length held.unread) (held.unread ++ left)
 
--- The first of all answers is this one, with its line, and then come the others. No byte shows a fault.
+-- This answer, with its line, is the first of all, and the others follow. Bytes alone show no fault.
 abbrev pub IsFirst : LineGot → List ℕ → List (LineGot × List ℕ) → List (LineGot × List ℕ) → Type 0
 IsFirst Line line all others = all ≡ (Line, line) ∷ others
 IsFirst TooLong line all others = all ≡ (TooLong, []) ∷ others
@@ -18,7 +18,7 @@ IsFirst End line all others = all ≡ (End, []) ∷ []
 IsFirst Failed line all others = ⊤
 IsFirst Budget line all others = all ≡ (Budget, []) ∷ []
 
--- Where it is known what is left, the answer is the first of those to come, and then the others come.
+-- If it is known what is left, this answer is the first of those to come, and the others follow.
 abbrev pub IsInTurn : LinkPlace → LinkPlace → LineGot → Type 0
 IsInTurn before after got =
     IfSome before.link.left (λ bytes. IfSome after.link.left (λ rest.

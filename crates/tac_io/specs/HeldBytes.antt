@@ -23,7 +23,7 @@ pub record Gives (bytes bytes' : List ℕ) (before after : LinkState) (n : ℕ) 
   pub gave : GaveBytes more before after
   pub end : n ≡ 0 → IsAtEnd before.left
 
--- A read gave at most so many bytes, or failed and changed nothing.
+-- A read gave at most this many bytes, or failed and changed nothing.
 abbrev pub Fills : {E : Type 0} → List ℕ → List ℕ → LinkState → LinkState → ℕ → Result ℕ E → Type 0
 Fills bytes bytes' before after most result = MatchResult result
     (λ n. (n ≤ most) × (length bytes' ≤ 1024) × Gives bytes bytes' before after n)

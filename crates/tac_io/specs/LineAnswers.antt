@@ -10,7 +10,7 @@ use Rattle.tac_io.specs.declared.line_got.LineGot.{LineGot}
 use Rattle.tac_io.specs.declared.line_got.LineGot.TheVariants.{Line, TooLong, End, Failed, Budget}
 
 -- What comes next in these bytes. `held` is what follows it, `at_end` whether the link is at its end, and `count` how many of
--- the link's bytes were taken. No two of the answers fit the same bytes, but for a fault and the end.
+-- the link's bytes were taken. No two of the answers fit the same bytes, except for a fault and the end.
 abbrev pub IsNext : LineGot → List ℕ → Held → Type 0 → ℕ → Type 0
 IsNext Line bytes held at_end count = BeginsWithLine bytes held.line held.unread × (length held.line ≤ LINE_BYTES)
 IsNext TooLong bytes held at_end count = (line : List ℕ) × BeginsWithLine bytes line held.unread × (LINE_BYTES < length line)
@@ -33,11 +33,11 @@ HasLineCause before after TooLong = NoReadFails before after
 HasLineCause before after End = NoReadFails before after
 HasLineCause before after Budget = NoReadFails before after
 
--- the bytes that were taken decide the next answer
+-- the bytes that were taken so far determine the next answer
 abbrev pub IsDecided : List ℕ → ℕ → Type 0
 IsDecided unread count = (has_end unread ≡ true) ⊎ (count ≡ LINK_BYTES)
 
--- after this answer, if there was one, there may be another
+-- whether another answer can follow this one, or the start
 abbrev pub goes_on : Option LineGot → Bool
 goes_on None = true
 goes_on (Some Line) = true

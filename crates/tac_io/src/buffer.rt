@@ -1,11 +1,11 @@
-// A buffer with the last line and the unread bytes, which belong to no line yet.
+// A buffer with the last line and the unread bytes: those in no line yet.
 ghost use Rattle.std.specs.Prelude.{◌≡◌, [], ◌+◌, ◌<◌, ◌≤◌, IfSome, IfNone, IfOk, length, take, drop, false, MatchResult};
 ghost use Rattle.tac_io.specs.{HasCause, Fills, has_end, BeginsWithLine, SendsNothing, known_then, then_known, IsAtEnd, NotesFailure};
 
 use crate::{Failed, Link};
 use std::marker::Model;
 
-/// A buffer of 1024 bytes. It holds the last line, and the unread bytes, which have no line yet.
+/// A buffer of 1024 bytes. It holds the last line, and the unread bytes: those in no line yet.
 #[derive(Drop)]
 pub(crate) struct Buffer {
     bytes: [u8; 1024],
@@ -118,7 +118,7 @@ impl Buffer {
         self.to = 0;
     }
 
-    // Reads at most `most` bytes of the link to behind the unread bytes. The last line is
+    // Appends at most `most` bytes of the link to the unread bytes. The last line is
     // dropped.
     pub(crate) fn fill<L: Link>(&mut self, link: &mut L, most: usize) -> Result<usize, Failed>
         requires most { 0 < most }

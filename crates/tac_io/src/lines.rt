@@ -133,8 +133,8 @@ impl<L: Link> Lines<L> {
     }
 
     /// Sends all bytes to the link, in as many writes as needed, and in none if there are no
-    /// bytes. It returns `Failed` exactly if the link counted a write fault in this call. Then it sent
-    /// some of the first bytes, or none, but not all, and sent nothing after the fault.
+    /// bytes. It returns `Failed` exactly if the link counted a write fault in this call. Then it
+    /// sent some of the first bytes, or none, but not all, and sent nothing after the fault.
     pub fn send(&mut self, bytes: &[u8]) -> Result<(), Failed>
         ensures sends { OnlySends (L.state (link_of self.old)) (L.state (link_of self.new)) bytes.now result }
         ensures place { KeepsPlace self.old self.new }

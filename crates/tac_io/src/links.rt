@@ -14,7 +14,7 @@ pub trait Links {
     /// maximum.
     ghost state: { Self → LinksState Self.Link };
 
-    /// Starts to listen on a TCP port; only one call is allowed. After a fault it listens if it did before.
+    /// Starts to listen on a TCP port, once only. After a fault it listens if it did before.
     fn listen(&mut self, port: u16) -> Result<(), Failed>
         requires { IfSome (state self.old).ports (λ ports. ports ≡ []) }
         ensures listens { MatchResult result

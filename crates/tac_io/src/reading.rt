@@ -42,7 +42,7 @@ impl From<AllocError> for FileFault {
 /// How many bytes the first read asks for.
 const FIRST_READ: usize = 65_536;
 
-/// Returns all bytes of the file with that name, if it has at most `limit`. It selects it once.
+/// Returns all bytes of the file with that name, if at most `limit`. It selects the name once.
 /// It returns `Failed` exactly if the files counted a fault in this call. `TooLong` means that they
 /// did not and that the file has more than `limit` bytes. After success the file is at its end;
 /// otherwise the contract leaves open which file is selected, and what is left of it.

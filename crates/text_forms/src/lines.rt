@@ -19,14 +19,14 @@ pub enum Reason {
     OutOfRange = 4,
     /// A number that counts lines of a kind is not the next one.
     NotDue = 5,
-    /// Two words or numbers that have to differ are equal.
+    /// Two words or numbers that must differ are equal.
     Repeated = 6,
     /// The text ends before or within this line, or does not end after its last line.
     TextEnd = 7,
 }
 
 impl Reason {
-    /// The number that a refusal shows, 1 to 7.
+    /// Returns the number that a refusal shows, 1 to 7.
     pub fn number(self) -> u8
         ensures { result ≡ lines.reason_number self }
     {

@@ -21,7 +21,7 @@ fn count(bytes: &[u8], separator: u8) -> usize
 }
 
 /// Returns the bytes before the first separator and those after it, if there is a separator.
-/// Either side may be empty.
+/// Either side can be empty.
 pub fn cut(bytes: &[u8], separator: u8) -> Option<(&[u8], &[u8])>
     ensures whole { IfNone result (parts_of separator bytes.now ≡ bytes.now ∷ []) }
     ensures parts { IfSome result (λ x. parts_of separator bytes.now ≡ x.0.now ∷ parts_of separator x.1.now) }

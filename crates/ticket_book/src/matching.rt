@@ -12,7 +12,7 @@ use auction_rules::{BidUnit, Placed, push_units};
 use tac_base::limits::{BID_PRICE, BID_UNITS, ENTRY_TRADES};
 use tac_base::{Fills, Good, Trade, Unit};
 
-/// Whether two units are the same.
+/// Returns whether two units are the same.
 fn same_unit(first: &BidUnit, second: &BidUnit) -> bool
     ensures { result ≡ spec.same_unit first.now second.now }
 {
@@ -33,7 +33,7 @@ fn take_away(units: &mut ArrayVec<BidUnit, 16>, gone: &[BidUnit])
     units.retain(|unit| !is_among(gone, unit));
 }
 
-/// The units of a bid.
+/// Returns the units of a bid.
 fn units_of(bid: &Placed) -> ArrayVec<BidUnit, 16>
     ensures units { result.items ≡ spec.units_of bid.now }
     ensures few { length result.items ≤ BID_UNITS }
@@ -55,7 +55,7 @@ fn crosses(arriving: &BidUnit, standing: &BidUnit) -> bool
     }
 }
 
-/// The unit with its side.
+/// Returns the unit with its side.
 fn with_side(buys: bool, unit: &Unit) -> BidUnit
     ensures { result ≡ on_side buys unit.now }
 {

@@ -7,7 +7,7 @@ use arrayvec::ArrayVec;
 use tac_base::Unit;
 use tac_base::limits::STANDING_UNITS;
 
-/// Whether the first of two units of a side goes before the second.
+/// Returns whether the first of two units of a side goes before the second.
 fn goes_first(buys: bool, first: &Unit, second: &Unit) -> bool
     ensures { result ≡ spec.goes_first buys first.now second.now }
 {
@@ -22,7 +22,7 @@ fn goes_first(buys: bool, first: &Unit, second: &Unit) -> bool
                 || (first.position == second.position && first.index < second.index)))
 }
 
-/// Whether two units of a side are the same.
+/// Returns whether two units of a side are the same.
 fn is_same(first: &Unit, second: &Unit) -> bool
     ensures { result ≡ spec.is_same first.now second.now }
 {
@@ -72,7 +72,7 @@ pub(crate) fn take_out_of(units: &mut ArrayVec<Unit, STANDING_UNITS>, number: u8
     units.retain(|unit| unit.agent.get() != number);
 }
 
-/// Whether a unit is on a side.
+/// Returns whether a unit is on a side.
 pub(crate) fn is_on(units: &[Unit], unit: &Unit) -> bool
     ensures { result ≡ list_any (spec.is_same unit.now) units.now }
 {
@@ -89,14 +89,14 @@ pub(crate) fn first_of_others(units: &[Unit], number: u8) -> Option<Unit>
         .find(|unit| number != unit.agent.get())
 }
 
-/// Whether the agent with this number has a unit on a side.
+/// Returns whether the agent with this number has a unit on a side.
 pub(crate) fn has_units_of(units: &[Unit], number: u8) -> bool
     ensures { result ≡ list_any (λ u. u.agent == number) units.now }
 {
     units.iter().any(|unit| unit.agent.get() == number)
 }
 
-/// The price of the first unit of a side, 0 if there is none.
+/// Returns the price of the first unit of a side, 0 if there is none.
 pub(crate) fn first_price(units: &[Unit]) -> u16
     ensures { result ≡ slice_index_or (map (λ u. u.price) units.now) 0 0 }
 {

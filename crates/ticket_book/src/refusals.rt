@@ -5,7 +5,7 @@ ghost use Rattle.auction_rules.specs.Refusals as refusals;
 
 use tac_base::Point;
 
-/// Whether the price is at least that of some selling point.
+/// Returns whether the price is at least that of a selling point.
 fn meets_own(points: &[Point], price: u16) -> bool
     ensures { result ≡ list_any (λ sell. not (buys_of sell.units) && nat_le sell.price price) points.now }
 {
@@ -14,7 +14,7 @@ fn meets_own(points: &[Point], price: u16) -> bool
         .any(|sell| !sell.buys() && sell.price <= price)
 }
 
-/// Whether some buying point's price is at least that of a selling one.
+/// Returns whether a buying point's price is at least that of a selling one.
 pub(crate) fn crosses_itself(points: &[Point]) -> bool
     ensures { result ≡ refusals.crosses_itself points.now }
 {

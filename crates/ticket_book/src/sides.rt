@@ -30,7 +30,7 @@ impl Model for Sides {
 }
 
 impl Sides {
-    /// No units.
+    /// Returns sides without units.
     pub(crate) fn new() -> Sides
         ensures { both result ≡ [] }
     {
@@ -40,7 +40,7 @@ impl Sides {
         }
     }
 
-    /// The units of a side.
+    /// Returns the units of a side.
     pub(crate) fn side(&self, buys: bool) -> &[Unit]
         ensures value { result.now ≡ of_side self.now buys }
         ensures sorted { IsSideSorted buys (of_side self.now buys) }
@@ -53,14 +53,14 @@ impl Sides {
         }
     }
 
-    /// Whether this unit stands.
+    /// Returns whether this unit stands.
     pub(crate) fn contains(&self, unit: &BidUnit) -> bool
         ensures { result ≡ among unit.now (both self.now) }
     {
         is_on(self.side(unit.buys), &unit.shown())
     }
 
-    /// Whether a unit of the agent stands.
+    /// Returns whether a unit of the agent stands.
     pub(crate) fn has_units_of(&self, agent: Agent) -> bool
         ensures value { result ≡ list_any (λ u. u.agent == agent) (both self.now) }
         ensures agent { agent ≤ 7 }
@@ -69,7 +69,7 @@ impl Sides {
         has_units_of(&self.buys, number) || has_units_of(&self.sells, number)
     }
 
-    /// The highest price of a unit that buys, 0 if there is none.
+    /// Returns the highest price of a unit that buys, 0 if there is none.
     pub(crate) fn highest_buy(&self) -> u16
         ensures value { result ≡ boards.highest_buy (both self.now) }
         ensures within { result ≤ BID_PRICE }
@@ -77,7 +77,7 @@ impl Sides {
         first_price(&self.buys)
     }
 
-    /// The lowest price of a unit that sells, 0 if there is none.
+    /// Returns the lowest price of a unit that sells, 0 if there is none.
     pub(crate) fn lowest_sell(&self) -> u16
         ensures value { result ≡ boards.lowest_sell (both self.now) }
         ensures within { result ≤ BID_PRICE }

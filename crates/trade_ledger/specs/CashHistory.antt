@@ -36,7 +36,7 @@ reply_by totals (Read agent) = Cash (totals agent)
 abbrev pub cash_reply_of : List CashEntry → CashCall → CashReply
 cash_reply_of before call = reply_by (cash_total before) call
 
--- a legal history: each entry has a call that its caller may make, and the reply to it after the entries before
+-- each entry has a call that its caller may make, and the reply to that call after the earlier entries
 abbrev pub IsLegalCash : List CashEntry → Type 0
 IsLegalCash history = (position : ℕ) (e : CashEntry) → slice_get history position ≡ Some e →
     IsFitCash e.caller e.call × (e.reply ≡ cash_reply_of (take position history) e.call)

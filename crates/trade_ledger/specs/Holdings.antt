@@ -10,10 +10,10 @@ held_after held trades = map (λ party. slice_index_or held party (pos 0) +ℤ n
 abbrev pub sum_held : List ℤ → ℤ
 sum_held held = fold ◌+ℤ◌ (pos 0) held
 
--- a holding does not leave -1,000,000 to 1,000,000: it lies there then, or no farther from 0 than before
+-- a holding does not leave -1,000,000 to 1,000,000: it ends there, or no farther from 0 than before
 abbrev pub Stays : ℤ → ℤ → Type 0
 Stays before after = (unsigned_abs after ≤ 1000000) ⊎ (unsigned_abs after ≤ unsigned_abs before)
 
--- no party's holding leaves its range by trades
+-- trades take no party's holding out of its range
 abbrev pub NoneLeaves : List ℤ → List Trade → Type 0
 NoneLeaves held trades = (party : ℕ) → party ≤ house → Stays (slice_index_or held party (pos 0)) (slice_index_or (held_after held trades) party (pos 0))

@@ -83,7 +83,7 @@ impl CashBook {
         })
     }
 
-    /// Returns the entry at a position, or `None` exactly if it is past the end. A log can show each entry.
+    /// Returns the entry at a position, or `None` exactly if past the end. A log can show each entry.
     #[tactic(auto, using(crate::proofs::CashSteps::few_entries))]
     pub fn entry(&self, position: u32) -> Option<&CashEntry>
         ensures value { option_copied result ≡ slice_get self.now position }
@@ -93,7 +93,7 @@ impl CashBook {
         self.entries.get(position as usize)
     }
 
-    /// Returns the sum of the party's nets in all posts: at most 600,000,000,000,000 dollars, gained or lost.
+    /// Returns the party's summed nets in all posts: at most 600,000,000,000,000 dollars, gained or lost.
     #[tactic(auto, using(crate::proofs::CashSteps::few_entries, crate::proofs::CashSteps::within_all))]
     pub fn total(&self, party: Party) -> i64
         ensures value { result ≡ cash_total self.now party }

@@ -37,7 +37,7 @@ module _ {S C R G E : Type 0} {K : Ghosts S C R G E} where
   abbrev pub noted_by : Pass S C R G E K → List (ℕ × Board)
   noted_by p = p.seat.me.0.notes
 
-  -- what it leaves when it is taken back: its caller, its calls and its boards
+  -- the record that it leaves when it is taken back: its caller, its calls and its boards
   abbrev pub returned_by : Pass S C R G E K → Returned E
   returned_by p = record { caller = caller_of p; mine = made_by p; notes = noted_by p }
 

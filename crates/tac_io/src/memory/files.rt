@@ -45,8 +45,8 @@ impl MemFiles {
     ghost use Rattle.tac_io.specs.MemFiles.{files_calls, files_content, files_most, files_names, files_selected};
 
     /// Returns files, none of which is selected. Of two files with one name, the first is found. A
-    /// read gives at most `most_at_once` bytes, and at least one if one is left. `failing` lists the calls
-    /// that are to fail; calls of `select` and `read` are counted together, from 1.
+    /// read gives at most `most_at_once` bytes, and at least one if any is left. `failing` lists
+    /// the calls that are to fail; calls of `select` and `read` are counted together, from 1.
     pub fn new(
         alloc: Global,
         files: Vec<MemFile>,

@@ -82,7 +82,7 @@ impl LineCount for LinesSent {
     }
 }
 
-/// Looks at a count until it shows at least `lines`, but at most `turns` times, and returns whether it did.
+/// Looks at a count until it shows at least `lines`, at most `turns` times. Returns whether it did.
 pub fn was_sent<C: LineCount>(count: &mut C, lines: u64, turns: u32) -> bool
     ensures { MatchBool result
         (SawEnough C.shows count.old count.new lines turns)

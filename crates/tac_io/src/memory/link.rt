@@ -33,9 +33,9 @@ impl MemLink {
     ghost use Rattle.tac_io.specs.Calls.{one_call_more};
     ghost use Rattle.tac_io.specs.MemLink.{ReadsNext, link_left, link_most, link_read_failures, link_reads, link_room, link_sent, link_taken, link_write_failures, link_writes};
 
-    /// Returns a link that gives `bytes`, and has room for `room` bytes that it is sent. A read gives
-    /// at most `most_at_once` bytes, and at least one if one is left. `failing_reads` lists the reads
-    /// that are to fail, and `failing_writes` the writes, each counted from 1. A write
+    /// Returns a link that gives `bytes`, and has room for `room` bytes that it is sent. A read
+    /// gives at most `most_at_once` bytes, and at least one if one is left. `failing_reads` lists
+    /// the reads that are to fail, and `failing_writes` the writes, each counted from 1. A write
     /// without room left also fails.
     pub fn new(
         alloc: Global,

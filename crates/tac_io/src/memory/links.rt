@@ -18,8 +18,8 @@ pub struct MemLinks<L> {
 impl<L> MemLinks<L> {
     ghost use Rattle.tac_io.specs.MemLinks.{links_calls, links_listens, links_pending, links_ports};
 
-    /// Returns links that give `links` in order and do not listen yet. `failing` lists the calls that
-    /// are to fail; calls of `listen` and `next` are counted together, from 1.
+    /// Returns links that give `links` in order and do not listen yet. `failing` lists the calls
+    /// that are to fail; calls of `listen` and `next` are counted together, from 1.
     pub fn new(links: Vec<L>, failing: Vec<u64>) -> MemLinks<L>
         ensures listens { links_listens result ≡ false }
         ensures ports { links_ports result ≡ [] }

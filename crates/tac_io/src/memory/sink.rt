@@ -23,7 +23,7 @@ pub struct MemSink {
 impl MemSink {
     ghost use Rattle.tac_io.specs.MemSink.{sink_bytes, sink_calls, sink_failures, sink_most, sink_room};
 
-    /// Returns an empty sink with room for `room` bytes. A write takes at most `most_at_once` bytes.
+    /// Returns an empty sink with room for `room` bytes. A write takes at most `most_at_once`.
     /// `failing` lists the writes that are to fail, counted from 1. A write without room left also
     /// fails, and if `most_at_once` is 0, so does every write.
     pub fn new(
