@@ -1,4 +1,4 @@
-// A request is answered by the agent's desk.
+// Answers requests through the agent's desk.
 ghost use Rattle.std.specs.Prelude.{◌≡◌, ◌<◌, Ok};
 ghost use Rattle.agent_gate.specs.{IsSameDesk, desk_ids, desk_caller, floor_ids, Asks, IsItem, TakesTurn, said_of_outcome, said_of_reading};
 ghost use Rattle.tac_io.specs.declared.line_got.LineGot.TheVariants as gots;
@@ -10,7 +10,7 @@ use std::sync::Wait;
 use std::time::Clock;
 use tac_base::limits::AGENTS;
 
-/// The answer to a call at a good.
+/// The reply to a call at a good.
 fn said_of(outcome: Outcome) -> Said
     ensures { result ≡ said_of_outcome outcome }
 {
@@ -20,7 +20,7 @@ fn said_of(outcome: Outcome) -> Said
     }
 }
 
-/// The answer to a reading of the agent's cash.
+/// The reply to a reading of the agent's cash.
 fn said_of_cash(outcome: CashOutcome) -> Said
     ensures { result ≡ said_of_reading outcome }
 {
@@ -30,7 +30,7 @@ fn said_of_cash(outcome: CashOutcome) -> Said
     }
 }
 
-/// Answers a request by one call of the desk, and `quit` by none.
+/// Answers a request by one call of the desk; `quit` needs none.
 fn answer<R: Wait + Clock>(rt: &R, floor: &Floor, desk: &mut Desk, request: Request) -> Said
     requires own { desk_ids desk.old ≡ floor_ids floor.now }
     requires agent { desk_caller desk.old < AGENTS }

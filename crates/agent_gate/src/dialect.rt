@@ -1,4 +1,4 @@
-// How an agent's lines are read and its replies printed.
+// How a session reads an agent's lines and prints its replies.
 ghost use Rattle.std.specs.Prelude.{◌+◌, ◌≤◌, ◌≡◌, ◌++◌, length};
 ghost use Rattle.tac_base.specs.declared.limits.TheConstants.{LINE_BYTES, REPLY_TEXT};
 ghost use Rattle.line_protocol.specs.Replies.{IsOneLine};
@@ -7,16 +7,16 @@ ghost use Rattle.agent_gate.specs.Dialects as dialects;
 use line_protocol::{Request, RequestFault, Said, print_reply, read_request};
 use tac_base::Text;
 
-/// The form of an agent's lines. Sessions are proved for every form.
+/// The form of an agent's lines. The contracts of sessions hold for every form.
 pub trait Dialect {
-    /// What a line may be read as, and the line of each reply, without its end.
+    /// What a line may be read as, and the line of each reply, without its line end.
     ghost form: { Self → dialects.Dialect };
 
-    /// What a line asks.
+    /// Reads what a line requests.
     fn read(&self, line: &[u8]) -> Result<Request, RequestFault>
         ensures { (form self.now).may_answer line.now result };
 
-    /// Appends the line of a reply, at most 512 bytes, without its end.
+    /// Appends the line of a reply, at most 512 bytes, without its line end.
     fn print(&self, said: &Said, out: &mut Text)
         requires { length out.old + LINE_BYTES ≤ REPLY_TEXT }
         ensures text { out.new ≡ out.old ++ (form self.now).text said.now }
@@ -24,7 +24,7 @@ pub trait Dialect {
         ensures one_line { IsOneLine ((form self.now).text said.now) };
 }
 
-/// The lines of words that `line_protocol` reads and prints.
+/// The dialect of words, which `line_protocol` reads and prints.
 #[derive(Clone, Copy, Debug)]
 pub struct LineDialect;
 

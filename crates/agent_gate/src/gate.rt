@@ -1,4 +1,4 @@
-// Who may play as which agent.
+// The gate decides which link plays as which agent.
 ghost use Rattle.std.specs.Prelude.{◌≡◌, ◌≢◌, ◌<◌, IfSome, false, length, position, replicate, bytes_eq};
 ghost use Rattle.agent_gate.specs.Gates as gates;
 
@@ -9,7 +9,7 @@ use tac_base::Agent;
 use tac_base::limits::AGENTS;
 use text_forms::Words;
 
-/// The seats of a game, each with its word, and which of them are taken.
+/// The seats of a game: the word of each, and whether it is taken.
 #[derive(Drop)]
 pub struct Gate {
     words: [SeatWord; 8],
@@ -24,7 +24,7 @@ impl Model for Gate {
     ghost view = { λ gate. record { words = gate.words; taken = gate.taken } };
 }
 
-/// The seat word of a line `hello WORD`.
+/// Returns the seat word of a line `hello WORD`.
 fn greeting_of(line: &[u8]) -> Option<SeatWord>
     ensures { result ≡ gates.greeting_of line.now }
 {
@@ -38,7 +38,7 @@ fn greeting_of(line: &[u8]) -> Option<SeatWord>
     }
 }
 
-/// The index of a word among the words.
+/// Returns the index of a word among the words.
 fn place_of(words: &[SeatWord], word: &[u8]) -> Option<usize>
     ensures value { result ≡ position (bytes_eq word.now) words.now }
     ensures bound { IfSome result (λ place. place < length words.now) }
@@ -46,7 +46,7 @@ fn place_of(words: &[SeatWord], word: &[u8]) -> Option<usize>
     words.iter().position(|other| word == other.as_slice())
 }
 
-/// The agent whose seat has the word.
+/// Returns the agent whose seat has this word.
 fn seat_of(words: &[SeatWord; 8], word: &[u8]) -> Option<Agent>
     ensures { result ≡ position (bytes_eq word.now) words.now }
 {
@@ -57,7 +57,7 @@ fn seat_of(words: &[SeatWord; 8], word: &[u8]) -> Option<Agent>
 }
 
 impl Gate {
-    /// No seat is taken.
+    /// Makes the gate of a game, with no seat taken.
     pub fn new(game: &Game) -> Gate
         ensures { result ≡ record { words = game.now.words; taken = replicate AGENTS false } }
     {
@@ -67,10 +67,10 @@ impl Gate {
         }
     }
 
-    /// The verdict on a link with this first line, given without its line end. The verdicts and their order are our own.
+    /// Returns the verdict on a link by its first line, given without its end. This project defines the verdicts and their order.
     pub fn admit(&mut self, line: &[u8]) -> Verdict
         ensures verdict { result ≡ gates.verdict_of self.old line.now }
-        // Only a link that is seated changes something: its seat is taken.
+        // Only seating a link changes something: its seat is then taken.
         ensures seats { self.new ≡ gates.seats_after self.old result }
         ensures never_lost { result ≢ Verdict.Lost }
     {

@@ -1,4 +1,4 @@
-//! The gate, at which links ask for seats, and the sessions in which agents are answered line by line.
+//! The gate, where links ask for seats, and the sessions, which answer agents line by line.
 #![tactic(auto)]
 
 mod answering;

@@ -15,17 +15,17 @@ use tac_base::Agent;
 use tac_base::limits::{AGENTS, GOODS, SESSION_LINES};
 use tac_io::{Lines, Link};
 
-/// What a session leaves.
+/// What `run_session` returns at the end of a session.
 #[derive(Drop)]
 pub struct SessionEnd<L> {
     pub desk: Desk,
     pub link: L,
-    /// How many of the link's lines were answered by a line that was sent whole, `quit` included.
+    /// The number of the link's lines whose reply was sent whole, `quit` included.
     pub lines: u32,
     pub cause: Cause,
 }
 
-/// How many replies were sent whole if the session ends so in the turn after this many.
+/// The number of replies sent whole, if the session ends for this cause in the turn after this many.
 fn whole(before: u32, cause: Cause) -> u32
     requires { before < SESSION_LINES }
     ensures { result ≡ count_whole before cause }
@@ -36,8 +36,8 @@ fn whole(before: u32, cause: Cause) -> u32
     }
 }
 
-/// Welcomes the link of an agent, and answers each of its lines with one, until it quits, ends, fails or reaches a limit. The limits and
-/// the causes are our own. It may wait for the link and for turns, and takes no memory except to read a request.
+/// Welcomes an agent's link and answers each of its lines with one line, until the agent quits, the input ends or fails, a send fails, or a
+/// limit is reached. This project defines limits and causes. It may wait for the link and for turns, and allocates only to read a request.
 pub fn run_session<R: Wait + Clock, L: Link, D: Dialect>(
     rt: &R,
     floor: &Floor,

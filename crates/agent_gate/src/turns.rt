@@ -12,7 +12,7 @@ use tac_base::Text;
 use tac_base::limits::AGENTS;
 use tac_io::{Failed, LineGot, Lines, Link};
 
-/// Reads the next line and has it answered, or says why the session ends without one.
+/// Reads the next line and answers it, or returns the cause of the session's end.
 fn answer_next<R: Wait + Clock, L: Link, D: Dialect>(
     rt: &R,
     floor: &Floor,
@@ -38,7 +38,7 @@ fn answer_next<R: Wait + Clock, L: Link, D: Dialect>(
     }
 }
 
-/// Sends the line of a reply, with its end, in one piece.
+/// Sends the line of a reply, with its line end, in one piece.
 fn tell<L: Link, D: Dialect>(dialect: &D, said: &Said, lines: &mut Lines<L>) -> Result<(), Failed>
     ensures sends { OnlySends (L.state (link_of lines.old)) (L.state (link_of lines.new)) ((D.form dialect.now).text said.now ++ 10 ∷ []) result }
     ensures place { KeepsPlace lines.old lines.new }
@@ -49,7 +49,7 @@ fn tell<L: Link, D: Dialect>(dialect: &D, said: &Said, lines: &mut Lines<L>) -> 
     lines.send(reply.as_slice())
 }
 
-/// Answers the next line, or says why the session ends.
+/// Answers the next line and sends the reply, or returns the cause of the session's end.
 pub(crate) fn turn<R: Wait + Clock, L: Link, D: Dialect>(
     rt: &R,
     floor: &Floor,

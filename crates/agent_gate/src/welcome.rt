@@ -1,4 +1,4 @@
-// What a seated link is sent first.
+// The welcome: the first text that a seated link is sent.
 ghost use Rattle.std.specs.Prelude.{◌≤◌, OnOk, OnErr, length};
 ghost use Rattle.agent_gate.specs.{KeepsPlace, link_of, FailsByWrite, OnlySends, ReadsNothing, TakesSome, MovesOn, welcome_text};
 
@@ -6,10 +6,10 @@ use game_text::{Game, print_agent_line};
 use tac_base::{Agent, Text, print_numeral};
 use tac_io::{Failed, Lines, Link};
 
-/// How many bytes a text may have so that one more line can be appended: 256 bytes and a line end are then free.
+/// The most bytes that a text may hold when another line is appended: this leaves 256 bytes and a line end free.
 const MOST_BEFORE_A_LINE: usize = 383;
 
-/// Sends the text if one more line may not fit.
+/// Sends the text if another line might not fit.
 fn send_if_full<L: Link>(text: &mut Text, lines: &mut Lines<L>) -> Result<(), Failed>
     ensures moved { OnOk result (MovesOn (L.state (link_of lines.old)) (L.state (link_of lines.new)) text.old text.new) }
     ensures room { OnOk result (length text.new ≤ MOST_BEFORE_A_LINE) }
@@ -25,8 +25,8 @@ fn send_if_full<L: Link>(text: &mut Text, lines: &mut Lines<L>) -> Result<(), Fa
     Ok(())
 }
 
-/// Sends an agent its tickets and its clients, in as few pieces as a text has room for. After `Failed` some of the
-/// first bytes were sent, or none, but not all.
+/// Sends an agent its number, its tickets and its clients, in as few pieces as `Text` allows. After `Failed`, only
+/// some of the first bytes, or none, were sent.
 pub(crate) fn welcome<L: Link>(
     lines: &mut Lines<L>,
     game: &Game,

@@ -1,4 +1,4 @@
-// Allocations of packages that a choice leaves.
+// Builds allocations from the packages that a choice leaves.
 ghost use Rattle.std.specs.Prelude.{◌≡◌, ℕ, ◌<◌, true, length, IfSome, IfNone, All};
 ghost use Rattle.allocator.specs.{IsPackage, chosen, IsOut, ArePackagesLeft};
 
@@ -8,7 +8,7 @@ use game_text::Account;
 use packages::{Narrowing, Package, package};
 use relaxation::Relaxation;
 
-/// The first package that is left to a client, 0..7: the only one where all its features are fixed.
+/// Returns the first package left to a client, 0..7: the only one if all the client's features are fixed.
 fn first_left(choice: &Choice, client: usize) -> Option<Package>
     requires { client < 8 }
     ensures lawful { IfSome result IsPackage }
@@ -25,7 +25,7 @@ fn first_left(choice: &Choice, client: usize) -> Option<Package>
     None
 }
 
-/// The first package that is left to each client; none where some client has none.
+/// Returns the first package left to each client, or None if some client has none.
 pub(crate) fn first_choice(choice: &Choice) -> Option<[Package; 8]>
     ensures eight { IfSome result (λ allocation. length allocation ≡ 8) }
     ensures lawful { IfSome result (All IsPackage) }
@@ -44,7 +44,7 @@ pub(crate) fn first_choice(choice: &Choice) -> Option<[Package; 8]>
     Some(allocation)
 }
 
-/// Lets the clients take better packages in turn, each at prices that keep it from what the others use up.
+/// Gives each client in turn a better package, at prices that keep it from goods that the others use up.
 pub(crate) fn better_choice(
     account: &Account,
     relaxation: &Relaxation,

@@ -1,4 +1,4 @@
-//! The best allocation of an account, by branch and bound, with a certificate that none is worth more.
+//! Finds the best allocation of an account by branch and bound, and certifies that none is worth more.
 #![tactic(auto)]
 
 mod candidates;

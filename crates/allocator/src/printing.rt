@@ -1,4 +1,4 @@
-// The text of a best allocation with its certificate.
+// Prints a best allocation with its certificate.
 ghost use Rattle.std.specs.Prelude.{◌≡◌, ◌++◌, ◌∷◌, [], OnOk, IfOk, decimal};
 ghost use Rattle.allocator.specs.Prelude.{text_of, tree_lines, tree_of};
 ghost use Rattle.packages.specs.declared.travel_packages.Package.TheVariants as Package;
@@ -10,7 +10,7 @@ use std::alloc::{AllocError, Global};
 use tac_base::{Memory, Text, print_numeral};
 use text_forms::{PrintedPart, count_parts, print_parts, print_row};
 
-/// The packages of the clients, each in a line of its own.
+/// The clients' packages, one per line.
 #[derive(Drop)]
 struct ClientPackages;
 
@@ -67,14 +67,14 @@ fn print_none(client: u8, out: &mut Vec<u8>) -> Result<(), AllocError>
     print_between(b"package ", u64::from(client), b" none\n", out)
 }
 
-/// Appends the total. After an error the text may end within its line.
+/// Appends the line of the total. After an error the text may end within it.
 fn print_total(total: u32, out: &mut Vec<u8>) -> Result<(), AllocError>
     ensures { OnOk result (out.new.items ≡ out.old.items ++ (texts.total_text total ++ 10 ∷ [])) }
 {
     print_between(b"total ", u64::from(total), b"\n", out)
 }
 
-/// Appends the certificate after the number of its lines. After an error the text may end within them.
+/// Appends the number of the certificate's lines, and then the lines. After an error the text may end within them.
 fn print_counted(alloc: Global, cert: &Cert, out: &mut Vec<u8>) -> Result<(), Memory>
     ensures { OnOk result (out.new.items ≡ out.old.items ++ ((texts.count_text (tree_of cert.now.root) ++ 10 ∷ []) ++ text_of (tree_lines (tree_of cert.now.root)))) }
 {
@@ -85,8 +85,8 @@ fn print_counted(alloc: Global, cert: &Cert, out: &mut Vec<u8>) -> Result<(), Me
     Ok(())
 }
 
-/// Appends the text of a best allocation: the total, a line for each client's package, and the certificate after the number
-/// of its lines. That these make the text, and in this form, is our own. After `Memory` the text may end within it.
+/// Appends the text of a best allocation: the total, a line for each client's package, the number of the certificate's
+/// lines, and those lines. This project defines the text and its form. After `Memory` the text may end within it.
 pub fn append_solved(alloc: Global, solved: &Solved, out: &mut Vec<u8>) -> Result<(), Memory>
     ensures { OnOk result (out.new.items ≡ out.old.items ++ texts.solved_text solved.now.total solved.now.allocation (tree_of solved.now.cert.root)) }
 {
@@ -97,7 +97,7 @@ pub fn append_solved(alloc: Global, solved: &Solved, out: &mut Vec<u8>) -> Resul
     Ok(())
 }
 
-/// The text of a best allocation by itself. `Memory` leaves no text.
+/// Returns the text of a best allocation alone. After `Memory` it returns no text.
 pub fn print_solved(alloc: Global, solved: &Solved) -> Result<Vec<u8>, Memory>
     ensures { IfOk result (λ text. text.items ≡ texts.solved_text solved.now.total solved.now.allocation (tree_of solved.now.cert.root)) }
 {

@@ -1,4 +1,4 @@
-// Prices that keep clients from what is used up.
+// Prices that keep clients from goods that are used up.
 ghost use Rattle.std.specs.Prelude.{◌≡◌, ℕ, ◌<◌, ◌≤◌, slice_index, All};
 ghost use Rattle.allocator.specs.Prelude.{IsPackage, ArePrices, stock_of};
 ghost use Rattle.allocator.specs.Scarcity.{scarcity_price};
@@ -7,7 +7,7 @@ use game_text::Account;
 use packages::{Package, Prices, is_used_up};
 use tac_base::limits::{DUAL_PRICE, GOODS};
 
-/// The price of the good of a number, 0..27, in dollars: the greatest where the packages use it up, and none otherwise.
+/// Returns the price in dollars of a good, 0..27: the greatest price if the packages use the good up, else 0.
 fn scarcity_price(account: &Account, allocation: &[Package; 8], number: u8) -> u16
     requires lawful { All IsPackage allocation.now }
     requires good { number < GOODS }
@@ -21,7 +21,7 @@ fn scarcity_price(account: &Account, allocation: &[Package; 8], number: u8) -> u
     }
 }
 
-/// The greatest price for each good that the packages use up, and none for the others.
+/// Returns the greatest price for each good that the packages use up, and 0 for the others.
 pub(crate) fn scarcity_prices(account: &Account, allocation: &[Package; 8]) -> Prices
     requires { All IsPackage allocation.now }
     ensures range { ArePrices result }

@@ -1,4 +1,4 @@
-// The search for the best allocation, which leaves a certificate behind it.
+// Searches for the best allocation, and builds a certificate on the way.
 ghost use Rattle.std.specs.Prelude.{◌≡◌, ℕ, ◌+◌, ◌-◌, ◌<◌, ◌≤◌, ◌⊎◌, true, length, IfOk, IfSome, IfNone, None, All};
 ghost use Rattle.allocator.specs.{CERTIFICATE_DEPTH, BEST_TOTAL, IsPackage, leaf_bound, stock_value, total_of, used_by, ArePrices, stock_of, is_tree, tree_of, fixed_at, IsFull, chosen, fixed_count, IsCeiling, holds, is_within, IsReached};
 ghost use Rattle.bound_cert.specs.Trees as trees;
@@ -14,19 +14,19 @@ use relaxation::{Relaxation, Split, SplitRule};
 use std::alloc::{AllocFailed, Global};
 use tac_base::limits::GOODS;
 
-/// At most so many features are decided in one dive.
+/// The most features that one dive decides.
 const MOST_DECIDED: u32 = 12;
 
-/// Dives begin on so many levels.
+/// The number of levels on which dives begin.
 const DIVE_LEVELS: u8 = 4;
 
-/// The first attempt may come to so many parts.
+/// The most parts that the first attempt may visit.
 const FIRST_PARTS: u64 = 2000;
 
-/// Once both rules have come to a limit, it grows by this factor.
+/// The factor by which the limit of parts grows once both rules have reached it.
 const MORE_PARTS: u64 = 4;
 
-/// What a search carries along: the best allocation found so far, what it is worth in dollars, and how many parts the present attempt has come to.
+/// The state that a search carries along: the best allocation found so far, its worth in dollars, and the parts that the attempt has visited.
 #[derive(Clone, Copy)]
 pub(crate) struct Found {
     pub(crate) allocation: [Package; 8],
@@ -34,7 +34,7 @@ pub(crate) struct Found {
     pub(crate) parts: u64,
 }
 
-/// How a search splits, and how many parts it may come to.
+/// How a search splits, and the most parts that it may visit.
 #[derive(Clone, Copy)]
 pub(crate) struct Attempt {
     rule: SplitRule,
@@ -49,7 +49,7 @@ impl Attempt {
         }
     }
 
-    /// What to try after it where it came to its limit: the other rule with the same limit, or after both the first one with a greater limit.
+    /// Returns the attempt after one that reached its limit: the other rule with the same limit, or after both the first rule with a greater limit.
     pub(crate) fn next(self) -> Attempt {
         match self.rule {
             SplitRule::LeastLeft => Attempt {
@@ -63,8 +63,8 @@ impl Attempt {
         }
     }
 
-    /// What to try after it where it ended with so many parts: the plain rule with three quarters of them, unless that ended by itself from the same
-    /// total. No split has fewer than five parts.
+    /// Returns the attempt after one that ended with this many parts: the plain rule with three quarters of them, unless this was the plain rule and
+    /// the total has not risen since it began. No split has fewer than five parts.
     pub(crate) fn shorter(self, parts: u64, has_risen: bool) -> Option<Attempt> {
         match self.rule {
             SplitRule::GreatestPriority if !has_risen => None,
@@ -77,7 +77,7 @@ impl Attempt {
     }
 }
 
-/// What all parts of a search have in common: where it takes memory, whose goods it allocates, and how it splits.
+/// What all parts of a search share: where it allocates memory, whose goods it allocates, and how it splits.
 #[derive(Clone, Copy)]
 pub(crate) struct Search<'a> {
     pub(crate) alloc: Global,
@@ -89,7 +89,7 @@ pub(crate) struct Search<'a> {
 #[derive(Drop)]
 pub(crate) enum Stop {
     Memory,
-    /// The attempt came to its limit of parts.
+    /// The attempt reached its limit of parts.
     Parts,
 }
 
@@ -99,7 +99,7 @@ impl From<AllocFailed<CertNode>> for Stop {
     }
 }
 
-/// Keeps the allocation where it is feasible and the best so far.
+/// Keeps the allocation if it is feasible and the best so far.
 fn offer(account: &Account, chosen: &[Package; 8], best: &mut Found)
     requires eight { length chosen.now ≡ 8 }
     requires lawful { All IsPackage chosen.now }
@@ -107,7 +107,7 @@ fn offer(account: &Account, chosen: &[Package; 8], best: &mut Found)
     ensures reached { IsReached account.now best.new.allocation best.new.total }
     ensures grows { best.old.total ≤ best.new.total }
 
-    // It is worth no more than the best, or it uses too much of some good.
+    // The allocation is worth no more than the best, or it uses too much of some good.
     ensures settled { (total_of account.now.clients chosen.now ≤ best.new.total) ⊎ ((good : ℕ) × (good < GOODS) × (stock_of account.now.holdings good < used_by chosen.now good)) }
     ensures few { total_of account.now.clients chosen.now ≤ BEST_TOTAL }
 {
@@ -118,8 +118,8 @@ fn offer(account: &Account, chosen: &[Package; 8], best: &mut Found)
     }
 }
 
-/// Offers the packages that the relaxation gives whole, and where it leaves some out and is worth more than the best, a greedy improvement of
-/// them.
+/// Offers the packages that the relaxation gives whole. If it leaves some out and is worth more than the best, this also offers a greedy
+/// improvement of them.
 fn offer_packages(account: &Account, relaxation: &Relaxation, best: &mut Found)
     requires reached { IsReached account.now best.old.allocation best.old.total }
     ensures reached { IsReached account.now best.new.allocation best.new.total }
@@ -131,7 +131,7 @@ fn offer_packages(account: &Account, relaxation: &Relaxation, best: &mut Found)
     }
 }
 
-/// Offers what a relaxation gives as it is decided feature by feature, a bounded number of times, while it is worth more than the best.
+/// Decides a relaxation feature by feature, while it is worth more than the best and a limited number of times, and offers what it gives.
 #[inline(never)]
 fn dive(account: &Account, relaxation: &Relaxation, best: &mut Found)
     requires reached { IsReached account.now best.old.allocation best.old.total }
@@ -147,7 +147,7 @@ fn dive(account: &Account, relaxation: &Relaxation, best: &mut Found)
     }
 }
 
-/// Offers what the relaxation gives, on the first levels as far as a dive goes.
+/// Offers the packages of the relaxation, and on the first levels those of a dive.
 pub(crate) fn offer_near(level: u8, account: &Account, relaxation: &Relaxation, best: &mut Found)
     requires reached { IsReached account.now best.old.allocation best.old.total }
     ensures reached { IsReached account.now best.new.allocation best.new.total }
@@ -159,7 +159,7 @@ pub(crate) fn offer_near(level: u8, account: &Account, relaxation: &Relaxation, 
     }
 }
 
-/// Offers the packages that are left where every feature is fixed, and gives prices that hold for the best total then.
+/// Offers the packages that are left when every feature is fixed, and returns prices that then hold for the best total.
 fn full_prices(account: &Account, choice: &Choice, best: &mut Found) -> Prices
     requires reached { IsReached account.now best.old.allocation best.old.total }
     requires full { IsFull choice.now }
@@ -168,7 +168,7 @@ fn full_prices(account: &Account, choice: &Choice, best: &mut Found) -> Prices
     ensures range { ArePrices result }
     ensures holds { is_within (leaf_bound account.now (chosen choice.now) result) best.new.total ≡ true }
 {
-    // The proof rests on the account's ranges, which are known where it is read.
+    // The proof uses the account's ranges, which are known once it is read.
     let _holdings = &account.holdings;
     let Some(first) = first_choice(choice) else {
         return Prices { dollars: [0; 28] };
@@ -177,17 +177,17 @@ fn full_prices(account: &Account, choice: &Choice, best: &mut Found) -> Prices
     scarcity_prices(account, &first)
 }
 
-/// The certificate of prices alone.
+/// Returns the certificate that consists of prices alone.
 pub(crate) fn leaf(prices: &Prices) -> CertNode
     ensures view { tree_of result ≡ trees.leaf prices.now }
     ensures fits { (depth : ℕ) → is_tree depth (trees.leaf prices.now) ≡ true }
 {
-    // That the prices fit is known where they are read.
+    // The ranges of the prices are known once they are read.
     let _dollars = &prices.dollars;
     CertNode::Leaf(*prices)
 }
 
-/// The next split: by the feature of a client that is like the one that was split by last, or else by the rule.
+/// Returns the next split: by the feature of a client that is like the one split last, or else by the rule.
 fn next_split(
     rule: SplitRule,
     choice: &Choice,
@@ -208,7 +208,7 @@ fn next_split(
     left.next_split(rule, &choice.fixed, prices, total)
 }
 
-/// Searches what a choice leaves, where so many features are fixed. After an error the best is a feasible allocation still.
+/// Searches what a choice leaves, with `level` features fixed. After an error the best is still a feasible allocation.
 #[cycle(search)]
 #[inline(never)]
 pub(crate) fn explore(
@@ -227,7 +227,7 @@ pub(crate) fn explore(
     ensures holds { IfOk result (λ node. holds search.now.account.now best.new.total (chosen choice.now) (tree_of node) ≡ true) }
     ensures fits { IfOk result (λ node. is_tree (CERTIFICATE_DEPTH - level) (tree_of node) ≡ true) }
 {
-    // The proof rests on the account's ranges, which are known where it is read.
+    // The proof uses the account's ranges, which are known once it is read.
     let account = search.account;
     let _holdings = &account.holdings;
     let quote = Quote::new(account, &left.prices_for(best.total));
@@ -247,8 +247,8 @@ pub(crate) fn explore(
     explore_parts(search, level, choice, left, split, &quote, hint, best)
 }
 
-/// Makes of the last quote the one by which a part is tested first: of the prices of the part that it is like, if a hint has them, and else the
-/// one of the split. Parts that are alike mostly have the same prices, so that the last quote serves again.
+/// Sets the quote by which a part is tested first: a hint's prices for the part that this one is like, or else the quote of the split. Parts
+/// that are alike mostly have the same prices, and then the last quote serves again.
 fn renew(quote: &mut Quote, account: &Account, hint: Hint<'_>, known: &Quote)
     requires last { quote.old.stock_value ≡ stock_value account.now.holdings quote.old.prices }
     requires known { known.now.stock_value ≡ stock_value account.now.holdings known.now.prices }
@@ -261,7 +261,7 @@ fn renew(quote: &mut Quote, account: &Account, hint: Hint<'_>, known: &Quote)
     }
 }
 
-/// Searches the parts of a split. After an error the best is a feasible allocation still.
+/// Searches the parts of a split. After an error the best is still a feasible allocation.
 #[cycle(search)]
 fn explore_parts(
     search: &Search<'_>,
@@ -285,7 +285,7 @@ fn explore_parts(
     ensures holds { IfOk result (λ node. holds search.now.account.now best.new.total (chosen choice.now) (tree_of node) ≡ true) }
     ensures fits { IfOk result (λ node. is_tree (CERTIFICATE_DEPTH - level) (tree_of node) ≡ true) }
 {
-    // The proof rests on the ranges of the account and of the choice, which are known where they are read.
+    // The proof uses the ranges of the account and of the choice, which are known once they are read.
     let account = search.account;
     let _holdings = &account.holdings;
     let _fixed = &choice.fixed;
@@ -308,8 +308,8 @@ fn explore_parts(
     })
 }
 
-/// Searches a part that is not solved yet: by the split of the part that it is like, if the hint has one, and else where the prices that are
-/// known do not bound it. An attempt that has come to its limit of parts stops here. After an error the best is a feasible allocation still.
+/// Searches a part that is not solved yet: by the split of the part that it is like, if a hint has one, or else if the known prices don't
+/// bound it. It stops if the attempt has reached its limit of parts. After an error the best is still a feasible allocation.
 #[cycle(search)]
 fn explore_part(
     search: &Search<'_>,
@@ -329,7 +329,7 @@ fn explore_part(
     ensures holds { IfOk result (λ node. holds search.now.account.now best.new.total (chosen choice.now) (tree_of node) ≡ true) }
     ensures fits { IfOk result (λ node. is_tree (CERTIFICATE_DEPTH - level) (tree_of node) ≡ true) }
 {
-    // The proof rests on the account's ranges, which are known where it is read.
+    // The proof uses the account's ranges, which are known once it is read.
     let account = search.account;
     let _holdings = &account.holdings;
     if best.parts >= search.attempt.parts {

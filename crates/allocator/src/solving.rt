@@ -1,4 +1,4 @@
-// The best allocation of an account.
+// Finds the best allocation of an account.
 ghost use Rattle.std.specs.Prelude.{◌≡◌, true, IfOk, IsTrue};
 ghost use Rattle.allocator.specs.{CERTIFICATE_DEPTH, IsBest, IsFeasible, total_of, is_tree, tree_of, holds, all_left, IsCeiling, IsReached};
 
@@ -13,12 +13,12 @@ use std::alloc::{AllocError, Global};
 use tac_base::Memory;
 use tac_base::limits::BEST_TOTAL;
 
-/// The last of so many attempts may come to 5 * 10^14 parts, more than any memory has room for.
+/// The last of this many attempts may visit 5 * 10^14 parts, more than any memory can hold.
 const MOST_ATTEMPTS: u32 = 40;
 
-/// Searches the whole, for which prices may be enough. Otherwise it searches by one rule and by the other in turn, to more and more parts: a
-/// rule that leaves few parts of one account may leave a hundred times as many of another. It is `AllocError` too if there are more parts than
-/// memory has room for.
+/// Searches all allocations, for which prices may be enough. Otherwise it searches by the two rules in turn, with a growing limit of parts: a
+/// rule that leaves few parts for one account may leave a hundred times as many for another. It also returns `AllocError` if the parts need
+/// more memory than any machine has.
 fn explore_all(
     alloc: Global,
     account: &Account,
@@ -31,7 +31,7 @@ fn explore_all(
     ensures holds { IfOk result (λ root. holds account.now best.new.total all_left (tree_of root) ≡ true) }
     ensures fits { IfOk result (λ root. is_tree CERTIFICATE_DEPTH (tree_of root) ≡ true) }
 {
-    // The proof rests on the account's ranges, which are known where it is read.
+    // The proof uses the account's ranges, which are known once it is read.
     let _holdings = &account.holdings;
     let all = Choice::none();
     if let Some(quote) = settled_quote(account, &all, relaxation, best.total) {
@@ -40,7 +40,7 @@ fn explore_all(
         }
     }
     let mut attempt = Attempt::first();
-    // The same attempt is made again for each better total.
+    // A better total repeats the same attempt.
     for _ in 0..MOST_ATTEMPTS + BEST_TOTAL {
         let before = best.total;
         best.parts = 0;
@@ -56,14 +56,14 @@ fn explore_all(
                 return Ok(shorter_of(alloc, account, other, relaxation, root, best));
             }
             Err(Stop::Parts) if best.total == before => attempt = attempt.next(),
-            // A better allocation was found on the way: less is left to search from its total on.
+            // The attempt found a better allocation: from its total on, less is left to search.
             Err(Stop::Parts) => (),
         }
     }
     Err(AllocError)
 }
 
-/// The certificate that was found, or where another attempt ends too, the other's.
+/// Returns the certificate of another attempt if that one ends too, or else the one already found.
 fn shorter_of(
     alloc: Global,
     account: &Account,
@@ -96,15 +96,15 @@ fn shorter_of(
     }
 }
 
-/// Finds a best allocation of an account's goods to its clients, by depth-first search. The one of several and the
-/// certificate are our own choice. `Memory` leaves no allocation.
+/// Finds a best allocation of an account's goods to its clients, by depth-first search. This project chooses which of
+/// several it returns, and the certificate. After `Memory` it returns no allocation.
 pub fn solve(alloc: Global, account: &Account) -> Result<Solved, Memory>
     ensures feasible { IfOk result (λ solved. IsFeasible account.now solved.allocation) }
     ensures worth { IfOk result (λ solved. total_of account.now.clients solved.allocation ≡ solved.total) }
     ensures holds { IfOk result (λ solved. IsTrue (holds account.now solved.total all_left (tree_of solved.cert.root))) }
     ensures best { IfOk result (λ solved. IsBest account.now solved.total) }
 {
-    // The law of certificates rests on the account's ranges, which are known where it is read.
+    // The law of certificates uses the account's ranges, which are known once it is read.
     let _holdings = &account.holdings;
     let mut best = Found {
         allocation: [Package::None; 8],

@@ -7,19 +7,19 @@ use dual_bound::Choice;
 use packages::Prices;
 use relaxation::{Split, WorthTable};
 
-/// What may help to search a part. A certificate that comes of it is tested like any other, so that a wrong hint costs time alone.
+/// What may help to search a part. The search tests a certificate from a hint like any other, so a wrong hint costs only time.
 #[derive(Clone, Copy)]
 pub(crate) enum Hint<'a> {
     /// Nothing is known.
     Nothing,
-    /// The part has this value of a split. The parts of the lesser values were searched; the worths are those before the split.
+    /// The part has this value of a split. The parts of lesser values were searched. The worths are those before the split.
     Part {
         before: &'a [CertNode],
         split: Split,
         value: u8,
         worths: &'a WorthTable,
     },
-    /// This is the certificate of a part that is the same but for two clients, which are exchanged.
+    /// The certificate of a part that is the same except that two clients are exchanged.
     Like {
         node: &'a CertNode,
         one: u8,
@@ -41,14 +41,14 @@ fn are_alike(worths: &WorthTable, one: u8, other: u8) -> bool
     true
 }
 
-/// Whether a client is like the one that was split by before, 0..7.
+/// Whether a client, 0..7, is like the one that was split before.
 fn is_like(worths: &WorthTable, client: u8, split: Split) -> bool
     requires { client < 8 }
 {
     client != split.client && split.client < 8 && are_alike(worths, client, split.client)
 }
 
-/// In a part of a split by a client's feature, the split by the same feature of the first client that was like it and has it free.
+/// In a part of a split by a client's feature, returns the split by that feature of the first client that is like it and has the feature free.
 pub(crate) fn like_split(choice: &Choice, hint: Hint<'_>) -> Option<Split>
     ensures client { IfSome result (λ split. split.client < 8) }
     ensures feature { IfSome result (λ split. split.feature < 4) }
@@ -70,7 +70,7 @@ pub(crate) fn like_split(choice: &Choice, hint: Hint<'_>) -> Option<Split>
     None
 }
 
-/// The part of a certificate after a split, if it is a split by this client's feature.
+/// Returns the part of a certificate that has this value, if the certificate splits by this client's feature.
 fn part_of(node: &CertNode, split: Split, value: u8) -> Option<&CertNode> {
     match node {
         CertNode::Split {
@@ -84,7 +84,7 @@ fn part_of(node: &CertNode, split: Split, value: u8) -> Option<&CertNode> {
     }
 }
 
-/// The split with two clients exchanged.
+/// Returns the split with two clients exchanged.
 fn exchanged(split: Split, one: u8, other: u8) -> Split {
     let client = if split.client == one {
         other
@@ -99,8 +99,8 @@ fn exchanged(split: Split, one: u8, other: u8) -> Split {
     }
 }
 
-/// What a part of a split with this value is like, if a hint for the split tells it. Of two clients that are alike, that the one has the first
-/// value and the other the second is like the reverse.
+/// Returns what a part of a split with this value is like, if a hint for the split shows it. If two clients are alike, a part in which the
+/// first has one value and the second another is like the part with the values exchanged.
 fn like_part<'a>(hint: Hint<'a>, split: Split, value: u8) -> Option<Hint<'a>> {
     match hint {
         Hint::Nothing => None,
@@ -129,7 +129,7 @@ fn like_part<'a>(hint: Hint<'a>, split: Split, value: u8) -> Option<Hint<'a>> {
     }
 }
 
-/// What may help to search the part of a split with this value, after those of the lesser values, where the worths are those before the split.
+/// Returns a hint for the part of a split with this value, once the lesser values are searched. The worths are those before the split.
 pub(crate) fn hint_of_part<'a>(
     hint: Hint<'a>,
     split: Split,
@@ -148,7 +148,7 @@ pub(crate) fn hint_of_part<'a>(
     }
 }
 
-/// The split of the part that a hint says is like this one, with the clients exchanged, if that part is split and the feature is free here.
+/// Returns the split of the part that a hint says is like this one, with the clients exchanged, if it is split and the feature is free here.
 pub(crate) fn copied_split(choice: &Choice, hint: Hint<'_>) -> Option<Split>
     ensures client { IfSome result (λ split. split.client < 8) }
     ensures feature { IfSome result (λ split. split.feature < 4) }
@@ -174,7 +174,7 @@ pub(crate) fn copied_split(choice: &Choice, hint: Hint<'_>) -> Option<Split>
     }
 }
 
-/// The prices of the part that a hint says is like this one, if that part is not split.
+/// Returns the prices of the part that a hint says is like this one, if that part is not split.
 pub(crate) fn copied_prices<'a>(hint: Hint<'a>) -> Option<&'a Prices> {
     match hint {
         Hint::Like {

@@ -8,7 +8,7 @@ use game_text::Game;
 use tac_base::limits::TICKS;
 use tac_base::{Call, Good, Tick};
 
-/// The good of a number.
+/// Returns the good with this number.
 fn good(number: u8) -> Good
     requires { number ≤ 27 }
     ensures { result ≡ number }
@@ -16,14 +16,14 @@ fn good(number: u8) -> Good
     Good::new(number).unwrap()
 }
 
-/// Whether the good is among the goods.
+/// Whether the good is one of these goods.
 fn is_among(goods: &[Good], good: Good) -> bool
     ensures { result ≡ list_any (λ other. other == good) goods.now }
 {
     goods.iter().any(|other| *other == good)
 }
 
-/// The hotel nights that are open after this many closings.
+/// Returns the hotel nights that are open after this many closings.
 #[tactic(auto, unfolding(game_text::specs::Schedule::open_after))]
 fn open_after(order: &[Good], turn: usize) -> ArrayVec<Good, 8>
     requires turn { turn ≤ 8 }
@@ -36,7 +36,7 @@ fn open_after(order: &[Good], turn: usize) -> ArrayVec<Good, 8>
     open
 }
 
-/// The n-th call of the hotels at their tick: a closing, and then the publications.
+/// Returns the n-th call of the hotels at their tick: a closing, and then the publications.
 #[tactic(auto, using(crate::proofs::CallLists::publication_at))]
 fn hotel_call(order: &[Good], turn: usize, n: usize) -> Option<(Good, Call)>
     requires first { 1 ≤ turn }
@@ -52,7 +52,7 @@ fn hotel_call(order: &[Good], turn: usize, n: usize) -> Option<(Good, Call)>
     Some((*good, Call::Publish))
 }
 
-/// The n-th call of the last tick.
+/// Returns the n-th call of the last tick.
 fn last_call(n: usize) -> Option<(Good, Call)>
     ensures { result ≡ slice_get (map (λ good. (good, Close)) spec.closed_last) n }
 {
@@ -65,9 +65,9 @@ fn last_call(n: usize) -> Option<(Good, Call)>
     }
 }
 
-/// The n-th call of the clock at a tick, counted from 0, and its good; None exactly past the tick's last call.
-/// At the ticks 1..53 the flights are updated; at each sixth of them the next hotel closes and the open ones publish; at tick 54
-/// flights and tickets close. That a game has these ticks is our own rule.
+/// Returns the n-th call of the clock at a tick, counted from 0, and its good. It returns None exactly past the tick's last call.
+/// Ticks 1..53 update the flights. Each sixth of them closes the next hotel night and publishes the open ones. Tick 54 closes
+/// flights and tickets. This project defines the ticks.
 #[tactic(auto, using(crate::proofs::CallLists::last_calls, crate::proofs::CallLists::flight_call, crate::proofs::CallLists::hotel_call_at, crate::proofs::CallLists::no_call,))]
 pub fn schedule(game: &Game, tick: Tick, n: u8) -> Option<(Good, Call)>
     ensures { result ≡ slice_get (spec.calls_at game.now tick) n }

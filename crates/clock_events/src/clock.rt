@@ -1,4 +1,4 @@
-// The clock of a game, over a ticker.
+// Runs the clock of a game over a ticker.
 ghost use Rattle.std.specs.Prelude.{◌≡◌, ◌<◌, [], ◌∷◌, ◌++◌, ◌-◌, ℕ, length, map, replicate, IfSome, MatchBool};
 ghost use Rattle.tac_base.specs.Goods.{clock};
 ghost use Rattle.clock_events.specs.{IsSameDesk, boards_of, desk_calls, desk_cash, desk_caller, desk_ids, entries_at, desk_entries, desk_steps, floor_ids, Rose, known_then, clock_calls, HasMade, MakesCalls};
@@ -15,17 +15,17 @@ use tac_base::Tick;
 use tac_base::limits::{GOODS, TICKS};
 use tac_io::Ticker;
 
-/// What the clock leaves.
+/// What `run_clock` returns at the end of a game.
 #[derive(Drop)]
 pub struct ClockEnd {
     /// The clock's desk, which made its calls.
     pub desk: Desk,
-    /// How many of the 54 ticks lapsed.
+    /// The number of ticks, of 54, that lapsed.
     pub missed: u8,
 }
 
-/// Takes the due of a tick, which shows its wait, and then makes the clock's calls of the tick in the schedule's order, and no other call. It
-/// may wait for turns.
+/// Records the due of a tick, which shows the wait for it, and then makes the clock's calls of the tick in the schedule's order, and no other
+/// call. It may wait for turns.
 pub fn clock_tick<R: Wait + Clock, T: Ticker>(
     rt: &R,
     floor: &Floor,
@@ -46,7 +46,7 @@ pub fn clock_tick<R: Wait + Clock, T: Ticker>(
     ensures same { IsSameDesk desk.old desk.new }
 {
     desk.take_due::<T>(tick, due);
-    // The conditions of the calls rest on the tick's range and on the laws of the schedule.
+    // The requirements of the calls follow from the tick's range and the laws of the schedule.
     let _number = tick.get();
     schedule_law(game);
     let mut n = 0;
@@ -70,9 +70,9 @@ fn wait_for<R: Wait + Clock, T: Ticker>(rt: &R, ticker: &mut T, tick: Tick) -> (
     }
 }
 
-/// Waits for each of the 54 ticks in turn, and makes its calls: altogether the schedule of the game from its first call to its last, in
-/// that order across the goods, and no other call. The due of each tick is taken before its calls, and the next tick is waited for after
-/// them. The calls of a tick that lapsed are made at once, and the next one is waited for again. It takes no memory.
+/// Waits for each of the 54 ticks in turn and makes its calls: in all, the whole schedule of the game, in order across the goods, and no
+/// other call. It records the due of each tick before it makes the tick's calls, and then waits for the next tick. After a lapse it makes
+/// the tick's calls at once, and waits again for the next tick. It allocates no memory.
 pub fn run_clock<R: Wait + Clock, T: Ticker>(
     rt: &R,
     floor: &Floor,

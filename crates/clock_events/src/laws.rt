@@ -6,8 +6,7 @@ ghost use Rattle.tac_base.specs.declared.limits.TheConstants.{CLOCK_CASH_ENTRIES
 use game_text::Game;
 
 /// The laws of the schedule of a game, as this call's contract. At each tick, 1 to 54, the clock has at most 20 calls, at
-/// most one of them of each good, and each is one that the good's kind of auction has. A whole game has 480 of them, of
-/// which at most 54 are of one good.
+/// most one of each good, and each suits the good's kind of auction. A whole game has 480 calls, at most 54 of one good.
 pub fn schedule_law(game: &Game)
     ensures once { (tick good : ℕ) → 1 ≤ tick → tick ≤ TICKS → laws.tick_calls_of game.now tick good ≤ 1 }
     ensures fit { (tick : ℕ) → 1 ≤ tick → tick ≤ TICKS → All (laws.IsDueCall tick) (spec.calls_at game.now tick) }

@@ -1,4 +1,4 @@
-//! The calls of the clock.
+//! The clock's schedule of calls, and the loop that makes them.
 #![tactic(auto)]
 
 mod calls;

@@ -11,7 +11,7 @@ use tac_base::{Agent, Good};
 use trade_ledger::{CashBook, CashCall, CashReply};
 use turn_lock::{Pass, TurnLock};
 
-/// Posts what the trades of an entry gave each party, if it has a trade.
+/// Posts what each party gained by an entry's trades. An entry without a trade gets no post.
 pub(crate) fn post<R: Wait + Clock>(
     rt: &R,
     lock: &TurnLock<CashBook>,
@@ -37,7 +37,7 @@ pub(crate) fn post<R: Wait + Clock>(
     lock.call(rt, pass, &call);
 }
 
-/// Reads the cash of an agent: the position of the entry, and the dollars.
+/// Reads an agent's cash, and returns the position of the reading's entry and the dollars.
 pub(crate) fn read<R: Wait + Clock>(
     rt: &R,
     lock: &TurnLock<CashBook>,

@@ -1,4 +1,4 @@
-//! All passes go back to their locks, and what each desk knew becomes a fact of the histories.
+//! Returns all passes to their locks. What a desk recorded becomes a fact about the histories.
 ghost use Rattle.std.specs.Prelude.{◌≡◌, ℕ, ◌≤◌, [], length, map, vec_capacity};
 ghost use mathlib.Core.Option.{some};
 ghost use lib.ListN.{get_elem?};
@@ -8,7 +8,7 @@ ghost use Rattle.floor.specs.{with_each, IsGivenBack};
 use auction_core::Auction;
 use turn_lock::{Pass, TurnLock};
 
-/// Takes back the passes of one caller.
+/// Returns one caller's passes to their locks.
 pub(crate) fn return_passes(locks: &mut Vec<TurnLock<Auction>>, passes: Vec<Pass<Auction>>)
     requires { map (λ p. lock_of p) passes.items ≡ map (λ lock. lock_id lock) locks.old.items }
     ensures ids { map (λ lock. lock_id lock) locks.new.items ≡ map (λ lock. lock_id lock) locks.old.items }
@@ -23,7 +23,7 @@ pub(crate) fn return_passes(locks: &mut Vec<TurnLock<Auction>>, passes: Vec<Pass
     }
 }
 
-/// The auctions, once all passes are back, in memory reserved for them.
+/// Closes the locks, once all passes are back, and returns the auctions in reserved memory.
 pub(crate) fn close_all(locks: Vec<TurnLock<Auction>>, mut room: Vec<Auction>) -> Vec<Auction>
     requires room { (room.items ≡ []) × (length locks.items ≤ vec_capacity room) }
     requires all_back { (good : ℕ) (lock : _) → get_elem? locks.items good ≡ some lock → length (returned_to lock) ≡ passes_of lock }

@@ -16,20 +16,20 @@ use tac_io::Ticker;
 use trade_ledger::CashBook;
 use turn_lock::Pass;
 
-/// The right of one caller to call at all auctions of a floor and at its cash book. It knows its own entries so far, and has posted the
-/// trades of each.
+/// One caller's access to all auctions of a floor and to its cash book. A desk records its own entries so far, and has posted the trades
+/// of each.
 #[derive(Drop)]
 pub struct Desk {
     pub(crate) passes: Vec<Pass<Auction>>,
     pub(crate) cash: Pass<CashBook>,
-    /// How many times it has read its cash.
+    /// The number of cash readings so far.
     pub(crate) readings: u32,
     pub(crate) steps: StepList,
     ghost kept: { IsDeskKept (caller_of cash) (map (λ p. caller_of p) passes.items) (map (λ p. turns_left p) passes.items)
         (map (λ p. made_by p) passes.items) (turns_left cash) (made_by cash) readings },
-    /// What it was answered of each good is in order.
+    /// At each good, the positions of its entries rise, and agree with what it has seen there.
     pub ghost in_order: { AreGoodsInOrder (map (λ p. made_by p) passes.items) (map (λ p. noted_by p) passes.items) (map (λ p. seen_by p) passes.items) },
-    /// The list of its calls is that of its entries.
+    /// Its list of calls agrees with its entries, good by good.
     pub ghost listed: { AreListed (map (λ p. made_by p) passes.items) (calls_of_steps steps.items) },
 }
 
@@ -60,7 +60,7 @@ impl Desk {
         self.cash.caller()
     }
 
-    /// Makes a call at a good, and posts the trades of its entry.
+    /// Makes a call at a good and posts the trades of its entry.
     fn call<R: Wait + Clock>(
         &mut self,
         rt: &R,
@@ -83,7 +83,7 @@ impl Desk {
         (position, reply)
     }
 
-    /// Makes an agent's call at a good, if the agent made fewer than 1024 there.
+    /// Makes an agent's call at a good, if the agent has made fewer than 1024 calls there.
     fn ask<R: Wait + Clock>(&mut self, rt: &R, floor: &Floor, good: Good, call: &Call) -> Outcome
         requires own { desk_ids self.old ≡ floor_ids floor.now }
         requires agent { desk_caller self.old < AGENTS }
@@ -99,8 +99,8 @@ impl Desk {
         Outcome::At { position, reply }
     }
 
-    /// An agent's bid, which replaces its whole earlier bid there. It may wait for its turn. Its trades are posted before it
-    /// returns. `Spent` comes exactly after 1024 calls of the desk there, and changes nothing.
+    /// Makes an agent's bid, which replaces its earlier bid there. It may wait for its turn, and posts the bid's trades before it
+    /// returns. It returns `Spent` exactly if the desk has made 1024 calls there; then nothing changes.
     pub fn bid<R: Wait + Clock>(
         &mut self,
         rt: &R,
@@ -119,7 +119,7 @@ impl Desk {
         self.ask(rt, floor, good, &call)
     }
 
-    /// An agent withdraws its bid, which a hotel refuses. It may wait for its turn. `Spent` comes as for `bid`.
+    /// Withdraws an agent's bid; a hotel refuses. It may wait for its turn. It returns `Spent` as `bid` does.
     pub fn withdraw<R: Wait + Clock>(&mut self, rt: &R, floor: &Floor, good: Good) -> Outcome
         requires own { desk_ids self.old ≡ floor_ids floor.now }
         requires agent { desk_caller self.old < AGENTS }
@@ -130,7 +130,7 @@ impl Desk {
         self.ask(rt, floor, good, &Call::Withdraw)
     }
 
-    /// An agent reads its own state. It may wait for its turn. `Spent` comes as for `bid`.
+    /// Reads an agent's own state. It may wait for its turn. It returns `Spent` as `bid` does.
     pub fn own<R: Wait + Clock>(&mut self, rt: &R, floor: &Floor, good: Good) -> Outcome
         requires own { desk_ids self.old ≡ floor_ids floor.now }
         requires agent { desk_caller self.old < AGENTS }
@@ -141,8 +141,8 @@ impl Desk {
         self.ask(rt, floor, good, &Call::Own)
     }
 
-    /// The agent's cash in dollars: the sum of its nets in the posts so far. A trade that another caller's call made may be unposted for
-    /// a moment. It may wait for its turn. `Spent` comes exactly after 1024 readings, and changes nothing.
+    /// Reads the agent's cash in dollars: the sum of its nets in the posts so far. A trade that another caller's call made may not be posted
+    /// yet. It may wait for its turn. It returns `Spent` exactly if the desk has made 1024 readings; then nothing changes.
     pub fn cash<R: Wait + Clock>(&mut self, rt: &R, floor: &Floor) -> CashOutcome
         requires own { desk_ids self.old ≡ floor_ids floor.now }
         requires agent { desk_caller self.old < AGENTS }
@@ -159,7 +159,7 @@ impl Desk {
         CashOutcome::At { position, dollars }
     }
 
-    /// The board of a good so far, which is not shorter than what the desk had seen there. It does not wait.
+    /// Returns the current board of a good. The board counts no fewer entries than the desk had seen there. It does not wait.
     pub fn quote(&mut self, floor: &Floor, good: Good) -> Board
         requires own { desk_ids self.old ≡ floor_ids floor.now }
         ensures seen { IsSeen self.old self.new good result }
@@ -169,7 +169,7 @@ impl Desk {
         floor.auctions[place].peek(&mut self.passes[place])
     }
 
-    /// Takes a step that is no call, and that a value determines.
+    /// Records a step that is not a call; the given value determines it.
     fn take_step<X>(&mut self, _of: &X)
         ghost step: { Step }
         requires no_call { call_of_step step ≡ None }
@@ -179,7 +179,7 @@ impl Desk {
         self.steps = self.steps.with();
     }
 
-    /// Takes the due of a tick, which a ticker of this type gave, as a step of the desk, and changes nothing else.
+    /// Consumes the due of a tick, given by a ticker of this type, and records it as a step of the desk. Nothing else changes.
     pub fn take_due<T: Ticker>(&mut self, tick: Tick, due: T::Due)
         requires due { T.due_tick due ≡ tick }
         ensures taken { IsStepTaken self.old self.new (DueTaken T.mark tick) }
@@ -189,7 +189,7 @@ impl Desk {
         self.take_step(&tick);
     }
 
-    /// Notes as a step of the desk the waits of a ticker so far, where they are known, and changes nothing else.
+    /// Records a ticker's waits so far, if they are known, as a step of the desk. Nothing else changes.
     pub fn note_waits<T: Ticker>(&mut self, ticker: &T)
         ensures noted { IsStepTaken self.old self.new (WaitsNoted (T.state ticker.now).waited) }
         ensures posted { IsPosted (desk_entries self.new) (desk_cash self.new) }
@@ -197,8 +197,8 @@ impl Desk {
         self.take_step(ticker);
     }
 
-    /// A call of the clock: an update of one of the ticks 1..53, a publication or a closing. The clock makes at most 64 at a good, and
-    /// 480 in all. It may wait for its turn, posts the trades before it returns, and answers the entry's position and reply.
+    /// Makes a call of the clock: a price update at one of the ticks 1..53, a publication or a closing. The clock makes at most 64 calls at a
+    /// good, and 480 in all. It may wait for its turn, posts the trades before it returns, and returns the entry's position and reply.
     pub fn clock_call<R: Wait + Clock>(
         &mut self,
         rt: &R,

@@ -14,12 +14,12 @@ use tac_base::{Good, Memory};
 use trade_ledger::CashBook;
 use turn_lock::TurnLock;
 
-/// The 28 auctions of a game, in the order of goods, and its cash book, each under a lock of its own.
+/// The 28 auctions of a game, in the order of goods, and its cash book, each under its own lock.
 #[derive(Drop)]
 pub struct Floor {
     pub(crate) auctions: Vec<TurnLock<Auction>>,
     pub(crate) cash: TurnLock<CashBook>,
-    /// Room for the auctions at the end.
+    /// Memory reserved for the auctions when the floor closes.
     room: Vec<Auction>,
     ghost goods: { goods_of (map (λ lock. start_of lock) auctions.items) ≡ all_goods },
     ghost passes: { (map (λ lock. passes_of lock) auctions.items ≡ replicate GOODS CALLERS) × (passes_of cash ≡ CALLERS) },
@@ -41,8 +41,8 @@ impl Floor {
     ghost use Rattle.floor.specs.Floors.{floor_ids, starts_of, AreDesksOf, AreAllDesksOf};
     ghost use Rattle.floor.specs.Closing.{IsBorneOut, TakesLawfulBids};
 
-    /// The floor of a game at which nobody has called, and its nine desks: those of the agents in order, and then the clock's. All
-    /// memory of the game is taken here. After `Memory` nothing was made.
+    /// Returns the floor of a game before any call, and its nine desks: the agents' in order, and then the clock's. It allocates all the
+    /// memory of the game. After `Memory` it returns nothing.
     pub fn begin(alloc: Global, game: &Game) -> Result<(Floor, Vec<Desk>), Memory>
         ensures starts { IfOk result (λ r. starts_of r.0 ≡ map (λ good. record { setup = setup_of good game.now; history = [] }) all_goods) }
         ensures desks { IfOk result (λ r. AreDesksOf r.0 r.1.items) }
@@ -67,7 +67,7 @@ impl Floor {
         Ok((floor, desks))
     }
 
-    /// The game, once all its desks are back, in any order.
+    /// Closes the game once all its desks are back, in any order.
     pub fn close(self, desks: Vec<Desk>) -> Closed
         requires { AreAllDesksOf self desks.items }
         ensures setups { map (λ auction. auction.setup) result.auctions ≡ map (λ start. start.setup) (starts_of self) }

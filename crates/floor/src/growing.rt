@@ -3,7 +3,7 @@ ghost use Rattle.std.specs.Prelude.{◌≡◌, ◌≤◌, [], ◌∷◌, ◌++�
 use std::alloc::AllocError;
 use tac_base::Memory;
 
-/// Adds an item at the end. If there is no memory for it, which can be only where the list is full, it is dropped.
+/// Adds an item at the end. If an allocation fails, which happens only if the list is full, the item is dropped.
 pub(crate) fn add<T: Drop>(list: &mut Vec<T>, item: T) -> Result<(), Memory>
     ensures added { OnOk result (list.new.items ≡ list.old.items ++ item ∷ []) }
     ensures kept { OnErr result (list.new.items ≡ list.old.items) }

@@ -1,5 +1,5 @@
-//! The floor of a game: 28 auctions and one cash book, at which nine desks call from any threads. Each desk posts the trades of its own
-//! entries. No lock is taken inside another.
+//! The floor of a game: 28 auctions and one cash book, which nine desks call from any threads. Each desk posts the trades of its own
+//! entries. No call takes one lock while it holds another.
 #![tactic(auto)]
 
 mod cash_turns;

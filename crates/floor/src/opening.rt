@@ -1,4 +1,4 @@
-//! The passes are made lock by lock, and each caller gets its own.
+//! Makes the passes lock by lock, and gives each caller its own.
 ghost use Rattle.std.specs.Prelude.{◌≡◌, ℕ, List, [], ◌∷◌, ◌++◌, length, map, replicate, All, IfOk, OnOk};
 ghost use mathlib.Core.Option.{some};
 ghost use lib.ListN.{get_elem?};
@@ -15,7 +15,7 @@ use tac_base::{Good, Memory};
 use trade_ledger::CashBook;
 use turn_lock::{Pass, TurnLock};
 
-/// How many calls each caller may make in an auction: the agents, and then the clock.
+/// The number of calls that each caller may make in an auction: the agents, and then the clock.
 const CALLS: [u32; 9] = [
     AGENT_CALLS,
     AGENT_CALLS,
@@ -28,8 +28,8 @@ const CALLS: [u32; 9] = [
     CLOCK_CALLS,
 ];
 
-/// How many calls each caller may make of the cash book: an agent a post for each of its calls of auctions and its
-/// readings, and the clock a post for each of its calls.
+/// The number of calls that each caller may make at the cash book: for an agent, a post for each of its auction
+/// calls, and its readings; for the clock, a post for each of its calls.
 const CASH_CALLS: [u32; 9] = [
     AGENT_CASH_ENTRIES,
     AGENT_CASH_ENTRIES,
@@ -42,7 +42,7 @@ const CASH_CALLS: [u32; 9] = [
     CLOCK_CASH_ENTRIES,
 ];
 
-/// The callers' passes of auctions before any is dealt.
+/// Returns an empty list of auction passes for each caller.
 pub(crate) fn empty_hands(alloc: Global) -> Result<Vec<Vec<Pass<Auction>>>, Memory>
     ensures { IfOk result (λ hands. map (λ hand. hand.items) hands.items ≡ replicate CALLERS []) }
 {
@@ -56,7 +56,7 @@ pub(crate) fn empty_hands(alloc: Global) -> Result<Vec<Vec<Pass<Auction>>>, Memo
     Ok(hands)
 }
 
-/// Gives each caller its pass of one lock.
+/// Gives each caller its pass for one lock.
 fn deal(hands: &mut Vec<Vec<Pass<Auction>>>, passes: Vec<Pass<Auction>>) -> Result<(), Memory>
     requires { length hands.old.items ≡ length passes.items }
     ensures { OnOk result (map (λ hand. hand.items) hands.new.items ≡ with_each (map (λ hand. hand.items) hands.old.items) passes.items) }
@@ -69,7 +69,7 @@ fn deal(hands: &mut Vec<Vec<Pass<Auction>>>, passes: Vec<Pass<Auction>>) -> Resu
     Ok(())
 }
 
-/// The lock of a good's auction, of which each caller gets its pass.
+/// Makes the lock of a good's auction, and gives each caller its pass.
 pub(crate) fn open(
     alloc: Global,
     good: Good,
@@ -89,7 +89,7 @@ pub(crate) fn open(
     Ok(lock)
 }
 
-/// The lock of the cash book, and its passes.
+/// Makes the lock of the cash book, and its passes.
 pub(crate) fn open_cash(alloc: Global) -> Result<(TurnLock<CashBook>, Vec<Pass<CashBook>>), Memory>
     ensures lock { IfOk result (λ r. (passes_of r.0 ≡ CALLERS) × (returned_to r.0 ≡ [])) }
     ensures passes { IfOk result (λ r. (length r.1.items ≡ CALLERS) × ((i : ℕ) (p : _) → get_elem? r.1.items i ≡ some p →
@@ -100,7 +100,7 @@ pub(crate) fn open_cash(alloc: Global) -> Result<(TurnLock<CashBook>, Vec<Pass<C
     Ok((lock, passes))
 }
 
-/// The desks of the callers with these passes at the auctions and at the cash book, in order.
+/// Makes the callers' desks, in order, from their passes for the auctions and for the cash book.
 pub(crate) fn seat(
     alloc: Global,
     hands: Vec<Vec<Pass<Auction>>>,

@@ -1,4 +1,4 @@
-//! Threads can share a floor, and desks and floors can move between them. These calls prove it.
+//! Threads can share a floor, and desks and floors can move between threads. These calls prove it.
 use crate::desk::Desk;
 use crate::floor::Floor;
 

@@ -5,7 +5,7 @@ ghost use Rattle.floor.specs.Steps.{Step};
 use std::marker::Model;
 use tac_base::{Call, Good};
 
-/// The steps of a desk, in the order in which they were taken. It takes no bytes: only clauses read it.
+/// The steps of a desk, in the order in which it took them. It occupies no bytes: only clauses read it.
 #[derive(Drop)]
 pub(crate) struct StepList {
     pub(crate) ghost items: { List Step },
@@ -16,14 +16,14 @@ impl Model for StepList {
 }
 
 impl StepList {
-    /// No steps.
+    /// Returns a list without steps.
     pub(crate) fn new() -> StepList
         ensures { result.items ≡ [] }
     {
         StepList {}
     }
 
-    /// These steps, and one more.
+    /// Returns these steps and one more.
     pub(crate) fn with(&self) -> StepList
         ghost step: { Step }
         ensures { result.items ≡ self.now.items ++ step ∷ [] }
@@ -31,7 +31,7 @@ impl StepList {
         StepList {}
     }
 
-    /// The same, for a step that a call of a good determines.
+    /// Does the same for a step that a call at a good determines.
     pub(crate) fn with_call(&self, _good: &Good, _call: &Call) -> StepList
         ghost step: { Step }
         ensures { result.items ≡ self.now.items ++ step ∷ [] }
@@ -40,5 +40,5 @@ impl StepList {
     }
 }
 
-// It owns nothing.
+// A step list owns nothing.
 unsafe impl Send for StepList {}
