@@ -1,4 +1,4 @@
--- The gate: which first line of a link takes which seat. The rule is our own.
+-- The gate: which first line of a link takes which seat. This project defines the rule.
 use Rattle.std.specs.Prelude.{ℕ, if◌then◌else◌, List, [], ◌∷◌, Bool, true, false, Option, Some, None, codes, position, slice_index_or, slice_set, bytes_eq}
 use Rattle.text_forms.specs.Words.{words_of}
 use Rattle.game_text.specs.SeatWords.{is_seat_word}
@@ -19,7 +19,7 @@ greeted words = None
 abbrev pub greeting_of : List ℕ → Option (List ℕ)
 greeting_of line = greeted (words_of line)
 
--- the verdict on a greeting with a seat word, by the seat that has this word, if one has it, and whether that is taken
+-- the verdict on a greeting with a seat word, given the seat that has this word, if one has it, and which seats are taken
 abbrev pub seat_verdict : List Bool → Option ℕ → Verdict
 seat_verdict taken None = WrongWord
 seat_verdict taken (Some seat) = if slice_index_or taken seat false then Taken else Seated seat

@@ -1,4 +1,4 @@
--- What a link asks: an item for each of its lines.
+-- What a link requests: an item for each of its lines.
 use Rattle.std.specs.Prelude.{⊤, ℕ, List, Result}
 use Rattle.std.specs.List.{AllZip}
 use Rattle.agent_gate.specs.Prelude.{Request, RequestFault, LineGot}
@@ -15,6 +15,6 @@ IsItem may_answer (Line, line) (Asks asked) = may_answer line asked
 IsItem may_answer (TooLong, line) Overlong = ⊤
 IsItem may_answer got item = ⊥
 
--- what lines ask, in order
+-- the items of lines, in order
 abbrev pub AreItems : (List ℕ → Result Request RequestFault → Type 0) → List (LineGot × List ℕ) → List Item → Type 0
 AreItems may_answer lines items = AllZip (IsItem may_answer) lines items

@@ -1,4 +1,4 @@
--- How a link's lines are answered, and why its session ends.
+-- How a session answers its link's lines, and why it ends.
 use Rattle.std.specs.Prelude.{◌≡◌, ℕ, ◌<◌, ◌≤◌, ◌⊎◌, List, [], ◌∷◌, ◌++◌, true, false, length, map}
 use Rattle.std.specs.List.{concat}
 use Rattle.agent_gate.specs.Prelude.{SESSION_LINES, LastReadFails, LastWriteFails, NoReadFails, NoWriteFails, LinkState, known_then, IsAtEnd, TakesSome, LineGot, Said, Cause}
@@ -8,7 +8,7 @@ use Rattle.agent_gate.specs.Dialects.{Dialect}
 use Rattle.agent_gate.specs.Items.{AreItems}
 use Rattle.agent_gate.specs.Turns.{Turn, item_of, said_of, has_left, AreLawful}
 
--- A session: what its link is sent first, its turns, what the link's bytes give after the lines of the turns, and the link before and after.
+-- A session: the welcome of its link, its turns, what the link's bytes give after the lines of the turns, and the link before and after.
 pub record Session : Type 0 where
   pub welcome : List ℕ
   pub turns : List Turn
@@ -30,8 +30,8 @@ pieces_of text session = session.welcome ∷ map (reply_line text) session.turns
 abbrev pub SendsAll : (Said → List ℕ) → Session → Type 0
 SendsAll text session = (session.after.sent ≡ known_then session.before.sent (concat (pieces_of text session))) × NoWriteFails session.before session.after
 
--- A write of the last piece failed, and nothing was sent after that: the pieces before it were sent whole, and of the last one the first
--- bytes at most.
+-- A write of the last piece failed, and nothing was sent after that: the pieces before it were sent whole, and at most the first bytes of
+-- the last one.
 pub record IsCutOff (text : Said → List ℕ) (session : Session) : Type 0 where
   pub whole : List (List ℕ)
   pub last : List ℕ
@@ -49,9 +49,9 @@ ComesTo got session = (has_left session.turns ≡ false) × (length session.turn
 abbrev pub IsUsedUp : Session → Type 0
 IsUsedUp session = (has_left session.turns ≡ false) × (length session.turns ≡ SESSION_LINES)
 
--- The causes of a session's end, a row for each: what came last, what was sent, and whether a read failed, after which nothing was taken.
--- `quit` was answered; the link's bytes came to an end; a read failed, whatever bytes were left; a text was cut off by a failed write; or
--- the lines, or the bytes, of a session were used up.
+-- The causes of a session's end, one row each: what came last, what was sent, and whether a read failed, after which nothing was taken.
+-- `quit` was answered; the link's bytes ended; a read failed, whatever bytes were left; a failed write cut a text off; or the session
+-- used up its lines, or its bytes.
 abbrev pub EndsBy : Cause → (Said → List ℕ) → Session → Type 0
 EndsBy causes.Quit text session = (has_left session.turns ≡ true) × SendsAll text session × NoReadFails session.before session.after
 EndsBy causes.End text session = ComesTo gots.End session × IsAtEnd session.after.left × SendsAll text session × NoReadFails session.before session.after
@@ -59,7 +59,7 @@ EndsBy causes.ReadFault text session = ComesTo gots.End session × SendsAll text
 EndsBy causes.WriteFault text session = IsCutOff text session × NoReadFails session.before session.after
 EndsBy causes.Budget text session = (IsUsedUp session ⊎ ComesTo gots.Budget session) × SendsAll text session × NoReadFails session.before session.after
 
--- The turns of a session are what its bytes ask, each answered. `answers` is what the bytes taken give, line by line, after
+-- A session has a turn for each line that it read, with that line's item. `answers` is what the bytes taken give, line by line, after
 -- the lines that were read before the session.
 pub record IsServed (dialect : Dialect) (answers : List (LineGot × List ℕ)) (session : Session) (cause : Cause) : Type 0 where
   pub read : List (LineGot × List ℕ)

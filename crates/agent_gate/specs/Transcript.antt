@@ -7,9 +7,9 @@ use Rattle.auction_core.specs.ClosedGame.{ClosedGame, all_goods}
 use Rattle.floor.specs.ClosedBoards.{board_of}
 use Rattle.agent_gate.specs.Turns.{Turn, made_at, cash_made, boards_shown}
 
--- At each good the agent's part of the history is what its turns made, by position, call and reply. Its part of the cash history is, in
--- the order of the turns, a post for each turn with trades and a reading for each that was answered. Each board that was shown is that of
--- the prefix of the length that it states.
+-- At each good the agent's part of the history consists of the entries that its turns made, each at its position. Its part of the cash
+-- history is, in the order of the turns, a post for each turn with trades and a reading for each that read the cash. Each board shown is
+-- the board of the prefix whose length it states.
 pub record IsTranscript (agent : ℕ) (closed : ClosedGame) (turns : List Turn) : Type 0 where
   pub calls : map (λ auction. part (λ e. e.caller) auction.history agent) closed.auctions ≡ map (λ good. made_at good turns) all_goods
   pub cash : part (λ e. e.caller) closed.cash agent ≡ cash_made agent turns

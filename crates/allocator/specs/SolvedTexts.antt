@@ -26,6 +26,6 @@ solved_lines total allocation tree =
     ++ (count_text tree ∷ tree_lines tree
     ++ codes "end" ∷ []))
 
--- the one text
+-- the whole text
 abbrev pub solved_text : ℕ → List Package → Tree → List ℕ
 solved_text total allocation tree = text_of (solved_lines total allocation tree)

@@ -1,9 +1,9 @@
--- What the clock waited for.
+-- The ticks that the clock waited for.
 use Rattle.std.specs.Prelude.{◌≡◌, ℕ, ◌<◌, List, All, map, count_by}
 use Rattle.clock_events.specs.Prelude.{Rose, TickWait, TickerState, known_then, ticks}
 
--- the 54 ticks were waited for, in order, each at the pace that was set before the first wait, and this many of them lapsed: some
--- did exactly if the count of faults rose
+-- the clock waited for the 54 ticks in order, each at the pace that was set before the first wait, and this many of them lapsed; the
+-- count of faults rose exactly if some did
 pub record WaitsForAll (before after : TickerState) (missed : ℕ) : Type 0 where
   pub waits : List TickWait
   pub known : after.waited ≡ known_then before.waited waits

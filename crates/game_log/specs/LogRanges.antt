@@ -1,4 +1,4 @@
--- Which logs are in their ranges except for the lines of their certificates.
+-- Logs in their ranges, except for the number of lines of their certificates.
 use Rattle.std.specs.Prelude.{◌≡◌, ◌≤◌, length, All}
 use Rattle.game_log.specs.Prelude.{AGENTS, CASH_ENTRIES, GOODS, tree_lines, Scored, LoggedGame, IsLoggedHead, AreHistories, IsLoggedCashEntry, IsLoggedScore}
 
@@ -6,7 +6,7 @@ use Rattle.game_log.specs.Prelude.{AGENTS, CASH_ENTRIES, GOODS, tree_lines, Scor
 abbrev pub IsRangedScore : Scored → Type 0
 IsRangedScore scored = length (tree_lines scored.tree) ≤ 4294967295 → IsLoggedScore scored
 
--- A log in its ranges, except that nothing bounds the lines of its certificates.
+-- A log in its ranges, except that nothing bounds the number of lines of its certificates.
 pub record IsRanged (log : LoggedGame) : Type 0 where
   pub head : IsLoggedHead log.head
   pub goods : length log.histories ≡ GOODS

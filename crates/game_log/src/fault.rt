@@ -1,8 +1,8 @@
-/// Why the second part of a log was not written whole.
+/// Why the second part of a log was not completely written.
 #[derive(Clone, Copy, Debug, PartialEq, Eq)]
 pub enum LogWriteFault {
-    /// A write failed, and the sink counted it. The first bytes of the part were written, or none, but not all.
+    /// A write failed, and the sink counted it. Only some of the part's first bytes, or none, were written.
     Failed,
-    /// Memory was refused. Nothing was written.
+    /// A memory allocation failed. Nothing was written.
     Memory,
 }

@@ -1,4 +1,4 @@
-// Short texts are gathered, so that a sink is given few and long pieces.
+// Gathers short texts, so that a sink gets few and long pieces.
 ghost use Rattle.std.specs.Prelude.{◌≡◌, [], ◌≤◌, length, IfOk};
 ghost use Rattle.tac_io.specs.Written.{WritesPiece};
 ghost use Rattle.game_log.specs.Gathering.{Gathers};
@@ -7,10 +7,10 @@ use arrayvec::ArrayVec;
 use std::marker::Model;
 use tac_io::{Failed, Sink, write_all};
 
-/// How many bytes a piece holds: some hundred lines of a log.
+/// The number of bytes that a piece can hold: some hundred lines of a log.
 const GATHERED_BYTES: usize = 8_192;
 
-/// The bytes that a sink is given next.
+/// The bytes that the sink gets next.
 #[derive(Drop)]
 pub(crate) struct Gathered {
     bytes: ArrayVec<u8, GATHERED_BYTES>,
@@ -25,7 +25,7 @@ impl Model for Gathered {
 }
 
 impl Gathered {
-    /// No bytes.
+    /// Holds no bytes.
     pub(crate) fn new() -> Gathered
         ensures { result ≡ [] }
     {
@@ -34,7 +34,7 @@ impl Gathered {
         }
     }
 
-    /// Writes the bytes, and holds none.
+    /// Writes the bytes that it holds, and then holds none.
     pub(crate) fn write<K: Sink>(&mut self, sink: &mut K) -> Result<(), Failed>
         ensures text { WritesPiece self.old (K.state sink.old) (K.state sink.new) result }
         ensures empty { IfOk result (λ _. self.new ≡ []) }
@@ -44,7 +44,7 @@ impl Gathered {
         Ok(())
     }
 
-    /// Adds a text, before which the bytes are written if there is no room for both.
+    /// Adds a text. If both do not fit, it first writes the bytes that it holds.
     pub(crate) fn add<K: Sink>(&mut self, sink: &mut K, text: &[u8]) -> Result<(), Failed>
         requires short { length text.now ≤ 640 }
         ensures { Gathers text.now self.old self.new (K.state sink.old) (K.state sink.new) result }

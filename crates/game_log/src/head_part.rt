@@ -1,4 +1,4 @@
-// The head of a log, line by line.
+// Writes the head of a log, line by line.
 ghost use Rattle.std.specs.List.{flat_map, enumerate_from};
 ghost use Rattle.line_protocol.specs.Heads.{Serve, head_of};
 ghost use Rattle.log_text.specs.LogText as log;

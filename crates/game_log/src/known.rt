@@ -1,4 +1,4 @@
-// What the types of the parts of a game keep of the numbers in its log.
+// States what the types of a game's parts imply about the numbers in its log.
 ghost use Rattle.std.specs.Prelude.{◌≡◌, ◌≤◌, true, length, All};
 ghost use Rattle.std.specs.List.{AllByRecursion};
 ghost use Rattle.game_log.specs.Prelude.{IsLoggableCash, IsHistory, head_of, IsVerdict, IsEnd, IsHead, IsAuction, IsCash, IsLoggedVerdict};
@@ -12,7 +12,7 @@ use tac_base::limits::{AUCTION_ENTRIES, CASH_ENTRIES};
 use trade_ledger::CashBook;
 use turn_lock::Kept;
 
-/// The seat of a verdict is that of one of eight agents.
+/// The seat in a verdict is one of the eight agents'.
 fn verdict_known(_verdict: Verdict) -> bool
     ensures holds { result ≡ true }
     ensures seat { IsLoggedVerdict _verdict }
@@ -21,7 +21,7 @@ fn verdict_known(_verdict: Verdict) -> bool
     true
 }
 
-/// The agent of an end has a number.
+/// The agent of a session's end is one of the eight.
 fn end_known(end: &(Agent, Cause)) -> bool
     ensures holds { result ≡ true }
     ensures number { IsEnd end.now }
@@ -66,7 +66,7 @@ pub(crate) fn auctions_known(auctions: &[Auction])
     prove!(auctions.iter().all(|auction| auction_known(auction)));
 }
 
-/// The cash history is in its ranges, and has not too many entries.
+/// The cash history is in its ranges, and has no more entries than allowed.
 pub(crate) fn cash_known(cash: &CashBook)
     ensures few { length cash.now ≤ CASH_ENTRIES }
     ensures entries { All IsLoggableCash cash.now }

@@ -1,5 +1,5 @@
-//! The log of a game: its histories, and then the sheet with its scores, are written. How a log is read is given again from
-//! `log_reader`, and when it is sound from `log_text`.
+//! Writes the log of a game: its histories, and then the sheet with its scores. The crate re-exports reading a log from
+//! `log_reader`, and the definition of a sound log from `log_text`.
 #![tactic(auto)]
 
 mod fault;

@@ -1,4 +1,4 @@
-// The first part of a log, piece by piece.
+// Writes the first part of a log, piece by piece.
 ghost use Rattle.std.specs.Prelude.{◌≡◌, ◌<◌, length, Some, slice_get, flat_map};
 ghost use Rattle.auction_rules.specs.History.{Entry};
 ghost use Rattle.game_log.specs.Prelude.{CashEntry, head_of, IsPlayed, IsHead, WritesPiece};
@@ -152,7 +152,7 @@ fn write_histories<K: Sink>(
     }
 }
 
-/// What the law of logs requires of a game.
+/// The game meets the requirements of the law of logs.
 fn game_known(closed: &Closed)
     ensures { IsPlayed closed.now }
 {
@@ -175,12 +175,12 @@ fn write_lines<K: Sink>(
     }
 }
 
-/// Writes the first part of the log of a game: how it was played, the histories of its auctions, and the cash history. It takes no
-/// memory. `Failed` comes exactly where the sink counted a fault in this call. Then some of the first bytes of the part were written, or
-/// none, but not all. The form of the log is our own.
+/// Writes the first part of the log of a game: how it was played, the histories of its auctions, and the cash history. It allocates no
+/// memory. It returns `Failed` exactly if the sink counted a fault in this call. Then only some of the part's first bytes, or none, were
+/// written. This project defines the form of the log.
 pub fn write_play_part<K: Sink>(sink: &mut K, head: &LogHead, closed: &Closed) -> Result<(), Failed>
     ensures text { WritesPiece (log.play_part (head_of head.now) closed.now) (K.state sink.old) (K.state sink.new) result }
-    // A head and a game are written as the law of logs requires.
+    // The head and the game meet the requirements of the law of logs.
     ensures known_head { IsHead (head_of head.now) }
     ensures known { IsPlayed closed.now }
 {

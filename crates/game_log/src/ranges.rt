@@ -9,7 +9,7 @@ use auction_core::Closed;
 use game_text::Game;
 use score_sheet::settle;
 
-/// What is left to the agents is in its ranges.
+/// The holdings and the cash that a game leaves to the agents are in their ranges.
 fn settlement_known(closed: &Closed) -> bool
     ensures holds { result ≡ true }
     ensures ranged { IsSettlement (settlement_of closed.now.auctions) }
@@ -19,7 +19,7 @@ fn settlement_known(closed: &Closed) -> bool
     true
 }
 
-/// The law of ranges, as this call's contract: which of the ranges in which logs are read the parts of a played game keep.
+/// The law of ranges, as this call's contract: it says which ranges of a log that is read the parts of a played game keep.
 pub fn log_ranges(game: &Game, head: &LogHead, closed: &Closed)
     ensures { IsShowable game.now (head_of head.now) closed.now }
 {

@@ -1,4 +1,4 @@
-// The second part of the log of a game, from its histories.
+// Writes the second part of the log of a game, from its histories.
 ghost use Rattle.std.specs.Prelude.{IfOk};
 ghost use Rattle.game_log.specs.ScoredGames.{IsSheetOf};
 ghost use Rattle.game_log.specs.SheetWritten.{WritesSheet};
@@ -12,7 +12,7 @@ use std::thread::Threads;
 use tac_base::Memory;
 use tac_io::Sink;
 
-/// The scores of a game whose calls are over: of the goods and the dollars that its histories leave to each agent.
+/// Scores a game whose calls are over, from the goods and dollars that its histories leave to each agent.
 pub fn score_game<R: Threads + Sync>(
     rt: &R,
     alloc: Global,
@@ -24,8 +24,8 @@ pub fn score_game<R: Threads + Sync>(
     sheet(rt, alloc, game, &settle(closed))
 }
 
-/// Scores a game whose calls are over, and writes the second part of its log. After `Failed` its first bytes were written, but not all, and
-/// after `Memory` nothing.
+/// Scores a game whose calls are over, and writes the second part of its log. After `Failed` only some of its first bytes, or
+/// none, were written; after `Memory` nothing was.
 pub fn write_scores<R: Threads + Sync, K: Sink>(
     rt: &R,
     alloc: Global,

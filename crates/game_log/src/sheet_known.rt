@@ -1,4 +1,4 @@
-// What the types of the parts of a sheet keep of the numbers in its text.
+// States what the types of a sheet's parts imply about the numbers in its text.
 ghost use Rattle.std.specs.Prelude.{◌≡◌, true, length};
 ghost use Rattle.std.specs.List.{AllByRecursion};
 ghost use Rattle.bound_cert.specs.Trees.{IsCertificate};
@@ -10,7 +10,7 @@ use packages::Package;
 use score_sheet::{AgentScore, Sheet};
 use tac_base::limits::AGENTS;
 
-/// The numbers of a package have at most 64 bits.
+/// The numbers of a package fit in 64 bits.
 fn package_known(chosen: &Package) -> bool
     ensures holds { result ≡ true }
     ensures shown { IsShownPackage chosen.now }
@@ -38,14 +38,14 @@ fn packages_known(packages: &[Package; 8])
     prove!(packages.iter().all(|chosen| package_known(chosen)));
 }
 
-/// The tree of a certificate has the form of one.
+/// The tree of a certificate has a certificate's form.
 fn cert_known(cert: &Cert)
     ensures { IsCertificate (tree_of cert.now.root) }
 {
     let _root = &cert.root;
 }
 
-/// The numbers of a score are in their ranges, its packages and its certificate too.
+/// The numbers of a score, its packages and its certificate are in their ranges.
 fn score_known(scored: &AgentScore) -> bool
     ensures holds { result ≡ true }
     ensures known { IsKnownScore scored.now }

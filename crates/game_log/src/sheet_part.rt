@@ -1,4 +1,4 @@
-// The second part of a log.
+// Writes the second part of a log.
 ghost use Rattle.std.specs.Prelude.{OnOk};
 ghost use Rattle.log_text.specs.SheetText.{sheet_part};
 ghost use Rattle.log_text.specs.LoggedSheet.{IsShownSheet};
@@ -11,16 +11,16 @@ use score_sheet::Sheet;
 use std::alloc::Global;
 use tac_io::{Sink, write_all};
 
-/// Writes the second part of the log of a game: each agent's score, an allocation of its goods, and a certificate. It is built in
-/// memory and then written, so after `Memory` nothing was written; `Failed` comes exactly if the sink counted a fault in this
-/// call, and then some of the first bytes of the part were written, or none, but not all. The form of the log is our own.
+/// Writes the second part of the log of a game: each agent's score, an allocation of its goods, and a certificate. It builds the
+/// part in memory and then writes it, so after `Memory` nothing was written. It returns `Failed` exactly if the sink counted a fault
+/// in this call; then only some of the part's first bytes, or none, were written. This project defines the form of the log.
 pub fn write_sheet_part<K: Sink>(
     alloc: Global,
     sink: &mut K,
     sheet: &Sheet,
 ) -> Result<(), LogWriteFault>
     ensures text { WritesMade (sheet_part sheet.now) (K.state sink.old) (K.state sink.new) result }
-    // What is written meets the premise of the law of logs.
+    // What was written meets the requirement of the law of logs.
     ensures known { OnOk result (IsShownSheet sheet.now) }
 {
     sheet_known(sheet);

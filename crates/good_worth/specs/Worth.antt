@@ -12,11 +12,11 @@ with_holding account good held = record { clients = account.clients; holdings = 
 abbrev pub held : AccountFile → ℕ → ℤ
 held account good = slice_index_or account.holdings good (pos 0)
 
--- one unit more, as far as an account may hold it
+-- one unit more, but no more than an account may hold
 abbrev pub one_more : ℤ → ℤ
 one_more held = int_min (held +ℤ pos 1) HOLDING
 
--- one unit less, as far as an account may be short of it
+-- one unit less, but no shorter than an account may be
 abbrev pub one_less : ℤ → ℤ
 one_less held = int_max (held -ℤ pos 1) (neg_ℤ HOLDING)
 

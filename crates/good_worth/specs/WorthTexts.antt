@@ -18,7 +18,7 @@ unfoldable pub lines_below : (ℕ → List (List ℕ)) → ℕ → List (List �
 lines_below lines zero = []
 lines_below lines (suc good) = lines_below lines good ++ lines good
 
--- the text of a solution, as it is by itself
+-- the lines of a solution
 abbrev pub solution_lines : Solution → List (List ℕ)
 solution_lines s = solved_lines s.total s.allocation s.tree
 
@@ -39,6 +39,6 @@ base_lines v = codes "base" ∷ solution_lines v.base
 abbrev pub worth_lines : Valuation → List (List ℕ)
 worth_lines v = head_lines v ++ (base_lines v ++ (lines_below (changed_lines v) GOODS ++ codes "end" ∷ []))
 
--- the one text
+-- the whole text
 abbrev pub worth_text : Valuation → List ℕ
 worth_text v = text_of (worth_lines v)

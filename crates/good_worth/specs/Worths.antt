@@ -19,7 +19,7 @@ no_solution = record { total = 0; allocation = []; tree = leaf [] }
 abbrev pub Solves : AccountFile → Solution → Type 0
 Solves account s = IsSolution account s.total s.allocation s.tree
 
--- the solution of the account itself, and by good those of the accounts with one unit more and one unit less
+-- the solutions of the account itself and, by good, of the accounts with one unit more and with one unit less
 pub record Valuation : Type 0 where
   pub base : Solution
   pub more : List Solution
@@ -36,7 +36,7 @@ up_at v good = total_at v.more good - v.base.total
 abbrev pub down_at : Valuation → ℕ → ℕ
 down_at v good = v.base.total - total_at v.less good
 
--- for each of the first goods the solution of the account that the change makes
+-- for each of the first goods, a solution of the account that the change makes
 pub record AreChanged (change : ℕ → AccountFile) (count : ℕ) (solutions : List Solution) : Type 0 where
   pub size : length solutions ≡ count
   pub each : (good : ℕ) → good < count → Solves (change good) (slice_index_or solutions good no_solution)

@@ -1,4 +1,4 @@
-// Accounts with a different holding of one good.
+// Accounts that differ from a given one in the holding of one good.
 ghost use Rattle.std.specs.Prelude.{◌≡◌, ◌<◌};
 ghost use Rattle.game_text.specs.Accounts.{IsHolding};
 ghost use Rattle.good_worth.specs.Worth as worth;
@@ -18,7 +18,7 @@ fn with_holding(account: &Account, good: usize, held: i32) -> Account
     other
 }
 
-/// How many units of a good, 0..27, an account has.
+/// The number of units of a good, 0..27, that an account holds.
 fn held(account: &Account, good: usize) -> i32
     requires { good < GOODS }
     ensures value { result ≡ worth.held account.now good }
@@ -27,7 +27,7 @@ fn held(account: &Account, good: usize) -> i32
     account.holdings[good]
 }
 
-/// One unit more, as far as an account may hold it.
+/// Adds one unit, unless the account then would hold more than it may.
 fn one_more(held: i32) -> i32
     requires { IsHolding held }
     ensures value { result ≡ worth.one_more held }
@@ -36,7 +36,7 @@ fn one_more(held: i32) -> i32
     (held + 1).min(HOLDING)
 }
 
-/// One unit less, as far as an account may be short of it.
+/// Takes one unit away, unless the account then would be short of more than it may.
 fn one_less(held: i32) -> i32
     requires { IsHolding held }
     ensures value { result ≡ worth.one_less held }

@@ -1,4 +1,4 @@
-// The text of the worths of all goods.
+// Prints the worths of all goods.
 ghost use Rattle.std.specs.Prelude.{◌≡◌, ◌++◌, ◌<◌, OnOk, IfOk};
 ghost use Rattle.text_forms.specs.Lines.{text_of};
 ghost use Rattle.good_worth.specs.Views.{worths_of};
@@ -73,8 +73,8 @@ fn print_all_changed(alloc: Global, worths: &Worths, out: &mut Vec<u8>) -> Resul
     Ok(())
 }
 
-/// The text of the worths: the base's total, a line for each good, and the text of each best allocation. That these make the
-/// text, and in this form, is our own. `Memory` leaves no text.
+/// Returns the text of the worths: the base's total, a line for each good, and the text of each best allocation. This project
+/// defines the text and its form. After `Memory` it returns no text.
 pub fn print_worths(alloc: Global, worths: &Worths) -> Result<Vec<u8>, Memory>
     ensures { IfOk result (λ text. text.items ≡ texts.worth_text (worths_of worths.now.base worths.now.more.items worths.now.less.items)) }
 {

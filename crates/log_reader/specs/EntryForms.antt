@@ -11,7 +11,7 @@ use Rattle.log_reader.specs.HeadForms.{digit_of, read_numbers, number_at}
 abbrev pub auction_columns : List Column
 auction_columns = within 0 27 ∷ within 0 AUCTION_ENTRIES ∷ []
 
--- the number of entries of the line before the entries of a good
+-- the number of entries, from the line before the entries of a good
 unfoldable pub auction_of : ℕ → List ℕ → Option ℕ
 auction_of good line =
     read_numbers (codes "auction") auction_columns line
@@ -64,7 +64,7 @@ read_caller most [] = None
 read_caller most (digit ∷ []) = None
 read_caller most (digit ∷ space ∷ text) = if space == 32 then (digit_of most (digit ∷ []) >>= λ caller. Some (caller, text)) else None
 
--- a text without the space at its end, and without that at its start
+-- a text without the space at its end, and without the space at its start
 abbrev pub before_space : List ℕ → Option (List ℕ)
 before_space text = if slice_index text (length text - 1) == 32 then Some (take (length text - 1) text) else None
 
@@ -78,7 +78,7 @@ sides_of [] = None
 sides_of (call ∷ []) = None
 sides_of (call ∷ part ∷ parts) = before_space call >>= λ left. after_space (join_with_byte 61 (part ∷ parts)) >>= λ right. Some (left, right)
 
--- the caller, the call and the reply of the line of an entry
+-- the caller, the call and the reply, from the line of an entry
 unfoldable pub read_entry : List ℕ → Option (ℕ × Call × Reply)
 read_entry line =
     read_caller clock line >>= λ called.
@@ -92,7 +92,7 @@ read_entry line =
 abbrev pub cash_columns : List Column
 cash_columns = within 0 CASH_ENTRIES ∷ []
 
--- the number of entries of the line before them
+-- the number of entries, from the line before them
 unfoldable pub read_cash_line : List ℕ → Option ℕ
 read_cash_line line = read_numbers (codes "cash") cash_columns line >>= λ numbers. Some (number_at numbers 0)
 
@@ -106,7 +106,7 @@ post_columns = within 0 27 ∷ within 0 LAST_POSITION ∷ replicate 9 net_column
 abbrev pub made_post : ℕ → List ℤ → CashEntry
 made_post caller numbers = record { caller = caller; call = Post (number_at numbers 0) (number_at numbers 1) (record { dollars = drop 2 numbers }); reply = Done }
 
--- the post of a caller and a text
+-- the post by a caller, from a text
 abbrev pub post_of : ℕ → List ℕ → Option CashEntry
 post_of caller text = read_numbers (codes "post") post_columns text >>= λ numbers. Some (made_post caller numbers)
 
@@ -124,7 +124,7 @@ read_reading agent (keyword ∷ sign ∷ []) = None
 read_reading agent (keyword ∷ sign ∷ word ∷ []) = read_of agent keyword sign word
 read_reading agent (keyword ∷ sign ∷ word ∷ other ∷ words) = None
 
--- whether the first word is that of a post
+-- whether the first word is this one, and whether it is that of a post
 abbrev pub first_is : List ℕ → List (List ℕ) → Bool
 first_is keyword [] = false
 first_is keyword (first ∷ words) = bytes_eq first keyword
@@ -132,7 +132,7 @@ first_is keyword (first ∷ words) = bytes_eq first keyword
 abbrev pub starts_post : List ℕ → Bool
 starts_post text = first_is (codes "post") (words_of text)
 
--- the entry of a caller and a text: a post of any caller, or an agent's reading
+-- the entry by a caller, from a text: a post of any caller, or an agent's reading
 abbrev pub cash_entry_by : ℕ → List ℕ → Option CashEntry
 cash_entry_by caller text =
     if starts_post text then post_of caller text

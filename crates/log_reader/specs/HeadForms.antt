@@ -80,12 +80,12 @@ end_of_words (keyword ∷ agent ∷ []) = None
 end_of_words (keyword ∷ agent ∷ word ∷ []) = ended_of keyword agent word
 end_of_words (keyword ∷ agent ∷ word ∷ other ∷ words) = None
 
--- the agent and the cause of the line of a session's end
+-- the agent and the cause, from the line of a session's end
 unfoldable pub read_end : List ℕ → Option (ℕ × Cause)
 read_end line = end_of_words (words_of line)
 
 -- ---- missed ticks
 
--- the number of the line of the ticks that were missed
+-- the number of missed ticks, from their line
 unfoldable pub read_missed : List ℕ → Option ℕ
 read_missed line = read_numbers (codes "missed") (within 0 255 ∷ []) line >>= λ numbers. Some (number_at numbers 0)

@@ -22,7 +22,7 @@ begins_in word (line ∷ lines) = first_is word (words_of line.bytes)
 abbrev pub begins : List ℕ → Remaining → Bool
 begins word left = begins_in word left.lines
 
--- the next line is one too many
+-- refuses the next line, which is one too many
 abbrev pub refused_line : {A : Type 0} → Remaining → Result A BadLine
 refused_line left = due_of left >>= λ line. Err (record { line = line.0.number; reason = TextEnd })
 
@@ -78,8 +78,8 @@ cash_in left = do
 
 -- ---- the sheet
 
--- A certificate that was read from the block after the line of its number. If the block ends too early or too late, the line before
--- it is the bad one.
+-- The certificate in the block after the line of this number. If the block ends too early or too late, that line
+-- is the bad one.
 abbrev pub cert_by : ℕ → Result Tree CertFault → Result Tree BadLine
 cert_by number (Ok tree) = Ok tree
 cert_by number (Err (certs.Line line reason)) =
@@ -92,7 +92,7 @@ abbrev pub block_by : ℕ → Option (List ℕ × Remaining) → Result (Tree ×
 block_by number None = Err (record { line = number; reason = TextEnd })
 block_by number (Some block) = cert_by number (cert_of block.0) >>= λ tree. Ok (tree, block.1)
 
--- the certificate of an agent: its number of lines, and as many lines
+-- the certificate of an agent: its number of lines, and that many lines
 unfoldable pub cert_in : ℕ → Remaining → Result (Tree × Remaining) BadLine
 cert_in agent left = do
   line ← due_of left

@@ -16,7 +16,7 @@ any_column = within 0 4294967295
 abbrev pub score_columns : List Column
 score_columns = within 0 7 ∷ within 0 BEST_TOTAL ∷ amount_column ∷ any_column ∷ amount_column ∷ []
 
--- the best total, the cash, the tickets that are short and the score of the line of an agent
+-- the best total, the cash, the number of tickets short and the score, from the line of an agent
 unfoldable pub read_score : ℕ → List ℕ → Option (ℕ × ℤ × ℕ × ℤ)
 read_score agent line =
     read_numbers (codes "score") score_columns line
@@ -33,17 +33,17 @@ trip_columns = replicate 8 (within 0 255)
 abbrev pub trip_in : List ℤ → Package
 trip_in numbers = packages.Trip (number_at numbers 2) (number_at numbers 3) (number_at numbers 4) (number_at numbers 5 ∷ number_at numbers 6 ∷ number_at numbers 7 ∷ [])
 
--- a trip that is one of the packages
+-- a trip, if it is one of the packages
 abbrev pub checked : Package → Option Package
 checked trip = if is_package trip then Some trip else None
 
--- the trip of the line of an agent's client
+-- the trip from the line of an agent's client
 abbrev pub read_trip : ℕ → ℕ → List ℕ → Option Package
 read_trip agent client line =
     read_numbers (codes "package") trip_columns line
     >>= λ numbers. if (number_at numbers 0 == agent) && (number_at numbers 1 == client) then checked (trip_in numbers) else None
 
--- the package of the line of an agent's client
+-- the package from the line of an agent's client
 unfoldable pub package_of : ℕ → ℕ → List ℕ → Option Package
 package_of agent client line = if bytes_eq line (package_line agent client packages.None) then Some packages.None else read_trip agent client line
 
@@ -52,7 +52,7 @@ package_of agent client line = if bytes_eq line (package_line agent client packa
 abbrev pub count_columns : List Column
 count_columns = within 0 7 ∷ any_column ∷ []
 
--- the number of lines of an agent's certificate, of the line before them
+-- the number of lines of an agent's certificate, from the line before them
 unfoldable pub read_count : ℕ → List ℕ → Option ℕ
 read_count agent line =
     read_numbers (codes "cert") count_columns line

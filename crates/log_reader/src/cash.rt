@@ -1,4 +1,4 @@
-// The cash history.
+// Reads the cash history.
 ghost use Rattle.std.specs.Prelude.{◌≡◌, ◌≤◌, IfOk};
 ghost use Rattle.tac_base.specs.declared.limits.TheConstants.{CASH_ENTRIES};
 ghost use Rattle.log_reader.specs.EntryForms as forms;
@@ -43,7 +43,7 @@ fn cash_entry_at(lines: LogLines<'_>) -> Result<(CashEntry, LogLines<'_>), BadLi
     Ok((entry, left))
 }
 
-/// Reads the line before the entries: how many there are.
+/// Reads the line before the entries, which gives their number.
 fn cash_at(lines: LogLines<'_>) -> Result<(u32, LogLines<'_>), BadLine>
     ensures same { result ≡ reading.line_by forms.read_cash_line lines.entry }
     ensures few { IfOk result (λ x. x.0 ≤ CASH_ENTRIES) }

@@ -1,4 +1,4 @@
-// The certificate of an agent.
+// Reads the certificate of an agent.
 ghost use Rattle.std.specs.Prelude.{◌≡◌, ◌≤◌};
 ghost use Rattle.bound_cert.specs.Reading.{cert_of};
 ghost use Rattle.bound_cert.specs.Views.{tree_of};
@@ -15,7 +15,7 @@ use tac_base::Agent;
 /// The reason of a certificate that ends too early or too late.
 const TEXT_END: u8 = 7;
 
-/// The fault of a log in which the block after the line of its number is no certificate.
+/// The fault of a log in which the block after the line with its length is not a certificate.
 fn fault_at(number: u32, fault: CertFault) -> LogFault
     requires number { number ≤ last_number }
     requires line { IsLowFault fault }
@@ -32,7 +32,7 @@ fn fault_at(number: u32, fault: CertFault) -> LogFault
     }
 }
 
-/// Reads the certificate of a block that follows the line of its number.
+/// Reads the certificate of a block that follows the line with its length.
 fn cert_at(alloc: Global, number: u32, block: &[u8]) -> Result<Cert, LogFault>
     requires { number ≤ last_number }
     ensures { IsLogReading (λ cert. tree_of cert.root) result (or_log_fault (reading.cert_by number (cert_of block.now))) }
@@ -43,7 +43,7 @@ fn cert_at(alloc: Global, number: u32, block: &[u8]) -> Result<Cert, LogFault>
     }
 }
 
-/// Reads the certificate of an agent: its number of lines, and as many lines.
+/// Reads the certificate of an agent: its number of lines, and that many lines.
 pub(crate) fn cert_in(
     alloc: Global,
     agent: Agent,

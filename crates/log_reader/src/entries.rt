@@ -1,4 +1,4 @@
-// The entries of a history.
+// Reads the entries of a history.
 ghost use Rattle.std.specs.Prelude.{◌≡◌, ◌≤◌, IfOk, codes};
 ghost use Rattle.std.specs.List.{AllByRecursion};
 ghost use Rattle.auction_core.specs.Calls.{IsFit};

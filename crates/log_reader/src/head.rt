@@ -1,4 +1,4 @@
-// The lines before the histories.
+// Reads the lines before the histories.
 ghost use Rattle.std.specs.Prelude.{◌≡◌};
 ghost use Rattle.line_protocol.specs.Heads.{head_of};
 ghost use Rattle.log_reader.specs.HeadForms as forms;
@@ -83,7 +83,7 @@ fn end_at(lines: LogLines<'_>) -> Result<((Agent, Cause), LogLines<'_>), BadLine
     Ok((end, left))
 }
 
-/// Reads the line of the ticks that were missed.
+/// Reads the line of the number of missed ticks.
 fn missed_at(lines: LogLines<'_>) -> Result<(u8, LogLines<'_>), BadLine>
     ensures { result ≡ reading.line_by forms.read_missed lines.entry }
 {
@@ -92,7 +92,7 @@ fn missed_at(lines: LogLines<'_>) -> Result<(u8, LogLines<'_>), BadLine>
     Ok((missed, left))
 }
 
-/// Reads what became of each link, why each session ended, and how many ticks were missed.
+/// Reads the verdict on each link, the cause of each session's end, and the number of missed ticks.
 fn served_in(alloc: Global, lines: LogLines<'_>) -> Result<(LogHead, LogLines<'_>), LogFault>
     ensures { IsLogReading (λ x. (head_of x.0, x.1)) result (or_log_fault (reading.served_in lines.entry)) }
 {

@@ -14,7 +14,7 @@ use std::marker::Model;
 use tac_base::{Entry, Good, Memory, Trade};
 use text_forms::BadLine;
 
-/// The history of a good, as a log has it. Contracts see it as its entries with their trades, the oldest entry first.
+/// The history of a good in a log. Contracts see it as its entries with their trades, the oldest entry first.
 #[derive(Debug, Drop)]
 pub struct LogHistory {
     /// The entries, the oldest first: at most 8,256.
@@ -37,7 +37,7 @@ impl Model for LogHistory {
 }
 
 impl LogHistory {
-    /// How many entries the history has.
+    /// The number of entries in the history.
     pub fn len(&self) -> u32
         ensures value { result ≡ length self.now }
         ensures few { result ≤ AUCTION_ENTRIES }
@@ -45,16 +45,16 @@ impl LogHistory {
         self.entries.len() as u32
     }
 
-    /// The entry at a position, None exactly past the end.
+    /// The entry at a position; None exactly past the end.
     pub fn entry(&self, position: u32) -> Option<&Entry>
         ensures shown { IsShown self.now position (option_copied result) }
-        // An auction may be asked the entry's call.
+        // The entry's call meets the requirement of an auction's calls.
         ensures fit { IfSome (option_copied result) (λ entry. IsFit entry.call) }
     {
         entry_at(&self.entries, position)
     }
 
-    /// The trades of the entry at a position, which is there.
+    /// The trades of the entry at a position, which the history must have.
     pub fn trades_of(&self, position: u32) -> &[Trade]
         requires { position < length self.now }
         ensures { slice_get (map (λ e. e.trades) self.now) position ≡ Some result.now }
@@ -67,7 +67,7 @@ impl LogHistory {
         )
     }
 
-    /// No entry.
+    /// A history without entries.
     fn new(alloc: Global) -> LogHistory
         ensures { result ≡ [] }
     {
@@ -87,14 +87,14 @@ impl LogHistory {
     }
 }
 
-/// The entry at a position, None past the end.
+/// The entry at a position; None past the end.
 fn entry_at(entries: &[Entry], position: u32) -> Option<&Entry>
     ensures { option_copied result ≡ slice_get entries.now position }
 {
     entries.get(position as usize)
 }
 
-/// The first trades, this many.
+/// This many trades, from the one numbered `first`.
 fn part_of(trades: &[Trade], first: usize, count: usize) -> &[Trade]
     requires { first + count ≤ length trades.now }
     ensures { result.now ≡ take count (drop first trades.now) }
@@ -102,7 +102,7 @@ fn part_of(trades: &[Trade], first: usize, count: usize) -> &[Trade]
     &trades[first..first + count]
 }
 
-/// Stores an entry after others, and its trades after theirs. After `Memory` nothing was stored.
+/// Stores an entry and its trades after the others. After `Memory` nothing was stored.
 fn store(entries: &mut Vec<Entry>, trades: &mut Vec<Trade>, entry: ReadEntry) -> Result<(), Memory>
     requires { vec_len trades.old < 2 ^ 32 }
     ensures entries { OnOk result (entries.new.items ≡ entries.old.items ++ entry_behind trades.old.items entry.caller entry.call entry.reply entry.trades ∷ []) }
@@ -148,7 +148,7 @@ impl LogPart for Histories {
     }
 }
 
-/// Reads the line before the entries of a good: how many there are.
+/// Reads the line before the entries of a good, which gives their number.
 fn auction_at(good: Good, lines: LogLines<'_>) -> Result<(u32, LogLines<'_>), BadLine>
     ensures same { result ≡ reading.line_by (forms.auction_of good) lines.entry }
     ensures few { IfOk result (λ x. x.0 ≤ AUCTION_ENTRIES) }

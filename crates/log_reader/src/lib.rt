@@ -1,4 +1,4 @@
-//! Logs of games, read from their text.
+//! Reads the log of a game from its text.
 #![tactic(auto)]
 
 mod cash;

@@ -1,4 +1,4 @@
-// The forms of a log's lines, read.
+// Reads the forms of a log's lines.
 mod entries;
 pub(crate) mod heads;
 mod sheets;

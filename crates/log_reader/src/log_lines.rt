@@ -8,7 +8,7 @@ use crate::line_forms::starts;
 use std::marker::Model;
 use text_forms::{BadLine, NumberedLine, Reason, TextLines};
 
-/// The lines that are left of a log's text, whose numbers are no greater than 67,108,865.
+/// The rest of the lines of a log's text. No line number exceeds 67,108,865.
 #[derive(Debug, Drop)]
 pub(crate) struct LogLines<'a> {
     lines: TextLines<'a>,
@@ -26,7 +26,7 @@ impl<'a> Model for LogLines<'a> {
 }
 
 impl<'a> LogLines<'a> {
-    /// All lines of a text.
+    /// Returns all lines of a text.
     pub(crate) fn new(text: &'a [u8]) -> Self
         requires { length text.now ≤ TEXT_BYTES }
         ensures { result ≡ lines.lines_from false 1 (parts_of 10 text.now) }
@@ -36,7 +36,7 @@ impl<'a> LogLines<'a> {
         }
     }
 
-    /// The next line and those after it; a text that ends here ends too early.
+    /// Returns the next line and the lines after it. A text that ends here ends too early.
     pub(crate) fn due(self) -> Result<(NumberedLine<'a>, LogLines<'a>), BadLine>
         ensures value { result ≡ lines.due_of self.entry }
         ensures low { IfOk result (λ x. x.0.number ≤ last_number) }
@@ -45,7 +45,7 @@ impl<'a> LogLines<'a> {
         Ok((line, LogLines { lines }))
     }
 
-    /// The bytes of the next lines, this many, with their line ends, and the lines after them.
+    /// Returns the bytes of this many lines, with their line ends, and the lines after them.
     pub(crate) fn block(self, count: u32) -> Option<(&'a [u8], LogLines<'a>)>
         ensures { MatchOption result (lines.block_of count self.entry ≡ None) (λ found. lines.block_of count self.entry ≡ Some (found.0.now, found.1)) }
     {
@@ -63,7 +63,7 @@ impl<'a> LogLines<'a> {
         }
     }
 
-    /// The same lines, if the next one does not begin with the word; otherwise that line is bad.
+    /// Returns the same lines if the next one does not begin with the word; otherwise that line is bad.
     pub(crate) fn without(self, word: &[u8]) -> Result<LogLines<'a>, BadLine>
         ensures { result ≡ nothing_begins word.now self.entry }
     {
@@ -77,7 +77,7 @@ impl<'a> LogLines<'a> {
         })
     }
 
-    /// The text has to end here, with a line end.
+    /// Requires the text to end here, with a line end.
     pub(crate) fn finish(self) -> Result<(), BadLine>
         ensures { result ≡ lines.nothing_left self.entry }
     {
@@ -85,7 +85,7 @@ impl<'a> LogLines<'a> {
     }
 }
 
-/// What was read of a line, which is bad if it does not have its form.
+/// Returns what was read from a line, which is bad if it does not have its form.
 pub(crate) fn well_formed<T>(line: u32, read: Option<T>) -> Result<T, BadLine>
     ensures { result ≡ lines.at_line line (head.formed read) }
 {
@@ -98,7 +98,7 @@ pub(crate) fn well_formed<T>(line: u32, read: Option<T>) -> Result<T, BadLine>
     }
 }
 
-/// Skips a line that has to be this text.
+/// Skips a line that must be this text.
 pub(crate) fn text_at<'a>(text: &[u8], lines: LogLines<'a>) -> Result<((), LogLines<'a>), BadLine>
     ensures { result ≡ reading.line_by (head.is_text text.now) lines.entry }
 {

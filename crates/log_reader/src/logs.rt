@@ -7,15 +7,15 @@ use std::marker::Model;
 use tac_base::{Agent, Good};
 use trade_ledger::CashEntry;
 
-/// What the log of a game says, in its ranges. Whether the histories are legal, and whether head and scores agree with them, is not tested
-/// here. Contracts see it as a `LoggedGame`.
+/// The contents of a game's log, in their ranges. Reading does not test whether the histories are legal, nor whether head and scores agree
+/// with them. Contracts see a log as a `LoggedGame`.
 #[derive(Debug, Drop)]
 pub struct Log {
     /// How the game was played.
     pub head: LogHead,
     /// The histories of the goods 0..27, in order.
     pub histories: Vec<LogHistory>,
-    /// The cash history, the oldest entry first: at most 238,048 entries. Each post is answered `Done`, and each reading is an agent's own.
+    /// The cash history, the oldest entry first: at most 238,048 entries. Each post's reply is `Done`; each reading is an agent's own.
     pub cash: Vec<CashEntry>,
     /// The scores of the agents 0..7, in order.
     pub scores: Vec<ScoreLine>,

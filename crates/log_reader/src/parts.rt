@@ -1,4 +1,4 @@
-// Parts of a log that come several times.
+// Reads parts of a log that occur several times.
 ghost use Rattle.std.specs.Prelude.{◌≤◌};
 ghost use Rattle.text_forms.specs.Steps as steps;
 ghost use Rattle.log_reader.specs.LogReading as reading;
@@ -8,7 +8,7 @@ use crate::LogFault;
 use crate::log_lines::LogLines;
 use std::alloc::Global;
 
-/// A part of a log that comes several times, numbered from 0.
+/// A part of a log that occurs several times, numbered from 0.
 pub(crate) trait LogPart {
     type Value: Drop;
 
@@ -19,10 +19,10 @@ pub(crate) trait LogPart {
 
     ghost gives: { Self → ℕ → Remaining → Result (Self.Value × Remaining) BadLine };
 
-    /// How many parts there may be.
+    /// The most parts that there may be.
     ghost most: { Self → ℕ };
 
-    /// Reads the part of this number, and gives the lines after it.
+    /// Reads the part of this number, and returns the lines after it.
     fn read<'a>(
         &self,
         alloc: Global,
@@ -33,7 +33,7 @@ pub(crate) trait LogPart {
         ensures { IsLogReading (λ x. x) result (or_log_fault (gives self.now number lines.entry)) };
 }
 
-/// Reads this many parts, one after another, and gives the lines after them.
+/// Reads this many parts in order, and returns the lines after them.
 pub(crate) fn read_all<'a, P: LogPart>(
     alloc: Global,
     part: &P,
@@ -55,7 +55,7 @@ pub(crate) fn read_all<'a, P: LogPart>(
     Ok((values, left))
 }
 
-/// Reads parts as long as the next line begins with a word, and gives the lines after them. If there are too many, the
+/// Reads parts as long as the next line begins with a word, and returns the lines after them. If there are too many, the
 /// first extra one is bad.
 pub(crate) fn read_while<'a, P: LogPart>(
     alloc: Global,

@@ -14,7 +14,7 @@ use crate::{Log, LogFault};
 use std::alloc::Global;
 use tac_base::limits::TEXT_BYTES;
 
-/// The log of a text that is not too long.
+/// Reads a log from a text that is not too long.
 fn log_in(alloc: Global, text: &[u8]) -> Result<Log, LogFault>
     requires { length text.now ≤ TEXT_BYTES }
     ensures { IsLogReading (λ log. log) result (or_log_fault (reading.log_in (lines_from false 1 (parts_of 10 text.now)))) }
@@ -34,12 +34,12 @@ fn log_in(alloc: Global, text: &[u8]) -> Result<Log, LogFault>
     })
 }
 
-/// Reads the text of a log: its first and its second part together, and nothing else. Only forms and ranges are tested.
+/// Reads the text of a log: its first and second parts together, and nothing else. It tests only forms and ranges.
 pub fn read_log(alloc: Global, text: &[u8]) -> Result<Log, LogFault>
-    // Which log it is, or the first bad line, unless memory was refused.
+    // It returns the log or the first bad line, unless a memory allocation failed.
     ensures exact { IsLogReading (λ log. log) result (log_of text.now) }
     ensures too_long { (result ≡ Err LogFault.TooLong) ↔ (TEXT_BYTES < length text.now) }
-    // The text is the one of the log, which is in its ranges.
+    // The text is that of the log, and the log is in its ranges.
     ensures found { IfOk result (λ log. (text.now ≡ logged_text log) × IsLogged log) }
     // The text of each log in its ranges is read as that log.
     ensures only { (log : LoggedGame) → IsLogged log → length text.now ≤ TEXT_BYTES → text.now ≡ logged_text log → log_of text.now ≡ Ok log }

@@ -3,8 +3,8 @@ ghost use Rattle.log_reader.specs.{TEXT_BYTES, parts_of, lines_from, Scored, Hea
 ghost use Rattle.auction_core.specs.ClosedGame.{ClosedGame};
 ghost use Rattle.log_text.specs.{histories_of, log_text, LoggedGame, IsLogged, logged_text};
 
-/// The law of reading logs, as this call's contract: what is read of a text is a log in its ranges, whose text it is; each log in its
-/// ranges is read as itself, if its text is no longer than 67,108,864 bytes; and the log of a game is the text of what it says.
+/// The law of reading logs, as this call's contract: what is read from a text is a log in its ranges, and the text is that log's; each log
+/// in its ranges is read as itself, if its text has at most 67,108,864 bytes; and the log of a game is the text of its contents.
 pub fn one_reading()
     ensures found { (text : List ℕ) (log : LoggedGame) → log_in (lines_from false 1 (parts_of 10 text)) ≡ Ok log → (text ≡ logged_text log) × IsLogged log }
     ensures only { (log : LoggedGame) → IsLogged log → length (logged_text log) ≤ TEXT_BYTES → log_in (lines_from false 1 (parts_of 10 (logged_text log))) ≡ Ok log }

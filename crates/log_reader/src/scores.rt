@@ -16,14 +16,14 @@ use std::marker::Model;
 use tac_base::Agent;
 use text_forms::BadLine;
 
-/// The score of an agent as a log has it, with an allocation and a certificate. What they show is not tested here.
+/// The score of an agent in a log, with an allocation and a certificate. Reading does not test what they show.
 #[derive(Debug, Drop)]
 pub struct ScoreLine {
     /// The best total of its clients, in dollars: 0..14000.
     pub best: u32,
     /// Its cash, in dollars: at most 18 digits.
     pub cash: i64,
-    /// How many tickets it is short.
+    /// The number of tickets that it is short.
     pub short: u32,
     /// Its score, in dollars: at most 18 digits.
     pub score: i64,
@@ -74,7 +74,7 @@ impl LogPart for Scores {
     }
 }
 
-/// Reads the line of the best total, the cash, the tickets that are short and the score of an agent.
+/// Reads the line of an agent's best total, cash, number of tickets short, and score.
 fn score_at(
     agent: Agent,
     lines: LogLines<'_>,

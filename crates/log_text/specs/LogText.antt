@@ -38,7 +38,7 @@ trade_line t = codes "trade" ++ then_number t.buyer ++ then_number t.seller ++ t
 abbrev pub entry_text : Entry → List ℕ
 entry_text e = entry_line e.caller e.call e.reply ++ flat_map trade_line e.trades
 
--- the good and how many entries its history has
+-- the good, and the number of entries of its history
 abbrev pub auction_line : ℕ → ℕ → List ℕ
 auction_line good count = codes "auction" ++ then_number good ++ then_number count ++ codes "\n"
 
@@ -48,7 +48,7 @@ auction_text good history = auction_line good (length history) ++ flat_map entry
 
 -- ---- the cash history
 
--- a post shows the entry of its auction, and what each party gained; a reading shows what was answered
+-- a post shows the good and position of its auction's entry, and what each party gained; a reading shows the dollars
 abbrev pub cash_call_text : CashCall → List ℕ
 cash_call_text (Post good position nets) = codes " post" ++ then_number good ++ then_number position ++ flat_map then_signed nets.dollars
 cash_call_text (Read agent) = codes " read ="
@@ -60,7 +60,7 @@ cash_reply_text (Cash dollars) = then_signed dollars
 abbrev pub cash_entry_line : CashEntry → List ℕ
 cash_entry_line e = decimal e.caller ++ cash_call_text e.call ++ cash_reply_text e.reply ++ codes "\n"
 
--- how many entries the cash history has
+-- the number of entries of the cash history
 abbrev pub cash_line : ℕ → List ℕ
 cash_line count = codes "cash" ++ then_number count ++ codes "\n"
 
@@ -83,7 +83,7 @@ cause_text ReadFault = codes "readfault"
 cause_text WriteFault = codes "writefault"
 cause_text Budget = codes "budget"
 
--- what became of a link, after its place in order of arrival
+-- the verdict on a link, after the link's place in the order of arrival
 abbrev pub link_line : ℕ × Verdict → List ℕ
 link_line link = codes "link" ++ then_number link.0 ++ codes " " ++ verdict_text link.1 ++ codes "\n"
 
@@ -91,11 +91,11 @@ link_line link = codes "link" ++ then_number link.0 ++ codes " " ++ verdict_text
 abbrev pub end_line : ℕ × Cause → List ℕ
 end_line end = codes "end" ++ then_number end.0 ++ codes " " ++ cause_text end.1 ++ codes "\n"
 
--- how many ticks were missed
+-- the number of missed ticks
 abbrev pub missed_line : ℕ → List ℕ
 missed_line missed = codes "missed" ++ then_number missed ++ codes "\n"
 
--- links in order of arrival from place 0, ends, and the ticks that were missed
+-- the links in order of arrival from place 0, the ends of sessions, and the number of missed ticks
 abbrev pub head_text : Head → List ℕ
 head_text Play = codes "play\n"
 head_text (Serve verdicts ends missed) = codes "serve\n" ++ flat_map link_line (enumerate_from 0 verdicts) ++ flat_map end_line ends ++ missed_line missed

@@ -1,4 +1,4 @@
--- What a log says, which values it may have, and its text.
+-- The contents of a log, their ranges, and the text of a log.
 use Rattle.std.specs.Prelude.{◌≡◌, ℕ, ◌+◌, ◌<◌, ◌≤◌, ◌^◌, ⊤, List, [], ◌∷◌, ◌++◌, length, unsigned_abs, All}
 use Rattle.log_text.specs.Prelude.{AGENTS, BEST_TOTAL, CASH_ENTRIES, GOODS, TEXT_BYTES, IsPost, IsCashReading, Entry, IsHistory, CashCall, Post, Read, CashReply, Done, Cash, CashEntry, IsCertificate, tree_lines, Scored, Verdict, Cause, Head, Play, Serve}
 use Rattle.packages.specs.Packages.{IsPackage}
@@ -29,7 +29,7 @@ IsLoggedVerdict verdicts.Lost = ⊤
 abbrev pub IsLoggedEnd : ℕ × Cause → Type 0
 IsLoggedEnd end = end.0 ≤ 7
 
--- at most 255 links, and 255 ticks that were missed; no text has room for more ends
+-- at most 255 links and 255 missed ticks; no text that is read has room for more ends
 pub record IsServedHead (links : List Verdict) (ends : List (ℕ × Cause)) (missed : ℕ) : Type 0 where
   pub few_links : length links ≤ 255
   pub links_are : All IsLoggedVerdict links
@@ -51,7 +51,7 @@ IsLoggedCash caller (Read agent) (Cash dollars) = IsCashReading caller agent dol
 abbrev pub IsLoggedCashEntry : CashEntry → Type 0
 IsLoggedCashEntry e = IsLoggedCash e.caller e.call e.reply
 
--- the score of an agent
+-- a score in its ranges
 pub record IsLoggedScore (scored : Scored) : Type 0 where
   pub best : scored.best ≤ BEST_TOTAL
   pub cash : unsigned_abs scored.cash < 10 ^ 18
@@ -62,7 +62,7 @@ pub record IsLoggedScore (scored : Scored) : Type 0 where
   pub certificate : IsCertificate scored.tree
   pub lines : length (tree_lines scored.tree) ≤ 4294967295
 
--- the histories of goods that are numbered from a number
+-- histories in their ranges, of goods that are numbered from this number
 abbrev pub AreHistories : ℕ → List (List Entry) → Type 0
 AreHistories good [] = ⊤
 AreHistories good (history ∷ histories) = IsHistory good history × AreHistories (good + 1) histories

@@ -20,11 +20,11 @@ logged_history log good = slice_index_or log.histories good []
 abbrev pub clock_calls_in : List Entry → List Call
 clock_calls_in history = map (λ e. e.call) (filter (λ e. e.caller == clock) history)
 
--- the auctions of a log: what the game says of each good, and the good's history
+-- the auctions of a log: the setup that the game gives each good, and the good's history
 abbrev pub auctions_in : GameFile → LoggedGame → List AuctionHistory
 auctions_in game log = map (λ p. record { setup = setup_of p.0 game; history = p.1 }) (enumerate_from 0 log.histories)
 
--- ---- the head of a game that was served
+-- ---- the head of a served game
 
 -- whether a link was given the seat of an agent
 abbrev pub gives_seat : ℕ → Verdict → Bool
@@ -47,7 +47,7 @@ pub record HasNoEntry (log : LoggedGame) (agent : ℕ) : Type 0 where
   pub calls : (good : ℕ) → good < GOODS → list_any (λ e. e.caller == agent) (logged_history log good) ≡ false
   pub cash : list_any (λ e. e.caller == agent) log.cash ≡ false
 
--- At most 64 links were taken, and no seat was given twice. Each seated agent has one end, in rising order, and nobody else has one. At
+-- At most 64 links were taken, and no seat was given twice. Each seated agent has one end, in rising order, and no other agent has one. At
 -- most 54 ticks were missed. An agent without a seat has no entry.
 pub record IsService (log : LoggedGame) (verdicts : List Verdict) (ends : List (ℕ × Cause)) (missed : ℕ) : Type 0 where
   pub few_links : length verdicts ≤ LINKS
@@ -56,16 +56,16 @@ pub record IsService (log : LoggedGame) (verdicts : List Verdict) (ends : List (
   pub few_missed : missed ≤ TICKS
   pub absent : (agent : ℕ) → agent ≤ 7 → seatings verdicts agent ≡ 0 → HasNoEntry log agent
 
--- for a game from a script the head says nothing more
+-- the head of a game from a script has nothing more to meet
 abbrev pub IsSoundHead : LoggedGame → Head → Type 0
 IsSoundHead log Play = ⊤
 IsSoundHead log (Serve verdicts ends missed) = IsService log verdicts ends missed
 
 -- ---- the log
 
--- The history of each good is legal by the game, and the clock's calls in it are those of the game's schedule. The cash history is legal,
--- and it has exactly one post for each entry with a trade. Each agent's score is the one that is due to it, with a best allocation and a
--- certificate for it. And the head agrees with all that.
+-- The history of each good is legal for the game's setup, and the clock's calls in it are those of the game's schedule. The cash history is
+-- legal, and has exactly one post for each entry with a trade. Each agent's score is the one due to it, with a best allocation and a
+-- certificate. The head agrees with the histories.
 pub record IsSound (game : GameFile) (log : LoggedGame) : Type 0 where
   pub legal : (good : ℕ) → good < GOODS → Legal (setup_of good game) (logged_history log good)
   pub scheduled : (good : ℕ) → good < GOODS → clock_calls_in (logged_history log good) ≡ clock_calls game good

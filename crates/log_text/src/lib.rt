@@ -1,4 +1,4 @@
-//! The text of a game's log: its lines, and the laws by which a text belongs to one game.
+//! The text of a game's log: its lines, and the laws that a text belongs to at most one game.
 #![tactic(auto)]
 
 mod law;

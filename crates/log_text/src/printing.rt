@@ -1,4 +1,4 @@
-//! The lines of a log, printed.
+//! Prints the lines of a log.
 mod heads;
 pub(crate) mod lines;
 mod sheets;

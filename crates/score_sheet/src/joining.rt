@@ -1,4 +1,4 @@
-// The scores of all agents, computed concurrently.
+// Computes the scores of all agents concurrently.
 ghost use Rattle.std.specs.Prelude.{◌≡◌, ℕ, ◌<◌, Ok, IfOk, map, vec_len, slice_index_or};
 ghost use Rattle.settlement.specs.Sheets.{IsDueScore, IsSheet};
 
@@ -10,7 +10,7 @@ use std::thread::{Threads, map_indices};
 use tac_base::Memory;
 use tac_base::limits::AGENTS;
 
-/// Scores the eight agents, each in a thread of its own if threads can be made.
+/// Scores the eight agents, each in its own thread if threads can be started.
 fn score_all<R: Threads + Sync>(
     rt: &R,
     alloc: Global,
@@ -31,7 +31,7 @@ fn score_all<R: Threads + Sync>(
     )
 }
 
-/// The scores in order, unless memory was refused for one of them.
+/// Returns the scores in order, unless a memory allocation failed for one of them.
 fn all_found(
     alloc: Global,
     found: Vec<Result<AgentScore, Memory>>,
@@ -45,8 +45,8 @@ fn all_found(
     Ok(scores)
 }
 
-/// Scores all agents by their accounts, each in a thread of its own if threads can be made. The scores and the
-/// certificates are those that one thread finds. After `Memory` nothing is left of them.
+/// Scores all agents from their accounts, each in its own thread if threads can be started. The scores and
+/// certificates are those that a single thread finds. After `Memory` it returns none of them.
 pub fn sheet<R: Threads + Sync>(
     rt: &R,
     alloc: Global,

@@ -1,5 +1,5 @@
-//! The score sheet of a game: the score of each agent, by its accounts and a best allocation of its goods. What a game leaves to
-//! each agent, and what a score is, is given again from `settlement`.
+//! The score sheet of a game: each agent's score, from its account and a best allocation of its goods. The crate re-exports from
+//! `settlement` what a game leaves to each agent, and the definition of a score.
 #![tactic(auto)]
 
 mod joining;

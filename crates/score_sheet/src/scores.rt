@@ -1,4 +1,4 @@
-// The scores of agents.
+// Computes the score of each agent.
 ghost use Rattle.std.specs.Prelude.{◌≡◌, ◌<◌, ◌≤◌, ◌*◌, pos, unsigned_abs, slice_index_or, IfOk};
 ghost use Rattle.tac_base.specs.declared.limits.TheConstants.{HOLDING};
 ghost use Rattle.trade_ledger.specs.CashKeeping.{IsWithin};
@@ -32,7 +32,7 @@ fn cash(accounts: &Accounts, agent: usize) -> i64
     accounts.cash[agent]
 }
 
-/// The score of an agent with this best total and cash that is this many tickets short.
+/// The score of an agent with this best total, this cash, and this many tickets short.
 fn score(best: u32, cash: i64, short: u32) -> i64
     requires cash { IsWithin 1000000000000000 cash }
     requires short { short ≤ GOODS * unsigned_abs HOLDING }
@@ -41,7 +41,7 @@ fn score(best: u32, cash: i64, short: u32) -> i64
     i64::from(best) + cash - 200 * i64::from(short)
 }
 
-/// The score of an agent, 0..7.
+/// Computes the score of an agent, 0..7.
 pub(crate) fn score_agent(
     alloc: Global,
     game: &Game,

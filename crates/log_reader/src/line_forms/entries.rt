@@ -1,4 +1,4 @@
-// How the lines of the histories are read.
+// Reads the lines of the histories.
 ghost use Rattle.std.specs.Prelude.{◌≡◌, ◌≤◌, None, Some, IfSome, MatchOption, length, drop, IsTrue};
 ghost use Rattle.std.specs.List.{list_all};
 ghost use Rattle.log_reader.specs.Prelude.{clock, parts_of, words_of, points_of, judged};
@@ -16,7 +16,7 @@ use tac_base::{Agent, Call, Caller, Good, Nets, Party, Reply, Tick, Trade, read_
 use text_forms::{Column, Digits, Words, cut, read_row};
 use trade_ledger::{CashCall, CashEntry, CashReply};
 
-/// The number of entries of the line before the entries of a good.
+/// Reads the number of entries from the line before the entries of a good.
 #[tactic(auto, unfolding(crate::specs::EntryForms::auction_of))]
 pub(crate) fn auction_of(good: Good, line: &[u8]) -> Option<u32>
     ensures value { result ≡ forms.auction_of good line.now }
@@ -35,7 +35,7 @@ pub(crate) fn auction_of(good: Good, line: &[u8]) -> Option<u32>
     }
 }
 
-/// The trade of a line, in the auction of a good.
+/// Reads the trade of a line, in the auction of a good.
 #[tactic(auto, unfolding(crate::specs::EntryForms::trade_of))]
 pub(crate) fn trade_of(good: Good, line: &[u8]) -> Option<Trade>
     ensures { result ≡ forms.trade_of good line.now }
@@ -62,7 +62,7 @@ pub(crate) fn trade_of(good: Good, line: &[u8]) -> Option<Trade>
     }
 }
 
-/// The bid of a text of points.
+/// Reads a bid from a text of points.
 fn bid_of(text: &[u8]) -> Option<Call>
     ensures { result ≡ forms.bid_by (judged (points_of text.now)) }
 {
@@ -72,7 +72,7 @@ fn bid_of(text: &[u8]) -> Option<Call>
     }
 }
 
-/// The clock's update of a text.
+/// Reads the clock's update from a text.
 fn update_of(text: &[u8]) -> Option<Call>
     ensures { result ≡ forms.read_update text.now }
 {
@@ -92,7 +92,7 @@ fn update_of(text: &[u8]) -> Option<Call>
     }
 }
 
-/// The call of one word.
+/// Reads a call of one word.
 fn word_call(word: &[u8]) -> Option<Call>
     ensures { result ≡ forms.word_call word.now }
 {
@@ -109,7 +109,7 @@ fn word_call(word: &[u8]) -> Option<Call>
     }
 }
 
-/// The call of a text.
+/// Reads the call of a text.
 #[tactic(auto, unfolding(crate::specs::EntryForms::read_call))]
 fn call_of(text: &[u8]) -> Option<Call>
     ensures { result ≡ forms.read_call text.now }
@@ -128,7 +128,7 @@ fn call_of(text: &[u8]) -> Option<Call>
     }
 }
 
-/// A caller of one digit, before a space and a text.
+/// Reads a caller of one digit, which a space and a text follow.
 fn caller_of(line: &[u8]) -> Option<(u8, &[u8])>
     ensures value { MatchOption result (forms.read_caller 8 line.now ≡ None) (λ called. forms.read_caller 8 line.now ≡ Some (called.0, called.1.now)) }
     ensures range { IfSome result (λ called. called.0 ≤ clock) }
@@ -142,7 +142,7 @@ fn caller_of(line: &[u8]) -> Option<(u8, &[u8])>
     }
 }
 
-/// A text without the space at its end.
+/// Returns a text without the space at its end.
 fn before_space(text: &[u8]) -> Option<&[u8]>
     ensures { MatchOption result (forms.before_space text.now ≡ None) (λ front. forms.before_space text.now ≡ Some front.now) }
 {
@@ -154,7 +154,7 @@ fn before_space(text: &[u8]) -> Option<&[u8]>
     }
 }
 
-/// A text without the space at its start.
+/// Returns a text without the space at its start.
 fn after_space(text: &[u8]) -> Option<&[u8]>
     ensures { MatchOption result (forms.after_space text.now ≡ None) (λ rest. forms.after_space text.now ≡ Some rest.now) }
 {
@@ -164,7 +164,7 @@ fn after_space(text: &[u8]) -> Option<&[u8]>
     }
 }
 
-/// The texts on both sides of the first `=`, which has a space on both sides.
+/// Returns the texts before and after the first `=`, which has a space on both sides.
 fn sides_of(text: &[u8]) -> Option<(&[u8], &[u8])>
     ensures { MatchOption result (forms.sides_of (parts_of 61 text.now) ≡ None) (λ sides. forms.sides_of (parts_of 61 text.now) ≡ Some (sides.0.now, sides.1.now)) }
 {
@@ -174,7 +174,7 @@ fn sides_of(text: &[u8]) -> Option<(&[u8], &[u8])>
     Some((left, right))
 }
 
-/// The caller, the call and the reply of the line of an entry.
+/// Reads the caller, the call and the reply from the line of an entry.
 #[tactic(auto, unfolding(crate::specs::EntryForms::read_entry))]
 pub(crate) fn entry_of(line: &[u8]) -> Option<(Caller, Call, Reply)>
     ensures { result ≡ forms.read_entry line.now }
@@ -187,7 +187,7 @@ pub(crate) fn entry_of(line: &[u8]) -> Option<(Caller, Call, Reply)>
     Some((caller, call, reply))
 }
 
-/// The number of entries of the line before those of the cash history.
+/// Reads the number of entries from the line before those of the cash history.
 #[tactic(auto, unfolding(crate::specs::EntryForms::read_cash_line))]
 pub(crate) fn cash_of(line: &[u8]) -> Option<u32>
     ensures value { result ≡ forms.read_cash_line line.now }
@@ -228,7 +228,7 @@ fn nets_of(numbers: &[i64]) -> Nets
     Nets { dollars }
 }
 
-/// What each party gained, of a row's numbers.
+/// What each party gained, from the numbers of a post.
 fn nets_at(numbers: &[i64; 11]) -> Nets
     requires { IsTrue (rows.all_in forms.post_columns numbers.now) }
     ensures { result ≡ record { dollars = drop 2 numbers.now } }
@@ -236,7 +236,7 @@ fn nets_at(numbers: &[i64; 11]) -> Nets
     nets_of(&numbers[2..])
 }
 
-/// The position of a row's numbers.
+/// The position, from the numbers of a post.
 fn position_at(numbers: &[i64; 11]) -> u32
     requires { IsTrue (rows.all_in forms.post_columns numbers.now) }
     ensures { result ≡ head.number_at numbers.now 1 }
@@ -244,7 +244,7 @@ fn position_at(numbers: &[i64; 11]) -> u32
     numbers[1] as u32
 }
 
-/// The post of a caller and a row's numbers.
+/// Makes the post of a caller from the numbers of its line.
 fn made_post(caller: Caller, numbers: &[i64; 11]) -> Option<CashEntry>
     requires { IsTrue (rows.all_in forms.post_columns numbers.now) }
     ensures { result ≡ Some (forms.made_post caller numbers.now) }
@@ -261,7 +261,7 @@ fn made_post(caller: Caller, numbers: &[i64; 11]) -> Option<CashEntry>
     })
 }
 
-/// The post of a caller and a text.
+/// Reads the post of a caller from a text.
 fn post_of(caller: Caller, text: &[u8]) -> Option<CashEntry>
     ensures { result ≡ forms.post_of caller text.now }
 {
@@ -271,7 +271,7 @@ fn post_of(caller: Caller, text: &[u8]) -> Option<CashEntry>
     }
 }
 
-/// The reading of an agent's own cash, of three words.
+/// Makes an agent's reading of its cash from three words.
 fn read_of(agent: Agent, keyword: &[u8], sign: &[u8], word: &[u8]) -> Option<CashEntry>
     ensures { result ≡ forms.read_of agent keyword.now sign.now word.now }
 {
@@ -287,7 +287,7 @@ fn read_of(agent: Agent, keyword: &[u8], sign: &[u8], word: &[u8]) -> Option<Cas
     }
 }
 
-/// The reading of an agent's own cash, of the words of a text.
+/// Reads an agent's reading of its cash from the words of a text.
 fn reading_of(agent: Agent, mut words: Words<'_>) -> Option<CashEntry>
     ensures { result ≡ forms.read_reading agent words.entry }
 {
@@ -300,7 +300,7 @@ fn reading_of(agent: Agent, mut words: Words<'_>) -> Option<CashEntry>
     }
 }
 
-/// The entry of a caller and a text: a post of any caller, or an agent's reading.
+/// Reads the entry of a caller from a text: a post of any caller, or an agent's reading.
 fn cash_entry_by(caller: Caller, text: &[u8]) -> Option<CashEntry>
     ensures { result ≡ forms.cash_entry_by caller text.now }
 {
@@ -324,7 +324,7 @@ pub(crate) fn starts(line: &[u8], word: &[u8]) -> bool
     }
 }
 
-/// The entry of a line of the cash history.
+/// Reads the entry of a line of the cash history.
 #[tactic(auto, unfolding(crate::specs::EntryForms::cash_entry_of))]
 pub(crate) fn cash_entry_of(line: &[u8]) -> Option<CashEntry>
     ensures { result ≡ forms.cash_entry_of line.now }

@@ -1,4 +1,4 @@
-// How the lines of a log's head are read.
+// Reads the lines of a log's head.
 ghost use Rattle.std.specs.Prelude.{◌≡◌, ◌≤◌, IfSome, decimal};
 ghost use Rattle.log_reader.specs.HeadForms as forms;
 
@@ -6,7 +6,7 @@ use line_protocol::{Cause, Verdict};
 use tac_base::{Agent, Text, print_numeral};
 use text_forms::{Column, Words, read_row};
 
-/// One digit, at most this number.
+/// Reads one digit, at most this number.
 pub(crate) fn digit_of(most: u8, word: &[u8]) -> Option<u8>
     requires { most ≤ 9 }
     ensures value { result ≡ forms.digit_of most word.now }
@@ -24,7 +24,7 @@ pub(crate) fn digit_of(most: u8, word: &[u8]) -> Option<u8>
     }
 }
 
-/// An agent of one digit.
+/// Reads an agent of one digit.
 fn agent_of(word: &[u8]) -> Option<Agent>
     ensures { result ≡ forms.digit_of 7 word.now }
 {
@@ -32,7 +32,7 @@ fn agent_of(word: &[u8]) -> Option<Agent>
     Agent::new(number).ok()
 }
 
-/// The verdict of one word.
+/// Reads a verdict of one word.
 fn word_verdict(word: &[u8]) -> Option<Verdict>
     ensures { result ≡ forms.read_refused word.now }
 {
@@ -49,7 +49,7 @@ fn word_verdict(word: &[u8]) -> Option<Verdict>
     }
 }
 
-/// The verdict of a link that took a seat.
+/// Reads the verdict on a link that took a seat.
 fn seated_of(word: &[u8], agent: &[u8]) -> Option<Verdict>
     ensures { result ≡ forms.seated_of word.now agent.now }
 {
@@ -61,7 +61,7 @@ fn seated_of(word: &[u8], agent: &[u8]) -> Option<Verdict>
     }
 }
 
-/// The verdict of the words that are left.
+/// Reads a verdict from the rest of a line's words.
 fn verdict_of(mut words: Words<'_>) -> Option<Verdict>
     ensures { result ≡ forms.read_verdict words.entry }
 {
@@ -84,7 +84,7 @@ fn place_word(place: u8) -> Text
     word
 }
 
-/// The verdict of the line of a link at this place in order of arrival.
+/// Reads the verdict from the line of the link at this place in the order of arrival.
 #[tactic(auto, unfolding(crate::specs::HeadForms::read_link))]
 pub(crate) fn link_of(place: u8, line: &[u8]) -> Option<Verdict>
     ensures { result ≡ forms.read_link place line.now }
@@ -99,7 +99,7 @@ pub(crate) fn link_of(place: u8, line: &[u8]) -> Option<Verdict>
     }
 }
 
-/// The cause of a word.
+/// Reads a cause from a word.
 fn cause_of(word: &[u8]) -> Option<Cause>
     ensures { result ≡ forms.read_cause word.now }
 {
@@ -118,7 +118,7 @@ fn cause_of(word: &[u8]) -> Option<Cause>
     }
 }
 
-/// The agent and the cause of three words.
+/// Makes the agent and the cause of a session's end from three words.
 fn ended_of(keyword: &[u8], agent: &[u8], word: &[u8]) -> Option<(Agent, Cause)>
     ensures { result ≡ forms.ended_of keyword.now agent.now word.now }
 {
@@ -131,7 +131,7 @@ fn ended_of(keyword: &[u8], agent: &[u8], word: &[u8]) -> Option<(Agent, Cause)>
     }
 }
 
-/// The agent and the cause of the line of a session's end.
+/// Reads the agent and the cause from the line of a session's end.
 #[tactic(auto, unfolding(crate::specs::HeadForms::read_end))]
 pub(crate) fn end_of(line: &[u8]) -> Option<(Agent, Cause)>
     ensures { result ≡ forms.read_end line.now }
@@ -146,7 +146,7 @@ pub(crate) fn end_of(line: &[u8]) -> Option<(Agent, Cause)>
     }
 }
 
-/// The number of the line of the ticks that were missed, 0..255.
+/// Reads the number of missed ticks, 0..255, from its line.
 #[tactic(auto, unfolding(crate::specs::HeadForms::read_missed))]
 pub(crate) fn missed_of(line: &[u8]) -> Option<u8>
     ensures { result ≡ forms.read_missed line.now }

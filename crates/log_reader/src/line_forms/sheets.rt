@@ -1,4 +1,4 @@
-// How the lines of a sheet are read.
+// Reads the lines of a sheet.
 ghost use Rattle.std.specs.Prelude.{◌≡◌, IsTrue};
 ghost use Rattle.packages.specs.declared.travel_packages.Package.TheVariants as trips;
 ghost use Rattle.packages.specs.Packages.{are_apart, is_night, is_package};
@@ -11,7 +11,7 @@ use tac_base::Agent;
 use tac_base::limits::BEST_TOTAL;
 use text_forms::{Column, Digits, read_row};
 
-/// Dollars of at most 18 digits, with a sign.
+/// The column of an amount in dollars: a sign and at most 18 digits.
 fn amount_column() -> Column
     ensures { result ≡ forms.amount_column }
 {
@@ -23,7 +23,7 @@ fn amount_column() -> Column
     }
 }
 
-/// The best total, the cash, the tickets that are short and the score of the line of an agent.
+/// Reads the best total, the cash, the tickets short and the score from the line of an agent.
 #[tactic(auto, unfolding(crate::specs::SheetForms::read_score))]
 pub(crate) fn score_of(agent: Agent, line: &[u8]) -> Option<(u32, i64, u32, i64)>
     ensures { result ≡ forms.read_score agent line.now }
@@ -47,7 +47,7 @@ pub(crate) fn score_of(agent: Agent, line: &[u8]) -> Option<(u32, i64, u32, i64)
     }
 }
 
-/// Whether no night is named twice.
+/// Whether no night occurs twice.
 fn are_apart(nights: &[u8; 3]) -> bool
     ensures { result ≡ are_apart nights.now }
 {
@@ -55,7 +55,7 @@ fn are_apart(nights: &[u8; 3]) -> bool
     (first == 0 || !(second == first || third == first)) && (second == 0 || third != second)
 }
 
-/// Whether a night is none, or one of the stay.
+/// Whether a night is none, or a night of the stay.
 fn is_night(arrive: u8, depart: u8, night: u8) -> bool
     ensures { result ≡ is_night arrive depart night }
 {
@@ -89,7 +89,7 @@ fn is_package(chosen: &Package) -> bool
     }
 }
 
-/// A package that is one of the packages.
+/// Returns a package if it is one of the 393.
 fn checked(chosen: Package) -> Option<Package>
     ensures { result ≡ forms.checked chosen }
 {
@@ -100,7 +100,7 @@ fn checked(chosen: Package) -> Option<Package>
     }
 }
 
-/// The trip of the numbers of a row.
+/// Makes a trip from the numbers of a line.
 fn trip_at(numbers: &[i64; 8]) -> Package
     requires { IsTrue (rows.all_in forms.trip_columns numbers.now) }
     ensures { result ≡ forms.trip_in numbers.now }
@@ -113,7 +113,7 @@ fn trip_at(numbers: &[i64; 8]) -> Package
     }
 }
 
-/// The trip of the line of an agent's client.
+/// Reads the trip from the line of an agent's client.
 fn trip_of(agent: Agent, client: u8, line: &[u8]) -> Option<Package>
     ensures { result ≡ forms.read_trip agent client line.now }
 {
@@ -131,7 +131,7 @@ fn trip_of(agent: Agent, client: u8, line: &[u8]) -> Option<Package>
     }
 }
 
-/// The package of the line of an agent's client, 0..7.
+/// Reads the package from the line of an agent's client, 0..7.
 #[tactic(auto, unfolding(crate::specs::SheetForms::package_of))]
 pub(crate) fn package_of(agent: Agent, client: u8, line: &[u8]) -> Option<Package>
     ensures { result ≡ forms.package_of agent client line.now }
@@ -143,7 +143,7 @@ pub(crate) fn package_of(agent: Agent, client: u8, line: &[u8]) -> Option<Packag
     }
 }
 
-/// The number of lines of an agent's certificate, of the line before them.
+/// Reads the number of lines of an agent's certificate, from the line before them.
 #[tactic(auto, unfolding(crate::specs::SheetForms::read_count))]
 pub(crate) fn count_of(agent: Agent, line: &[u8]) -> Option<u32>
     ensures { result ≡ forms.read_count agent line.now }

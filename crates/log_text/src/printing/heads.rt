@@ -1,4 +1,4 @@
-// The lines of the head of a log.
+// Prints the lines of the head of a log.
 ghost use Rattle.std.specs.Prelude.{◌≡◌, ◌+◌, ◌≤◌, ◌++◌, length};
 ghost use Rattle.log_text.specs.LogText as log;
 
@@ -6,7 +6,7 @@ use crate::printing::lines::push_number;
 use line_protocol::{Cause, Verdict};
 use tac_base::{Agent, Text};
 
-/// Appends what became of a link.
+/// Appends the verdict on a link.
 fn push_verdict(verdict: Verdict, out: &mut Text)
     requires { length out.old + 27 ≤ 640 }
     ensures value { out.new ≡ out.old ++ log.verdict_text verdict }
@@ -38,7 +38,7 @@ fn cause_word(cause: Cause) -> &'static [u8]
     }
 }
 
-/// The line of a link at its place in order of arrival, with its line end.
+/// The line of a link, by its place in the order of arrival, with its line end.
 pub fn link_line(place: u64, verdict: Verdict) -> Text
     ensures { result ≡ log.link_line (place, verdict) }
 {
@@ -65,7 +65,7 @@ pub fn end_line(end: &(Agent, Cause)) -> Text
     out
 }
 
-/// The line of the ticks that were missed, with its line end.
+/// The line of the number of missed ticks, with its line end.
 pub fn missed_line(missed: u8) -> Text
     ensures { result ≡ log.missed_line missed }
 {

@@ -1,4 +1,4 @@
-// The lines of a log.
+// Prints the lines of a log's histories.
 ghost use Rattle.std.specs.Prelude.{◌≡◌, ◌+◌, ◌≤◌, ◌++◌, length, decimal, flat_map};
 ghost use Rattle.tac_base.specs.declared.calls.Call.TheVariants.{Bid};
 ghost use Rattle.log_text.specs.LogText as log;
@@ -81,7 +81,7 @@ pub fn entry_line(caller: Caller, call: &Call, reply: &Reply) -> Text
     out
 }
 
-/// The line of a trade, with its line end: buyer, seller, units, and the price of one in dollars.
+/// The line of a trade, with its line end: buyer, seller, units, and the price of a unit in dollars.
 pub fn trade_line(trade: &Trade) -> Text
     ensures { result ≡ log.trade_line trade.now }
 {
@@ -95,7 +95,7 @@ pub fn trade_line(trade: &Trade) -> Text
     out
 }
 
-/// The line before the entries of an auction, with its line end: the good and how many entries follow.
+/// The line before the entries of an auction, with its line end: the good and the number of entries.
 pub fn auction_line(good: Good, count: u32) -> Text
     ensures value { result ≡ log.auction_line good count }
     ensures known { good ≤ 27 }
@@ -140,7 +140,7 @@ fn push_cash_call(call: &CashCall, out: &mut Text)
     }
 }
 
-/// Appends what the cash book answered.
+/// Appends the reply of the cash book.
 fn push_cash_reply(reply: CashReply, out: &mut Text)
     requires { length out.old + 21 ≤ 640 }
     ensures value { out.new ≡ out.old ++ log.cash_reply_text reply }
@@ -152,7 +152,7 @@ fn push_cash_reply(reply: CashReply, out: &mut Text)
     }
 }
 
-/// The line of an entry of the cash history, with its line end; dollars have a sign.
+/// The line of an entry of the cash history, with its line end. Dollars have a sign.
 pub fn cash_entry_line(entry: &CashEntry) -> Text
     ensures { result ≡ log.cash_entry_line entry.now }
 {
@@ -164,7 +164,7 @@ pub fn cash_entry_line(entry: &CashEntry) -> Text
     out
 }
 
-/// The line before the entries of the cash history, with its line end: how many follow.
+/// The line before the entries of the cash history, with its line end: the number of entries.
 pub fn cash_line(count: u32) -> Text
     ensures { result ≡ log.cash_line count }
 {

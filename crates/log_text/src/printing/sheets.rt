@@ -1,4 +1,4 @@
-// The text of a sheet.
+// Prints a sheet.
 ghost use Rattle.std.specs.Prelude.{◌≡◌, ◌++◌, ◌∷◌, [], ◌≤◌, length, OnOk, IfOk};
 ghost use Rattle.log_text.specs.Prelude.{text_of, tree_lines};
 ghost use Rattle.packages.specs.declared.travel_packages.Package.TheVariants as Package;
@@ -36,7 +36,7 @@ fn print_none(agent: u8, client: u8, out: &mut Vec<u8>) -> Result<(), AllocError
     Ok(())
 }
 
-/// The packages of an agent's clients, each in a line of its own.
+/// The packages of an agent's clients, one per line.
 #[derive(Drop)]
 struct AgentPackages {
     agent: u8,
@@ -72,7 +72,7 @@ impl PrintedPart for AgentPackages {
     }
 }
 
-/// Appends the line of an agent's score. After an error the text may end within it. The form of the line is our own.
+/// Appends the line of an agent's score. After an error the text may end within it. This project defines the form.
 pub fn print_score(agent: u8, scored: &AgentScore, out: &mut Vec<u8>) -> Result<(), AllocError>
     ensures { OnOk result (out.new.items ≡ out.old.items ++ (texts.score_line agent scored.now ++ 10 ∷ [])) }
 {
@@ -86,7 +86,7 @@ pub fn print_score(agent: u8, scored: &AgentScore, out: &mut Vec<u8>) -> Result<
     print_row(out, b"score", &numbers)
 }
 
-/// Appends the number of a certificate's lines. After an error the text may end within its line.
+/// Appends the line of the number of a certificate's lines. After an error the text may end within it.
 fn print_count(agent: u8, count: usize, out: &mut Vec<u8>) -> Result<(), AllocError>
     ensures { OnOk result (out.new.items ≡ out.old.items ++ (texts.cert_line agent count ++ 10 ∷ [])) }
 {
@@ -99,7 +99,7 @@ fn print_count(agent: u8, count: usize, out: &mut Vec<u8>) -> Result<(), AllocEr
     Ok(())
 }
 
-/// Appends a certificate after the number of its lines. After an error the text may end within them.
+/// Appends the number of a certificate's lines, and then the lines. After an error the text may end within them.
 fn print_counted(alloc: Global, agent: u8, cert: &Cert, out: &mut Vec<u8>) -> Result<(), AllocError>
     ensures { let lines = tree_lines (tree_of cert.now.root) in
         OnOk result (out.new.items ≡ out.old.items ++ ((texts.cert_line agent (length lines) ++ 10 ∷ []) ++ text_of lines)) }
@@ -130,7 +130,7 @@ impl PrintedPart for AgentSheets {
     }
 }
 
-/// The second part of a log.
+/// Returns the second part of a log.
 pub fn print_sheet(alloc: Global, sheet: &Sheet) -> Result<Vec<u8>, Memory>
     ensures { IfOk result (λ text. text.items ≡ texts.sheet_part sheet.now) }
 {
