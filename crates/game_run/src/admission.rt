@@ -1,4 +1,4 @@
-// Which links are admitted. The rule is our own.
+// Admits links to seats. This project defines the rule.
 ghost use Rattle.std.specs.Prelude.{◌≡◌, ◌<◌, ◌≤◌, ◌+◌, [], ◌∷◌, None, IfOk, OnOk, OnErr, IfSome, length, vec_len, vec_capacity, replicate};
 ghost use Rattle.game_run.specs.{HasCause, count_of, held_of, last_of, link_of, IsAtEnd, known_then, seats_after, MayGoOn, refusal_line, AreTaken, IsOnlySent, IsFirstRead, IsGreeting, IsTakenIn, seat_of};
 
@@ -10,10 +10,10 @@ use tac_base::Agent;
 use tac_base::limits::{AGENTS, LINKS};
 use tac_io::{Failed, LineGot, Lines, Link, Links};
 
-/// How many seats there are: one for each agent.
+/// The number of seats: one for each agent.
 const SEATS: usize = AGENTS as usize;
 
-/// What a link without a seat is sent.
+/// The line that a link without a seat is sent.
 fn refusal(verdict: &Verdict) -> &'static [u8]
     ensures { result.now ≡ refusal_line verdict.now }
 {
@@ -35,7 +35,7 @@ fn seat(verdict: &Verdict) -> Option<Agent>
     }
 }
 
-/// Reads the first line of a link, and says what becomes of it.
+/// Reads the first line of a link, and returns the verdict on it.
 fn first_verdict<L: Link>(gate: &mut Gate, lines: &mut Lines<L>) -> Verdict
     requires unread { (held_of lines.old).unread ≡ [] }
     requires count { count_of lines.old ≡ 0 }
@@ -73,7 +73,7 @@ fn greet<L: Link>(gate: &mut Gate, link: L) -> Greeting<L>
     }
 }
 
-/// Admits or refuses a link, and says whether it has a seat.
+/// Admits or refuses a link, and returns whether it has a seat.
 fn take_in<L: Link + Drop>(gate: &mut Gate, arrivals: &mut Arrivals<L>, link: L) -> bool
     requires verdicts { vec_len arrivals.old.verdicts < vec_capacity arrivals.old.verdicts }
     requires holders { vec_len arrivals.old.holders < vec_capacity arrivals.old.holders }
@@ -98,7 +98,7 @@ fn take_in<L: Link + Drop>(gate: &mut Gate, arrivals: &mut Arrivals<L>, link: L)
     }
 }
 
-/// Listens, and takes links until eight seats are taken, 64 links came or none is left.
+/// Listens, and takes links until eight seats are taken, 64 links were taken, or no link is left.
 pub(crate) fn admit<N: Links>(
     game: &Game,
     port: u16,

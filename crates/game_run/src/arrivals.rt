@@ -1,4 +1,4 @@
-// The links that came, in order, each with its verdict.
+// The links that were taken, in order, each with its verdict.
 use line_protocol::Verdict;
 use tac_base::Agent;
 use tac_io::Lines;
@@ -10,14 +10,14 @@ pub(crate) enum Greeting<L> {
     Unseated(Verdict, L),
 }
 
-/// Who holds a link: the seat of its agent, or admission.
+/// Who holds a link: its agent's seat or, if it has no seat, admission.
 #[derive(Drop)]
 pub(crate) enum Holder<L> {
     Seat(Agent),
     Unseated(L),
 }
 
-/// The links that came, in order.
+/// The links that were taken, in order.
 #[derive(Drop)]
 pub(crate) struct Arrivals<L> {
     pub(crate) verdicts: Vec<Verdict>,

@@ -1,4 +1,4 @@
-//! A game over links: who is admitted, and the sessions concurrent with the clock.
+//! Runs a game over links: it admits agents, and runs their sessions concurrently with the clock.
 #![tactic(auto)]
 
 mod admission;

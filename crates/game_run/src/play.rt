@@ -1,4 +1,4 @@
-// A game is played and closed.
+// Plays a game and closes it.
 ghost use Rattle.std.specs.Prelude.{◌≡◌, [], ℕ, Some, true, IfOk, IfSome, slice_get, vec_len};
 ghost use Rattle.game_run.specs.{IsPlayedThrough};
 ghost use Rattle.game_run.specs.Prelude.{goes_on, last_of, Lines, WaitsForAll};
@@ -21,7 +21,7 @@ use tac_base::limits::AGENTS;
 use tac_base::{Agent, Memory};
 use tac_io::{Lines, Link, Ticker};
 
-/// A floor with its nine desks, and memory for what the sessions leave.
+/// A floor with its nine desks, and memory for the ends of the sessions.
 #[derive(Drop)]
 pub(crate) struct OpenFloor<L> {
     pub(crate) floor: Floor,
@@ -38,7 +38,7 @@ pub(crate) struct Finished<L> {
     pub(crate) missed: u8,
 }
 
-// Reserves memory for what the sessions leave.
+// Reserves memory for the ends of the sessions.
 fn reserve_ends<L: Drop>(alloc: Global) -> Result<SessionEnds<L>, Memory>
     ensures { IfOk result IsReadyForEnds }
 {
@@ -49,7 +49,7 @@ fn reserve_ends<L: Drop>(alloc: Global) -> Result<SessionEnds<L>, Memory>
     })
 }
 
-/// Takes the memory of a game and of what it leaves.
+/// Allocates the memory of a game and of the ends of its sessions.
 pub(crate) fn begin_floor<L: Drop>(alloc: Global, game: &Game) -> Result<OpenFloor<L>, Memory>
     ensures { IfOk result (IsOpenFloor game.now) }
 {
@@ -61,7 +61,7 @@ pub(crate) fn begin_floor<L: Drop>(alloc: Global, game: &Game) -> Result<OpenFlo
     })
 }
 
-/// Plays a game, in which the agents with lines have sessions, and closes it.
+/// Plays a game in which the agents with lines have sessions, and closes it.
 pub(crate) fn play_out<
     R: Threads + Sync + Wait + Clock,
     D: Dialect + Sync,

@@ -1,4 +1,4 @@
-// A game over links.
+// Runs a game over links.
 ghost use Rattle.std.specs.Prelude.{◌≡◌, ◌≤◌, [], None, IfOk, IfErr, IfSome, map, replicate, vec_capacity, vec_len, option_map};
 ghost use Rattle.game_run.specs.{AreFilled, AreLinksOf, IsReadyForArrivals, IsReserved, hosted_game, IsGameEnd, IsRunFault, missed_of};
 ghost use Rattle.game_run.specs.Prelude.{link_of, WaitsForAll, head_of};
@@ -31,13 +31,13 @@ pub struct GameEnd<L> {
 /// Why no game was played.
 #[derive(Drop)]
 pub enum RunFault<L> {
-    /// The links failed. Those that were taken, in the order in which they came.
+    /// The links failed. These were taken, in the order in which they came.
     Links(Vec<L>),
-    /// There was no memory for the game. The links were not touched.
+    /// A memory allocation failed. The links were not touched.
     Memory,
 }
 
-// All memory of a game, reserved before it listens.
+// All memory of a game, reserved before the game listens.
 #[derive(Drop)]
 pub(crate) struct Reserved<L> {
     pub(crate) open_floor: OpenFloor<L>,
@@ -46,7 +46,7 @@ pub(crate) struct Reserved<L> {
     pub(crate) links: Vec<L>,
 }
 
-// No agent has lines.
+// Returns a list in which no agent has lines.
 fn no_lines<L: Drop>(alloc: Global) -> Result<Vec<Option<Lines<L>>>, Memory>
     ensures { IfOk result (λ lines. lines.items ≡ replicate AGENTS None) }
 {
@@ -57,7 +57,7 @@ fn no_lines<L: Drop>(alloc: Global) -> Result<Vec<Option<Lines<L>>>, Memory>
     Ok(lines)
 }
 
-// Reserves memory for the links that come.
+// Reserves memory for the links that will come.
 fn reserve_arrivals<L: Drop>(alloc: Global) -> Result<Arrivals<L>, Memory>
     ensures { IfOk result IsReadyForArrivals }
 {
@@ -85,7 +85,7 @@ fn reserve<L: Drop>(alloc: Global, game: &Game) -> Result<Reserved<L>, Memory>
     })
 }
 
-// The links that were taken, none of which played.
+// Returns the links that were taken, none of which played.
 fn leave<L: Link + Drop>(arrivals: Arrivals<L>, open_floor: OpenFloor<L>, given: Vec<L>) -> Vec<L>
     requires filled { AreFilled arrivals.lines.items arrivals.holders.items }
     requires wide { vec_len arrivals.lines ≡ AGENTS }
@@ -112,10 +112,10 @@ fn leave<L: Link + Drop>(arrivals: Arrivals<L>, open_floor: OpenFloor<L>, given:
     in_order(holders, agent_seats, given)
 }
 
-/// Plays a game over links. First it takes all the memory of the game. Then it listens on the port, takes links and reads a line of
-/// each, until eight agents have a seat, 64 links were taken or none is left. A link without a seat is sent its refusal. The sessions of the
-/// seated links and the clock run concurrently. It waits for peers and for ticks. The forms of lines are those of the dialect; who
-/// gets which seat is our own rule.
+/// Plays a game over links. First it reserves all the memory of the game. Then it listens on the port, takes links and reads a line from
+/// each, until eight agents have a seat, 64 links were taken or none is left. It sends a link without a seat its refusal. The sessions of the
+/// seated links and the clock run concurrently. It waits for peers and for ticks. The dialect gives the forms of lines. This project
+/// defines which link gets which seat.
 pub fn run_game<R: Threads + Sync + Wait + Clock, D: Dialect + Sync, N: Links, T: Ticker + Send>(
     rt: &R,
     alloc: Global,

@@ -1,4 +1,4 @@
-// Each agent's desk, with the lines of its link if it has one.
+// Joins each agent's desk with the lines of its link, if it has one.
 ghost use Rattle.std.specs.Prelude.{◌≡◌, ◌∷◌, ◌++◌, [], ◌≤◌, ◌+◌, map, vec_len};
 ghost use Rattle.game_run.specs.Seatings.{eight_of, four_of, two_of};
 
@@ -7,7 +7,7 @@ use floor::Desk;
 use tac_base::limits::AGENTS;
 use tac_io::Lines;
 
-// The last seat.
+// Takes the last seat.
 fn last_seat<L>(desks: &mut Vec<Desk>, lines: &mut Vec<Option<Lines<L>>>) -> AgentSeat<L>
     requires desks { 1 ≤ vec_len desks.old }
     requires lines { 1 ≤ vec_len lines.old }
@@ -22,7 +22,7 @@ fn last_seat<L>(desks: &mut Vec<Desk>, lines: &mut Vec<Option<Lines<L>>>) -> Age
     }
 }
 
-// The last two seats, in order.
+// Takes the last two seats, in order.
 fn last_two<L>(desks: &mut Vec<Desk>, lines: &mut Vec<Option<Lines<L>>>) -> Two<AgentSeat<L>>
     requires desks { 2 ≤ vec_len desks.old }
     requires lines { 2 ≤ vec_len lines.old }
@@ -36,7 +36,7 @@ fn last_two<L>(desks: &mut Vec<Desk>, lines: &mut Vec<Option<Lines<L>>>) -> Two<
     Two { first, second }
 }
 
-// The last four seats, in order.
+// Takes the last four seats, in order.
 fn last_four<L>(desks: &mut Vec<Desk>, lines: &mut Vec<Option<Lines<L>>>) -> Four<AgentSeat<L>>
     requires desks { 4 ≤ vec_len desks.old }
     requires lines { 4 ≤ vec_len lines.old }
@@ -50,7 +50,7 @@ fn last_four<L>(desks: &mut Vec<Desk>, lines: &mut Vec<Option<Lines<L>>>) -> Fou
     Two { first, second }
 }
 
-/// The seats of the eight agents, in order.
+/// Returns the seats of the eight agents, in order.
 pub(crate) fn agent_seats<L: Drop>(
     mut desks: Vec<Desk>,
     mut lines: Vec<Option<Lines<L>>>,

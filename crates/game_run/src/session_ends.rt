@@ -1,4 +1,4 @@
-// What the sessions left is gathered, and links are put back in the order in which they came.
+// Gathers the ends of the sessions, and puts links back in the order in which they came.
 ghost use Rattle.std.specs.Prelude.{◌≡◌, ◌∷◌, [], ◌<◌, ◌≤◌, map, vec_len, vec_capacity, option_map};
 ghost use Rattle.tac_io.specs.Lines.{link_of};
 ghost use Rattle.game_run.specs.{HasCapacity, IsAgents, TakesCapacity, AreFilled, AreLinksOf, IsFilled, IsLinkOf, agent_seats_after, AreBoth, eight_of, four_of, two_of};
@@ -11,18 +11,18 @@ use line_protocol::Cause;
 use tac_base::Agent;
 use tac_io::{Lines, Link};
 
-/// What the sessions left, in the order of the agents.
+/// The ends of the sessions, in the order of the agents.
 #[derive(Drop)]
 pub(crate) struct SessionEnds<L> {
     pub(crate) desks: Vec<Desk>,
-    /// Why the session of each seated agent ended.
+    /// The cause of the end of each seated agent's session.
     pub(crate) ends: Vec<(Agent, Cause)>,
-    /// The links of the agents that have one.
+    /// The link of each agent, if it has one.
     pub(crate) links: Vec<Option<L>>,
 }
 
 impl<L> SessionEnds<L> {
-    // Adds what an agent's seat left.
+    // Adds an agent's seat after the game.
     fn add(&mut self, played: PlayedSeat<L>)
         requires room { HasCapacity self.old 1 }
         requires agent { IsAgents played }
@@ -63,7 +63,7 @@ impl<L> SessionEnds<L> {
         self.add_two(second);
     }
 
-    /// Adds what the seats of all agents left.
+    /// Adds the seats of all agents after the game.
     pub(crate) fn add_eight(&mut self, eight: Eight<PlayedSeat<L>>)
         requires room { HasCapacity self.old 8 }
         requires agents { AreBoth (AreBoth (AreBoth IsAgents)) eight }
@@ -76,7 +76,7 @@ impl<L> SessionEnds<L> {
     }
 }
 
-// The link of lines, if there are any.
+// Returns the link of the lines, if there are any.
 fn link_in<L: Link>(lines: Option<Lines<L>>) -> Option<L>
     ensures { result ≡ option_map link_of lines }
 {
@@ -86,7 +86,7 @@ fn link_in<L: Link>(lines: Option<Lines<L>>) -> Option<L>
     }
 }
 
-/// The links of the agents, none of which had a session.
+/// Returns the links of the agents, none of which had a session.
 pub(crate) fn without_sessions<L: Link + Drop>(
     seated: Vec<Option<Lines<L>>>,
     mut links: Vec<Option<L>>,
@@ -112,7 +112,7 @@ fn link_at<L>(agent_seats: &mut Vec<Option<L>>, holder: Holder<L>) -> L
     }
 }
 
-/// All links in the order in which they came.
+/// Returns all links in the order in which they came.
 pub(crate) fn in_order<L: Drop>(
     holders: Vec<Holder<L>>,
     mut agent_seats: Vec<Option<L>>,

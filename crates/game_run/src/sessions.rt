@@ -1,4 +1,4 @@
-// The sessions and the clock run concurrently.
+// Runs the sessions and the clock concurrently.
 ghost use Rattle.std.specs.Prelude.{◌≡◌, IsSomeAnd, IfSome, Some, []};
 ghost use Rattle.game_run.specs.{AreBoth, AreEightPlayed, AreEightReady, IsPlayedSeat, IsReadySeat, IsReadyClock};
 ghost use Rattle.game_run.specs.Prelude.{IsSameDesk, floor_ids, schedule, WaitsForAll, MakesCalls};
@@ -39,7 +39,7 @@ pub(crate) type Four<X> = Two<Two<X>>;
 
 pub(crate) type Eight<X> = Two<Four<X>>;
 
-// The session at a seat, if a link has it.
+// Runs the session at a seat, if a link has the seat.
 fn run_seat<R: Wait + Clock, D: Dialect, L: Link>(
     rt: &R,
     floor: &Floor,
@@ -68,7 +68,7 @@ fn run_seat<R: Wait + Clock, D: Dialect, L: Link>(
     }
 }
 
-// Two seats concurrently.
+// Runs two seats concurrently.
 fn run_two<R: Threads + Sync + Wait + Clock, D: Dialect + Sync, L: Link + Send + Drop>(
     rt: &R,
     floor: &Floor,
@@ -88,7 +88,7 @@ fn run_two<R: Threads + Sync + Wait + Clock, D: Dialect + Sync, L: Link + Send +
     Two { first, second }
 }
 
-// Four seats concurrently.
+// Runs four seats concurrently.
 fn run_four<R: Threads + Sync + Wait + Clock, D: Dialect + Sync, L: Link + Send + Drop>(
     rt: &R,
     floor: &Floor,
@@ -112,7 +112,7 @@ fn run_four<R: Threads + Sync + Wait + Clock, D: Dialect + Sync, L: Link + Send 
     Two { first, second }
 }
 
-// Eight seats concurrently.
+// Runs eight seats concurrently.
 fn run_eight<R: Threads + Sync + Wait + Clock, D: Dialect + Sync, L: Link + Send + Drop>(
     rt: &R,
     floor: &Floor,
@@ -150,7 +150,7 @@ fn run_taken<R: Threads + Sync + Wait + Clock, D: Dialect + Sync, L: Link + Send
     run_eight(rt, floor, game, dialect, agent_seats.take().unwrap())
 }
 
-// The clock, whose desk made no call.
+// Runs the clock, whose desk has made no call.
 fn run_ready_clock<R: Wait + Clock, T: Ticker>(
     rt: &R,
     floor: &Floor,
@@ -170,7 +170,7 @@ fn run_ready_clock<R: Wait + Clock, T: Ticker>(
 // Drops a value here, before the end of its scope.
 fn let_go<X: Drop>(_value: X) {}
 
-/// The sessions of all seats and the clock, concurrently.
+/// Runs the sessions of all seats and the clock concurrently.
 pub(crate) fn run_all<
     R: Threads + Sync + Wait + Clock,
     D: Dialect + Sync,

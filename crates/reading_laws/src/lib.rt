@@ -1,4 +1,4 @@
-//! The laws of the readers of whole texts: which line of a text is the first bad one, defined by the texts of each kind.
+//! The laws of the readers of whole texts: they define the first bad line of a text by the texts of its kind.
 #![tactic(auto)]
 
 mod certificates;

@@ -1,4 +1,4 @@
-//! A game that is played from a script.
+//! Plays a game from a script.
 pub(crate) mod call_counts;
 pub(crate) mod counts;
 pub(crate) mod held_line;

@@ -1,4 +1,4 @@
-//! A hotel auction that is run from a script.
+//! Runs a hotel auction from a script.
 mod line_counts;
 pub(crate) mod lines;
 pub(crate) mod run;

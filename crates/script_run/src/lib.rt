@@ -1,4 +1,4 @@
-//! A hotel auction, and a whole game, that is run from a script.
+//! Runs a hotel auction, or a whole game, from a script.
 #![tactic(auto)]
 
 mod fault;

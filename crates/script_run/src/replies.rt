@@ -1,4 +1,4 @@
-// The line of a reply.
+// Prints the line of a reply.
 ghost use Rattle.std.specs.Prelude.{◌≡◌};
 ghost use Rattle.script_run.specs.Replies as replies;
 

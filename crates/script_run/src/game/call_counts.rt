@@ -1,31 +1,31 @@
-// How many calls the agents have made.
+// Counts the calls that the agents have made.
 ghost use Rattle.std.specs.Prelude.{◌≡◌, ℕ, ◌+◌, ◌<◌, ◌≤◌, ◌==◌, ◌&&◌, if◌then◌else◌, slice_index};
 ghost use Rattle.script_run.specs.CallCounts.{count_at};
 ghost use Rattle.tac_base.specs.declared.limits.TheConstants.{AGENT_CALLS};
 
 use tac_base::{Agent, Good};
 
-/// How many calls an agent has made in the auction of each good.
+/// The number of calls that an agent has made in each good's auction.
 #[derive(Clone, Copy)]
 pub(crate) struct GoodCounts {
     calls: [u32; 28],
 }
 
-/// How many calls each agent has made in the auction of each good.
+/// The number of calls that each agent has made in each good's auction.
 #[derive(Drop)]
 pub(crate) struct CallCounts {
     of_agent: [GoodCounts; 8],
 }
 
 impl GoodCounts {
-    /// No call was made.
+    /// Starts with no calls.
     fn new() -> GoodCounts
         ensures { (good : ℕ) → slice_index result.calls good ≡ 0 }
     {
         GoodCounts { calls: [0; 28] }
     }
 
-    /// How many calls were made in the auction of the good.
+    /// The number of calls made in the good's auction.
     fn count(&self, good: Good) -> u32
         ensures { result ≡ slice_index self.now.calls good }
     {
@@ -42,7 +42,7 @@ impl GoodCounts {
 }
 
 impl CallCounts {
-    /// No agent has made a call.
+    /// Starts with no calls of any agent.
     pub(crate) fn new() -> CallCounts
         ensures { (agent good : ℕ) → count_at result agent good ≡ 0 }
     {
@@ -51,7 +51,7 @@ impl CallCounts {
         }
     }
 
-    /// How many calls the agent has made in the auction of the good.
+    /// The number of calls that the agent has made in the good's auction.
     pub(crate) fn count(&self, agent: Agent, good: Good) -> u32
         ensures { result ≡ count_at self.now agent good }
     {

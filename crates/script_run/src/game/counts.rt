@@ -1,4 +1,4 @@
-// How many lines of a game script there were.
+// Counts the lines of a game script.
 ghost use Rattle.std.specs.Prelude.{◌≡◌, ◌≤◌, [], ◌∷◌, List, MatchResult, Ok, Err};
 ghost use Rattle.script_run.specs.GameScripts as scripts;
 ghost use Rattle.script_run.specs.declared.game.lines.GameLine.{GameLine};
@@ -9,7 +9,7 @@ use line_protocol::{Request, RequestFault};
 use tac_base::Agent;
 use tac_base::limits::{SESSION_LINES, TICKS};
 
-/// How many ticks there were, how many lines of each agent, and which agents ended their sessions.
+/// The number of ticks, the number of lines of each agent, and which agents ended their sessions.
 #[derive(Drop)]
 pub(crate) struct GameCounts {
     ticks: u8,
@@ -17,7 +17,7 @@ pub(crate) struct GameCounts {
     has_quit: [bool; 8],
 }
 
-/// Whether the session ends as the agent asks.
+/// Whether an agent requests to end its session.
 fn is_quit(asked: &Result<Request, RequestFault>) -> bool
     ensures { result ≡ scripts.is_quit asked.now }
 {
@@ -37,7 +37,7 @@ impl GameCounts {
         }
     }
 
-    /// What a line asks, which is counted, or the first reason why it is bad.
+    /// Counts a line and returns what it requests, or returns the first reason why it is bad.
     pub(crate) fn judge(&mut self, line: &[u8]) -> Result<GameLine, ScriptReason>
         ensures { (lines : List GameLine) → AreGameCounts lines self.old →
             MatchResult result
@@ -50,7 +50,7 @@ impl GameCounts {
         }
     }
 
-    /// Counts a line if it is allowed here, or gives the reason.
+    /// Counts a line if it is allowed here, or returns the reason why it is not.
     fn admit(&mut self, line: GameLine) -> Result<GameLine, ScriptReason>
         ensures { (lines : List GameLine) → AreGameCounts lines self.old →
             MatchResult result
@@ -63,7 +63,7 @@ impl GameCounts {
         }
     }
 
-    /// Counts a line if it is allowed here, or gives the reason.
+    /// Counts a line if it is allowed here, or returns the reason why it is not.
     fn count(&mut self, line: &GameLine) -> Result<(), ScriptReason>
         ensures { (lines : List GameLine) → AreGameCounts lines self.old →
             MatchResult result

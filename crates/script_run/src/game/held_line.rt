@@ -1,4 +1,4 @@
-// The line of a script that is not at its end yet.
+// Holds the part of a script's line that was read so far.
 ghost use Rattle.std.specs.Prelude.{◌≡◌, ◌+◌, ◌<◌, ◌≤◌, ◌++◌, ℕ, [], List, length, MatchOption};
 ghost use Rattle.tac_base.specs.declared.limits.TheConstants.{LINE_BYTES};
 
@@ -8,7 +8,7 @@ use tac_base::limits::LINE_BYTES;
 /// The most bytes of a line of a game script: an agent, a space and a request.
 const LONGEST_LINE: usize = LINE_BYTES as usize + 2;
 
-/// What has come of a line, or that it is longer than any good one.
+/// The bytes of a line so far, or the fact that it is longer than any good line.
 #[derive(Drop)]
 pub(crate) struct HeldLine {
     text: Text,
@@ -19,7 +19,7 @@ pub(crate) struct HeldLine {
 impl HeldLine {
     ghost use Rattle.script_run.specs.HeldLines.{IsHeld, longest_line};
 
-    /// Nothing has come yet.
+    /// Holds nothing.
     pub(crate) fn new() -> HeldLine
         ensures { IsHeld [] result }
     {
@@ -29,7 +29,7 @@ impl HeldLine {
         }
     }
 
-    /// More of the line has come.
+    /// Adds the next bytes of the line.
     pub(crate) fn join(&mut self, bytes: &[u8])
         ensures { (rest : List ℕ) → IsHeld rest self.old → IsHeld (rest ++ bytes.now) self.new }
     {
@@ -41,7 +41,7 @@ impl HeldLine {
         }
     }
 
-    /// The line, if it is not longer than any good one.
+    /// The line, if it is not longer than any good line.
     pub(crate) fn line(&self) -> Option<&[u8]>
         ensures { (rest : List ℕ) → IsHeld rest self.now → MatchOption result (longest_line < length rest) (λ line. line.now ≡ rest) }
     {
@@ -52,7 +52,7 @@ impl HeldLine {
         }
     }
 
-    /// Nothing has come of the next line.
+    /// Holds nothing, before the next line.
     pub(crate) fn clear(&mut self)
         ensures { IsHeld [] self.new }
     {

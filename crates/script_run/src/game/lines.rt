@@ -1,4 +1,4 @@
-// The lines of a game script.
+// Reads the lines of a game script.
 ghost use Rattle.std.specs.Prelude.{◌≡◌, ◌∷◌, []};
 ghost use Rattle.script_run.specs.GameLines as lines;
 
@@ -8,19 +8,19 @@ use line_protocol::{Request, RequestFault, read_request};
 use tac_base::Agent;
 use tac_base::limits::LINE_BYTES;
 
-/// What a line asks.
+/// What a line requests.
 #[derive(Debug, Drop)]
 pub enum GameLine {
     /// The calls of the next tick.
     Tick,
-    /// What an agent asks, or why that is no request.
+    /// What an agent requests, or why its text is not a request.
     Asks {
         agent: Agent,
         asked: Result<Request, RequestFault>,
     },
 }
 
-/// What an agent asks.
+/// Reads an agent's request.
 fn asks_of(agent: Option<Agent>, request: &[u8]) -> Result<GameLine, ScriptReason>
     ensures { result ≡ lines.asks_of agent request.now }
 {
@@ -36,7 +36,7 @@ fn asks_of(agent: Option<Agent>, request: &[u8]) -> Result<GameLine, ScriptReaso
     })
 }
 
-/// A line of an agent, a space and what it asks.
+/// Reads a line of an agent, a space and a request.
 fn agent_line(line: &[u8]) -> Result<GameLine, ScriptReason>
     ensures { result ≡ lines.request_line line.now }
 {
@@ -46,7 +46,7 @@ fn agent_line(line: &[u8]) -> Result<GameLine, ScriptReason>
     }
 }
 
-/// What a line asks, or the reason why it is bad in itself: its form.
+/// Reads what a line requests, or the reason why it is bad in itself: its form.
 #[tactic(auto, unfolding(crate::specs::GameLines::game_line_of))]
 pub(crate) fn line_of(line: &[u8]) -> Result<GameLine, ScriptReason>
     ensures { result ≡ lines.game_line_of line.now }

@@ -1,4 +1,4 @@
-// A game that is being played.
+// A game in progress.
 ghost use Rattle.std.specs.Prelude.{◌≡◌, ℕ, ◌+◌, ◌<◌, ◌≤◌, [], ◌∷◌, ◌++◌, List, length, map, IfOk, IfSome, MatchOption};
 ghost use Rattle.script_run.specs.{board, Entry, cap, entries_of, part, cash_cap, cash_total, due_post, IsFit, all_goods, setup_of, opening, past_at, entry_at, called, reading_of, closed_of};
 ghost use Rattle.auction_core.specs.Struck.{struck_of};
@@ -12,7 +12,7 @@ use tac_base::{Agent, Board, Call, Caller, Good, Memory, Reply, Tick};
 use trade_ledger::{CashBook, CashCall};
 use turn_lock::Kept;
 
-/// A game with its 28 auctions, its cash book, and how many ticks were made.
+/// A game with its 28 auctions, its cash book, and the number of ticks made.
 #[derive(Drop)]
 pub(crate) struct OpenGame<'a> {
     game: &'a Game,
@@ -31,7 +31,7 @@ impl<'a> Model for OpenGame<'a> {
     ghost invariant = { λ g. IsOpen g.game.now g.auctions.items g.ticks };
 }
 
-/// The good of a number.
+/// Returns the good with this number.
 fn good_of(number: u8) -> Good
     requires { number ≤ 27 }
     ensures { result ≡ number }
@@ -39,7 +39,7 @@ fn good_of(number: u8) -> Good
     Good::new(number).unwrap()
 }
 
-/// The auctions of a game in which nobody has called.
+/// Opens the auctions of a game, before any call.
 fn all_auctions(alloc: Global, game: &Game) -> Result<Vec<Auction>, Memory>
     ensures { IfOk result (λ auctions. auctions.items ≡ map (λ good. record { setup = setup_of good game.now; history = [] }) all_goods) }
 {
@@ -51,7 +51,7 @@ fn all_auctions(alloc: Global, game: &Game) -> Result<Vec<Auction>, Memory>
     Ok(auctions)
 }
 
-/// Posts what an entry gave, if it has trades.
+/// Posts what the trades of an entry gave each party, if it has trades.
 fn post(cash: &mut CashBook, caller: Caller, good: Good, position: u32, struck: &Struck)
     requires { length (part (λ e. e.caller) cash.old caller) < cash_cap caller }
     ensures { (e : Entry) → e.caller ≡ caller → struck.now ≡ struck_of e → cash.new ≡ cash.old ++ due_post good position e }
@@ -70,7 +70,7 @@ fn post(cash: &mut CashBook, caller: Caller, good: Good, position: u32, struck: 
 }
 
 impl<'a> OpenGame<'a> {
-    /// The game before the first call.
+    /// Opens the game, before the first call.
     pub(crate) fn begin(alloc: Global, game: &'a Game) -> Result<OpenGame<'a>, Memory>
         ensures { IfOk result (λ begun. (begun.game ≡ game.now) × (begun.state ≡ opening)) }
     {
@@ -91,7 +91,7 @@ impl<'a> OpenGame<'a> {
         self.game
     }
 
-    /// Makes a call of a caller that has calls left, and its post if it has trades. Answers its position and its reply.
+    /// Makes a call of a caller that has calls left, and its post if it has trades. Returns its position and its reply.
     pub(crate) fn call(&mut self, caller: Caller, good: Good, call: &Call) -> (u32, Reply)
         requires fit { IsFit call.now }
         requires room { entries_of (past_at self.old.state.pasts good) caller < cap caller }
@@ -108,7 +108,7 @@ impl<'a> OpenGame<'a> {
         (position, struck.reply)
     }
 
-    /// Makes a reading of an agent that has readings left. Answers its position and the agent's cash.
+    /// Makes a reading of an agent that has readings left. Returns its position and the agent's cash.
     pub(crate) fn read(&mut self, agent: Agent) -> (u32, i64)
         requires { length (part (λ e. e.caller) self.old.state.cash agent) < cash_cap agent }
         ensures game { self.new.game ≡ self.old.game }
@@ -131,7 +131,7 @@ impl<'a> OpenGame<'a> {
         self.auctions[usize::from(good.get())].board()
     }
 
-    /// How many ticks were made.
+    /// The number of ticks made.
     pub(crate) fn ticks(&self) -> u8
         ensures value { result ≡ self.now.state.ticks }
         ensures few { result ≤ TICKS }
@@ -155,7 +155,7 @@ impl<'a> OpenGame<'a> {
         Tick::new(self.ticks).ok()
     }
 
-    /// The histories, once no more calls are to come.
+    /// Returns the histories, once all calls are made.
     pub(crate) fn close(self) -> Closed
         ensures { result ≡ closed_of self.entry.game self.entry.state }
     {

@@ -1,19 +1,19 @@
-// How much happened in a game.
+// Counts what happened in a game.
 ghost use Rattle.std.specs.Prelude.{◌≡◌, ◌<◌, ◌≤◌, List, length, sum_by, slice_get, Some};
 ghost use Rattle.script_run.specs.Prelude.{all_trades, Entry};
 
 use auction_core::{Auction, Closed};
 
-/// How many entries and trades the 28 histories of a game have.
+/// The number of entries and of trades in the 28 histories of a game.
 #[derive(Clone, Copy, Debug, PartialEq, Eq)]
 pub struct PlayCount {
     /// Entries, including those of refused calls: at most 231,168.
     pub entries: u32,
-    /// Trades, whatever their units.
+    /// Trades, however many units each has.
     pub trades: u32,
 }
 
-/// How many trades the entry at a position has.
+/// The number of trades of the entry at a position.
 fn trades_at(auction: &Auction, position: u32) -> u8
     requires { position < length auction.now.history }
     ensures { (e : Entry) → slice_get auction.now.history position ≡ Some e → result ≡ length e.trades }
@@ -24,7 +24,7 @@ fn trades_at(auction: &Auction, position: u32) -> u8
     }
 }
 
-/// How many trades an auction has.
+/// The number of trades in an auction.
 fn trades_in(auction: &Auction) -> u32
     ensures value { result ≡ length (all_trades auction.now.history) }
     ensures few { result ≤ 2105280 }
@@ -36,7 +36,7 @@ fn trades_in(auction: &Auction) -> u32
     trades
 }
 
-/// How many entries and trades the auctions of a game have.
+/// Counts the entries and trades in the auctions of a game.
 pub(crate) fn counted(closed: &Closed) -> PlayCount
     ensures { result ≡ record { entries = sum_by (λ a. length a.history) closed.now.auctions; trades = sum_by (λ a. length (all_trades a.history)) closed.now.auctions } }
 {

@@ -1,4 +1,4 @@
-// A game that is played from a script.
+// Plays a game from a script.
 ghost use Rattle.std.specs.Prelude.{◌≡◌, ◌≤◌, ℕ, List, length};
 ghost use Rattle.tac_io.specs.Written.{WritesPiece};
 ghost use Rattle.script_run.specs.{PlaysScript, PlaysLines, PlaysToEnd, WritesPlayed, first_text, PlaysQuietly, IsQuietFault, quiet_of};
@@ -17,7 +17,7 @@ use tac_base::limits::TEXT_BYTES;
 use tac_io::{Failed, Sink, write_all};
 use text_forms::cut;
 
-/// A game that was played to its end: what is to be written of the lines, and the histories.
+/// A game played to its end: the text still to be written for its lines, and the histories.
 #[derive(Drop)]
 pub(crate) struct FinishedGame {
     replies: Vec<u8>,
@@ -28,7 +28,7 @@ impl FinishedGame {
     ghost use Rattle.script_run.specs.{HasRunGame};
     ghost use Rattle.script_run.specs.PlayedGames.{IsPlayedToEnd};
 
-    /// The game after its last line, once the ticks that are left are made.
+    /// Ends the game after its last line: makes the remaining ticks and closes it.
     pub(crate) fn end(game: &Game, run: GameRun<'_>) -> FinishedGame
         ensures { (lines : List GameLine) (written : List ℕ) → HasRunGame game.now lines written run.entry → IsPlayedToEnd game.now lines written result }
     {
@@ -38,7 +38,7 @@ impl FinishedGame {
     }
 }
 
-/// The game after all lines of a script.
+/// Plays all lines of a script.
 fn play_lines<'a>(alloc: Global, game: &'a Game, script: &[u8]) -> Result<GameRun<'a>, ScriptFault>
     requires { length script.now ≤ TEXT_BYTES }
     ensures { PlaysLines game.now script.now result }
@@ -86,7 +86,7 @@ fn write_first<K: Sink>(sink: &mut K, played: &FinishedGame) -> Result<(), Faile
     }
 }
 
-/// Writes what is left to write of a game: replies, and its log.
+/// Writes what is still to be written of a game: replies, and its log.
 pub(crate) fn write_played<R: Threads + Sync, K: Sink>(
     rt: &R,
     alloc: Global,
@@ -106,9 +106,9 @@ pub(crate) fn write_played<R: Threads + Sync, K: Sink>(
     }
 }
 
-/// Plays a whole game on one thread by the lines of a script, and writes the replies and then the log. All lines are tested, and
-/// all calls made, before anything is written. After `Failed` the first bytes of the text were written, but not all. After
-/// `Memory` nothing was written, or the replies and the first part of the log. The form of the text is our own.
+/// Plays a whole game on one thread by the lines of a script, and writes the replies and then the log. It tests all lines and
+/// makes all calls before it writes anything. After `Failed` the first bytes of the text were written, but not all. After
+/// `Memory` nothing was written, or the replies and the first part of the log. This project defines the form of the text.
 pub fn play<R: Threads + Sync, K: Sink>(
     rt: &R,
     alloc: Global,
@@ -141,8 +141,8 @@ fn quiet(fault: ScriptFault) -> QuietFault
     }
 }
 
-/// Plays the same game as `play`, and writes nothing. Returns how much happened, and the scores. The faults are those of `play` except
-/// for a failed write.
+/// Plays the same game as `play`, and writes nothing. Returns the number of entries and trades, and the scores. The faults are those of
+/// `play` except a failed write.
 pub fn play_quiet<R: Threads + Sync>(
     rt: &R,
     alloc: Global,

@@ -1,4 +1,4 @@
-// A game that is played line by line.
+// Plays a game line by line.
 ghost use Rattle.std.specs.Prelude.{◌≡◌, ◌+◌, ◌≤◌, ◌++◌, ℕ, [], List, IfOk, IsOk, OnOk, vec_capacity, vec_len};
 ghost use Rattle.game_text.specs.Games.{GameFile};
 ghost use Rattle.script_run.specs.OneThreadRun as run;
@@ -15,7 +15,7 @@ use std::alloc::{AllocError, Global};
 use tac_base::limits::REPLY_TEXT;
 use tac_base::{Agent, Memory, Text, print_numeral};
 
-/// The table, how many lines there were, and the text that is to be written of them.
+/// The table, the number of lines so far, and the text to be written for them.
 #[derive(Drop)]
 pub(crate) struct GameRun<'a> {
     table: Table<'a>,
@@ -35,7 +35,7 @@ fn line_to_agent(agent: Agent, said: &Said) -> Text
     line
 }
 
-/// Plays a line, and appends what is written of it: at most 640 bytes.
+/// Plays a line, and appends the text to be written for it: at most 640 bytes.
 fn play_line(table: &mut Table, text: &mut Vec<u8>, line: &GameLine) -> Result<(), AllocError>
     ensures game { table.new.game ≡ table.old.game }
     ensures state { table.new.state ≡ run.after_line table.old.game line.now table.old.state }
@@ -60,7 +60,7 @@ impl<'a> GameRun<'a> {
     ghost use Rattle.script_run.specs.GameRuns.{HasRunGame, IsGranted, PlaysGameLine};
     ghost use Rattle.script_run.specs.OneThreadRun.{replies};
 
-    /// The game before the first line, with room for so many bytes of text.
+    /// Begins the game, before the first line, with room for this many bytes of text.
     pub(crate) fn begin(alloc: Global, game: &'a Game, room: usize) -> Result<GameRun<'a>, Memory>
         ensures run { IfOk result (HasRunGame game.now [] []) }
         ensures empty { IfOk result (λ run. run.text.items ≡ []) }
@@ -75,7 +75,7 @@ impl<'a> GameRun<'a> {
         })
     }
 
-    /// Plays the line of this number. If there is room for 640 bytes of text, no memory is asked for. After an error no further line may follow.
+    /// Plays the line of this number. If there is room for 640 bytes of text, it requests no memory. After an error no further line may follow.
     pub(crate) fn step(&mut self, number: u32, line: &[u8]) -> Result<(), ScriptFault>
         ensures steps { (game : GameFile) (lines : List GameLine) (written : List ℕ) → HasRunGame game lines written self.old → PlaysGameLine game lines written (record { number = number; bytes = line.now }) self.new result }
         ensures len { vec_len self.new.text ≤ vec_len self.old.text + REPLY_TEXT }
@@ -97,14 +97,14 @@ impl<'a> GameRun<'a> {
         }
     }
 
-    /// What is to be written of the lines, since text was dropped last.
+    /// The text to be written for the lines since the text was last dropped.
     pub(crate) fn text(&self) -> &[u8]
         ensures { result.now ≡ self.now.text.items }
     {
         self.text.as_slice()
     }
 
-    /// Drops the text, once it was written.
+    /// Drops the text once it is written.
     pub(crate) fn drop_text(&mut self)
         ensures run { (game : GameFile) (lines : List GameLine) (written : List ℕ) → HasRunGame game lines written self.old → HasRunGame game lines (replies game lines) self.new }
         ensures empty { self.new.text.items ≡ [] }
@@ -114,7 +114,7 @@ impl<'a> GameRun<'a> {
         self.text.clear();
     }
 
-    /// Makes the ticks that are left. Returns what is to be written of the lines, and the histories.
+    /// Makes the remaining ticks. Returns the text to be written for the lines, and the histories.
     pub(crate) fn close(self) -> (Vec<u8>, Closed)
         ensures text { result.0.items ≡ self.entry.text.items }
         ensures closed { (game : GameFile) (lines : List GameLine) (written : List ℕ) → HasRunGame game lines written self.entry → result.1 ≡ run.closed_of game (run.whole_game game lines) }

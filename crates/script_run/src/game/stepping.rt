@@ -1,4 +1,4 @@
-// A game that is played line by line, as its script is read.
+// Plays a game line by line, while it reads the script.
 ghost use Rattle.std.specs.Prelude.{◌≡◌, ◌+◌, ◌*◌, ◌-◌, ◌^◌, ◌<◌, ◌≤◌, ◌++◌, ◌∷◌, ℕ, [], List, length, take, IsTrue, IfOk, MatchResult, vec_capacity, vec_len};
 ghost use Rattle.script_run.specs.{StepsGame, Answered, HasAnswered, HearsLines, IsStepping, TookMore, stopped_by};
 ghost use Rattle.script_run.specs.Prelude.{REPLY_TEXT, TEXT_BYTES, HasCause, SinkState, IsAtEnd, then_known, GameFile};
@@ -17,13 +17,13 @@ use tac_base::limits::{REPLY_TEXT, TEXT_BYTES};
 use tac_io::{Failed, Files, Sink, write_all};
 use text_forms::cut;
 
-/// The most bytes of a script that are read at once.
+/// The most bytes of a script that one read takes.
 pub const PIECE_BYTES: usize = 1_024;
 
 /// The most bytes of the replies to a piece of a script.
 const ANSWER_BYTES: usize = PIECE_BYTES * REPLY_TEXT;
 
-/// A game that is played line by line: the run, the line that is not at its end yet, and its number.
+/// A game that is played line by line: the run, the part of the current line that was read, and the line's number.
 #[derive(Drop)]
 pub(crate) struct Stepper<'a> {
     run: GameRun<'a>,
@@ -31,7 +31,7 @@ pub(crate) struct Stepper<'a> {
     number: u32,
 }
 
-/// The same fault of a line or of a write, as it is told of a game that is played line by line.
+/// Turns a fault of a line or of a write into the same fault of a game that is played line by line.
 fn step_fault(fault: ScriptFault) -> StepFault
     ensures { result ≡ stopped_by fault }
 {
@@ -44,7 +44,7 @@ fn step_fault(fault: ScriptFault) -> StepFault
 }
 
 impl<'a> Stepper<'a> {
-    /// The game before the first line, with room for the replies to one piece.
+    /// Begins the game, before the first line, with room for the replies to one piece.
     fn begin(alloc: Global, game: &'a Game) -> Result<Stepper<'a>, Memory>
         ensures stepping { IfOk result (IsStepping game.now [] []) }
         ensures empty { IfOk result (λ stepper. stepper.run.text.items ≡ []) }
@@ -59,7 +59,7 @@ impl<'a> Stepper<'a> {
         })
     }
 
-    /// Plays the line whose end has come, or says why it is bad.
+    /// Plays the line whose end was read, or returns why it is bad.
     fn end_line(&mut self) -> Result<(), ScriptFault>
         requires number { self.old.number < 2 ^ 32 - 1 }
         requires room { vec_len self.old.run.text + REPLY_TEXT ≤ vec_capacity self.old.run.text }
@@ -85,7 +85,7 @@ impl<'a> Stepper<'a> {
         }
     }
 
-    /// Plays the lines that end in a piece of the script, up to a bad one, and holds what stands behind the last of them.
+    /// Plays the lines that end in a piece of the script, up to a bad one, and holds the bytes after the last of them.
     fn hear(&mut self, piece: &[u8]) -> Result<(), ScriptFault>
         requires number { self.old.number + length piece.now < 2 ^ 32 }
         requires room { vec_len self.old.run.text + length piece.now * REPLY_TEXT ≤ vec_capacity self.old.run.text }
@@ -104,7 +104,7 @@ impl<'a> Stepper<'a> {
         Ok(())
     }
 
-    /// Writes the replies that were not written yet.
+    /// Writes the replies that are not written yet.
     fn flush<K: Sink>(&mut self, out: &mut K) -> Result<(), Failed>
         ensures writes { WritesPiece self.old.run.text.items (K.state out.old) (K.state out.new) result }
         ensures stepping { (game : GameFile) (given written : List ℕ) → IsStepping game given written self.old → IsStepping game given (written ++ self.old.run.text.items) self.new }
@@ -140,7 +140,7 @@ impl<'a> Stepper<'a> {
         }
     }
 
-    /// The run at the end of the script, or that its last line has no end.
+    /// Returns the run at the end of the script, or the fault of a last line without a line end.
     fn end(self) -> Result<GameRun<'a>, StepFault>
         ensures { (game : GameFile) (given written : List ℕ) (stepping : IsStepping game given written self.entry) → EndsScript game stepping.lines stepping.rest written result }
     {
@@ -154,7 +154,7 @@ impl<'a> Stepper<'a> {
     }
 }
 
-/// How many bytes are read next of a script that gave so many: one more than it may have, if it gave all of these.
+/// The most bytes to read next from a script that gave this many: one, if it gave the most that a script may have.
 fn next_most(given: u32) -> usize
     requires { given ≤ TEXT_BYTES }
     ensures some { 0 < result }
@@ -167,7 +167,7 @@ fn next_most(given: u32) -> usize
     ((TEXT_BYTES - given) as usize).min(PIECE_BYTES)
 }
 
-/// Reads at most so many bytes of the selected file into the piece.
+/// Reads at most this many bytes of the selected file into the piece.
 fn read_piece<F: Files>(files: &mut F, piece: &mut [u8], most: usize) -> Result<usize, Failed>
     requires most { 0 < most }
     requires room { most ≤ length piece.old }
@@ -185,7 +185,7 @@ fn read_piece<F: Files>(files: &mut F, piece: &mut [u8], most: usize) -> Result<
     files.read(&mut piece[..most])
 }
 
-/// Plays the lines of the selected script as they come, and writes the replies to each piece before the next one is read.
+/// Plays the lines of the selected script while it reads them, and writes the replies to each piece before it reads the next one.
 fn hear_lines<'a, F: Files, K: Sink>(
     alloc: Global,
     game: &'a Game,
@@ -217,9 +217,9 @@ fn hear_lines<'a, F: Files, K: Sink>(
     }
 }
 
-/// Plays a whole game on one thread by the lines of the selected file, each as it comes: the replies to all lines that one read gave are written
-/// before the next read. After the last line the ticks that are left are made, and the log is written. The text is that of `play`, and so is the
-/// first bad line, which is told after the replies to the lines before it. Memory is refused before anything is read, or for the last part of the log.
+/// Plays a whole game on one thread by the lines of the selected file while it reads them. Before each read it writes the replies to all lines read.
+/// After the last line it makes the remaining ticks and writes the log. The text, and the first bad line, are those of `play`; the replies to earlier
+/// lines are written before it returns the bad line. It returns `Memory` only before it reads anything, or for the log's last part.
 pub fn step_game<R: Threads + Sync, F: Files, K: Sink>(
     rt: &R,
     alloc: Global,

@@ -16,7 +16,7 @@ use tac_base::{Agent, Call, Caller, Good, Memory, Tick};
 /// The most calls of the clock at a tick.
 const MOST_TICK_CALLS: u8 = 20;
 
-/// A game that is being played, with the counts of what each agent has asked.
+/// A game in progress, with the counts of what each agent has requested.
 #[derive(Drop)]
 pub(crate) struct Table<'a> {
     open: OpenGame<'a>,
@@ -36,7 +36,7 @@ impl<'a> Model for Table<'a> {
 }
 
 impl<'a> Table<'a> {
-    /// The table before the first call.
+    /// Sets the table, before the first call.
     pub(crate) fn begin(alloc: Global, game: &'a Game) -> Result<Table<'a>, Memory>
         ensures { IfOk result (λ table. (table.game ≡ game.now) × (table.state ≡ opening)) }
     {
@@ -48,7 +48,7 @@ impl<'a> Table<'a> {
         })
     }
 
-    /// Makes an agent's call in the auction of a good, if it has calls left there.
+    /// Makes an agent's call in a good's auction, if the agent has calls left there.
     fn call(&mut self, agent: Agent, good: Good, call: &Call) -> Said
         requires { IsFit call.now }
         ensures game { self.new.game ≡ self.old.game }
@@ -62,7 +62,7 @@ impl<'a> Table<'a> {
         Said::At(position, reply)
     }
 
-    /// Makes an agent's reading of its cash, if it has readings left.
+    /// Makes an agent's reading of its cash, if the agent has readings left.
     fn read(&mut self, agent: Agent) -> Said
         ensures game { self.new.game ≡ self.old.game }
         ensures answered { (result, self.new.state) ≡ cash_turn agent self.old.state }
@@ -77,7 +77,7 @@ impl<'a> Table<'a> {
         Said::Cash(position, dollars)
     }
 
-    /// Does what an agent asks, and returns the answer.
+    /// Does what an agent requests, and returns the reply.
     pub(crate) fn answer(&mut self, agent: Agent, asked: &Result<Request, RequestFault>) -> Said
         ensures game { self.new.game ≡ self.old.game }
         ensures answered { (result, self.new.state) ≡ turn self.old.game agent asked.now self.old.state }
@@ -95,7 +95,7 @@ impl<'a> Table<'a> {
         }
     }
 
-    /// Makes the n-th call of the clock at the tick that was begun, if there is one.
+    /// Makes the n-th call of the clock at the tick that has begun, if there is one.
     fn clock_call(&mut self, tick: Tick, n: u8)
         requires tick { tick ≡ self.old.state.ticks }
         requires room { HasClockRoom self.old.game self.old.state (drop n (calls_at self.old.game tick)) }
@@ -115,7 +115,7 @@ impl<'a> Table<'a> {
         }
     }
 
-    /// Makes the calls of the tick that was begun.
+    /// Makes the calls of the tick that has begun.
     fn clock_calls(&mut self, tick: Tick)
         requires tick { tick ≡ self.old.state.ticks }
         requires room { HasClockRoom self.old.game self.old.state (calls_at self.old.game tick) }
@@ -140,7 +140,7 @@ impl<'a> Table<'a> {
         }
     }
 
-    /// Makes the ticks that are left.
+    /// Makes the remaining ticks.
     pub(crate) fn finish(&mut self)
         ensures game { self.new.game ≡ self.old.game }
         ensures state { self.new.state ≡ ticked_often self.old.game (TICKS - self.old.state.ticks) self.old.state }
@@ -150,7 +150,7 @@ impl<'a> Table<'a> {
         }
     }
 
-    /// The histories, once no more calls are to come.
+    /// Returns the histories, once all calls are made.
     pub(crate) fn close(self) -> Closed
         ensures { result ≡ closed_of self.entry.game self.entry.state }
     {

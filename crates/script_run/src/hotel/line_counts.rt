@@ -1,4 +1,4 @@
-// How many lines of a script there were.
+// Counts the lines of a hotel script.
 ghost use Rattle.std.specs.Prelude.{◌≡◌, ◌≤◌, ◌<◌, [], ◌∷◌, List, length, MatchResult, Ok, Err};
 ghost use Rattle.script_run.specs.HotelScripts.{judge_hotel_line};
 ghost use Rattle.script_run.specs.Prelude.{cap, AUCTION_ENTRIES};
@@ -9,7 +9,7 @@ use crate::hotel::lines::{HotelLine, line_of};
 use tac_base::Caller;
 use tac_base::limits::{AGENT_CALLS, AUCTION_ENTRIES, CLOCK_CALLS};
 
-/// How many lines there were, in all and of each caller.
+/// The number of lines, in all and of each caller.
 #[derive(Drop)]
 pub(crate) struct LineCounts {
     all: u32,
@@ -40,7 +40,7 @@ impl LineCounts {
         }
     }
 
-    /// How many lines there were.
+    /// The number of lines.
     pub(crate) fn all(&self) -> u32
         ensures value { (lines : List HotelLine) → AreLineCounts lines self.now → result ≡ length lines }
         ensures few { result ≤ AUCTION_ENTRIES }
@@ -48,7 +48,7 @@ impl LineCounts {
         self.all
     }
 
-    /// What a line asks, which is counted, or the first reason why it is bad.
+    /// Counts a line and returns what it requests, or returns the first reason why it is bad.
     pub(crate) fn judge(&mut self, line: &[u8]) -> Result<HotelLine, ScriptReason>
         ensures { (lines : List HotelLine) → AreLineCounts lines self.old →
             MatchResult result
@@ -61,7 +61,7 @@ impl LineCounts {
         }
     }
 
-    /// Counts a line if there are not too many, or gives the reason.
+    /// Counts a line if it is not one too many, or returns the reason.
     fn admit(&mut self, line: HotelLine) -> Result<HotelLine, ScriptReason>
         ensures { (lines : List HotelLine) → AreLineCounts lines self.old →
             MatchResult result

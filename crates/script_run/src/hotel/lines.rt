@@ -1,4 +1,4 @@
-// The lines of a hotel script.
+// Reads the lines of a hotel script.
 ghost use Rattle.std.specs.Prelude.{◌≡◌, ◌≤◌, [], ◌∷◌, List, Some};
 ghost use Rattle.script_run.specs.Prelude.{points_of, judged, IsFit};
 ghost use Rattle.script_run.specs.HotelLines as lines;
@@ -8,12 +8,12 @@ use bid_strings::read_points;
 use tac_base::{Agent, Call, Caller, Points};
 use text_forms::Words;
 
-/// What a line asks.
+/// What a line requests.
 #[derive(Debug, Drop)]
 pub enum HotelLine {
     /// An agent's bid.
     Bid { agent: Agent, points: Points },
-    /// An agent asks for its own state.
+    /// An agent reads its own state.
     Own { agent: Agent },
     /// The clock publishes the price.
     Publish,
@@ -22,7 +22,7 @@ pub enum HotelLine {
 }
 
 impl HotelLine {
-    /// Who calls.
+    /// The caller of the line.
     pub(crate) fn caller(&self) -> Caller
         ensures { result ≡ (lines.asked self.now).0 }
     {
@@ -34,7 +34,7 @@ impl HotelLine {
         }
     }
 
-    /// What is called.
+    /// The call of the line.
     pub(crate) fn call(&self) -> Call
         ensures value { result ≡ (lines.asked self.now).1 }
         ensures fit { IsFit result }
@@ -48,7 +48,7 @@ impl HotelLine {
     }
 }
 
-// A line of one word.
+// Reads a line of one word.
 fn clock_line(word: &[u8]) -> Result<HotelLine, ScriptReason>
     ensures { result ≡ lines.clock_line word.now }
 {
@@ -80,7 +80,7 @@ pub(crate) fn agent_of_digit(digit: u8) -> Option<Agent>
     }
 }
 
-// The bid of a text of points.
+// Reads a bid from a text of points.
 fn bid_of(agent: Agent, text: &[u8]) -> Result<HotelLine, ScriptReason>
     ensures { result ≡ lines.hotel_bid agent (judged (points_of text.now)) }
 {
@@ -90,7 +90,7 @@ fn bid_of(agent: Agent, text: &[u8]) -> Result<HotelLine, ScriptReason>
     }
 }
 
-// A line of an agent and a word.
+// Reads a line of an agent and a word.
 fn own_line(agent: Option<Agent>, keyword: &[u8]) -> Result<HotelLine, ScriptReason>
     ensures { result ≡ lines.own_line agent keyword.now }
 {
@@ -104,7 +104,7 @@ fn own_line(agent: Option<Agent>, keyword: &[u8]) -> Result<HotelLine, ScriptRea
     }
 }
 
-// A line of an agent, a word and points.
+// Reads a line of an agent, a word and points.
 fn bid_line(agent: Option<Agent>, keyword: &[u8], points: &[u8]) -> Result<HotelLine, ScriptReason>
     ensures { result ≡ lines.hotel_bid_line agent keyword.now points.now }
 {
@@ -118,7 +118,7 @@ fn bid_line(agent: Option<Agent>, keyword: &[u8], points: &[u8]) -> Result<Hotel
     }
 }
 
-/// What a line asks, or the reason why it is bad in itself: its form or its points.
+/// Reads what a line requests, or the reason why it is bad in itself: its form or its points.
 #[tactic(auto, unfolding(crate::specs::HotelLines::hotel_line_of))]
 pub(crate) fn line_of(line: &[u8]) -> Result<HotelLine, ScriptReason>
     ensures { result ≡ lines.hotel_line_of line.now }

@@ -1,4 +1,4 @@
-// A hotel that is run line by line.
+// Runs a hotel line by line.
 ghost use Rattle.std.specs.Prelude.{◌≡◌, ◌++◌, ◌≤◌, ◌<◌, [], List, length, reverse, OnOk, IfOk, flat_map};
 ghost use Rattle.script_run.specs.{asked, hotel_called, hotel_entry_text};
 ghost use Rattle.script_run.specs.Prelude.{cap, entry_of, part, AUCTION_ENTRIES};
@@ -16,7 +16,7 @@ use std::alloc::{AllocError, Global};
 use tac_base::{Good, Memory, Reply, Trade};
 use turn_lock::Kept;
 
-/// The hotel's auction, how many lines were run, and the text that is to be written of them.
+/// The hotel's auction, the number of lines run, and the text to be written for them.
 #[derive(Drop)]
 pub(crate) struct HotelRun {
     auction: Auction,
@@ -76,7 +76,7 @@ fn call(
 impl HotelRun {
     ghost use Rattle.script_run.specs.HotelRuns.{HasRunHotel, RunsHotel, RunsHotelLine};
 
-    /// The hotel before the first line.
+    /// Opens the hotel, before the first line.
     pub(crate) fn new(alloc: Global) -> Result<HotelRun, Memory>
         ensures { IfOk result (HasRunHotel []) }
     {
@@ -87,14 +87,14 @@ impl HotelRun {
         })
     }
 
-    /// What is to be written of the lines that were run.
+    /// The text to be written for the lines run.
     pub(crate) fn text(&self) -> &[u8]
         ensures { result.now ≡ self.now.text.items }
     {
         self.text.as_slice()
     }
 
-    /// How many lines were run.
+    /// The number of lines run.
     pub(crate) fn lines(&self) -> u32
         ensures value { (lines : List HotelLine) → HasRunHotel lines self.now → result ≡ length lines }
         ensures few { result ≤ AUCTION_ENTRIES }

@@ -1,4 +1,4 @@
-// A hotel that is run from a script.
+// Runs a hotel from a script.
 ghost use Rattle.std.specs.Prelude.{◌≡◌, ◌≤◌, length};
 ghost use Rattle.script_run.specs.HotelOuts.{RunsScript, RunsLines, BeginsHotel};
 
@@ -9,7 +9,7 @@ use tac_base::limits::TEXT_BYTES;
 use tac_io::{Sink, write_all};
 use text_forms::cut;
 
-/// The hotel before the first line.
+/// Opens the hotel, before the first line.
 fn begun(alloc: Global) -> Result<HotelRun, ScriptFault>
     ensures { BeginsHotel result }
 {
@@ -19,7 +19,7 @@ fn begun(alloc: Global) -> Result<HotelRun, ScriptFault>
     }
 }
 
-/// The run of all lines of a script.
+/// Runs all lines of a script.
 fn run_lines(alloc: Global, script: &[u8]) -> Result<HotelRun, ScriptFault>
     ensures { RunsLines script.now result }
 {
@@ -40,7 +40,7 @@ fn run_lines(alloc: Global, script: &[u8]) -> Result<HotelRun, ScriptFault>
 }
 
 /// Runs one hotel, the first night of Shoreline Shanties, by the lines of a script, and writes the
-/// replies and trades. All lines are tested before anything is written.
+/// replies and trades. It tests all lines before it writes anything.
 pub fn run_hotel_script<K: Sink>(
     alloc: Global,
     text: &[u8],
