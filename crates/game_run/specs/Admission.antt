@@ -1,14 +1,14 @@
--- How links are admitted, in the order in which they come. The rule is our own.
+-- How links are admitted, in the order in which they come. This project defines the rule.
 use Rattle.std.specs.Prelude.{◌≡◌, ℕ, ◌<◌, ◌⊎◌, List, [], ◌∷◌, Bool, true, false, Option, Some, codes, length, take, replicate, slice_get, count_by, fold}
 use Rattle.game_run.specs.Prelude.{AGENTS, LINKS, LINK_BYTES, GameFile, all_answers, GaveBytes, LastReadFails, LastWriteFails, NoReadFails, NoWriteFails, SendsNothing, LinkState, LinksState, known_then, then_known, IsAtEnd, TakesSome, LineGot, Verdict, Seated, Syntax, WrongWord, Taken, Lost, Seats, verdict_of, seats_after}
 use Rattle.tac_io.specs.declared.line_got.LineGot.TheVariants as gots
 use Rattle.game_run.specs.Hosted.{HostedGame}
 
--- the seats of a game before any link came
+-- the seats of a game before any link comes
 abbrev pub free_seats : GameFile → Seats
 free_seats game = record { words = game.words; taken = replicate AGENTS false }
 
--- the seats after verdicts
+-- the seats after these verdicts
 abbrev pub seats_given : GameFile → List Verdict → Seats
 seats_given game verdicts = fold seats_after (free_seats game) verdicts
 
@@ -18,7 +18,7 @@ is_seated verdict = false
 
 -- ---- one link
 
--- the verdict on what was read first of a link; a line that is too long is no greeting
+-- the verdict on what was read first from a link; a line that is too long is no greeting
 abbrev pub first_verdict : Seats → LineGot → List ℕ → Verdict
 first_verdict seats gots.Line line = verdict_of seats line
 first_verdict seats gots.TooLong line = Syntax
@@ -31,13 +31,13 @@ refusal_line WrongWord = codes "refused wrongword\n"
 refusal_line Taken = codes "refused taken\n"
 refusal_line verdict = []
 
--- the line was sent and no write failed; or a write failed, the last one, and only its first bytes were sent
+-- the line was sent and no write failed; or a write failed, the last one, and at most the line's first bytes were sent
 abbrev pub IsSentOrCut : List ℕ → LinkState → LinkState → Type 0
 IsSentOrCut line before after =
     ((after.sent ≡ known_then before.sent line) × NoWriteFails before after) ⊎ (TakesSome before.sent after.sent line × LastWriteFails before after)
 
--- the bytes that a link gave begin with a line of this verdict, and no read failed; a read may have taken more bytes
--- than that line, which do not count
+-- the bytes that a link gave begin with a line of this verdict, and no read failed; a read may have taken bytes after that
+-- line, which do not count
 pub record HasFirstLine (seats : Seats) (verdict : Verdict) (before after : LinkState) : Type 0 where
   pub bytes : List ℕ
   pub gave : GaveBytes bytes before after
@@ -58,7 +58,7 @@ pub record IsLost (before after : LinkState) : Type 0 where
       ⊎ ((all_answers [] (LINK_BYTES) bytes ≡ (gots.End, []) ∷ []) × LastReadFails before after)
   pub quiet : SendsNothing before after
 
--- what became of a link by its verdict: `Sits` holds of one with a seat, it is lost, or it was refused by its first line
+-- what happened to a link by its verdict: `Sits` holds of one with a seat, it was lost, or it was refused for its first line
 abbrev pub CameTo : (Seats → ℕ → LinkState → LinkState → Type 0) → Seats → Verdict → LinkState → LinkState → Type 0
 CameTo Sits seats (Seated agent) before after = Sits seats agent before after
 CameTo Sits seats Lost before after = IsLost before after
@@ -66,18 +66,18 @@ CameTo Sits seats verdict before after = HasFirstLine seats verdict before after
 
 -- ---- all links
 
--- another link may be taken: fewer came than the limit, and fewer than eight have a seat
+-- another link may be taken: fewer were taken than the limit, and fewer than eight have a seat
 abbrev pub MayGoOn : List Verdict → Type 0
 MayGoOn verdicts = (length verdicts < LINKS) × (count_by is_seated verdicts < AGENTS)
 
--- links were taken as long as another could be, and one was there
+-- links were taken as long as another might be, and one was there
 pub record AreAllTaken {A : Type 0} (verdicts : List Verdict) (pending : Option (List A)) : Type 0 where
   pub no_more : (n : ℕ) → n < length verdicts → MayGoOn (take n verdicts)
   pub no_fewer : MayGoOn verdicts → IsAtEnd pending
 
 module _ {L : Type 0} (state : L → LinkState) where
-  -- The links were asked to listen at the port, and those that were still to be given were taken, the first of them, in order. Each has a
-  -- verdict, and came to what it says: the n-th one by the seats that are left after the first n verdicts.
+  -- The game listened at the port, and took the first of the links that were still to be given, in order. Each has a verdict, and what
+  -- happened to it is what the verdict says: for the n-th one, by the seats after the first n verdicts.
   pub record TakesLinks (hosted : HostedGame) (Sits : Seats → ℕ → LinkState → LinkState → Type 0) (verdicts : List Verdict) (links links' : LinksState L) (ended : List L) : Type 0 where
     pub given : List L
     pub from : links.pending ≡ then_known given links'.pending

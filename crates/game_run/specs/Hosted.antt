@@ -2,7 +2,7 @@
 use Rattle.std.specs.Prelude.{ℕ}
 use Rattle.game_run.specs.Prelude.{GameFile, Dialect}
 
--- the game, the form of its agents' lines, and the port at which its links are asked to listen
+-- the game, the form of its agents' lines, and the port at which it listens
 pub record HostedGame : Type 1 where
   pub game : GameFile
   pub dialect : Dialect

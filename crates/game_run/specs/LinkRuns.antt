@@ -1,4 +1,4 @@
--- What became of a link that has a seat in a game, and in one that was not played.
+-- What happened to a link that has a seat, in a game that was played and in one that was not.
 use Rattle.std.specs.Prelude.{◌≡◌, ℕ, List, [], ◌∷◌, Contains}
 use Rattle.game_run.specs.Prelude.{LINK_BYTES, all_answers, GaveBytes, SendsNothing, LinkState, LineGot, Cause, Seated, Seats, verdict_of, IsServed, IsTranscript, Turn, welcome_text}
 use Rattle.tac_io.specs.declared.line_got.LineGot.TheVariants as gots
@@ -6,8 +6,8 @@ use Rattle.game_run.specs.Admission.{HasFirstLine}
 use Rattle.game_run.specs.Hosted.{HostedGame}
 use Rattle.game_run.specs.PlayedGame.{PlayedGame}
 
--- A link was seated by its first line, and then served as the agent, until its session ended. `bytes` are all that it gave. Its turns are
--- what its later lines ask, and are the agent's part of the histories. No read failed but the last one, if the session ended for a read
+-- A link was seated by its first line, and then served as the agent until its session ended. `bytes` are all that it gave. Its turns are
+-- what its later lines request, and are the agent's part of the histories. No read failed but the last one, if the session ended for a read
 -- fault, and likewise for writes: so none failed before the first line's end was taken.
 pub record IsSeated (hosted : HostedGame) (played : PlayedGame) (seats : Seats) (agent : ℕ) (before after : LinkState) : Type 0 where
   pub cause : Cause

@@ -14,17 +14,17 @@ pub record IsLegalGame (game : GameFile) (closed : ClosedGame) : Type 0 where
   pub cash : IsLegalCash closed.cash
   pub matched : Matched (map (λ auction. auction.history) closed.auctions) closed.cash
 
--- The turns of the clock against the histories: in order they make the calls of the schedule. At each good the clock's part of the history is
--- what its turns made, by position, call and reply. Its part of the cash history is, in the order of the turns, a post for each turn with
--- trades.
+-- The turns of the clock against the histories: in order they make the calls of the schedule. At each good the clock's part of the history
+-- consists of the entries that its turns made, each at its position. Its part of the cash history is, in the order of the turns, a post for
+-- each turn with trades.
 pub record IsClockTranscript (game : GameFile) (closed : ClosedGame) : Type 0 where
   pub turns : List ClockTurn
   pub asked : map (λ turn. (turn.good, turn.entry.call)) turns ≡ schedule game
   pub calls : map (λ auction. part (λ e. e.caller) auction.history clock) closed.auctions ≡ map (λ good. clock_entries good turns) all_goods
   pub cash : part (λ e. e.caller) closed.cash clock ≡ clock_posts turns
 
--- What a game over links came to: the verdict on each link, why the session of each seated agent ended, and the histories. A log's head
--- has the first two, with how many ticks lapsed.
+-- What was played over links: the verdict on each link, the cause of the end of each seated agent's session, and the histories. A log's
+-- head has the first two, and the number of ticks that lapsed.
 pub record PlayedGame : Type 0 where
   pub verdicts : List Verdict
   pub ends : List (ℕ × Cause)

@@ -1,4 +1,4 @@
-// What requests ask of auctions.
+// The calls that requests make.
 ghost use Rattle.std.specs.Prelude.{◌≡◌, ◌↔◌, Some, IsTrue, option_map};
 ghost use Rattle.agent_gate.specs.Turns.{asked_call};
 

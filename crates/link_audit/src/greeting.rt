@@ -1,4 +1,4 @@
-// The first line of a link, and the lines that it was sent first.
+// Compares the first line of a link, and the welcome that it was sent.
 ghost use Rattle.std.specs.Prelude.{◌≡◌, ◌≤◌, ◌↔◌, ◌++◌, ◌∷◌, ℕ, List, length, IsTrue, MatchOption};
 ghost use Rattle.std.specs.List.{list_any};
 ghost use Rattle.link_audit.specs.{gives_seat, welcome_lines, logged_verdicts, whole_lines, TakesSeat, replies_at};
@@ -48,7 +48,7 @@ fn same_bytes(a: &[u8], b: &[u8]) -> bool
     a == b
 }
 
-/// Where the bytes go on behind this line, if it is the next one.
+/// Returns the place after this line, if it is the next line of the bytes.
 fn behind_line(said: &[u8], from: usize, line: &[u8]) -> Option<usize>
     requires { from ≤ length said.now }
     ensures { MatchOption result
@@ -65,7 +65,7 @@ fn behind_line(said: &[u8], from: usize, line: &[u8]) -> Option<usize>
     }
 }
 
-/// Where the bytes go on behind the lines that a seated link is sent first, if they begin with those.
+/// Returns the place after the welcome of a seated link, if the bytes begin with it.
 pub(crate) fn behind_welcome(game: &Game, agent: Agent, said: &[u8]) -> Option<usize>
     ensures { MatchOption result
         ((others : List (List ℕ)) → whole_lines said.now ≡ welcome_lines game.now agent ++ others → ⊥)

@@ -1,4 +1,4 @@
-// The lines of a link whose replies came, and those whose replies did not.
+// Walks over the lines of a link whose replies arrived.
 ghost use Rattle.std.specs.Prelude.{◌≡◌, ◌<◌, ◌≤◌, List, IfOk, length};
 ghost use Rattle.std.specs.Global.{Vec as SeenVec};
 ghost use Rattle.link_audit.specs.Prelude.{Board as SeenBoard, LINK_BYTES};
@@ -15,24 +15,24 @@ use log_reader::Log;
 use tac_base::limits::SESSION_LINES;
 use tac_base::{Agent, Board, Memory};
 
-/// What a walk over the lines whose replies came led to.
+/// The result of a walk over the lines whose replies arrived.
 #[derive(Clone, Copy, Debug)]
 pub(crate) enum Heard {
-    /// Each of so many lines was answered so. The next line begins at this place.
+    /// Each of this many lines got its reply. The next line begins at this place.
     Through {
         places: Places,
         at: usize,
         lines: u32,
     },
-    /// The agent left by the last of so many lines, and the log has nothing more of it.
+    /// The agent left by the last of this many lines, and the log has nothing more of it.
     Gone {
         lines: u32,
     },
-    /// They were not all answered so.
+    /// The log differs from the link.
     Not(Difference),
 }
 
-/// Nothing was walked.
+/// The places before the walk.
 fn start_places() -> Places
     ensures { result ≡ start }
 {
@@ -45,7 +45,7 @@ fn start_places() -> Places
     }
 }
 
-/// The end of a walk by a line by which the agent left.
+/// The result of a walk that ends with the line by which the agent left.
 fn leave(log: &Log, agent: Agent, places: &Places, more: bool, lines: u32) -> Heard
     requires { lines < SESSION_LINES }
     ensures left { (boards : List (SeenVec SeenBoard)) → EndsByLeaving (IsOver (subject_of log.now boards agent) places.now) more result }
@@ -60,7 +60,7 @@ fn leave(log: &Log, agent: Agent, places: &Places, more: bool, lines: u32) -> He
     }
 }
 
-/// Walks over the lines whose replies came.
+/// Walks over the lines whose replies arrived.
 pub(crate) fn hear<D: KnownDialect>(
     log: &Log,
     boards: &[Vec<Board>],

@@ -1,4 +1,4 @@
-// A log is judged by one link.
+// Judges a log by one link.
 ghost use Rattle.std.specs.Prelude.{◌≡◌, ◌<◌, ◌≤◌, ◌-◌, ◌↔◌, if◌then◌else◌, ℕ, [], IfOk, IsTrue, Some, length, slice_get};
 ghost use Rattle.link_audit.specs.{LINK_BYTES, SESSION_LINES, IsSound, HasTruePosts, IsAhead, IsTable, IsWide, subject_of, IsVouched, HasNumbers, IsDifferenceOf, IsJudged, IsWhole, IsWholeLink, IsYes, IsFinished, lines_at};
 ghost use Rattle.link_audit.specs.declared.hearing.Heard.TheVariants.{Through};
@@ -17,7 +17,7 @@ use log_reader::Log;
 use std::alloc::Global;
 use tac_base::{Agent, Board, Memory};
 
-/// The answer for a link of which the log is right and of which no line without a reply is left: whole, if the last byte that was said is a
+/// The result for a link about which the log is right, once no line without a reply is left: whole, if the last byte sent to the agent is a
 /// line end.
 fn vouched(agent: Agent, lines: u32, after: u32, ended: bool) -> Vouching
     ensures { result ≡ (if ended then Vouching.Whole agent lines else Vouching.Cut agent lines after) }
@@ -43,7 +43,7 @@ fn is_ended(bytes: &[u8]) -> bool
     }
 }
 
-/// The answer for a link whose replies were walked over. `ended` says whether the last byte that was said is a line end.
+/// The result for a link after the walk over its replies. `ended` says whether the last byte sent to the agent is a line end.
 fn finish<D: KnownDialect>(
     log: &Log,
     boards: &[Vec<Board>],
@@ -116,7 +116,7 @@ fn judge<D: KnownDialect>(
 }
 
 /// Judges a sound log by the bytes that the far end of one link tried to send and those that it got: whether the calls of its agent are
-/// those that its lines asked, each once and in their order, with the replies that came. After `Memory` nothing was found.
+/// those that its lines requested, each once and in order, with the replies that arrived. After `Memory` it found nothing.
 pub fn vouch<D: KnownDialect>(
     alloc: Global,
     game: &Game,
@@ -127,14 +127,14 @@ pub fn vouch<D: KnownDialect>(
 ) -> Result<Vouching, Memory>
     requires sound { IsSound game.now log.now }
     requires short { length asked.now < LINK_BYTES }
-    // It is a yes exactly if the log is right about the link, as this agent's.
+    // The result is a yes exactly if the log is right about the link, as this agent's.
     ensures yes { IfOk result (λ vouching. (agent : ℕ) → IsYes agent vouching ↔ IsVouched game.now (D.form dialect.now) log.now agent asked.now said.now) }
-    // It is called whole exactly if, besides, nothing of it is left over.
+    // The result is whole exactly if, in addition, nothing of the link is left over.
     ensures whole { IfOk result (λ vouching. (agent : ℕ) → IsWhole agent vouching ↔ IsWholeLink game.now (D.form dialect.now) log.now agent asked.now said.now) }
     // The numbers of a yes are those of its turns.
     ensures numbers { IfOk result (λ vouching. (agent : ℕ) (v : IsVouched game.now (D.form dialect.now) log.now agent asked.now said.now)
         → HasNumbers vouching v.heard v.unheard) }
-    // A difference is the first one.
+    // A difference that it reports is the first one.
     ensures difference { IfOk result (IsDifferenceOf game.now (D.form dialect.now) log.now asked.now said.now) }
 {
     judge(alloc, game, log, dialect, asked, said)

@@ -1,4 +1,4 @@
-// Forms of lines of which it is known what each line asked.
+// Forms of lines that show what each line requested.
 ghost use Rattle.std.specs.Prelude.{◌≡◌, ◌↔◌, Result, IfOk, IsTrue, codes};
 ghost use Rattle.link_audit.specs.{Request as SeenRequest, RequestFault as SeenFault, Said, FitsReply, IsAnswerTo, ReadsBy};
 
@@ -7,9 +7,9 @@ use json_dialect::JsonDialect;
 use line_protocol::{Request, RequestFault};
 use tac_base::Memory;
 
-/// A form of lines in which a line, with its reply if that came, tells what was asked.
+/// A form of lines in which a line, with its reply if that arrived, shows what was requested.
 pub trait KnownDialect: Dialect {
-    /// What a line asked that was answered so, or whose reply did not come. `Memory` is for our own memory.
+    /// Returns what a line requested, given its reply if that arrived. `Memory`: the audit lacked memory.
     fn asks(
         &self,
         line: &[u8],
@@ -35,7 +35,7 @@ impl KnownDialect for LineDialect {
     }
 }
 
-/// Whether a reply is that to a line for which the server had no memory.
+/// Whether this is the reply to a line for which the server had no memory.
 fn is_no_memory(reply: &[u8]) -> bool
     ensures { IsTrue result ↔ (reply.now ≡ codes "{\"no\":\"memory\"}") }
 {

@@ -1,4 +1,4 @@
-// Laws of links and of what their far ends saw.
+// Laws about links and what their far ends saw.
 ghost use Rattle.std.specs.Prelude.{ℕ, List};
 ghost use Rattle.link_audit.specs.{GameFile, Said, IsOneLine, said_text, json_text, LoggedGame, hosted_game, HasLineReplies, HasWelcome, IsLinkOfLog, IsVouched};
 

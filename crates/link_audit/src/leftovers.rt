@@ -1,4 +1,4 @@
-// What a log still has of an agent.
+// Finds what a log still has of an agent.
 ghost use Rattle.std.specs.Prelude.{◌≡◌, ◌↔◌, List, None, IfSome};
 ghost use Rattle.std.specs.Global.{Vec as SeenVec};
 ghost use Rattle.tac_base.specs.declared.calls.Board.{Board};
@@ -13,7 +13,7 @@ use log_reader::Log;
 use tac_base::Agent;
 use tac_base::limits::GOODS;
 
-/// The first entry of the agent from some places on, the lowest good first and the cash history last.
+/// The agent's first entry at or after these places, the lowest good first and the cash history last.
 pub(crate) fn first_left(log: &Log, agent: Agent, places: &Places) -> Option<Difference>
     ensures none { (boards : List (SeenVec Board)) → (result ≡ None) ↔ IsOver (subject_of log.now boards agent) places.now }
     ensures lowest { IfSome result (λ left. (boards : List (SeenVec Board)) → IsLowestLeft (subject_of log.now boards agent) places.now left) }

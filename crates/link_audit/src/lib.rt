@@ -1,4 +1,4 @@
-//! One link, audited from outside: whether a log is right about the bytes that an agent's link asked and was said.
+//! Audits one link from outside: whether a log is right about the bytes that an agent's link asked and was sent.
 #![tactic(auto)]
 
 mod calls;

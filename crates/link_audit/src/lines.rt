@@ -1,8 +1,8 @@
-// The lines of bytes.
+// Finds the lines in bytes.
 ghost use Rattle.std.specs.Prelude.{◌≡◌, ◌+◌, ◌<◌, ◌≤◌, drop, false, length, slice_range, MatchOption};
 ghost use Rattle.tac_io.specs.LineText.{BeginsWithLine, has_end};
 
-/// Where the line that begins at a place ends.
+/// The end of the line that begins at a place.
 pub(crate) fn line_end(bytes: &[u8], from: usize) -> Option<usize>
     requires { from ≤ length bytes.now }
     ensures { MatchOption result (has_end (drop from bytes.now) ≡ false)

@@ -1,4 +1,4 @@
-// The lines of a link whose replies did not come.
+// Walks over the lines of a link whose replies did not arrive.
 ghost use Rattle.std.specs.Prelude.{◌≡◌, ◌+◌, ◌-◌, ◌<◌, ◌≤◌, ◌↔◌, ℕ, [], IfOk, IsTrue, MatchResult, length};
 ghost use Rattle.tac_base.specs.declared.limits.TheConstants.{LINK_BYTES};
 ghost use Rattle.link_audit.specs.{HasTruePosts, IsAhead, IsTable, IsWide, subject_of, FinishesLog, IsKept, IsStop, lines_at};
@@ -35,8 +35,8 @@ fn count_if_moved(count: u32, before: &Places, after: &Places) -> u32
     }
 }
 
-/// Walks on over lines whose replies did not come, until the log has nothing more of the agent, from places that were reached by some
-/// lines. Answers how many of them left a call or a reading in the log, or the lowest entry that none of them left.
+/// Walks over the lines whose replies did not arrive, from the places that the earlier lines reached, until the log has nothing more of the
+/// agent. Returns how many of them left a call or a reading in the log, or the lowest entry that none of them left.
 pub(crate) fn pass<D: KnownDialect>(
     log: &Log,
     boards: &[Vec<Board>],

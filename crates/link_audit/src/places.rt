@@ -1,5 +1,5 @@
-/// How far each history was walked: by good, from which position on it was not looked at, how many calls were made, and how long it is at
-/// least by what was answered; from where on the cash history was not looked at, and how many readings were made.
+/// How far each history was walked. By good: the first position that was not looked at, the number of calls made, and the least length that
+/// the replies show. Of the cash history: the first position that was not looked at, and the number of readings made.
 #[derive(Clone, Copy, Debug, PartialEq, Eq)]
 pub(crate) struct Places {
     pub(crate) next: [u32; 28],

@@ -1,4 +1,4 @@
-// Replies, compared with the lines that came.
+// Compares replies with the lines that arrived.
 ghost use Rattle.std.specs.Prelude.{◌↔◌, IsTrue};
 ghost use Rattle.link_audit.specs.Ahead.{FitsReply};
 
@@ -6,7 +6,7 @@ use agent_gate::Dialect;
 use line_protocol::Said;
 use tac_base::Text;
 
-/// Whether the line of a reply is this one, if the reply came.
+/// Whether the line of a reply is this one, if the reply arrived.
 pub(crate) fn fits<D: Dialect>(dialect: &D, said: &Said, heard: bool, reply: &[u8]) -> bool
     ensures { IsTrue result ↔ FitsReply (D.form dialect.now).text heard reply.now said.now }
 {

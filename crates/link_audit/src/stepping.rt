@@ -1,4 +1,4 @@
-// What a line of a link led to.
+// Finds the step that a line of a link makes in the log.
 ghost use Rattle.std.specs.Prelude.{◌≡◌, if◌then◌else◌, IfOk, Ok};
 ghost use Rattle.link_audit.specs.Prelude.{ended_line, Asks};
 ghost use Rattle.link_audit.specs.Ahead.{FitsReply, HasTruePosts, IsAsked, IsStep, IsTable, subject_of};
@@ -13,18 +13,18 @@ use log_reader::Log;
 use tac_base::limits::LINE_BYTES;
 use tac_base::{Agent, Board, Memory};
 
-/// What a line of a link led to, by the log.
+/// The step that a line of a link makes in the log.
 #[derive(Clone, Copy, Debug, PartialEq, Eq)]
 pub(crate) enum Step {
-    /// A turn, by which the agent stayed.
+    /// A turn after which the agent stays.
     Taken,
     /// The agent left.
     Leaves,
-    /// No turn that the log has.
+    /// The log has no turn for the line.
     Stuck,
 }
 
-/// The step of a line by which the agent stayed, if it has a turn.
+/// The step of a line after which the agent stays, if it has a turn.
 fn step_if(taken: bool) -> Step
     ensures { result ≡ (if taken then Step.Taken else Step.Stuck) }
 {

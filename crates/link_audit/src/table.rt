@@ -11,7 +11,7 @@ use tac_base::limits::GOODS;
 use tac_base::{Board, Good, Memory};
 use turn_lock::Kept;
 
-/// Makes the call of the entry at a position, before which the auction has all entries.
+/// Makes the call of the entry at a position, in an auction with all entries before it.
 fn play_next(auction: &mut Auction, history: &LogHistory, position: u32)
     requires legal { Legal auction.old.setup history.now }
     requires before { auction.old.history ≡ take position history.now }
@@ -19,14 +19,14 @@ fn play_next(auction: &mut Auction, history: &LogHistory, position: u32)
     ensures setup { auction.new.setup ≡ auction.old.setup }
     ensures history { auction.new.history ≡ take (position + 1) history.now }
 {
-    // The callers so far have no more entries than they may have.
+    // No caller has more entries so far than it may have.
     let _entries = auction.len();
     let entry = history.entry(position).unwrap();
     let _caller = entry.caller.get();
     auction.act(entry.caller, &entry.call);
 }
 
-/// The boards of all prefixes of the history of a good. After `Memory` nothing was made.
+/// The boards of all prefixes of the history of a good. After `Memory` it returns none.
 fn row_of(
     alloc: Global,
     game: &Game,
@@ -46,7 +46,7 @@ fn row_of(
     Ok(row)
 }
 
-/// The boards of all prefixes of the histories of a log, by good and count. After `Memory` nothing was made.
+/// The boards of all prefixes of the histories of a log, by good and count. After `Memory` it returns none.
 pub(crate) fn table(alloc: Global, game: &Game, log: &Log) -> Result<Vec<Vec<Board>>, Memory>
     requires { AreLegal game.now log.now }
     ensures boards { IfOk result (λ rows. AreBoards game.now log.now (map (λ row. row.items) rows.items)) }

@@ -1,4 +1,4 @@
-// One line after the other: which turn it was, by what the log has next.
+// Finds the turn of each line in order, by what the log has next.
 ghost use Rattle.std.specs.Prelude.{◌≡◌, ◌<◌, ◌≤◌, ℕ, Ok, Some, false, length, slice_get, IsTrue, MatchOption, option_map};
 ghost use Rattle.link_audit.specs.{IsShown, due_post, Board as SeenBoard, Quote, logged_history, Asks, asked_call, ArePosted, FitsReply, HasTruePosts, IsStuck, IsTable, IsTaken, IsWide, subject_of};
 ghost use Rattle.auction_rules.specs.History.{Entry as HistoryEntry};
@@ -15,7 +15,7 @@ use log_reader::Log;
 use tac_base::limits::{AGENT_CALLS, CASH_READINGS};
 use tac_base::{Agent, Board, Entry, Good};
 
-/// Where the cash history goes on if the post that is due to an entry is the agent's next entry in it.
+/// Returns where the cash history continues, if the post due to an entry is the agent's next entry in it.
 fn post_next(
     log: &Log,
     agent: Agent,
@@ -41,7 +41,7 @@ fn post_next(
     }
 }
 
-/// Takes a request that makes a call of this good.
+/// Takes a request that makes a call at this good.
 pub(crate) fn take_call<D: Dialect>(
     log: &Log,
     boards: &[Vec<Board>],
@@ -132,7 +132,7 @@ fn width(places: &Places) -> usize
     places.next.len()
 }
 
-/// The first count, from one on, of a board that has this line.
+/// The first count, at or after `from`, of a board that has this line.
 fn first_shown<D: Dialect>(
     dialect: &D,
     shown: &[Board],
@@ -154,7 +154,7 @@ fn first_shown<D: Dialect>(
     None
 }
 
-/// Takes a request of a quote: it was answered by the first board, from what was seen on, that has this line.
+/// Takes a request for a quote: the first board that has this line, at or after the count last seen, answered it.
 pub(crate) fn take_quote<D: Dialect>(
     log: &Log,
     boards: &[Vec<Board>],

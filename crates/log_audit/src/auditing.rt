@@ -1,4 +1,4 @@
-// The audit of a log, by kinds of flaws.
+// Audits a log, kind of flaw by kind.
 ghost use Rattle.std.specs.Prelude.{◌≡◌, ◌↔◌, IfOk};
 ghost use Rattle.log_audit.specs.{GameFile, settlement_of, IsLogged, IsSound, auctions_in, IsFound, IsFirstFrom, AreNets};
 
@@ -16,7 +16,7 @@ use settlement::{Accounts, settle_auctions};
 use std::alloc::Global;
 use tac_base::{Memory, Nets};
 
-/// The first flaw of the clock's calls.
+/// The first flaw in the clock's calls.
 fn clock_flaw(alloc: Global, game: &Game, log: &Log) -> Result<Option<Flaw>, Memory>
     ensures { IfOk result (IsFirstFrom game.now log.now 1 2) }
 {
@@ -27,7 +27,7 @@ fn clock_flaw(alloc: Global, game: &Game, log: &Log) -> Result<Option<Flaw>, Mem
     }
 }
 
-/// The first flaw of the readings.
+/// The first flaw in the readings.
 fn cash_flaw(log: &Log) -> Option<Flaw>
     ensures { (game : GameFile) → IsFirstFrom game log.now 2 3 result }
 {
@@ -37,7 +37,7 @@ fn cash_flaw(log: &Log) -> Option<Flaw>
     }
 }
 
-/// The first flaw of the posts, and of the entries that should have one.
+/// The first flaw in the posts, or in the entries that should have one.
 fn post_flaw(alloc: Global, log: &Log, earned: &[Vec<Nets>]) -> Result<Option<Flaw>, Memory>
     requires { AreNets log.now earned.now }
     ensures { IfOk result (λ flaw. (game : GameFile) → IsFirstFrom game log.now 3 5 flaw) }
@@ -52,7 +52,7 @@ fn post_flaw(alloc: Global, log: &Log, earned: &[Vec<Nets>]) -> Result<Option<Fl
     }
 }
 
-/// The first flaw of the scores, and of the head.
+/// The first flaw in the scores, or in the head.
 fn last_flaw(game: &Game, log: &Log, accounts: &Accounts) -> Option<Flaw>
     requires logged { IsLogged log.now }
     requires accounts { accounts.now ≡ settlement_of (auctions_in game.now log.now) }
@@ -68,12 +68,12 @@ fn last_flaw(game: &Game, log: &Log, accounts: &Accounts) -> Option<Flaw>
     }
 }
 
-/// Judges a log by its game: that its histories are legal and its posts right, that the scores are those that are due, with packages and
-/// certificates for them, and that the head agrees with all that. Nothing is played over links, and no best allocation is searched for. What
-/// the links sent and were sent is in no log, so nothing is said of it. After `Memory` nothing was found.
+/// Judges a log by its game: whether its histories are legal and its posts right, whether the scores are those that are due, with packages
+/// and certificates for them, and whether the head agrees with all that. It plays nothing over links and searches for no best allocation.
+/// A log does not hold what links sent and were sent, so this says nothing of it. After `Memory` it found nothing.
 pub fn audit_log(alloc: Global, game: &Game, log: &Log) -> Result<Finding, Memory>
     ensures sound { IfOk result (λ finding. (finding ≡ Finding.Sound) ↔ IsSound game.now log.now) }
-    // A flaw that is reported is one of the log, and no flaw of the log comes before it.
+    // A flaw that it reports is one of the log, and no flaw of the log comes before it.
     ensures flaw { IfOk result (IsFound game.now log.now) }
 {
     let (auctions, earned) = match replay_all(alloc, game, log)? {

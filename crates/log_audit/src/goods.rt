@@ -11,7 +11,7 @@ pub(crate) fn good_of(number: u8) -> Good
     Good::new(number).unwrap()
 }
 
-/// The tick after this many, which are fewer than all 54.
+/// The tick after this many ticks, which are fewer than 54.
 pub(crate) fn tick_after(number: u8) -> Tick
     requires { number < 54 }
     ensures { result ≡ number + 1 }

@@ -1,4 +1,4 @@
-// The head of a log, compared with its histories.
+// Compares the head of a log with its histories.
 ghost use Rattle.std.specs.Prelude.{◌≡◌, ◌==◌, ℕ, ◌≤◌, ◌↔◌, map, Some, length, slice_get, IsTrue};
 ghost use Rattle.std.specs.List.{list_any};
 ghost use Rattle.log_audit.specs.Auditing.{KeepsEnds};
@@ -10,7 +10,7 @@ use log_reader::{Log, LogHistory};
 use tac_base::limits::{GOODS, LINKS, TICKS};
 use tac_base::{Agent, Entry};
 
-/// How many links were given the seat of an agent.
+/// The number of links that were given the seat of an agent.
 fn count_seats(verdicts: &[Verdict], agent: Agent) -> usize
     ensures { result ≡ seatings verdicts.now agent }
 {
@@ -42,7 +42,7 @@ fn is_end_of(ends: &[(Agent, Cause)], place: usize, agent: Agent) -> bool
     }
 }
 
-/// How many ends are due with an agent, if this many are due before it. None if it has a seat, and the next end is not its own.
+/// The number of ends due through an agent, if this many are due before it. None if it has a seat and the next end is not its own.
 fn follow_end(
     verdicts: &[Verdict],
     ends: &[(Agent, Cause)],
@@ -125,7 +125,7 @@ fn are_others_absent(log: &Log, verdicts: &[Verdict]) -> bool
     true
 }
 
-/// Whether a game can have been served with these links, ends and missed ticks.
+/// Whether a served game can have these links, ends and missed ticks.
 fn is_service(log: &Log, verdicts: &[Verdict], ends: &[(Agent, Cause)], missed: u8) -> bool
     ensures { IsTrue result ↔ IsService log.now verdicts.now ends.now missed }
 {

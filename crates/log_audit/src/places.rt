@@ -1,4 +1,4 @@
-// Which entries posts have named.
+// Records which entries the posts have named.
 ghost use Rattle.std.specs.Prelude.{◌≡◌, ℕ, ◌<◌, false, true, length, slice_index_or, slice_set, IfOk};
 ghost use Rattle.tac_base.specs.declared.limits.TheConstants.{AUCTION_ENTRIES};
 ghost use Rattle.log_audit.specs.Auditing.{place_at};
@@ -8,7 +8,7 @@ use std::marker::Model;
 use tac_base::Good;
 use tac_base::limits::AUCTION_ENTRIES as POSITIONS;
 
-/// How many places there are: 8,256 positions of each of 28 goods.
+/// The number of places: 8,256 positions of each of 28 goods.
 const PLACES: usize = 231_168;
 
 /// Which places of entries were named. Contracts see it as a list, the positions of good 0 first.
@@ -37,7 +37,7 @@ fn place_of(good: Good, position: u32) -> usize
 }
 
 impl Places {
-    /// No place is named.
+    /// No place is named yet.
     pub(crate) fn new(alloc: Global) -> Result<Places, AllocError>
         ensures { IfOk result (λ places. (k : ℕ) → slice_index_or places k false ≡ false) }
     {
@@ -46,7 +46,7 @@ impl Places {
         Ok(Places { named })
     }
 
-    /// Whether the place of the position, which is below 8,256, was named.
+    /// Whether the place of this position, which is below 8,256, was named.
     pub(crate) fn is_named(&self, good: Good, position: u32) -> bool
         requires { position < AUCTION_ENTRIES }
         ensures value { result ≡ slice_index_or self.now (place_at good position) false }
@@ -55,7 +55,7 @@ impl Places {
         self.named[place_of(good, position)]
     }
 
-    /// Names the place of the position, which is below 8,256.
+    /// Names the place of this position, which is below 8,256.
     pub(crate) fn name(&mut self, good: Good, position: u32)
         requires { position < AUCTION_ENTRIES }
         ensures { self.new ≡ slice_set self.old (place_at good position) true }

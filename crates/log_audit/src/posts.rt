@@ -1,4 +1,4 @@
-// The posts of a log, compared with its entries with trades.
+// Compares the posts of a log with its entries that have trades.
 ghost use Rattle.std.specs.Prelude.{◌≡◌, ◌<◌, ◌↔◌, ◌++◌, List, [], ◌∷◌, Some, None, length, map, slice_get, IsTrue};
 ghost use Rattle.auction_rules.specs.History.{Entry as HistoryEntry};
 ghost use Rattle.log_audit.specs.{CashEntry, IsLogged, logged_history, IsEarned, IsDuePost, HasDuePost, HasPost, AreNets, AreNamed, IsLowest, IsLowestPlace, HasNamedEntry, nets_by};
@@ -24,7 +24,7 @@ fn same_nets(a: &Nets, b: &Nets) -> bool
     a.dollars == b.dollars
 }
 
-/// What the trades of an entry, which is there, gave each party.
+/// What the trades of an entry, which the log must have, gave each party.
 fn nets_at(log: &Log, earned: &[Vec<Nets>], good: Good, position: u32) -> Nets
     requires logged { IsLogged log.now }
     requires nets { AreNets log.now earned.now }
@@ -34,7 +34,7 @@ fn nets_at(log: &Log, earned: &[Vec<Nets>], good: Good, position: u32) -> Nets
     earned[usize::from(good.get())][position as usize]
 }
 
-/// Whether the entry of a good at a position is there, and has trades, this caller and these nets.
+/// Whether the good has an entry at a position, with trades, this caller and these nets.
 fn is_earned(
     log: &Log,
     earned: &[Vec<Nets>],
@@ -55,7 +55,7 @@ fn is_earned(
     }
 }
 
-/// Whether an entry of the cash history, if it is a post, is due, given the places named by the posts before it. Names its place.
+/// Whether an entry of the cash history, if it is a post, is due, given the places that the posts before it name. Names its place.
 fn is_due(log: &Log, earned: &[Vec<Nets>], places: &mut Places, entry: &CashEntry) -> bool
     requires logged { IsLogged log.now }
     requires nets { AreNets log.now earned.now }
@@ -80,7 +80,7 @@ fn is_due(log: &Log, earned: &[Vec<Nets>], places: &mut Places, entry: &CashEntr
     }
 }
 
-/// The lowest position of a post that is not due, if there is one. Names the places of the posts before it.
+/// The lowest position of a post that is not due, if any. It names the places of the posts before it.
 pub(crate) fn false_post(log: &Log, earned: &[Vec<Nets>], places: &mut Places) -> Option<u32>
     requires earned { AreNets log.now earned.now }
     requires none { AreNamed [] places.old }
@@ -95,7 +95,7 @@ pub(crate) fn false_post(log: &Log, earned: &[Vec<Nets>], places: &mut Places) -
     None
 }
 
-/// The lowest position in the history of a good of an entry with trades that is not named, if there is one.
+/// The lowest position, in the history of a good, of an entry with trades that no post names, if any.
 fn unposted_in(history: &LogHistory, good: Good, places: &Places) -> Option<u32>
     ensures { IsLowest (HasNamedEntry history.now places.now good) result }
 {
@@ -108,7 +108,7 @@ fn unposted_in(history: &LogHistory, good: Good, places: &Places) -> Option<u32>
     None
 }
 
-/// The lowest place of an entry with trades that is not named, if there is one.
+/// The lowest place of an entry with trades that no post names, if any.
 pub(crate) fn unposted(log: &Log, places: &Places) -> Option<(Good, u32)>
     requires { AreNamed log.now.cash places.now }
     ensures { IsLowestPlace (HasPost log.now) result }

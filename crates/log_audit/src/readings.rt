@@ -1,10 +1,10 @@
-// The readings of a cash history, compared with the posts before them.
+// Compares the readings of a cash history with the posts before them.
 ghost use Rattle.std.specs.Prelude.{◌≡◌, ℕ, ◌<◌, ◌≤◌, ◌↔◌, ◌+ℤ◌, List, pos, length, slice_index_or, IsTrue};
 ghost use Rattle.log_audit.specs.{CASH_ENTRIES, gain_of, IsWithin, CashEntry, HasTrueReading, IsTrueReading, IsLowest, AreTotals};
 
 use trade_ledger::{CashCall, CashEntry, CashReply, add_nets};
 
-/// Whether an entry, if it is a reading, answers its agent's total, and adds what a post gives to the totals.
+/// Whether an entry, if it is a reading, shows its agent's total. It adds what a post gives to the totals.
 fn reads_total(totals: &mut [i64; 9], entry: &CashEntry) -> bool
     requires { (party : ℕ) → party < 9 → IsWithin 600000000000000 (slice_index_or totals.old party (pos 0)) }
     ensures answer { (before : List CashEntry) → AreTotals before totals.old → IsTrue result ↔ IsTrueReading before entry.now entry.now.call }
@@ -23,7 +23,7 @@ fn reads_total(totals: &mut [i64; 9], entry: &CashEntry) -> bool
     }
 }
 
-/// The lowest position of a reading that does not answer what the posts before it give its agent, if there is one.
+/// The lowest position of a reading that does not show what the posts before it give its agent, if any.
 pub(crate) fn false_reading(cash: &[CashEntry]) -> Option<u32>
     requires { length cash.now ≤ CASH_ENTRIES }
     ensures { IsLowest (HasTrueReading cash.now) result }

@@ -1,4 +1,4 @@
-// The histories of a log are played again by the rules, call by call.
+// Plays the histories of a log again by the rules, call by call.
 ghost use Rattle.std.specs.Prelude.{◌≡◌, ◌+◌, ◌<◌, ◌≤◌, ◌↔◌, ◌++◌, [], ◌∷◌, take, length, reverse, slice_index, slice_set, IfOk, IsTrue, MatchOption};
 ghost use Rattle.log_audit.specs.{HasFairEntry, AreCounts, IsStruck, IsReplay, AreReplays};
 ghost use Rattle.log_audit.specs.Prelude.{clock, entry_of, reply_of, trades_of, entries_of, cap, setup_of, IsLogged};
@@ -17,28 +17,28 @@ use turn_lock::Kept;
 /// The result of playing a history again.
 #[derive(Drop)]
 pub(crate) enum Replay {
-    /// Each entry is the one that the rules give: the auction after them all, and what the trades of each gave the parties.
+    /// Each entry is the one that the rules give: this has the auction after them all, and what the trades of each gave the parties.
     Fair { auction: Auction, nets: Vec<Nets> },
-    /// The entry at the position is the first that is not.
+    /// The entry at this position is the first that the rules do not give.
     Unfair { position: u32 },
 }
 
 /// The result of playing the histories of all goods again.
 #[derive(Drop)]
 pub(crate) enum Replays {
-    /// Each entry is the one that the rules give: the auctions by good, and by good and position what the trades gave the parties.
+    /// Each entry is the one that the rules give: this has the auctions by good, and by good and position what the trades gave the parties.
     Fair {
         auctions: Vec<Auction>,
         nets: Vec<Vec<Nets>>,
     },
-    /// The entry at the position of the good is the first that is not.
+    /// The entry of this good at this position is the first that the rules do not give.
     Unfair {
         good: Good,
         position: u32,
     },
 }
 
-/// Whether a caller has an entry left, if the callers have had this many.
+/// Whether a caller has an entry left, after this many of each caller.
 fn has_room(counts: &[u32; 9], caller: Caller) -> bool
     ensures room { IsTrue result ↔ (slice_index counts.now caller < cap caller) }
     ensures known { caller ≤ clock }
@@ -66,7 +66,7 @@ fn same_trades(a: &[Trade], b: &[Trade]) -> bool
     a == b
 }
 
-/// Makes the call of an entry in the auction. Answers what its trades gave each party, and None if the reply or the trades are not those
+/// Makes the call of an entry in the auction. Returns what its trades gave each party, or None if the reply or the trades are not those
 /// of the entry.
 fn strike(auction: &mut Auction, entry: &Entry, trades: &[Trade]) -> Option<Nets>
     requires fit { IsFit entry.now.call }
@@ -89,7 +89,7 @@ fn strike(auction: &mut Auction, entry: &Entry, trades: &[Trade]) -> Option<Nets
     }
 }
 
-/// Makes the call of the next entry of a history, whose entries before it the auction has. Answers what its trades gave each party, and None
+/// Makes the call of the next entry of a history, in an auction with the entries before it. Returns what its trades gave each party, or None
 /// if the entry is not fair.
 fn strike_next(auction: &mut Auction, counts: &mut [u32; 9], history: &LogHistory) -> Option<Nets>
     requires before { auction.old.history ≡ take (length auction.old.history) history.now }
@@ -108,7 +108,7 @@ fn strike_next(auction: &mut Auction, counts: &mut [u32; 9], history: &LogHistor
     strike(auction, entry, history.trades_of(position))
 }
 
-/// Plays the history of a good again. After `Memory` nothing was made.
+/// Plays the history of a good again. After `Memory` it returns nothing.
 fn play_again(
     alloc: Global,
     game: &Game,
@@ -129,13 +129,13 @@ fn play_again(
     Ok(Replay::Fair { auction, nets })
 }
 
-/// Plays the histories of all goods again. After `Memory` nothing was made.
+/// Plays the histories of all goods again. After `Memory` it returns nothing.
 pub(crate) fn replay_all(alloc: Global, game: &Game, log: &Log) -> Result<Replays, Memory>
     ensures played { IfOk result (AreReplays game.now log.now) }
     // The whole log is in its ranges.
     ensures logged { IsLogged log.now }
 {
-    // There are 28 histories, by the ranges of the log.
+    // The log has 28 histories, since it is in its ranges.
     let _head = log.head();
     let mut auctions = Vec::with_capacity(alloc, usize::from(GOODS))?;
     let mut nets = Vec::with_capacity(alloc, usize::from(GOODS))?;

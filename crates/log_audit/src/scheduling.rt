@@ -1,4 +1,4 @@
-// The clock's calls of a log, compared with those of the game's schedule.
+// Compares the clock's calls in a log with the game's schedule.
 ghost use Rattle.std.specs.Prelude.{◌≡◌, ◌↔◌, ◌++◌, [], ◌∷◌, ℕ, ◌≤◌, Some, length, take, slice_get, IfOk, OnOk, OnErr, IsTrue};
 ghost use Rattle.log_audit.specs.{calls_at, clock_calls, clock_calls_in, logged_history, IsOnSchedule, KeepsSchedule, IsLowestBelow, calls_for};
 
@@ -10,7 +10,7 @@ use std::alloc::{AllocError, Global};
 use tac_base::limits::{GOODS, TICKS};
 use tac_base::{Call, Caller, Entry, Good, Memory, Tick, same_call};
 
-/// Adds a call, if it is one of the good. After an error it was not added.
+/// Adds a call, if it is at the good. After an error it was not added.
 #[tactic(auto, using(crate::proofs::Scheduled::for_own, crate::proofs::Scheduled::for_other))]
 fn push_for(calls: &mut Vec<Call>, good: Good, next: (Good, Call)) -> Result<(), AllocError>
     ensures added { OnOk result (calls.new.items ≡ calls.old.items ++ calls_for good (next ∷ [])) }
@@ -24,12 +24,12 @@ fn push_for(calls: &mut Vec<Call>, good: Good, next: (Good, Call)) -> Result<(),
     Ok(())
 }
 
-/// Adds the calls that the clock makes of a good at a tick. After an error the first of them may be there.
+/// Adds the calls that the clock makes at a good at a tick. After an error the first of them may have been added.
 fn push_tick(calls: &mut Vec<Call>, game: &Game, good: Good, tick: Tick) -> Result<(), AllocError>
     ensures added { OnOk result (calls.new.items ≡ calls.old.items ++ calls_for good (calls_at game.now tick)) }
     ensures first { OnErr result ((n : ℕ) × (calls.new.items ≡ calls.old.items ++ calls_for good (take n (calls_at game.now tick)))) }
 {
-    // That a tick has few calls is a law of the schedule, and rests on the tick's range.
+    // A law of the schedule, which uses the tick's range, says that a tick has few calls.
     let _number = tick.get();
     schedule_law(game);
     let mut n = 0;
@@ -40,7 +40,7 @@ fn push_tick(calls: &mut Vec<Call>, game: &Game, good: Good, tick: Tick) -> Resu
     Ok(())
 }
 
-/// The calls that the clock makes of a good, in order.
+/// The calls that the clock makes at a good, in order.
 fn due_calls(alloc: Global, game: &Game, good: Good) -> Result<Vec<Call>, AllocError>
     ensures { IfOk result (λ calls. calls.items ≡ clock_calls game.now good) }
 {
@@ -51,7 +51,7 @@ fn due_calls(alloc: Global, game: &Game, good: Good) -> Result<Vec<Call>, AllocE
     Ok(calls)
 }
 
-/// Whether a call is the one at a place among those that are due.
+/// Whether a call is the due call at this place.
 fn is_next(due: &[Call], place: usize, call: &Call) -> bool
     ensures { IsTrue result ↔ (slice_get due.now place ≡ Some call.now) }
 {
@@ -61,7 +61,7 @@ fn is_next(due: &[Call], place: usize, call: &Call) -> bool
     }
 }
 
-/// How many calls that are due were made with an entry, if this many were made before it. None if it is of the clock, and not the next one.
+/// The number of due calls made after an entry, if this many were made before it. None if the clock made the entry and it is not the next call.
 fn follow(due: &[Call], made: usize, entry: &Entry) -> Option<usize>
     requires { made ≤ length due.now }
     ensures { KeepsSchedule due.now made entry.now.caller entry.now.call result }
@@ -90,7 +90,7 @@ fn makes(history: &LogHistory, due: &[Call]) -> bool
     made == due.len()
 }
 
-/// The lowest good whose clock's calls are not those of the schedule, if there is one.
+/// The lowest good at which the clock's calls are not those of the schedule, if any.
 pub(crate) fn off_schedule(alloc: Global, game: &Game, log: &Log) -> Result<Option<Good>, Memory>
     ensures { IfOk result (IsLowestBelow 28 (λ good. IsOnSchedule game.now good (logged_history log.now good))) }
 {

@@ -1,4 +1,4 @@
-// The scores of a log, compared with what the histories leave to each agent.
+// Compares the scores of a log with what the histories leave to each agent.
 ghost use Rattle.std.specs.Prelude.{◌≡◌, ◌<◌, ◌↔◌, IsTrue};
 ghost use Rattle.settlement.specs.Score as rules;
 ghost use Rattle.log_audit.specs.{settlement_of, IsDueScore, IsLogged, IsLoggedScore, auctions_in, HasDueScore, IsLowest};
@@ -37,7 +37,7 @@ fn is_best(account: &Account, line: &ScoreLine) -> bool
         && check(account, line.best, &line.cert)
 }
 
-/// Whether a score is the one that is due to an agent.
+/// Whether a score is the one due to an agent.
 fn is_due(game: &Game, accounts: &Accounts, agent: Agent, line: &ScoreLine) -> bool
     requires { IsLoggedScore line.now }
     ensures { IsTrue result ↔ IsDueScore game.now accounts.now agent line.now }
@@ -50,7 +50,7 @@ fn is_due(game: &Game, accounts: &Accounts, agent: Agent, line: &ScoreLine) -> b
     is_reckoned(line, accounts.cash[number], short(&account.holdings)) && is_best(&account, line)
 }
 
-/// The lowest agent whose score is not the one that is due to it, if there is one.
+/// The lowest agent whose score is not the one due to it, if any.
 pub(crate) fn false_score(game: &Game, log: &Log, accounts: &Accounts) -> Option<Agent>
     requires logged { IsLogged log.now }
     requires accounts { accounts.now ≡ settlement_of (auctions_in game.now log.now) }

@@ -5,7 +5,7 @@ use Rattle.script_run.specs.declared.game.lines.GameLine.{GameLine}
 use Rattle.script_run.specs.GameScripts.{game_script}
 use Rattle.script_run.specs.OneThreadRun.{replies, closed_of, whole_game}
 
--- the histories of a whole game by the lines of a script, the last line first
+-- the histories of a whole game from the lines of a script, the last line first
 abbrev pub closed_game : GameFile → List GameLine → ClosedGame
 closed_game game lines = closed_of game (whole_game game lines)
 

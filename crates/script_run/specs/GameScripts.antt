@@ -28,18 +28,18 @@ abbrev pub quits : ℕ → GameLine → Bool
 quits agent Tick = false
 quits agent (Asks asking asked) = (asking == agent) && is_quit asked
 
--- how many of the lines are ticks, and how many are the agent's
+-- the number of ticks among the lines, and the number of the agent's lines
 abbrev pub ticks_of : List GameLine → ℕ
 ticks_of lines = count_by is_tick_line lines
 
 abbrev pub count_of_agent : List GameLine → ℕ → ℕ
 count_of_agent lines agent = count_by (is_line_of agent) lines
 
--- whether the agent ended its session
+-- whether the agent has ended its session
 abbrev pub has_quit : List GameLine → ℕ → Bool
 has_quit lines agent = list_any (quits agent) lines
 
--- A line after others, if its agent has not ended its session, and if there are not too many, of ticks or of lines of its
+-- A line after others, unless its agent has ended its session, or there are too many ticks, or too many lines of its
 -- agent.
 abbrev pub limited_game_line : List GameLine → GameLine → Result GameLine ScriptReason
 limited_game_line lines Tick = if nat_le TICKS (ticks_of lines) then Err TooMany else Ok Tick
@@ -48,7 +48,7 @@ limited_game_line lines (Asks agent asked) =
     else if nat_le SESSION_LINES (count_of_agent lines agent) then Err TooMany
     else Ok (Asks agent asked)
 
--- what a line after others asks, or the first reason why it is bad
+-- what a line after others requests, or the first reason why it is bad
 abbrev pub judged_game_line : List GameLine → Result GameLine ScriptReason → Result GameLine ScriptReason
 judged_game_line lines (Err reason) = Err reason
 judged_game_line lines (Ok line) = limited_game_line lines line

@@ -7,21 +7,21 @@ use Rattle.trade_ledger.specs.declared.cash_calls.CashReply.TheVariants as cash_
 use Rattle.line_protocol.specs.declared.asking.Request.TheVariants as requests
 use Rattle.line_protocol.specs.declared.saying.Said.TheVariants as said
 
--- the progress of a game: the past of each good, the newest entry first; the cash history, the oldest entry first; and how many
--- ticks were made
+-- the progress of a game: the past of each good, the newest entry first; the cash history, the oldest entry first; and the number
+-- of ticks made
 pub record GameState : Type 0 where
   pub pasts : List (List Entry)
   pub cash : List CashEntry
   pub ticks : ℕ
 
--- nobody has called
+-- the game before any call
 abbrev pub opening : GameState
 opening = record { pasts = replicate GOODS []; cash = []; ticks = 0 }
 
 abbrev pub past_at : List (List Entry) → ℕ → List Entry
 past_at pasts good = slice_index_or pasts good []
 
--- the entry that the rules give to a call of the caller in the auction of a good
+-- the entry that the rules give for a call of the caller in the auction of a good
 abbrev pub entry_at : GameFile → List (List Entry) → ℕ → ℕ → Call → Entry
 entry_at game pasts caller good call = entry_of (setup_of good game) (past_at pasts good) caller call
 
@@ -35,7 +35,7 @@ called game caller good call state =
       ticks = state.ticks;
     }
 
--- ---- what an agent asks
+-- ---- what an agent requests
 
 -- an agent's reading of its own cash
 abbrev pub reading_of : List CashEntry → ℕ → CashEntry
@@ -45,23 +45,23 @@ abbrev pub reads : ℕ → CashCall → Bool
 reads agent (cash_calls.Post good position nets) = false
 reads agent (cash_calls.Read reader) = reader == agent
 
--- how many readings the agent made
+-- the number of readings that the agent made
 abbrev pub readings_of : List CashEntry → ℕ → ℕ
 readings_of cash agent = count_by (λ e. reads agent e.call) cash
 
--- an agent's call in the auction of a good, of which it has a limited number there
+-- an agent's call in the auction of a good, if the agent has a call left there
 abbrev pub call_turn : GameFile → ℕ → ℕ → Call → GameState → Said × GameState
 call_turn game agent good call state =
     if nat_le AGENT_CALLS (entries_of (past_at state.pasts good) agent) then (said.Spent, state)
     else (said.At (length (past_at state.pasts good)) (entry_at game state.pasts agent good call).reply, called game agent good call state)
 
--- an agent's reading, of which it has a limited number
+-- an agent's reading, if the agent has one left
 abbrev pub cash_turn : ℕ → GameState → Said × GameState
 cash_turn agent state =
     if nat_le CASH_READINGS (readings_of state.cash agent) then (said.Spent, state)
     else (said.Cash (length state.cash) (cash_total state.cash agent), record { pasts = state.pasts; cash = state.cash ++ reading_of state.cash agent ∷ []; ticks = state.ticks })
 
--- what an agent is answered, and the game after it
+-- the reply to an agent, and the game after it
 abbrev pub turn : GameFile → ℕ → Result Request RequestFault → GameState → Said × GameState
 turn game agent (Ok (requests.Bid good points)) state = call_turn game agent good (calls.Bid points) state
 turn game agent (Ok (requests.Withdraw good)) state = call_turn game agent good calls.Withdraw state
@@ -78,7 +78,7 @@ abbrev pub clocked : GameFile → List (ℕ × Call) → GameState → GameState
 clocked game [] state = state
 clocked game ((good, call) ∷ calls) state = clocked game calls (called game clock good call state)
 
--- the calls of the next tick are made, if one is left
+-- the calls of the next tick are made, if a tick is left
 abbrev pub ticked : GameFile → GameState → GameState
 ticked game state =
     if nat_le TICKS state.ticks then state

@@ -1,4 +1,4 @@
--- Where the reading of a script stops, why, and that the lines that came before a read are answered.
+-- Where and why the reading of a script stops, and that the lines that came before a read are answered.
 use Rattle.std.specs.Prelude.{◌≡◌, ℕ, ◌≤◌, ⊤, List, ◌++◌, length, Option}
 use Rattle.script_run.specs.Prelude.{Rose, SinkState, IsAtEnd, known_then, GameFile}
 use Rattle.script_run.specs.declared.game.stepping.TheConstants.{PIECE_BYTES}
@@ -10,12 +10,12 @@ abbrev pub StopsThere : Reading → Option (List ℕ) → Type 0
 StopsThere AtEnd left = IsAtEnd left
 StopsThere reading left = ⊤
 
--- a script is broken off exactly where the files counted a fault
+-- a script is broken off exactly if the files counted a fault
 abbrev pub HasReadCause : Standing → ℕ → ℕ → Type 0
 HasReadCause BrokenOff before now = Rose before now
 HasReadCause stands before now = now ≡ before
 
--- What one read gave may be unanswered, and no more, and a read asks for at most so many bytes: the sink has taken the replies to all lines that
+-- Only what one read gave may be unanswered, and a read asks for at most `PIECE_BYTES` bytes: the sink has taken the replies to all lines that
 -- came before it.
 pub record IsPrompt (game : GameFile) (given : List ℕ) (sink sink' : SinkState) : Type 0 where
   pub before : List ℕ

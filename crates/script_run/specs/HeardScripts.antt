@@ -1,4 +1,4 @@
--- What is heard of a game script that is read piece by piece, and how it stands then.
+-- What was read of a game script that is read piece by piece, and how the script stands then.
 use Rattle.std.specs.Prelude.{ℕ, ◌+◌, nat_lt, Bool, true, false, List, [], ◌∷◌, length, take, Result, Ok, Err}
 use Rattle.script_run.specs.Prelude.{parts_of, TEXT_BYTES}
 use Rattle.script_run.specs.declared.game.lines.GameLine.{GameLine}
@@ -7,7 +7,7 @@ use Rattle.script_run.specs.declared.fault.ScriptReason.TheVariants.{NoLineEnd}
 use Rattle.script_run.specs.ScriptLines.{BadLine, script_reason_number}
 use Rattle.script_run.specs.GameScripts.{judge_game_line}
 
--- the good lines, the last one first as in the run of a whole script, and then what stands behind the last line end, or the first bad line
+-- the good lines, the last one first as in the run of a whole script, and then the bytes after the last line end, or the first bad line
 abbrev pub Heard : Type 0
 Heard = List GameLine × Result (List ℕ) BadLine
 
@@ -16,13 +16,13 @@ abbrev pub heard_after : List GameLine → Result GameLine ScriptReason → (Gam
 heard_after lines (Err reason) follows = (lines, Err (length lines + 1, script_reason_number reason))
 heard_after lines (Ok line) follows = follows line
 
--- what is heard, after the lines before, of the parts of a text that was cut at its line ends; the last part has no line end yet
+-- what was read, after the lines before, from the parts of a text that was cut at its line ends; the last part has no line end yet
 abbrev pub heard_from : List GameLine → List (List ℕ) → Heard
 heard_from lines [] = (lines, Ok [])
 heard_from lines (rest ∷ []) = (lines, Ok rest)
 heard_from lines (part ∷ next ∷ parts) = heard_after lines (judge_game_line lines part) (λ line. heard_from (line ∷ lines) (next ∷ parts))
 
--- what is heard of the bytes that a script gave, of which no more count than a script may have
+-- what was read from the bytes that a script gave; only as many of them count as a script may have
 abbrev pub heard : List ℕ → Heard
 heard given = heard_from [] (parts_of 10 (take TEXT_BYTES given))
 
@@ -46,7 +46,7 @@ pub data Standing : Type 0 where
   BrokenOff : Standing
   Open : Standing
 
--- The first bad line comes before all else; then that there are too many bytes; then a read that failed. The last line may lack its end until
+-- The first bad line comes before all else; then too many bytes; then a read that failed. The last line may lack its end until
 -- all is read.
 abbrev pub standing_after : List GameLine → Result (List ℕ) BadLine → Bool → Reading → Standing
 standing_after lines (Err bad) long reading = BadAt bad.0 bad.1
@@ -56,6 +56,6 @@ standing_after lines (Ok rest) false Before = Open
 standing_after lines (Ok []) false AtEnd = Whole
 standing_after lines (Ok (byte ∷ rest)) false AtEnd = BadAt (length lines + 1) (script_reason_number NoLineEnd)
 
--- how a script stands that gave these bytes, where its reading stopped so
+-- how a script stands that gave these bytes and whose reading stopped there
 abbrev pub script_standing : List ℕ → Reading → Standing
 script_standing given reading = standing_after (heard given).0 (heard given).1 (nat_lt TEXT_BYTES (length given)) reading

@@ -1,4 +1,4 @@
--- What a line of a hotel script asks.
+-- What a line of a hotel script requests.
 use Rattle.std.specs.Prelude.{ℕ, ◌-◌, ◌&&◌, nat_le, if◌then◌else◌, List, [], ◌∷◌, Option, Some, None, Result, Ok, Err, codes, bytes_eq}
 use Rattle.std.specs.List.{join_with_byte}
 use Rattle.script_run.specs.Prelude.{Point, Call, words_of, points_of, judged, clock}
@@ -22,7 +22,7 @@ agent_of [] = None
 agent_of (digit ∷ []) = if nat_le 48 digit && nat_le digit 55 then Some (digit - 48) else None
 agent_of (digit ∷ other ∷ more) = None
 
--- a bid of points that were read, or not
+-- a bid of points, if they were read
 abbrev pub hotel_bid : ℕ → Result (List Point) BidFault → Result HotelLine ScriptReason
 hotel_bid agent (Err fault) = Err Points
 hotel_bid agent (Ok points) = Ok (Bid agent points)
@@ -43,7 +43,7 @@ line_of_words (word ∷ []) = clock_line word
 line_of_words (agent ∷ keyword ∷ []) = own_line (agent_of agent) keyword
 line_of_words (agent ∷ keyword ∷ word ∷ words) = hotel_bid_line (agent_of agent) keyword (join_with_byte 32 (word ∷ words))
 
--- what a line asks, or the reason why it is bad in itself
+-- what a line requests, or the reason why it is bad in itself
 unfoldable pub hotel_line_of : List ℕ → Result HotelLine ScriptReason
 hotel_line_of line = line_of_words (words_of line)
 

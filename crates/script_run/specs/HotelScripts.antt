@@ -1,4 +1,4 @@
--- Which hotel scripts are run, and what is written of their run.
+-- Which hotel scripts are run, and what their run writes.
 use Rattle.std.specs.Prelude.{ℕ, ◌==◌, nat_le, if◌then◌else◌, List, [], ◌∷◌, ◌++◌, length, map, count_by, replicate, pos, Result, Ok, Err, false, flat_map}
 use Rattle.script_run.specs.Prelude.{AGENTS, AUCTION_ENTRIES, Setup, Entry, past_of, cap, trade_line}
 use Rattle.auction_rules.specs.declared.rules.Rules.TheVariants.{Hotel as HotelRules}
@@ -9,11 +9,11 @@ use Rattle.script_run.specs.ScriptLines.{BadLine, lines_of_text}
 use Rattle.script_run.specs.HotelLines.{hotel_line_of, asked}
 use Rattle.script_run.specs.Replies.{positioned_reply_line}
 
--- how many of the lines are the caller's
+-- the number of lines of the caller
 abbrev pub count_of_caller : List HotelLine → ℕ → ℕ
 count_of_caller lines caller = count_by (λ line. (asked line).0 == caller) lines
 
--- a line after others, if there are not too many: of the script, or of its caller
+-- a line after others, unless it is one too many: of the script, or of its caller
 abbrev pub limited_hotel_line : List HotelLine → HotelLine → Result HotelLine ScriptReason
 limited_hotel_line lines line =
     if nat_le AUCTION_ENTRIES (length lines) then Err TooMany
@@ -25,7 +25,7 @@ abbrev pub judged_hotel_line : List HotelLine → Result HotelLine ScriptReason 
 judged_hotel_line lines (Err reason) = Err reason
 judged_hotel_line lines (Ok line) = limited_hotel_line lines line
 
--- what a line after others asks, or the first reason why it is bad
+-- what a line after others requests, or the first reason why it is bad
 abbrev pub judge_hotel_line : List HotelLine → List ℕ → Result HotelLine ScriptReason
 judge_hotel_line lines line = judged_hotel_line lines (hotel_line_of line)
 

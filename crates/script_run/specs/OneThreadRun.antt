@@ -34,7 +34,7 @@ abbrev pub ticked_often : GameFile → ℕ → GameState → GameState
 ticked_often game zero state = state
 ticked_often game (suc n) state = ticked game (ticked_often game n state)
 
--- the game after a script's lines and the ticks that are left
+-- the game after a script's lines and the remaining ticks
 abbrev pub whole_game : GameFile → List GameLine → GameState
 whole_game game lines = ticked_often game (TICKS - (played game lines).ticks) (played game lines)
 
@@ -46,6 +46,6 @@ auction_with game (good, past) = record { setup = setup_of good game; history = 
 abbrev pub closed_of : GameFile → GameState → ClosedGame
 closed_of game state = record { auctions = map (auction_with game) (enumerate_from 0 state.pasts); cash = state.cash }
 
--- how many entries and trades the auctions have
+-- the number of entries and of trades in the auctions
 abbrev pub count_in : GameState → PlayCount
 count_in state = record { entries = sum_by length state.pasts; trades = sum_by (λ past. length (all_trades past)) state.pasts }

@@ -1,4 +1,4 @@
--- The line that reports what an auction answered.
+-- The line of an auction's reply.
 use Rattle.std.specs.Prelude.{ℕ, List, ◌++◌, codes}
 use Rattle.script_run.specs.Prelude.{Reply, At, said_text}
 

@@ -1,10 +1,10 @@
--- The lines of a script, whatever they ask.
+-- The lines of a script, whatever they request.
 use Rattle.std.specs.Prelude.{ℕ, ◌+◌, ◌==◌, if◌then◌else◌, List, [], ◌∷◌, length, Result, Ok, Err}
 use Rattle.text_forms.specs.Words.{parts_of}
 use Rattle.script_run.specs.declared.fault.ScriptReason.{ScriptReason}
 use Rattle.script_run.specs.declared.fault.ScriptReason.TheVariants.{Form, Points, Ended, NoLineEnd, TooMany, TooManyOfCaller}
 
--- the number that is shown of a reason
+-- the number that is shown for a reason
 abbrev pub script_reason_number : ScriptReason → ℕ
 script_reason_number Form = 1
 script_reason_number Points = 2
@@ -24,7 +24,7 @@ module _ {Line : Type 0} where
   then_lines number (Ok line) follows = follows line
 
   -- The lines of the parts of a text that was cut at its line ends, the last line first, after the lines before; or the first bad
-  -- line. `judge` says what a line after others asks, or the first reason why it is bad. Nothing may stand after the last line end.
+  -- line. `judge` says what a line after others requests, or the first reason why it is bad. Nothing may follow the last line end.
   abbrev pub script_lines_from : (List Line → List ℕ → Result Line ScriptReason) → List Line → List (List ℕ) → Result (List Line) BadLine
   script_lines_from judge lines [] = Ok lines
   script_lines_from judge lines (last ∷ []) = if length last == 0 then Ok lines else Err (length lines + 1, script_reason_number NoLineEnd)

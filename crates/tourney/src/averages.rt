@@ -8,7 +8,7 @@ ghost use Rattle.tourney.specs.Rows.{IsAverage};
 #[derive(Clone, Copy, Debug, PartialEq, Eq)]
 pub(crate) struct Average {
     pub over: i64,
-    /// Above 0.
+    /// Greater than 0.
     pub under: u8,
 }
 
@@ -38,7 +38,7 @@ fn signed(total: i64, dollars: u64) -> i64
     dollars as i64
 }
 
-/// A total over 1..255 games in lowest terms.
+/// A total divided by 1..255 games, in lowest terms.
 pub(crate) fn lowest_terms(total: i64, games: u8) -> Average
     requires some { 1 ≤ games }
     requires fits { unsigned_abs total < 2 ^ 63 }

@@ -1,4 +1,4 @@
-// The text of the standings.
+// Prints the standings.
 ghost use Rattle.std.specs.Prelude.{◌≡◌, ◌++◌, ◌∷◌, [], List, OnOk, OnErr, slice_index_or};
 ghost use Rattle.std.specs.Fmt.{signed_decimal};
 ghost use Rattle.tourney.specs.{text_of, GoesOn, GameFile, LoggedGame, IsPrinted, AreStandingsOf};
@@ -22,7 +22,7 @@ fn print_number(out: &mut Vec<u8>, mark: u8, number: i64) -> Result<(), AllocErr
     Ok(())
 }
 
-/// Appends a team's average after a space. After an error a part of it may follow what was there.
+/// Appends a team's average after a space. After an error part of it may have been appended.
 fn print_average(row: &TeamRow, out: &mut Vec<u8>) -> Result<(), AllocError>
     ensures added { OnOk result (out.new.items ≡ out.old.items ++ 32 ∷ texts.average_text row.now) }
     ensures part { OnErr result (GoesOn out.old.items out.new.items) }
@@ -31,7 +31,7 @@ fn print_average(row: &TeamRow, out: &mut Vec<u8>) -> Result<(), AllocError>
     print_number(out, b'/', i64::from(row.under))
 }
 
-/// Appends what follows a team's word. After an error a part of it may follow what was there.
+/// Appends what follows a team's word. After an error part of it may have been appended.
 fn print_numbers(row: &TeamRow, out: &mut Vec<u8>) -> Result<(), AllocError>
     ensures added { OnOk result (out.new.items ≡ out.old.items ++ 32 ∷ texts.numbers_text row.now) }
     ensures part { OnErr result (GoesOn out.old.items out.new.items) }
@@ -42,7 +42,7 @@ fn print_numbers(row: &TeamRow, out: &mut Vec<u8>) -> Result<(), AllocError>
     print_number(out, b' ', i64::from(row.rank))
 }
 
-/// Appends the line of a team of this word. After an error a part of it may follow what was there.
+/// Appends the line of a team with this word. After an error part of it may have been appended.
 fn print_team(word: &[u8], row: &TeamRow, out: &mut Vec<u8>) -> Result<(), AllocError>
     ensures added { OnOk result (out.new.items ≡ out.old.items ++ (texts.team_line word.now row.now ++ 10 ∷ [])) }
     ensures part { OnErr result (GoesOn out.old.items out.new.items) }
@@ -54,7 +54,7 @@ fn print_team(word: &[u8], row: &TeamRow, out: &mut Vec<u8>) -> Result<(), Alloc
     Ok(())
 }
 
-/// The word of the team at a place, which is empty past the last one.
+/// The word of the team at a place; it is empty past the last one.
 fn word_at(standings: &Standings, team: u16) -> &[u8]
     ensures { (played : List (GameFile × LoggedGame)) → AreStandingsOf standings.now played → result.now ≡ slice_index_or (standing.teams played) team [] }
 {
@@ -64,7 +64,7 @@ fn word_at(standings: &Standings, team: u16) -> &[u8]
     }
 }
 
-/// Appends the lines of the teams of these rows. After an error a part of them may follow what was there.
+/// Appends the lines of the teams of these rows. After an error part of them may have been appended.
 fn print_teams(standings: &Standings, rows: &[TeamRow], out: &mut Vec<u8>) -> Result<(), AllocError>
     ensures added { (played : List (GameFile × LoggedGame)) → AreStandingsOf standings.now played → OnOk result (out.new.items ≡ out.old.items ++ text_of (texts.team_lines (standing.teams played) rows.now)) }
     ensures part { GoesOn out.old.items out.new.items }
@@ -76,7 +76,7 @@ fn print_teams(standings: &Standings, rows: &[TeamRow], out: &mut Vec<u8>) -> Re
 }
 
 /// Appends the text of the standings: the line `table N`, a line `team WORD GAMES TOTAL NUM/DEN RANK` for each team in the
-/// order in which they first appear, and `end`. After `Memory` a part of it may follow what was there.
+/// order in which they first appear, and `end`. After `Memory` part of it may have been appended.
 pub fn print_standings(standings: &Standings, out: &mut Vec<u8>) -> Result<(), Memory>
     ensures printed { (played : List (GameFile × LoggedGame)) → AreStandingsOf standings.now played → OnOk result (IsPrinted played out.old.items out.new.items) }
     ensures part { OnErr result (GoesOn out.old.items out.new.items) }

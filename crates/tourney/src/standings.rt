@@ -67,7 +67,7 @@ fn add_agent(tallies: &mut Tallies, game: &Game, log: &Log, agent: Agent) -> Res
 }
 
 impl Standings {
-    /// The standings of no games. They take no memory.
+    /// The standings of no games. They use no memory.
     pub fn begin(alloc: Global) -> Standings
         ensures stands { AreStandingsOf result [] }
         ensures games { result.games ≡ 0 }
@@ -79,7 +79,7 @@ impl Standings {
         }
     }
 
-    /// The standings with one more game, of which there are fewer than 64. After `Memory` they are dropped.
+    /// Adds a game to the standings of fewer than 64 games. After `Memory` the standings are dropped.
     pub fn add(self, game: &Game, log: &Log) -> Result<Standings, Memory>
         requires sound { IsSound game.now log.now }
         requires few { self.games < 64 }
@@ -91,7 +91,7 @@ impl Standings {
             mut tallies,
             games,
         } = self;
-        // That the words differ, and the log's ranges, are known where these are read.
+        // The words differ, and the log is in its ranges: both are known once they are read.
         let _words = &game.words;
         let _head = log.head();
         for agent in Agent::all() {
@@ -104,7 +104,7 @@ impl Standings {
         })
     }
 
-    /// How many games there were, 0..64.
+    /// The number of games, 0..64.
     pub fn games(&self) -> u8
         ensures stands { (played : List (GameFile × LoggedGame)) → AreStandingsOf self.now played → result ≡ length played }
         ensures few { result ≤ 64 }
@@ -131,7 +131,7 @@ impl Standings {
         }
     }
 
-    /// Appends the row of the team at a place. After `Memory` the others are as they were.
+    /// Appends the row of the team at a place. After `Memory` the rows are as they were.
     #[tactic(auto, using(crate::proofs::TeamRows::rows_more))]
     fn push_row(&self, place: usize, rows: &mut Vec<TeamRow>) -> Result<(), Memory>
         requires inside { place < length self.now.tallies }
@@ -141,7 +141,7 @@ impl Standings {
         rows.push(self.row(place)).map_err(|_| Memory)
     }
 
-    /// The row of each team, in the order in which the teams first appear. `Memory` leaves nothing.
+    /// The row of each team, in the order in which the teams first appear. After `Memory` it returns none.
     pub fn rows(&self) -> Result<Vec<TeamRow>, Memory>
         ensures { (played : List (GameFile × LoggedGame)) → AreStandingsOf self.now played → IfOk result (λ teams. rows.AreRows played teams.items) }
     {
@@ -152,7 +152,7 @@ impl Standings {
         Ok(rows)
     }
 
-    /// The word of the team at a place, which is none exactly past the last one.
+    /// The word of the team at a place; None exactly past the last one.
     pub fn word(&self, team: u16) -> Option<&[u8]>
         ensures { (played : List (GameFile × LoggedGame)) → AreStandingsOf self.now played → option_copied result ≡ slice_get (standings.teams played) team }
     {

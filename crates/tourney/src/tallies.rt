@@ -1,4 +1,4 @@
-// What is kept of each team.
+// Keeps the games and the scores of each team.
 ghost use Rattle.std.specs.Prelude.{◌≡◌, ◌<◌, ◌≤◌, ◌+◌, ◌*◌, ◌*ℤ◌, pos, OnOk, Some, unsigned_abs, count_by, length, slice_get, take, All};
 ghost use Rattle.indexmap.specs.IndexMap.{values};
 ghost use Rattle.tourney.specs.Standings as standings;
@@ -11,7 +11,7 @@ use tac_base::Memory;
 /// The games and the scores of a team.
 #[derive(Clone, Copy, Debug, PartialEq, Eq)]
 pub(crate) struct Tally {
-    /// In how many games the team counts.
+    /// The number of games in which the team counts.
     pub games: u8,
     /// The sum of its scores, in dollars.
     pub total: i64,
@@ -32,7 +32,7 @@ fn scaled(total: i64, games: u8) -> i64
 }
 
 impl Tally {
-    /// The tally with one more game. A score has at most 10,000,000,000,000 dollars, in absolute value.
+    /// The tally with one more game. A score is at most 10,000,000,000,000 dollars in absolute value.
     pub(crate) fn with_score(self, score: i64) -> Tally
         requires few { self.games < 64 }
         requires total { unsigned_abs self.total ≤ self.games * spec.most_score }
@@ -55,7 +55,7 @@ impl Tally {
     }
 }
 
-/// The tally of a team, which is zero at first.
+/// The tally of a team, zero at first.
 fn tally_at(tallies: &Tallies, word: &SeatWord) -> Tally
     ensures { result ≡ spec.tally_at tallies.now.entries word.now }
 {
