@@ -1,4 +1,4 @@
--- What a log still has of an agent from some places on, and the turns that it leaves possible.
+-- What a log still has of an agent from given places on, and the turns that this leaves possible.
 use Rattle.std.specs.Prelude.{⊤, ◌≡◌, ℕ, ◌+◌, ◌<◌, ◌≤◌, List, [], ◌∷◌, ◌++◌, All, Bool, Result, Ok, Err, Some, true, false, drop, length, map, replicate, slice_get, slice_index, slice_index_or, slice_set, take}
 use Rattle.std.specs.Global.{Vec}
 use Rattle.link_audit.specs.Prelude.{AGENT_CALLS, CASH_READINGS, GOODS, Board, Call, GameFile, Legal, setup_of, board_of, CashEntry, due_post, part_from, LineGot, Request, RequestFault, Said, LoggedGame, IsLogged, logged_history, HasDuePost, Dialect, Item, IsItem, AreItems, Turn, Called, CallDenied, CashRead, CashDenied, Quoted, Refused, Skipped, Left, asked_call, boards_shown, cash_made, is_leaving, item_of, made_at, reading, said_of}
@@ -11,7 +11,7 @@ use Rattle.link_audit.specs.Links.{MayAsk}
 
 -- ---- what is left of a log
 
--- whose part of a log is walked: the log, the boards of all prefixes of its histories by good and count, and the agent
+-- whose part of a log is walked over: the log, the boards of all prefixes of its histories by good and count, and the agent
 pub record Subject : Type 0 where
   pub log : LoggedGame
   pub boards : List (List Board)
@@ -26,22 +26,22 @@ entry_caller e = e.caller
 abbrev pub cash_caller : CashEntry → ℕ
 cash_caller e = e.caller
 
--- a caller's part of a history from a position on, each entry with its position
+-- a caller's part of a history, from a position on, each entry with its position
 abbrev pub rest_of : {E : Type 0} → (E → ℕ) → ℕ → ℕ → List E → List (ℕ × E)
 rest_of caller_of caller from history = part_from caller_of caller from (drop from history)
 
--- from a position on, the caller's next entry is this one, at this position, and then comes its part behind it
+-- from a position on, the caller's next entry is this one, at this position, and the rest of its part follows
 abbrev pub HasNext : {E : Type 0} → (E → ℕ) → ℕ → ℕ → List E → ℕ → E → Type 0
 HasNext caller_of caller from history position e = rest_of caller_of caller from history ≡ (position, e) ∷ rest_of caller_of caller (position + 1) history
 
--- the agent's part of a good's history, from some places on
+-- the agent's part of a good's history, from given places on
 abbrev pub calls_left : Subject → Places → ℕ → List (ℕ × Entry)
 calls_left s from good = rest_of entry_caller s.agent (slice_index from.next good) (logged_history s.log good)
 
 abbrev pub cash_left : Subject → ℕ → List (ℕ × CashEntry)
 cash_left s from = rest_of cash_caller s.agent from s.log.cash
 
--- the log has nothing more of the agent
+-- from these places on, the log has nothing more of the agent
 pub record IsOver (s : Subject) (from : Places) : Type 0 where
   pub calls : (good : ℕ) → good < GOODS → calls_left s from good ≡ []
   pub cash : cash_left s from.cash ≡ []
@@ -52,17 +52,17 @@ IsNote s good note = slice_get (slice_index_or s.boards good []) note.0 ≡ Some
 
 -- ---- turns one after the other
 
--- nothing was walked
+-- the places before the walk
 abbrev pub start : Places
 start = record { next = replicate 28 0; made = replicate 28 0; seen = replicate 28 0; cash = 0; readings = 0 }
 
--- each of the lists has one for each good
+-- each of the lists has one item for each good
 pub record IsWide (from : Places) : Type 0 where
   pub next : length from.next ≡ 28
   pub made : length from.made ≡ 28
   pub seen : length from.seen ≡ 28
 
--- the place of the cash history behind the posts that are due
+-- the place in the cash history after the posts that are due
 abbrev pub behind : ℕ → List CashEntry → ℕ → ℕ
 behind from [] posted = from
 behind from (post ∷ posts) posted = posted + 1
@@ -76,7 +76,7 @@ behind_call from good position cash = record {
   readings = from.readings;
 }
 
--- the places behind a turn
+-- the places after a turn
 abbrev pub behind_turn : Places → Turn → Places
 behind_turn from (Called request good position entry posted) = behind_call from good position (behind from.cash (due_post good position entry) posted)
 behind_turn from (CallDenied request good) = from
@@ -87,7 +87,7 @@ behind_turn from (Refused fault) = from
 behind_turn from Skipped = from
 behind_turn from Left = from
 
--- a turn is allowed at the places
+-- the turn is allowed at these places
 abbrev pub IsAllowed : Places → Turn → Type 0
 IsAllowed from (Called request good position entry posted) =
     (asked_call request ≡ Some (good, entry.call)) × (good < GOODS) × (slice_index from.made good < AGENT_CALLS) × (slice_index from.seen good ≤ position)
@@ -99,12 +99,12 @@ IsAllowed from (Refused fault) = ⊤
 IsAllowed from Skipped = ⊤
 IsAllowed from Left = ⊤
 
--- each turn is allowed behind those before it, and the agent leaves by the last one only
+-- each turn is allowed after those before it, and the agent leaves by none but the last
 abbrev pub AreAllowed : Places → List Turn → Type 0
 AreAllowed from [] = ⊤
 AreAllowed from (turn ∷ turns) = IsAllowed from turn × (is_leaving turn ≡ true → turns ≡ []) × AreAllowed (behind_turn from turn) turns
 
--- the turns are allowed, and are what the log has of the agent
+-- the turns are allowed, and are all that the log has of the agent from these places on
 pub record Remains (s : Subject) (from : Places) (turns : List Turn) : Type 0 where
   pub calls : (good : ℕ) → good < GOODS → calls_left s from good ≡ made_at good turns
   pub cash : cash_left s from.cash ≡ cash_made s.agent turns
@@ -118,13 +118,13 @@ abbrev pub ArePostedAt : ℕ → List CashEntry → ℕ → List CashEntry → �
 ArePostedAt agent cash from [] posted = ⊤
 ArePostedAt agent cash from (post ∷ posts) posted = HasNext cash_caller agent from cash posted post
 
--- they are posted, and the cash history is walked on behind them
+-- the due posts are there, and `to` is the place after them
 pub record ArePosted (agent : ℕ) (cash : List CashEntry) (from : ℕ) (posts : List CashEntry) (to : ℕ) : Type 0 where
   pub posted : ℕ
   pub at : ArePostedAt agent cash from posts posted
   pub to_is : to ≡ behind from posts posted
 
--- what a turn left is what the log has next
+-- the entries and boards of a turn are what the log has next
 abbrev pub IsNextInLog : Subject → Places → Turn → Type 0
 IsNextInLog s from (Called request good position entry posted) =
     HasNext entry_caller s.agent (slice_index from.next good) (logged_history s.log good) position entry × ArePostedAt s.agent s.log.cash from.cash (due_post good position entry) posted
@@ -136,20 +136,20 @@ IsNextInLog s from (Refused fault) = ⊤
 IsNextInLog s from Skipped = ⊤
 IsNextInLog s from Left = ⊤
 
--- what a line may be read as: where its reply did not come, memory to read it was not refused
+-- what a line may be read as; if its reply did not arrive, not as a failed memory allocation
 abbrev pub ReadsBy : (List ℕ → Result Request RequestFault → Type 0) → Bool → List ℕ → Result Request RequestFault → Type 0
 ReadsBy may_answer true = may_answer
 ReadsBy may_answer false = MayAsk may_answer
 
--- the item of a line whose reply came, or did not
+-- the item of a line whose reply arrived, or did not
 abbrev pub IsAsked : Dialect → Bool → LineGot × List ℕ → Item → Type 0
 IsAsked dialect heard line item = IsItem (ReadsBy dialect.may_answer heard) line item
 
--- if the reply came, it is this text
+-- if the reply arrived, it is this text
 abbrev pub FitsReply : (Said → List ℕ) → Bool → List ℕ → Said → Type 0
 FitsReply text heard reply said = heard ≡ true → text said ≡ reply
 
--- a turn that was asked and answered so is possible at the places
+-- a turn with such an item and such a reply is possible at these places
 pub record IsPossible (Asked : Item → Type 0) (Fits : Said → Type 0) (s : Subject) (from : Places) (turn : Turn) : Type 0 where
   pub asked : Asked (item_of turn)
   pub fits : Fits (said_of turn)
@@ -164,7 +164,7 @@ pub record IsEasier (from hard : Places) : Type 0 where
   pub readings : from.readings ≡ hard.readings
   pub seen : (good : ℕ) → good < GOODS → slice_index from.seen good ≤ slice_index hard.seen good
 
--- a turn led from places to places; by any that is possible the agent stays, and it leads to places that are not easier
+-- a turn leads from places to places; after any turn that is possible the agent stays, and the places are not easier
 pub record IsTaken (Asked : Item → Type 0) (Fits : Said → Type 0) (s : Subject) (from to : Places) : Type 0 where
   pub turn : Turn
   pub possible : IsPossible Asked Fits s from turn
@@ -182,13 +182,13 @@ pub record IsLeaving (Asked : Item → Type 0) (Fits : Said → Type 0) (s : Sub
   pub possible : IsPossible Asked Fits s from Left
   pub only : (other : Turn) → IsPossible Asked Fits s from other → other ≡ Left
 
--- what a line led to
+-- the step of a line
 abbrev pub IsStep : (Item → Type 0) → (Said → Type 0) → Subject → Places → Places → Step → Type 0
 IsStep Asked Fits s from to Taken = IsTaken Asked Fits s from to
 IsStep Asked Fits s from to Leaves = IsLeaving Asked Fits s from × (to ≡ from)
 IsStep Asked Fits s from to Stuck = IsStuck Asked Fits s from
 
--- a request or a fault is answered by this
+-- a reply that may answer this request, or this fault
 abbrev pub IsAnswerTo : Result Request RequestFault → Said → Type 0
 IsAnswerTo (Ok request) (said.Fault fault) = ⊥
 IsAnswerTo (Ok request) answer = ⊤
@@ -196,8 +196,8 @@ IsAnswerTo (Err fault) answer = answer ≡ said.Fault fault
 
 -- ---- what is left of a link
 
--- From some places on the first lines that are left, at most `room`, have turns that are what the log has of the agent; the replies that
--- are left are those to the first of them.
+-- From these places on, the first lines, at most `room`, have turns that are all that the log has of the agent; the replies are those to the
+-- first of these turns.
 pub record IsAhead (dialect : Dialect) (s : Subject) (from : Places) (lines : List (LineGot × List ℕ)) (replies : List (List ℕ)) (room : ℕ) : Type 0 where
   pub answered : List (LineGot × List ℕ)
   pub unanswered : List (LineGot × List ℕ)
@@ -219,18 +219,18 @@ pub record IsTable (boards : List (Vec Board)) : Type 0 where
   pub few : (good : ℕ) → good < GOODS → length (slice_index_or (map (λ row. row.items) boards) good []) ≤ 8257
   pub counts : (good count : ℕ) (board : Board) → good < GOODS → slice_get (slice_index_or (map (λ row. row.items) boards) good []) count ≡ Some board → board.count ≡ count
 
--- a log in its ranges, whose posts are those that are due
+-- a log in its ranges, whose posts are all due
 pub record HasTruePosts (log : LoggedGame) : Type 0 where
   pub logged : IsLogged log
   pub due : (position : ℕ) → HasDuePost log position
 
--- the boards are those of all prefixes of the histories of a log, by the rules of the game
+-- the boards of all prefixes of the histories of a log, by the rules of the game
 pub record AreBoards (game : GameFile) (log : LoggedGame) (boards : List (List Board)) : Type 0 where
   pub long : (good : ℕ) → good < GOODS → length (slice_index_or boards good []) ≡ length (logged_history log good) + 1
   pub each : (good count : ℕ) → good < GOODS → count ≤ length (logged_history log good)
       → slice_get (slice_index_or boards good []) count ≡ Some (board_of (record { setup = setup_of good game; history = logged_history log good }) (take count (logged_history log good)))
 
--- the boards of a history's prefixes of at most so many entries
+-- the boards of a history's prefixes of at most this many entries
 pub record AreRow (game : GameFile) (good : ℕ) (history : List Entry) (most : ℕ) (row : List Board) : Type 0 where
   pub long : length row ≡ most + 1
   pub each : (count : ℕ) → count ≤ most → slice_get row count ≡ Some (board_of (record { setup = setup_of good game; history = history }) (take count history))

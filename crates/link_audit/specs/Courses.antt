@@ -1,4 +1,4 @@
--- Turns of a link's lines, one after the other from some places on, and what they come to.
+-- The turns of a link's lines, one after another from given places on, and where they lead.
 use Rattle.std.specs.Prelude.{⊤, ◌≡◌, ℕ, ◌+◌, ◌<◌, ◌≤◌, List, [], ◌∷◌, Bool, true, false, drop, length, slice_index, count_by}
 use Rattle.link_audit.specs.Prelude.{GOODS, SESSION_LINES, CashEntry, LineGot, logged_history, Dialect, IsItem, Turn, Called, CashRead, has_left, item_of, said_of}
 use Rattle.auction_rules.specs.History.{Entry}
@@ -10,13 +10,13 @@ use Rattle.link_audit.specs.Links.{MayAsk}
 
 -- ---- turns
 
--- a turn left an entry of its own in the log: a call, or a reading
+-- whether a turn left an entry of its own in the log: a call, or a reading
 abbrev pub has_entry : Turn → Bool
 has_entry (Called request good position entry posted) = true
 has_entry (CashRead position dollars) = true
 has_entry turn = false
 
--- Each turn is what the next line asked, and is answered by the next reply, while one is left. The reply to any other turn did not come.
+-- Each turn is what the next line requests, and is answered by the next reply while one is left. The reply to any other turn did not arrive.
 abbrev pub AreAnswered : Dialect → List Turn → List (LineGot × List ℕ) → List (List ℕ) → Type 0
 AreAnswered dialect [] lines replies = ⊤
 AreAnswered dialect (turn ∷ turns) [] replies = ⊥
@@ -29,26 +29,26 @@ abbrev pub AreNext : Subject → Places → List Turn → Type 0
 AreNext s from [] = ⊤
 AreNext s from (turn ∷ turns) = IsNextInLog s from turn × AreNext s (behind_turn from turn) turns
 
--- the places behind turns
+-- the places after turns
 abbrev pub walked : Places → List Turn → Places
 walked from [] = from
 walked from (turn ∷ turns) = walked (behind_turn from turn) turns
 
--- no call and no reading was made from some places on
+-- no call and no reading was made between these places
 abbrev pub IsKept : Places → Places → Type 0
 IsKept from to = (to.made ≡ from.made) × (to.readings ≡ from.readings)
 
--- what turns come to: how many they are, whether the agent left by them, and places that are not easier than those behind them
+-- the result of turns: how many they are, whether the agent left by them, and places that are not easier than those after them
 pub record Course : Type 0 where
   pub turns : ℕ
   pub left : Bool
   pub to : Places
 
--- the same behind some turns
+-- the same result, with this many turns before it
 abbrev pub behind_course : ℕ → Course → Course
 behind_course turns course = record { turns = turns + course.turns; left = course.left; to = course.to }
 
--- from some places on the first lines have turns that are what the log has next of the agent, and that come to this
+-- from these places on, the first lines have turns that are what the log has next of the agent, and that have this result
 pub record HasCourse (dialect : Dialect) (s : Subject) (from : Places) (lines : List (LineGot × List ℕ)) (replies : List (List ℕ)) (course : Course) : Type 0 where
   pub turns : List Turn
   pub answered : AreAnswered dialect turns lines replies
@@ -58,7 +58,7 @@ pub record HasCourse (dialect : Dialect) (s : Subject) (from : Places) (lines : 
   pub left : has_left turns ≡ course.left
   pub to : IsEasier (walked from turns) course.to
 
--- the first lines, so many, have turns that are the first of what the log has of the agent, and are no more than a session may have
+-- the first lines, this many, have turns that are the first that the log has of the agent, and are no more than a session may have
 pub record HaveTurns (dialect : Dialect) (s : Subject) (lines : List (LineGot × List ℕ)) (replies : List (List ℕ)) (count : ℕ) : Type 0 where
   pub course : Course
   pub has : HasCourse dialect s start lines replies course
@@ -67,7 +67,7 @@ pub record HaveTurns (dialect : Dialect) (s : Subject) (lines : List (LineGot ×
 
 -- ---- the first difference
 
--- this is the lowest entry of the agent that the log has left behind some places, the cash history last
+-- this is the agent's lowest entry in the log from these places on, the cash history last
 abbrev pub IsLowestLeft : Subject → Places → Difference → Type 0
 IsLowestLeft s from (differences.Entry good position) =
     (good < GOODS) × ((g : ℕ) → g < good → calls_left s from g ≡ [])
@@ -76,7 +76,7 @@ IsLowestLeft s from (differences.Cash position) =
     ((g : ℕ) → g < GOODS → calls_left s from g ≡ []) × ((e : CashEntry) × HasNext cash_caller s.agent from.cash s.log.cash position e)
 IsLowestLeft s from difference = ⊥
 
--- a line with a reply has no turn, while those before it have turns
+-- this line, which has a reply, has no turn, while those before it have turns
 pub record IsFirstLine (dialect : Dialect) (s : Subject) (lines : List (LineGot × List ℕ)) (replies : List (List ℕ)) (line : ℕ) : Type 0 where
   pub before : ℕ
   pub line_is : line ≡ before + 1
@@ -84,7 +84,7 @@ pub record IsFirstLine (dialect : Dialect) (s : Subject) (lines : List (LineGot 
   pub others : HaveTurns dialect s lines replies before
   pub none : HaveTurns dialect s lines replies line → ⊥
 
--- all lines with replies have turns, and those behind them up to one that has none, but this entry is left
+-- all lines with replies have turns, and so have those after them up to one that has none, but this entry is left
 pub record IsFirstLeft (dialect : Dialect) (s : Subject) (lines : List (LineGot × List ℕ)) (replies : List (List ℕ)) (left : Difference) : Type 0 where
   pub count : ℕ
   pub replied : length replies ≤ count
@@ -92,15 +92,15 @@ pub record IsFirstLeft (dialect : Dialect) (s : Subject) (lines : List (LineGot 
   pub none : HaveTurns dialect s lines replies (count + 1) → ⊥
   pub lowest : IsLowestLeft s turns.course.to left
 
--- the first place at which the log is not right about lines behind a greeting and the replies behind a welcome
+-- the first place at which the log is not right about the lines after a greeting and the replies after a welcome
 abbrev pub IsDifferent : Dialect → Subject → List (LineGot × List ℕ) → List (List ℕ) → Difference → Type 0
 IsDifferent dialect s lines replies (differences.Line line) = IsFirstLine dialect s lines replies line
 IsDifferent dialect s lines replies left = IsFirstLeft dialect s lines replies left
 
 -- ---- the end
 
--- from some places on the first lines, all with replies among them, have turns by which the log has nothing more of the agent; so many of those
--- without a reply left an entry
+-- from these places on, the first lines, among them all that have replies, have turns after which the log has nothing more of the agent; this many
+-- turns without a reply left an entry
 pub record FinishesLog (dialect : Dialect) (s : Subject) (from : Places) (lines : List (LineGot × List ℕ)) (replies : List (List ℕ)) (entries : ℕ) : Type 0 where
   pub turns : List Turn
   pub answered : AreAnswered dialect turns lines replies
@@ -110,7 +110,7 @@ pub record FinishesLog (dialect : Dialect) (s : Subject) (from : Places) (lines 
   pub over : IsOver s (walked from turns)
   pub entries_are : count_by has_entry (drop (length replies) turns) ≡ entries
 
--- From some places on, which were reached by `used` lines, the first of these lines have turns, no further line of the session has one, and
+-- From these places on, which `used` lines reached, the first of the lines have turns, no further line of the session has one, and
 -- this entry is left.
 pub record IsStop (dialect : Dialect) (s : Subject) (from : Places) (lines : List (LineGot × List ℕ)) (used : ℕ) (left : Difference) : Type 0 where
   pub course : Course

@@ -1,4 +1,4 @@
--- When a log is right about one link, by the bytes that it gave and those that it was sent. The two relations are our own.
+-- When a log is right about one link, by the bytes that it gave and those that it was sent. This project defines the two relations.
 use Rattle.std.specs.Prelude.{◌≡◌, ◌≢◌, ℕ, ◌==◌, ◌≤◌, if◌then◌else◌, List, [], ◌∷◌, ◌++◌, Result, Err, Some, true, length, map, slice_get, take}
 use Rattle.std.specs.List.{list_any}
 use Rattle.link_audit.specs.Prelude.{LINK_BYTES, SESSION_LINES, GoesOn, GameFile, all_answers, LinkState, LineGot, Cause, Verdict, Seated, Request, RequestFault, Said, IsOneLine, ClosedGame, LoggedGame, auctions_in, gives_seat, Dialect, verdict_of, AreItems, IsTranscript, Turn, AreLawful, item_of, said_of, welcome_lines, welcome_text, free_seats, seats_given, HostedGame, IsSeated, PlayedGame}
@@ -13,7 +13,7 @@ abbrev pub logged_verdicts : Head → List Verdict
 logged_verdicts Play = []
 logged_verdicts (Serve verdicts ends missed) = verdicts
 
--- why the session of each seated agent ended
+-- the cause of the end of each seated agent's session
 abbrev pub logged_ends : Head → List (ℕ × Cause)
 logged_ends Play = []
 logged_ends (Serve verdicts ends missed) = ends
@@ -26,7 +26,7 @@ closed_in game log = record { auctions = auctions_in game log; cash = log.cash }
 abbrev pub played_in : GameFile → LoggedGame → PlayedGame
 played_in game log = record { verdicts = logged_verdicts log.head; ends = logged_ends log.head; closed = closed_in game log }
 
--- ---- the link that the server had
+-- ---- the server's end of a link
 
 -- a link that has these bytes to give: none of them was taken, it was sent nothing, and none of its calls failed
 abbrev pub fresh_link : List ℕ → LinkState
@@ -39,8 +39,8 @@ pub record HasBytes (before after : LinkState) (asked said : List ℕ) : Type 0 
   pub sent_before : before.sent ≡ Some sent_at_first
   pub sent_after : after.sent ≡ Some (sent_at_first ++ said)
 
--- The log's head gives a link the agent's seat, and a link that had the bytes `asked` to give came to this by the log: it was sent exactly
--- `said`, was served as the agent until its session ended for the cause that the head has, and its turns are the agent's part of the log.
+-- The log's head gives a link the agent's seat, and by the log a link that had the bytes `asked` to give was sent exactly `said`, was served
+-- as the agent until its session ended for the cause that the head has, and its turns are the agent's part of the log.
 pub record IsLinkOfLog (hosted : HostedGame) (log : LoggedGame) (agent : ℕ) (asked said : List ℕ) : Type 0 where
   pub place : ℕ
   pub listed : slice_get (logged_verdicts log.head) place ≡ Some (Seated agent)
@@ -50,7 +50,7 @@ pub record IsLinkOfLog (hosted : HostedGame) (log : LoggedGame) (agent : ℕ) (a
 
 -- ---- the far end of a link
 
--- the lines of a text before its last line end, where `line` stands before these bytes; what stands behind that end is left out
+-- the lines of a text before its last line end, where `line` comes before these bytes; what follows that end is left out
 abbrev pub whole_lines_after : List ℕ → List ℕ → List (List ℕ)
 whole_lines_after line [] = []
 whole_lines_after line (byte ∷ bytes) = if byte == 10 then line ∷ whole_lines_after [] bytes else whole_lines_after (line ++ byte ∷ []) bytes
@@ -62,18 +62,18 @@ whole_lines bytes = whole_lines_after [] bytes
 abbrev pub HasLineReplies : Dialect → Type 0
 HasLineReplies dialect = (reply : Said) → IsOneLine (dialect.text reply)
 
--- what a line may be read as, if memory to read it is not refused
+-- what a line may be read as, other than as a failed memory allocation
 abbrev pub MayAsk : (List ℕ → Result Request RequestFault → Type 0) → List ℕ → Result Request RequestFault → Type 0
 MayAsk may_answer line answer = may_answer line answer × (answer ≢ Err Memory)
 
--- what was said begins with the agent's welcome, whole
+-- what the link was sent begins with the agent's whole welcome
 abbrev pub HasWelcome : GameFile → ℕ → List ℕ → Type 0
 HasWelcome game agent said = GoesOn (welcome_text game agent) said
 
--- A sound log is right about a link, as its far end saw it, which tried to send `asked` and got `said`. The first line asks for the agent's
--- seat, which the log's head gives to a link. Of the lines behind it some first ones were answered, by turns that are lawful one after the
--- other, at most 65,536, and together are the agent's whole part of the log. The replies to the first of these turns are all the whole lines
--- that came, behind the welcome; those to the others did not come whole.
+-- A sound log is right about a link as its far end saw it, which tried to send `asked` and got `said`. The first line asks for the agent's
+-- seat, which the log's head gives to a link. The first of the lines after it have turns, which are lawful one after another, number at
+-- most 65,536, and together are the agent's whole part of the log. The replies to the first of these turns are all the whole lines that
+-- arrived after the welcome; the replies to the others did not arrive whole.
 pub record IsVouched (game : GameFile) (dialect : Dialect) (log : LoggedGame) (agent : ℕ) (asked said : List ℕ) : Type 0 where
   pub listed : list_any (gives_seat agent) (logged_verdicts log.head) ≡ true
   pub line : List ℕ

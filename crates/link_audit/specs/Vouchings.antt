@@ -1,4 +1,4 @@
--- What an audit of a link answers.
+-- The result of auditing a link.
 use Rattle.std.specs.Prelude.{⊤, ◌≡◌, ℕ, ◌-◌, ◌⊎◌, ◌↔◌, List, [], ◌∷◌, ◌++◌, Some, true, length, slice_get, count_by}
 use Rattle.std.specs.List.{list_any}
 use Rattle.link_audit.specs.Prelude.{Board, LINK_BYTES, GameFile, all_answers, LineGot, Seated, LoggedGame, gives_seat, Dialect, verdict_of, Turn, has_left, welcome_lines, free_seats}
@@ -19,20 +19,20 @@ IsYes agent (Not difference) = ⊥
 
 -- ---- whole or cut
 
--- it is called whole, as this agent's
+-- the result is whole, as this agent's
 abbrev pub IsWhole : ℕ → Vouching → Type 0
 IsWhole agent (Whole seat lines) = seat ≡ agent
 IsWhole agent vouching = ⊥
 
--- A sound log is right about a link, and nothing is left over: each whole line that was asked, up to the one by which the agent left, has its
--- reply, and the last byte that came is a line end.
+-- A sound log is right about a link, and nothing is left over: each whole line, up to the one by which the agent left, has its
+-- reply, and the last byte that arrived is a line end.
 pub record IsWholeLink (game : GameFile) (dialect : Dialect) (log : LoggedGame) (agent : ℕ) (asked said : List ℕ) : Type 0 where
   pub vouched : IsVouched game dialect log agent asked said
   pub all_heard : vouched.unheard ≡ []
   pub last : (has_left vouched.heard ≡ true) ⊎ (vouched.later ≡ (gots.End, []) ∷ [])
   pub ended : slice_get said (length said - 1) ≡ Some 10
 
--- the numbers of an answer, by the turns whose replies came and those whose replies did not: how many replies came, and how many of the
+-- the numbers of a result, by the turns whose replies arrived and those whose replies did not: how many replies arrived, and how many of the
 -- other turns left an entry, a call or a reading
 abbrev pub HasNumbers : Vouching → List Turn → List Turn → Type 0
 HasNumbers (Whole agent lines) heard unheard = length heard ≡ lines
@@ -41,21 +41,21 @@ HasNumbers (Not difference) heard unheard = ⊤
 
 -- ---- the first difference
 
--- the first line takes the seat of an agent, which the head of the log gives to a link; behind it come these lines
+-- the first line takes the seat of an agent, which the head of the log gives to a link; these lines follow it
 pub record HasSeatAndLines (game : GameFile) (log : LoggedGame) (asked : List ℕ) (agent : ℕ) (lines : List (LineGot × List ℕ)) : Type 0 where
   pub line : List ℕ
   pub first : all_answers [] LINK_BYTES asked ≡ (gots.Line, line) ∷ lines
   pub seat : verdict_of (free_seats game) line ≡ Seated agent
   pub listed : list_any (gives_seat agent) (logged_verdicts log.head) ≡ true
 
--- the agent's ten lines did not come whole
+-- the agent's ten lines did not arrive whole
 pub record LacksWelcome (game : GameFile) (log : LoggedGame) (asked said : List ℕ) : Type 0 where
   pub agent : ℕ
   pub lines : List (LineGot × List ℕ)
   pub greeted : HasSeatAndLines game log asked agent lines
   pub none : (replies : List (List ℕ)) → whole_lines said ≡ welcome_lines game agent ++ replies → ⊥
 
--- they came, and what follows differs here first
+-- they arrived, and what follows differs here first
 pub record DiffersBehind (game : GameFile) (dialect : Dialect) (log : LoggedGame) (asked said : List ℕ) (difference : Difference) : Type 0 where
   pub agent : ℕ
   pub lines : List (LineGot × List ℕ)
@@ -72,14 +72,14 @@ IsFirstDifference game dialect log asked said differences.Seat = (agent : ℕ) (
 IsFirstDifference game dialect log asked said differences.Welcome = LacksWelcome game log asked said
 IsFirstDifference game dialect log asked said difference = DiffersBehind game dialect log asked said difference
 
--- the answer is a difference only where it is the first one
+-- the result is a difference only if it is the first one
 abbrev pub IsDifferenceOf : GameFile → Dialect → LoggedGame → List ℕ → List ℕ → Vouching → Type 0
 IsDifferenceOf game dialect log asked said (Not difference) = IsFirstDifference game dialect log asked said difference
 IsDifferenceOf game dialect log asked said vouching = ⊤
 
 -- ---- all of it
 
--- what is said of an answer
+-- all that is stated about a result
 pub record IsJudged (game : GameFile) (dialect : Dialect) (log : LoggedGame) (asked said : List ℕ) (vouching : Vouching) : Type 0 where
   pub yes : (agent : ℕ) → IsYes agent vouching ↔ IsVouched game dialect log agent asked said
   pub whole : (agent : ℕ) → IsWhole agent vouching ↔ IsWholeLink game dialect log agent asked said

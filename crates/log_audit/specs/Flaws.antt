@@ -1,4 +1,4 @@
--- The flaws of a log. Each is tied to a sentence on one place of the log: the log has the flaw if that sentence does not hold.
+-- The flaws of a log. Each flaw has a sentence about one place of the log: the log has the flaw if that sentence does not hold.
 use Rattle.std.specs.Prelude.{◌≡◌, ◌≢◌, ℕ, ◌<◌, ◌==◌, ◌&&◌, ◌⊎◌, ⊤, Bool, true, false, List, [], take, reverse, Some, slice_get}
 use Rattle.std.specs.List.{list_any}
 use Rattle.log_audit.specs.Prelude.{Nets, GOODS, GameFile, clock_calls, Setup, nets as nets_of, CashCall, CashEntry, setup_of, settlement_of, Scored, IsDueScore, LoggedGame, logged_history, clock_calls_in, auctions_in, IsSoundHead}
@@ -13,7 +13,7 @@ use Rattle.log_audit.specs.declared.findings.Finding.TheVariants as findings
 
 -- ---- entries
 
--- an entry after others has the reply and the trades that the rules give, and its caller had entries left
+-- after these entries, the entry has the reply and the trades that the rules give, and its caller had an entry left
 pub record IsFair (setup : Setup) (before : List Entry) (e : Entry) : Type 0 where
   pub reply : e.reply ≡ rules.reply_of setup (reverse before) e.caller e.call
   pub trades : e.trades ≡ rules.trades_of setup (reverse before) e.caller e.call
@@ -29,7 +29,7 @@ IsOnSchedule game good history = clock_calls_in history ≡ clock_calls game goo
 
 -- ---- cash
 
--- a reading answers what the posts before it give its agent
+-- a reading shows what the posts before it give its agent
 abbrev pub IsTrueReading : List CashEntry → CashEntry → CashCall → Type 0
 IsTrueReading before e (cash_calls.Post good position nets) = ⊤
 IsTrueReading before e (cash_calls.Read agent) = e.reply ≡ cash_book.cash_reply_of before e.call
@@ -54,7 +54,7 @@ pub record IsEarned (caller : ℕ) (nets : Nets) (e : Entry) : Type 0 where
   pub caller_is : caller ≡ e.caller
   pub nets_are : nets.dollars ≡ nets_of e.trades
 
--- a post names such an entry, which no post before it names
+-- a post names such an entry, and no post before it names that entry
 abbrev pub IsDuePost : (ℕ → List Entry) → List CashEntry → ℕ → CashCall → Type 0
 IsDuePost history before caller (cash_calls.Post good position nets) =
     ((e : Entry) × (slice_get (history good) position ≡ Some e) × IsEarned caller nets e) × (is_posted before good position ≡ false)
@@ -69,13 +69,13 @@ HasPost log good position = (e : Entry) → slice_get (logged_history log good) 
 
 -- ---- scores
 
--- an agent's score, with its packages and its certificate, is the one that is due
+-- an agent's score, with its packages and its certificate, is the one due to it
 abbrev pub HasDueScore : GameFile → LoggedGame → ℕ → Type 0
 HasDueScore game log agent = (scored : Scored) → slice_get log.scores agent ≡ Some scored → IsDueScore game (settlement_of (auctions_in game log)) agent scored
 
 -- ---- all flaws
 
--- the sentence that does not hold of a log with the flaw
+-- the sentence that does not hold for a log with the flaw
 abbrev pub IsFreeOf : GameFile → LoggedGame → Flaw → Type 0
 IsFreeOf game log (flaws.Entry good position) = good < GOODS → HasFairEntry (setup_of good game) (logged_history log good) position
 IsFreeOf game log (flaws.Clock good) = good < GOODS → IsOnSchedule game good (logged_history log good)
@@ -87,7 +87,7 @@ IsFreeOf game log flaws.Head = IsSoundHead log log.head
 
 -- ---- which flaw is reported
 
--- the kinds of flaws in their order
+-- the order of the kinds of flaws
 abbrev pub turn_of : Flaw → ℕ
 turn_of (flaws.Entry good position) = 0
 turn_of (flaws.Clock good) = 1
@@ -115,7 +115,7 @@ IsLower place other = (place.0 < other.0) ⊎ ((place.0 ≡ other.0) × (place.1
 abbrev pub ComesBefore : Flaw → Flaw → Type 0
 ComesBefore flaw other = (turn_of flaw < turn_of other) ⊎ ((turn_of flaw ≡ turn_of other) × IsLower (place_of flaw) (place_of other))
 
--- the log has the flaw, and no flaw that comes before it
+-- the log has the flaw, and no flaw before it
 pub record IsFirstFlaw (game : GameFile) (log : LoggedGame) (flaw : Flaw) : Type 0 where
   pub has : IsFreeOf game log flaw → ⊥
   pub first : (other : Flaw) → ComesBefore other flaw → IsFreeOf game log other

@@ -1,4 +1,4 @@
-// The command that judges the log of a game by the game.
+// Judges the log of a game by the game.
 ghost use Rattle.std.specs.Prelude.{◌≡◌, ◌≤◌, [], ◌∷◌, length, IfSome};
 ghost use Rattle.tac_commands.specs.{NAME_BYTES, MaySelect, audit_steps, EndsBatch, EndsSteps, EndsUnasked, Reads, file};
 ghost use Rattle.tac_commands.specs.Commands as commands;
@@ -18,7 +18,7 @@ use std::alloc::Global;
 use tac_base::Text;
 use tac_io::{Files, Sink, write_all};
 
-/// The line that is written of the flaw of a log.
+/// The line that reports the flaw of a log.
 fn flaw_text(flaw: Flaw) -> Text
     ensures { result ≡ texts.flaw_text flaw }
 {
@@ -47,7 +47,7 @@ pub(crate) fn write_flaw<K: Sink>(flaw: Flaw, out: &mut K) -> End
     }
 }
 
-/// Judges a log by its game, and writes what was found.
+/// Judges a log by its game, and writes the result.
 fn judge<K: Sink>(alloc: Global, game: &Game, log: &Log, out: &mut K) -> End
     ensures { EndsUnasked (audit_steps game.now log.now) (K.state out.old) (K.state out.new) result }
 {
@@ -63,7 +63,7 @@ fn judge<K: Sink>(alloc: Global, game: &Game, log: &Log, out: &mut K) -> End
     }
 }
 
-/// Judges the log of that name by a game.
+/// Judges the log in the file of this name by a game.
 fn audit_by_file<F: Files, K: Sink>(
     alloc: Global,
     game: &Game,
@@ -80,7 +80,7 @@ fn audit_by_file<F: Files, K: Sink>(
     }
 }
 
-/// Judges the log of the second file by the game of the first; the log is read only if the game is not refused.
+/// Judges the log of the second file by the game of the first. It reads the log only if the game is not refused.
 pub(crate) fn audit_files<F: Files, K: Sink>(
     alloc: Global,
     game: &str,

@@ -1,4 +1,4 @@
-// The commands that need no links.
+// Runs the commands that need no links.
 ghost use Rattle.std.specs.Prelude.{◌≡◌, [], IfSome};
 ghost use Rattle.tac_commands.specs.{canonical_text, upgraded, made_game, IsSolvedText, MaySelect, WritesDue, seen_batch, IsPromptBatch, IsShortBatch, IsWithinBatch};
 ghost use Rattle.tac_commands.specs.Commands as commands;
@@ -65,7 +65,7 @@ fn write_solved<K: Sink>(alloc: Global, account: &Account, out: &mut K) -> End
     }
 }
 
-/// Shows the game of the file of that name in its canonical text.
+/// Writes the game of the file of this name in its canonical text.
 fn show<F: Files, K: Sink>(alloc: Global, name: &str, files: &mut F, out: &mut K) -> End
     requires { MaySelect (F.state files.old) name.now }
     ensures { EndsBatch (commands.Show name.now) (F.state files.old) (F.state files.new) (K.state out.old) (K.state out.new) result }
@@ -76,7 +76,7 @@ fn show<F: Files, K: Sink>(alloc: Global, name: &str, files: &mut F, out: &mut K
     }
 }
 
-/// Shows the game of the file of that name in the canonical text of its version 2.
+/// Writes the game of the file of this name in the canonical text of version 2.
 fn upgrade<F: Files, K: Sink>(alloc: Global, name: &str, files: &mut F, out: &mut K) -> End
     requires { MaySelect (F.state files.old) name.now }
     ensures { EndsBatch (commands.Upgrade name.now) (F.state files.old) (F.state files.new) (K.state out.old) (K.state out.new) result }
@@ -87,7 +87,7 @@ fn upgrade<F: Files, K: Sink>(alloc: Global, name: &str, files: &mut F, out: &mu
     }
 }
 
-/// Solves the account of the file of that name.
+/// Solves the account in the file of this name.
 fn solve_file<F: Files, K: Sink>(alloc: Global, name: &str, files: &mut F, out: &mut K) -> End
     requires { MaySelect (F.state files.old) name.now }
     ensures { EndsBatch (commands.Solve name.now) (F.state files.old) (F.state files.new) (K.state out.old) (K.state out.new) result }
@@ -98,9 +98,9 @@ fn solve_file<F: Files, K: Sink>(alloc: Global, name: &str, files: &mut F, out: 
     }
 }
 
-/// Runs a command that needs no links. It selects its files in order, up to one that is not read or a log that is not sound. Where the names are
-/// told, none was selected before, and each has at most 1024 bytes. The counts of a trial and a table are within their limits. `finish` writes a
-/// refusal.
+/// Runs a command that needs no links. It selects the command's files in order, up to the first that cannot be read or a log that is not sound.
+/// If the selected names are known, there are none yet, and each name has at most 1024 bytes. A trial's counts and a table's are within their
+/// limits. `finish` writes a refusal.
 pub(crate) fn run_batch<R: Threads + Sync, F: Files, K: Sink>(
     rt: &R,
     alloc: Global,

@@ -2,12 +2,12 @@
 ghost use Rattle.std.specs.Prelude.{◌≡◌};
 ghost use Rattle.tac_commands.specs.Codes as codes;
 
-/// The exit code of the program. The numbers are our own.
+/// The exit code of the program. This project defines the numbers.
 #[derive(Clone, Copy, Debug, PartialEq, Eq)]
 pub enum Code {
     /// The text of the command was written.
     Success,
-    /// The words are no command.
+    /// The words are not a command.
     Usage,
     /// A game file is refused.
     GameRefused,
@@ -17,9 +17,9 @@ pub enum Code {
     WriteFault,
     /// The links failed, and no game was played.
     LinkFault,
-    /// A tick of the game that was played lapsed.
+    /// A tick of the played game lapsed.
     ClockFault,
-    /// Memory was refused.
+    /// A memory allocation failed.
     Memory,
     /// A script, an account or a log is refused.
     TextRefused,
@@ -28,7 +28,7 @@ pub enum Code {
 }
 
 impl Code {
-    /// The number that the process ends with.
+    /// The exit status of the process.
     pub fn number(&self) -> u8
         ensures { result ≡ codes.code_number self.now }
     {

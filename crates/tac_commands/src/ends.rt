@@ -1,4 +1,4 @@
-// How a command ended, and how it is finished.
+// How a command ends, and how its end is reported.
 ghost use Rattle.std.specs.Prelude.{◌≡◌};
 ghost use Rattle.tac_commands.specs.{code_number, Finishes};
 
@@ -6,20 +6,20 @@ use crate::code::Code;
 use crate::refusals::Refusal;
 use tac_io::{Sink, write_all};
 
-/// How a command ended.
+/// How a command ends.
 #[derive(Clone, Copy, Debug, PartialEq, Eq)]
 pub enum End {
     /// Its text was written.
     Done,
-    /// A text was written that reports an unsound log.
+    /// It wrote a text that reports an unsound log.
     Unsound,
-    /// A write failed, and its text was not written whole.
+    /// A write failed, so the text was not completely written.
     WriteFault,
-    /// This is to be written in place of its text, or after the first part of it.
+    /// This is to be written in place of the text, or after the first part of it.
     Refused(Refusal),
 }
 
-/// Prints the refusal, if a command ended with one, and returns the code. After a failed write nothing is written.
+/// Prints the refusal, if the command ended with one, and returns the exit code. After a failed write it writes nothing.
 pub fn finish<K: Sink>(out: &mut K, end: End) -> Code
     ensures { Finishes end (K.state out.old) (K.state out.new) (code_number result) }
 {

@@ -6,7 +6,7 @@ use crate::refusals::Refusal;
 use game_text::GameFault;
 use tac_base::limits::{GAME_BYTES, LINK_BYTES, TEXT_BYTES};
 
-/// What a file that a command reads holds.
+/// The contents of a file that a command reads.
 #[derive(Clone, Copy, Debug, PartialEq, Eq)]
 pub enum FileKind {
     /// A game.
@@ -19,12 +19,12 @@ pub enum FileKind {
     Account,
     /// The log of a game.
     Log,
-    /// What a link asked, or what it was said: any bytes.
+    /// The bytes that a link asked, or those that it was sent: any bytes.
     Bytes,
 }
 
 impl FileKind {
-    /// The most bytes of such a file.
+    /// The most bytes that such a file may have.
     pub(crate) fn most_bytes(&self) -> usize
         ensures { result ≡ kinds.most_bytes self.now }
     {
@@ -36,7 +36,7 @@ impl FileKind {
         }
     }
 
-    /// What is written if such a file has this fault.
+    /// The refusal that is written if such a file has this fault.
     pub(crate) fn refusal(&self, fault: GameFault) -> Refusal
         ensures { result ≡ kinds.refusal_of self.now fault }
     {

@@ -1,5 +1,5 @@
-//! The commands of `tac`: their words, the files that each reads, what it makes of them and the code with which it ends. Those that need no
-//! links are run here.
+//! The commands of `tac`: their words, the files that each reads, what it makes of them, and its exit code. This crate runs the commands that
+//! need no links.
 #![tactic(auto)]
 
 mod audit_command;

@@ -14,7 +14,7 @@ pub(crate) fn plain(line: &[u8]) -> Text
     text
 }
 
-/// The line of words and a number.
+/// The line of some words and a number.
 pub(crate) fn counted(words: &[u8], n: u32) -> Text
     requires { length words.now ≤ 16 }
     ensures { result ≡ lines.counted words.now n }
@@ -27,7 +27,7 @@ pub(crate) fn counted(words: &[u8], n: u32) -> Text
     text
 }
 
-/// The line of words and two numbers.
+/// The line of some words and two numbers.
 pub(crate) fn numbered(words: &[u8], first: u32, second: u32) -> Text
     requires { length words.now ≤ 16 }
     ensures { result ≡ lines.numbered words.now first second }

@@ -1,4 +1,4 @@
-// The files that commands read.
+// Reads the files of commands.
 ghost use Rattle.std.specs.Prelude.{◌≡◌, ◌<◌, ◌≤◌, ◌⊎◌, [], ◌∷◌, length, Ok, Err, IfOk, IfErr, OnOk};
 ghost use Rattle.tac_commands.specs.{LINK_BYTES, IsFile, MaySelect, IsAtEnd, known_then, GameFault, most_bytes, read_as, refusal_of, IsNotRead, IsFileRead};
 ghost use Rattle.tac_commands.specs.declared.file_kinds.FileKind.TheVariants.{Bytes};
@@ -11,7 +11,7 @@ use log_reader::{Log, LogFault, read_log};
 use std::alloc::Global;
 use tac_io::{FileFault, Files, read_file};
 
-/// The bytes of the file of that name, at most the limit of its kind; or what is written in their place.
+/// Returns the bytes of the file of this name, at most the limit of its kind, or the refusal to write in their place.
 pub(crate) fn read_bytes<F: Files>(
     alloc: Global,
     files: &mut F,
@@ -35,7 +35,7 @@ pub(crate) fn read_bytes<F: Files>(
     }
 }
 
-/// The bytes of the file of that name, whatever they are, or what is written in their place. The file is selected once.
+/// Returns the bytes of the file of this name, whatever they are, or the refusal to write in their place. It selects the file once.
 pub(crate) fn read_link<F: Files>(
     alloc: Global,
     files: &mut F,
@@ -55,22 +55,22 @@ pub(crate) fn read_link<F: Files>(
     }
 }
 
-/// The value of a file that is read whole.
+/// A value that is read from a whole file.
 pub trait FileValue: Sized + Drop {
     ghost use Rattle.tac_commands.specs.declared.file_kinds.FileKind.{FileKind};
     ghost use Rattle.tac_commands.specs.FileKinds.{Value};
 
-    // the kind of such a file
+    // the kind of the file
     ghost kind: { FileKind };
 
     // the value, by the definition of reading
     ghost seen: { Self → Value kind };
 
-    /// The kind of such a file.
+    /// The kind of the file.
     fn kind() -> FileKind
         ensures { result ≡ kind };
 
-    /// The value that the bytes of such a file hold, or what is written in its place.
+    /// Returns the value that the bytes of such a file hold, or the refusal to write in its place.
     fn read(alloc: Global, bytes: &[u8]) -> Result<Self, Refusal>
         ensures value { IfOk result (λ value. read_as kind bytes.now ≡ Ok (seen value)) }
         ensures refused { IfErr result (λ refusal. (refusal ≡ Memory) ⊎ ((fault : GameFault) × (refusal ≡ refusal_of kind fault) × (read_as kind bytes.now ≡ Err fault))) };
@@ -136,8 +136,8 @@ impl FileValue for Log {
     }
 }
 
-/// The value of the file of that name, which is then at its end, or what is written in its place. The file is selected once. Where the names are
-/// told, fewer than 128 were selected before, and this one has at most 1024 bytes.
+/// Returns the value in the file of this name, which it reads to the end, or the refusal to write in its place. It selects the file once. If the
+/// selected names are known, there are fewer than 128 of them, and this name has at most 1024 bytes.
 pub fn read_value<T: FileValue, F: Files>(
     alloc: Global,
     files: &mut F,

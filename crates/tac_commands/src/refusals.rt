@@ -1,4 +1,4 @@
-// What is written in place of a command's text.
+// The refusals that are written in place of a command's text.
 ghost use Rattle.std.specs.Prelude.{◌≡◌, ◌≢◌};
 ghost use Rattle.tac_commands.specs.Codes.{code_number};
 ghost use Rattle.tac_commands.specs.Outcomes as outcomes;
@@ -10,7 +10,7 @@ use tac_base::Text;
 /// What is written in place of a command's text.
 #[derive(Clone, Copy, Debug, PartialEq, Eq)]
 pub enum Refusal {
-    /// The words are no command.
+    /// The words are not a command.
     Usage,
     /// The first bad line of a game file, counted from 1, and the first reason that applies to it.
     GameLine { line: u32, reason: u8 },
@@ -20,7 +20,7 @@ pub enum Refusal {
     ReadFault,
     /// The links failed.
     LinkFault,
-    /// Memory was refused.
+    /// A memory allocation failed.
     Memory,
     /// The first bad line of a script, an account or a log, counted from 1, and the first reason that applies to it.
     TextLine { line: u32, reason: u8 },
@@ -44,7 +44,7 @@ impl Refusal {
         }
     }
 
-    /// The line that is written.
+    /// The line that reports the refusal.
     pub(crate) fn text(&self) -> Text
         ensures { result ≡ (outcomes.refusal_end self.now).1 }
     {

@@ -1,4 +1,4 @@
-// Running the words of a command that needs no links.
+// Runs the words of a command that needs no links.
 ghost use Rattle.std.specs.Prelude.{◌≡◌, ◌≤◌, [], string_len, None, All, IfSome};
 ghost use Rattle.tac_base.specs.declared.limits.TheConstants.{NAME_BYTES};
 ghost use Rattle.tac_commands.specs.{bytes_of_words, Allows, code_number, batch_of, service_or_batch, Outcome, IsPromptCommand, Reports};
@@ -12,7 +12,7 @@ use std::alloc::Global;
 use std::thread::Threads;
 use tac_io::{Files, Sink};
 
-/// Runs the command that the words ask for, one that needs no links, and returns its code; if they ask for none, the usage is written.
+/// Runs the command of these words, one that needs no links, and returns its exit code. If the words are not such a command, it writes the usage.
 pub fn run_words<R: Threads + Sync, F: Files, K: Sink>(
     rt: &R,
     alloc: Global,

@@ -29,7 +29,7 @@ where
     }
 }
 
-/// Runs one hotel by the script of that name.
+/// Runs one hotel by the script in the file of this name.
 pub(crate) fn hotel_by_file<F: Files, K: Sink>(
     alloc: Global,
     name: &str,
@@ -45,7 +45,7 @@ pub(crate) fn hotel_by_file<F: Files, K: Sink>(
     }
 }
 
-/// Plays a game by the script of that name.
+/// Plays a game by the script in the file of this name.
 fn play_by_file<R: Threads + Sync, F: Files, K: Sink>(
     rt: &R,
     alloc: Global,
@@ -64,7 +64,7 @@ fn play_by_file<R: Threads + Sync, F: Files, K: Sink>(
     }
 }
 
-/// Plays the game of the first file by the script of the second, which is read only if the game is not refused.
+/// Plays the game of the first file by the script of the second. It reads the script only if the game is not refused.
 pub(crate) fn play_files<R: Threads + Sync, F: Files, K: Sink>(
     rt: &R,
     alloc: Global,

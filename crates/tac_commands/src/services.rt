@@ -1,4 +1,4 @@
-// The service of a game that the words of a command line ask for.
+// The game over links that the words of a command line request.
 ghost use Rattle.std.specs.Prelude.{◌≡◌, ◌≤◌, [], ◌∷◌, length, string_len, MatchOption, Some, None, All, IfSome};
 ghost use Rattle.tac_commands.specs.{seen_service, service_of};
 ghost use Rattle.tac_commands.specs.Prelude.{NAME_BYTES, numeral};
@@ -26,7 +26,7 @@ pub struct Service<'a> {
     pub form: Form,
 }
 
-/// The number of a word, if it is at least 1 and at most a limit.
+/// Returns the number of a word, if it is at least 1 and at most a limit.
 fn number_of(word: &str, most: u16) -> Option<u16>
     ensures { result ≡ services.positive_to most (numeral 10 word.now) }
 {
@@ -36,7 +36,7 @@ fn number_of(word: &str, most: u16) -> Option<u16>
     }
 }
 
-/// The service of a game that has a port and a pace, in a form of lines.
+/// Returns the service of a game, if it has a port and a pace, in a form of lines.
 fn service_with<'a>(
     game: &'a str,
     port: Option<u16>,
@@ -61,7 +61,7 @@ fn service_with<'a>(
     })
 }
 
-/// The service of a word and three more, in lines of words.
+/// Returns the service of a word and three more, in lines of words.
 fn service_in_lines<'a>(word: &str, game: &'a str, port: &str, pace: &str) -> Option<Service<'a>>
     ensures service { MatchOption result (service_of (word.now ∷ game.now ∷ port.now ∷ pace.now ∷ []) ≡ None)
         (λ service. service_of (word.now ∷ game.now ∷ port.now ∷ pace.now ∷ []) ≡ Some (seen_service service)) }
@@ -79,7 +79,7 @@ fn service_in_lines<'a>(word: &str, game: &'a str, port: &str, pace: &str) -> Op
     }
 }
 
-/// The service of a word and four more, in JSON.
+/// Returns the service of a word and four more, in JSON.
 fn service_in_json<'a>(
     word: &str,
     game: &'a str,
@@ -103,7 +103,7 @@ fn service_in_json<'a>(
     }
 }
 
-/// The service that the words ask for, if they ask for one.
+/// Returns the service that the words request, if they request one.
 pub fn service_asked(words: &[String]) -> Option<Service<'_>>
     ensures service { MatchOption result (service_of (bytes_of_words words.now) ≡ None)
         (λ service. service_of (bytes_of_words words.now) ≡ Some (seen_service service)) }

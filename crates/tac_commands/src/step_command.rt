@@ -1,4 +1,4 @@
-// The command that plays a game line by line.
+// Plays a game line by line.
 ghost use Rattle.std.specs.Prelude.{◌≡◌, ◌≤◌, [], length, IfSome};
 ghost use Rattle.tac_commands.specs.{NAME_BYTES, IsAtEnd, MaySelect, step_steps, EndsBatch, EndsSteps, HearsPromptly, StepsPromptly};
 ghost use Rattle.tac_commands.specs.Commands as commands;
@@ -27,7 +27,7 @@ fn step_end(played: Result<(), StepFault>) -> End
     }
 }
 
-/// Plays a game by the lines of the script of that name, as they come. The file that was read before it is at its end.
+/// Plays a game by the lines of the script in the file of this name, while it reads them. The file read before it is at its end.
 fn step_by_file<R: Threads + Sync, F: Files, K: Sink>(
     rt: &R,
     alloc: Global,
@@ -48,7 +48,7 @@ fn step_by_file<R: Threads + Sync, F: Files, K: Sink>(
     }
 }
 
-/// Plays the game of the first file line by line, as the script of the second is read; it is selected only if the game is not refused.
+/// Plays the game of the first file line by line, while it reads the script of the second. It selects the script only if the game is not refused.
 pub(crate) fn step_files<R: Threads + Sync, F: Files, K: Sink>(
     rt: &R,
     alloc: Global,

@@ -1,4 +1,4 @@
-// The command that shows the standings of the teams of several games.
+// Writes the standings of the teams of several games.
 ghost use Rattle.std.specs.Prelude.{◌≡◌, ◌+◌, ◌*◌, ◌/◌, ◌≤◌, ◌<◌, ℕ, List, [], ◌∷◌, length, string_len, All, IfErr, IfOk, IfSome, OnOk};
 ghost use Rattle.tac_commands.specs.{WritesDue, table_steps, in_pairs, EndsAtPair, TableGoesOn, HasAdded, IsAdded, outcome_of};
 ghost use Rattle.tac_commands.specs.Prelude.{FILE_NAMES, NAME_BYTES, known_then, GameFile, LoggedGame, IsSound, IsPrinted, AreStandingsOf};
@@ -23,7 +23,7 @@ use tourney::{Standings, print_standings};
 /// Why a table is not written.
 #[derive(Clone, Copy, Debug, PartialEq, Eq)]
 enum TableFault {
-    /// This is to be written in its place.
+    /// This is to be written in place of the table.
     Refused(Refusal),
     /// The log of this pair, counted from 0, is not sound.
     Unsound(u8),
@@ -82,7 +82,7 @@ fn add_pair<F: Files>(
     add_sound(alloc, standings, &game, &log, pair)
 }
 
-/// The standings of all pairs of a game and its log; or why there are none, by the first pair with a fault. No later file is selected.
+/// Returns the standings of all pairs of a game and its log, or the first fault of a pair. After it no later file is selected.
 fn add_pairs<F: Files>(
     alloc: Global,
     names: &[String],
@@ -128,7 +128,7 @@ fn write_unsound<K: Sink>(pair: u8, out: &mut K) -> End
     }
 }
 
-/// Writes the standings over the games and logs of these names, in turn. The text is written after all of them were read and judged.
+/// Writes the standings over the games and logs of these names, in turn. It reads and judges all of them before it writes the text.
 pub(crate) fn table_files<F: Files, K: Sink>(
     alloc: Global,
     names: &[String],

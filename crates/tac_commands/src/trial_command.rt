@@ -1,4 +1,4 @@
-// The command that plays a made game by a made script.
+// Plays a made game by a made script.
 ghost use Rattle.std.specs.Prelude.{◌≡◌, ◌+◌, ◌≤◌, ◌++◌, IfOk};
 ghost use Rattle.tac_commands.specs.{MADE_REQUESTS, IsBidScript, IsSummary, IsTrial, WritesDue};
 ghost use Rattle.tac_commands.specs.Ends.{Ends, WritesWhole};
@@ -31,7 +31,7 @@ fn trial_line(seed: u64, count: u32) -> Text
     line
 }
 
-/// The agents' scores, each in a line of its own.
+/// The agents' scores, one per line.
 #[derive(Drop)]
 struct ScoreLines;
 
@@ -107,7 +107,7 @@ fn play_made<R: Threads + Sync>(
     }
 }
 
-/// Plays the made game by the made script, and writes how much happened and the scores.
+/// Plays the made game by the made script, and writes the counts and the scores.
 pub(crate) fn trial<R: Threads + Sync, K: Sink>(
     rt: &R,
     alloc: Global,

@@ -1,4 +1,4 @@
-// The command that judges the log of a game by the game, and then by one link.
+// Judges the log of a game by the game, and then by one link.
 ghost use Rattle.std.specs.Prelude.{◌≡◌, ◌+◌, ◌<◌, ◌≤◌, [], ◌∷◌, length, IfSome};
 ghost use Rattle.tac_commands.specs.{FILE_NAMES, LINK_BYTES, NAME_BYTES, MaySelect, IsSound, dialect_in, link_file_steps, link_steps, vouch_steps, EndsBatch, EndsSteps, EndsUnasked, Reads, file};
 ghost use Rattle.tac_commands.specs.Commands as commands;
@@ -22,7 +22,7 @@ use std::alloc::Global;
 use tac_base::{Agent, Text, print_numeral};
 use tac_io::{Files, Sink, write_all};
 
-/// The line that is written of the first difference between a log and a link.
+/// The line that reports the first difference between a log and a link.
 fn difference_text(difference: Difference) -> Text
     ensures { result ≡ texts.difference_text difference }
 {
@@ -37,7 +37,7 @@ fn difference_text(difference: Difference) -> Text
     }
 }
 
-/// The line of a link that is vouched for, all of so many lines.
+/// The line that vouches for a link, all of whose lines, this many, have replies.
 fn whole_text(agent: Agent, lines: u32) -> Text
     ensures { result ≡ texts.whole_text agent lines }
 {
@@ -50,7 +50,7 @@ fn whole_text(agent: Agent, lines: u32) -> Text
     text
 }
 
-/// The line of a link that was cut after so many replies, with the number of the lines after them that left a call or a reading.
+/// The line that vouches for a link up to this many replies, with the number of later lines that left a call or a reading.
 fn cut_text(agent: Agent, lines: u32, after: u32) -> Text
     ensures { result ≡ texts.cut_text agent lines after }
 {
@@ -65,7 +65,7 @@ fn cut_text(agent: Agent, lines: u32, after: u32) -> Text
     text
 }
 
-/// Writes what was found of a link.
+/// Writes the result for a link.
 fn write_vouching<K: Sink>(vouching: Vouching, out: &mut K) -> End
     ensures { Ends (λ outcome. outcome ≡ texts.vouching_outcome vouching) (K.state out.old) (K.state out.new) result }
 {
@@ -95,7 +95,7 @@ fn write_vouching<K: Sink>(vouching: Vouching, out: &mut K) -> End
     }
 }
 
-/// Judges a sound log by what a link asked and what it was said, and writes what was found.
+/// Judges a sound log by what a link asked and what it was sent, and writes the result.
 fn judge_link<D: KnownDialect, K: Sink>(
     alloc: Global,
     game: &Game,
@@ -115,7 +115,7 @@ fn judge_link<D: KnownDialect, K: Sink>(
     }
 }
 
-/// Judges a sound log by what a link asked and the file of what it was said.
+/// Judges a sound log by what a link asked, and by the file of what it was sent.
 fn judge_said<D: KnownDialect, F: Files, K: Sink>(
     alloc: Global,
     game: &Game,
@@ -169,7 +169,7 @@ fn judge_files<D: KnownDialect, F: Files, K: Sink>(
     }
 }
 
-/// Judges a sound log by the two files of a link that speaks lines of this form.
+/// Judges a sound log by the two files of a link whose lines have this form.
 fn judge_form<F: Files, K: Sink>(
     alloc: Global,
     game: &Game,
@@ -224,7 +224,7 @@ fn vouch_log<F: Files, K: Sink>(
     }
 }
 
-/// Judges the log of that name by a game, and by the two files of a link.
+/// Judges the log in the file of this name by a game, and by the two files of a link.
 fn vouch_by_file<F: Files, K: Sink>(
     alloc: Global,
     game: &Game,
@@ -246,7 +246,7 @@ fn vouch_by_file<F: Files, K: Sink>(
     }
 }
 
-/// Judges the log of the second file by the game of the first, and then by the link of the last two: these are read only if the log is sound.
+/// Judges the log of the second file by the game of the first, and then by the link of the last two. It reads these only if the log is sound.
 pub(crate) fn vouch_files<F: Files, K: Sink>(
     alloc: Global,
     game: &str,

@@ -32,7 +32,7 @@ pub(crate) enum BatchCommand<'a> {
     Solve {
         account: &'a str,
     },
-    /// What one unit more and one unit less of each good of an account would change.
+    /// What one unit more and one unit less of each good would change for an account.
     Worth {
         account: &'a str,
     },
@@ -41,7 +41,7 @@ pub(crate) enum BatchCommand<'a> {
         game: &'a str,
         script: &'a str,
     },
-    /// A game, played line by line as a script is read.
+    /// A game, played line by line while a script is read.
     Step {
         game: &'a str,
         script: &'a str,
@@ -56,7 +56,7 @@ pub(crate) enum BatchCommand<'a> {
         game: &'a str,
         log: &'a str,
     },
-    /// The log of a game, judged by the game, and then by what a link asked and what it was said, in a form of lines.
+    /// The log of a game, judged by the game, and then by what a link asked and what it was sent, in a form of lines.
     Vouch {
         game: &'a str,
         log: &'a str,
@@ -70,7 +70,7 @@ pub(crate) enum BatchCommand<'a> {
     },
 }
 
-/// The command of a word and one more.
+/// Returns the command of a word and one more.
 fn batch_with<'a>(word: &str, argument: &'a str) -> Option<BatchCommand<'a>>
     ensures command { MatchOption result (commands.batch_with word.now argument.now ≡ None)
         (λ asked. commands.batch_with word.now argument.now ≡ Some (seen_batch asked)) }
@@ -94,14 +94,14 @@ fn batch_with<'a>(word: &str, argument: &'a str) -> Option<BatchCommand<'a>>
     }
 }
 
-/// The seed of a word.
+/// Returns the seed of a word.
 fn seed_of(word: &str) -> Option<u64>
     ensures { result ≡ below (2 ^ 64) (numeral 20 word.now) }
 {
     read_numeral(word.as_bytes(), 20)
 }
 
-/// The count of a word.
+/// Returns the count of a word.
 fn count_of(word: &str) -> Option<u32>
     ensures value { result ≡ below (MADE_REQUESTS + 1) (numeral 5 word.now) }
     ensures few { IfSome result (λ count. count ≤ MADE_REQUESTS) }
@@ -112,7 +112,7 @@ fn count_of(word: &str) -> Option<u32>
     }
 }
 
-/// The trial of a seed and a count.
+/// Returns the trial of a seed and a count.
 fn trial_of<'a>(seed: Option<u64>, count: Option<u32>) -> Option<BatchCommand<'a>>
     requires { IfSome count (λ count. count ≤ MADE_REQUESTS) }
     ensures command { MatchOption result (commands.trial_of seed count ≡ None) (λ asked. commands.trial_of seed count ≡ Some (seen_batch asked)) }
@@ -128,7 +128,7 @@ fn trial_of<'a>(seed: Option<u64>, count: Option<u32>) -> Option<BatchCommand<'a
     Some(BatchCommand::Trial { seed, count })
 }
 
-/// The command of a word and two more.
+/// Returns the command of a word and two more.
 fn batch_with_two<'a>(word: &str, first: &'a str, second: &'a str) -> Option<BatchCommand<'a>>
     ensures command { MatchOption result (commands.batch_with_two word.now first.now second.now ≡ None)
         (λ asked. commands.batch_with_two word.now first.now second.now ≡ Some (seen_batch asked)) }
@@ -157,7 +157,7 @@ fn batch_with_two<'a>(word: &str, first: &'a str, second: &'a str) -> Option<Bat
     }
 }
 
-/// The audit of a log by a link, in a form of lines, if the word asks for it.
+/// Returns the audit of a log by a link, in a form of lines, if the word requests it.
 fn vouch_with<'a>(
     word: &str,
     game: &'a str,
@@ -185,7 +185,7 @@ fn vouch_with<'a>(
     }
 }
 
-/// The table of the games and logs of these names, in turn.
+/// Returns the table of the games and logs of these names, in turn.
 fn table_of(names: &[String]) -> Option<BatchCommand<'_>>
     ensures command { MatchOption result (commands.table_of (bytes_of_words names.now) ≡ None)
         (λ asked. commands.table_of (bytes_of_words names.now) ≡ Some (seen_batch asked)) }
@@ -199,7 +199,7 @@ fn table_of(names: &[String]) -> Option<BatchCommand<'_>>
     }
 }
 
-/// The command of a word and those after it, by their number.
+/// Returns the command of a word and the words after it, by their number.
 fn batch_by_count<'a>(word: &str, others: &'a [String]) -> Option<BatchCommand<'a>>
     ensures command { MatchOption result (commands.batch_by_count word.now (bytes_of_words others.now) ≡ None)
         (λ asked. commands.batch_by_count word.now (bytes_of_words others.now) ≡ Some (seen_batch asked)) }
@@ -235,7 +235,7 @@ fn batch_by_count<'a>(word: &str, others: &'a [String]) -> Option<BatchCommand<'
     }
 }
 
-/// The command that the words ask for, if they ask for one that needs no links.
+/// Returns the command that the words request, if they request one that needs no links.
 pub(crate) fn batch_asked(words: &[String]) -> Option<BatchCommand<'_>>
     ensures command { MatchOption result (batch_of (bytes_of_words words.now) ≡ None)
         (λ asked. batch_of (bytes_of_words words.now) ≡ Some (seen_batch asked)) }

@@ -1,4 +1,4 @@
-// The command that shows what one unit more and one unit less of each good would change.
+// Writes what one unit more and one unit less of each good would change.
 ghost use Rattle.std.specs.Prelude.{IfOk};
 ghost use Rattle.tac_commands.specs.Allowed.{IsValued, WritesDue};
 ghost use Rattle.tac_commands.specs.Commands as commands;
@@ -40,7 +40,7 @@ fn write_worths<K: Sink>(alloc: Global, account: &Account, out: &mut K) -> End
     }
 }
 
-/// Writes the worths of the account of the file of that name.
+/// Writes the worths of the account in the file of this name.
 pub(crate) fn worth_file<F: Files, K: Sink>(
     alloc: Global,
     name: &str,

@@ -1,4 +1,4 @@
-// What a command leaves.
+// The result of a command.
 ghost use Rattle.std.specs.Prelude.{◌≡◌, [], None};
 ghost use Rattle.tac_commands.specs.Codes.{code_number};
 
@@ -7,7 +7,7 @@ use game_log::LogHead;
 use std::alloc::Global;
 use tac_commands::Code;
 
-/// A game that was played over links: what its log says of the links, and its histories.
+/// A game that was played over links: the head of its log, and its histories.
 #[derive(Drop)]
 pub struct Played {
     pub head: LogHead,
@@ -23,7 +23,7 @@ pub struct Answer<L> {
     pub played: Option<Played>,
 }
 
-/// The code alone.
+/// An answer that has only a code.
 pub(crate) fn coded<L>(alloc: Global, code: Code) -> Answer<L>
     ensures code { result.code ≡ code_number code }
     ensures ended { result.ended.items ≡ [] }

@@ -2,10 +2,10 @@
 use crate::tests::{NO_FAULT, SERVED, TRADES, changed, check, log_of};
 use std::test::Fail;
 
-// A part of a log that is left as it is.
+// A change that leaves a part of the log as it is.
 const KEPT: (&str, &str) = ("\nend\n", "\nend\n");
 
-// What is changed in the log, twice where one change is not enough, and what is written of it then.
+// What is changed in the log, twice if one change is not enough, and the code and the text that are then due.
 const JUDGED: &[((&str, &str), (&str, &str), u8, &str)] = &[
     (KEPT, KEPT, 0, "sound\n"),
     (("\nplay\n", SERVED), KEPT, 0, "sound\n"),

@@ -1,4 +1,4 @@
-// Laws of served games and their links.
+// Laws about served games and their links.
 ghost use Rattle.std.specs.Prelude.{◌≡◌, ◌⊎◌, ℕ, List};
 ghost use Rattle.tacd.specs.Prelude.{LinksState, GameFile, Scored, head_of, GameEnd, IsGameEnd, IsLinkOfLog, Outside, Service};
 ghost use Rattle.tac_commands.specs.SoundTexts.{log_of_game};
@@ -15,8 +15,8 @@ pub(crate) fn served_links<L: Link>()
         (agent : ℕ) (asked said : List ℕ) → IsSeatedWith L.state (links_of L.state is) agent asked said → IsLinkOfLog (hosted_by service game) (log_of_game (head_of end.head) end.closed sheet) agent asked said }
 {}
 
-/// The law of vouched services, as this call's contract: the log of each served game, that of a service which ends with code 0 or 6, is
-/// vouched for by the bytes of each link with a seat, where they are known and its welcome was sent whole.
+/// The law of vouched services, as this call's contract: the log of each game served by a service that ends with code 0 or 6 is
+/// vouched for by the bytes of each link with a seat, if they are known and its welcome was sent whole.
 pub(crate) fn vouched_services<L: Link>()
     ensures { (service : Service) (before after : Outside L) (answer : Answer L) → Serves L.state service before after answer → (answer.code ≡ 0) ⊎ (answer.code ≡ 6) →
         IsVouchedService L.state service before after answer }

@@ -54,7 +54,7 @@ use tac_io::Sink;
 use tcp_links::TcpLinks;
 use top::tac;
 
-/// The words of the command line after the program's name. One that is not UTF-8 is in no command.
+/// Returns the words of the command line after the program's name. A word that is not UTF-8 is in no command.
 fn command_line<R: Env + AllocGlobal>(rt: &R) -> Result<Vec<String>, Refusal> {
     match collected(rt) {
         Ok(words) => Ok(words),
@@ -71,14 +71,14 @@ fn collected<R: Env + AllocGlobal>(rt: &R) -> io::Result<Vec<String>> {
     Ok(words)
 }
 
-/// The status of a process that ran a command: the code of its answer.
+/// The exit status of a process that ran a command: the code of its answer.
 fn status<L>(answer: &Answer<L>) -> ExitCode
     ensures { exit_status result ≡ answer.now.code }
 {
     ExitCode::from(answer.code)
 }
 
-/// The status of a process whose words were not read: the code of what is written in their place.
+/// The exit status of a process whose words could not be read: the code of what is written in their place.
 fn refused_status<K: Sink>(out: &mut K, refusal: Refusal) -> ExitCode
     ensures { Finishes (ends.Refused refusal) (K.state out.old) (K.state out.new) (exit_status result) }
 {

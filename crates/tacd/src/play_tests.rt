@@ -2,11 +2,11 @@
 use crate::tests::{BIDS, Case, NO_FAULT, TRADES, check, check_all};
 use std::test::Fail;
 
-// What the agents are told there.
+// The replies to the agents there.
 const TRADES_TOLD: &str =
     "0 @0 taken 1 0\n0 @0 taken 1 0\n0 @0 taken 0 0\n1 @0 taken 0 0\n0 @1 taken 1 0\n2 @2 taken 1 0\n1 @3 own -2 ()\n0 @4 cash -660\n0 @1 quote 0 0 open\ntaclog 1\nplay\nauction 0 55\n";
 
-// What the agent is told of them.
+// The replies to them.
 const BIDS_TOLD: &str =
     "0 @0 taken 16 0\n0 no bid 3\n0 no bid 4\n0 no bid 4\n0 no bid 5\n0 no bid 1\n0 no bid 2\n0 no auction\n0 no syntax\ntaclog 1\nplay\nauction 0 55\n";
 
@@ -96,9 +96,9 @@ fn games_are_made_played_and_scored(rt: HostRuntime) -> Result<(), Fail> {
     check_all(&rt, rt.alloc(), GAMES)
 }
 
-// A line, lines of its script and how many times they come, the last lines, and what is due.
+// A line, lines of its script and how often they occur, the last lines, and the code and the text that are due.
 const LONG: &[(&str, &str, usize, &str, u8, &[&str])] = &[
-    // An agent has 1024 calls of an auction, and its clock 64.
+    // An agent has 1024 calls at an auction, and the clock 64.
     (
         "hotel script",
         "0 bid ((1 1))\n",

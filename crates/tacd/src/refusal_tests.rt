@@ -1,4 +1,4 @@
-// Words that are no command, and files that are refused.
+// Words that are not a command, and files that are refused.
 use crate::tests::{Case, NO_FAULT, check, check_all};
 use std::test::Fail;
 
@@ -35,7 +35,7 @@ const NO_COMMANDS: &[&str] = &[
     "serve script 7411 5 json json",
 ];
 
-// A game is selected, read, and read at its end, before its script is selected; no script is selected where the game is refused.
+// A game is selected, read, and read at its end, before its script is selected; no script is selected if the game is refused.
 const REFUSED: &[Case<'static>] = &[
     ("show bad", "", 0, 2, &["game 20 4\n"]),
     (

@@ -1,4 +1,4 @@
-// The command that serves a game over links.
+// Serves a game over links.
 ghost use Rattle.std.specs.Prelude.{◌≡◌, ◌∷◌, [], IfSome};
 ghost use Rattle.tacd.specs.{known_then, code_number, seen_service, EndsOrStops, Reports, Outcome, outside_of, hosted_game, missed_of, FilesState, MaySelect, head_of, at_pace, Serves, ServesGame};
 ghost use Rattle.tacd.specs.Finishing as finishing;
@@ -45,7 +45,7 @@ fn write_log<R: Threads + Sync, K: Sink>(
     }
 }
 
-/// How many ticks lapsed in a game.
+/// The number of ticks that lapsed in a game.
 fn missed(head: &LogHead) -> u8
     ensures { result ≡ missed_of (head_of head.now) }
 {
@@ -55,7 +55,7 @@ fn missed(head: &LogHead) -> u8
     }
 }
 
-/// The code of a game that was played: that of a lapsed tick if no other applies.
+/// The code of a played game: that of a lapsed tick if no other applies.
 fn lapsed_code(code: Code, missed: u8) -> Code
     ensures { result ≡ finishing.lapsed_code code missed }
 {
@@ -65,7 +65,7 @@ fn lapsed_code(code: Code, missed: u8) -> Code
     }
 }
 
-/// Writes the log of a game that was played, and gives the code.
+/// Writes the log of a game that was played, and returns the code.
 fn finish_played<R: Threads + Sync, K: Sink>(
     rt: &R,
     alloc: Global,
@@ -115,7 +115,7 @@ fn serve_game<
                 links: ended,
             },
         ) => {
-            // The law that what was played keeps to the ranges of logs.
+            // By this law, what was played keeps to the ranges of logs.
             log_ranges(game, &head, &closed);
             let played = Played { head, closed };
             let code = finish_played(rt, alloc, game, &played, out);

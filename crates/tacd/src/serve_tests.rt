@@ -22,7 +22,7 @@ use tac_io::{
 // The words that serve the plain game.
 const SERVE: &str = "serve game 7411 5";
 
-// Serves the plain game over the links, and no tick lapses.
+// Serves the plain game over the links, without a lapsed tick.
 fn serve<R: Threads + Sync + Wait + Clock, L: Link + Send + Drop>(
     rt: &R,
     alloc: Global,
@@ -73,7 +73,7 @@ fn links(alloc: Global, given: &[&[u8]], most_at_once: usize) -> Result<Vec<MemL
     Ok(links)
 }
 
-// Serves the plain game over links. Fails where the code is another, the text does not begin so, or a link was sent anything but its two
+// Serves the plain game over links. Fails if the code is another, the text does not begin so, or a link was sent anything but its two
 // texts.
 fn check<R: Threads + Sync + Wait + Clock>(
     rt: &R,
@@ -99,7 +99,7 @@ fn check<R: Threads + Sync + Wait + Clock>(
     Ok(served)
 }
 
-// What four links ask: one takes a seat and leaves, one has a word of no seat, one wants the same seat, and one does not greet.
+// What four links send: one takes a seat and leaves, one has a word of no seat, one wants the same seat, and one does not greet.
 const FOUR: [&[u8]; 4] = [
     b"hello seat0\nquit\n",
     b"hello nobody\n",
@@ -107,13 +107,13 @@ const FOUR: [&[u8]; 4] = [
     b"hi\n",
 ];
 
-// What three links ask that take seats.
+// What three links send that take seats.
 const SEATED: [&[u8]; 3] = [b"hello seat0\n", b"hello seat1\n", b"hello seat2\n"];
 
 const FOUR_HEADS: &str =
     "taclog 1\nserve\nlink 0 seated 0\nlink 1 wrongword\nlink 2 taken\nlink 3 syntax\nend 0 quit\nmissed 0\nauction 0 54\n";
 
-// What the agent of the first seat is sent first.
+// What the agent of the first seat is sent at first.
 const WELCOME: &str =
     "welcome 0\nendow 0 0 0 0 0 0 0 0 0 0 0 0 0\nclient 0 0 1 2 100 0 0 100\nclient 0 1 1 2 100 0 0 100\nclient 0 2 1 2 100 0 0 100\nclient 0 3 1 2 100 0 0 100\nclient 0 4 1 2 100 0 0 100\nclient 0 5 1 2 100 0 0 100\nclient 0 6 1 2 100 0 0 100\nclient 0 7 1 2 100 0 0 100\n";
 
@@ -125,7 +125,7 @@ const FOUR_SENT: &[(&str, &str)] = &[
     ("", "refused syntax\n"),
 ];
 
-// The call of the links that fails, and what those that were taken were sent. The first call listens, and each later one gives a link.
+// The call of the links that fails, and what the links taken were sent. The first call listens, and each later one gives a link.
 const LINKS_FAIL: &[(u64, &[(&str, &str)])] = &[
     (1, &[]),
     (3, &[("", "")]),
@@ -160,7 +160,7 @@ fn games_are_served_or_their_links_fail(rt: HostRuntime) -> Result<(), Fail> {
     Ok(())
 }
 
-// How many bytes a line has, what comes behind it, what the link is sent then, and the cause of its end.
+// The length of a line in bytes, what follows it, what the link is sent then, and the cause of its end.
 const LONG_LINES: &[(usize, &str, &str, &str)] = &[
     (512, "\n", "no syntax\n", "end"),
     (513, "\nquit\n", "no toolong\nbye\n", "quit"),
@@ -190,12 +190,12 @@ fn a_line_has_at_most_512_bytes(rt: HostRuntime) -> Result<(), Fail> {
     Ok(())
 }
 
-// How many entries of the clock stand in the log.
+// The number of the clock's entries in the log.
 fn count_clock(text: &[u8]) -> Result<usize, Fail> {
     Ok(str::from_utf8(text)?.matches("\n8 ").count())
 }
 
-// What 64 links and one too many ask, and what the 64 are sent.
+// What 64 links and one too many send, and what the 64 are sent.
 const UNSEATED: &[&[u8]] = &[HI; 65];
 
 const HI: &[u8] = b"hi\n";
@@ -248,7 +248,7 @@ fn the_fault_of_a_link_ends_its_session_alone(rt: HostRuntime) -> Result<(), Fai
     Ok(())
 }
 
-// Serves the plain game to four links by a ticker that lapses from a tick on, up to another.
+// Serves the plain game to four links by a ticker that lapses from one tick up to another.
 fn serve_lapsing<R: Threads + Sync + Wait + Clock>(
     rt: &R,
     alloc: Global,
@@ -264,7 +264,7 @@ fn serve_lapsing<R: Threads + Sync + Wait + Clock>(
     serve_by(rt, alloc, SERVE, given, NO_FAULT, &mut ticker)
 }
 
-// The first tick that lapses, the first behind it that does not, and what the log tells of them.
+// The first tick that lapses, the first after it that does not, and what the log says about them.
 const LAPSES: &[(u64, u64, &str)] = &[
     (20, 21, "\nend 0 quit\nmissed 1\nauction 0 54\n"),
     (1, 55, "\nend 0 quit\nmissed 54\nauction 0 54\n"),
@@ -284,7 +284,7 @@ fn the_calls_of_lapsed_ticks_are_made(rt: HostRuntime) -> Result<(), Fail> {
     Ok(())
 }
 
-// Each tick is due once a link was sent a number of lines, at a pace of 5 milliseconds. Each that is waited for before that pace was set
+// Each tick is due once a link was sent a number of lines, at a pace of 5 milliseconds. Each tick that is waited for before that pace was set
 // lapses.
 #[derive(Drop)]
 struct PacedLook {
@@ -328,8 +328,8 @@ fn held(
     Ok(HeldLink::new(link, Arc::try_clone(sent)?, hold))
 }
 
-// Prints how a run ended if a word of one byte stands behind the test's name, as in checks/refused_memory.py: its code, and how many lines
-// its links were sent; its text; and what each link that it gave back was sent. Each part has a form feed behind it.
+// Prints how a run ended if a word of one byte follows the test's name, as in checks/refused_memory.py: its code, and how many lines
+// its links were sent; its text; and what each link that it gave back was sent. A form feed follows each part.
 fn tell<R: Env + Print>(rt: &R, ran: &Ran<HeldLink>, sent: &[&LinesSent]) -> Result<(), Fail> {
     if rt.arg(2, &mut [0]).is_err() {
         return Ok(());
@@ -347,11 +347,11 @@ fn tell<R: Env + Print>(rt: &R, ran: &Ran<HeldLink>, sent: &[&LinesSent]) -> Res
     Ok(rt.print("\x0c")?)
 }
 
-// What an agent asks in JSON.
+// What an agent requests in JSON.
 const JSON_ASKED: &[u8] =
     b"hello seat0\n{\"do\":\"bid\",\"auction\":0,\"points\":[[1,300]]}\n{\"auction\":0,\"do\":\"quote\"}\n{\"do\":\"bid\",\"auction\":0,\"points\":[]}\n{\"do\":\"own\",\"auction\":28}\n{\"do\":\"cash\",\"x\":1}\n{\"do\":\"quit\"}\n";
 
-// What it is told after its welcome.
+// What it is sent after its welcome.
 const JSON_TOLD: &str =
     "{\"at\":0,\"taken\":[1,0]}\n{\"at\":1,\"quote\":[0,300],\"open\":true}\n{\"no\":\"bid\",\"fault\":1}\n{\"no\":\"auction\"}\n{\"no\":\"syntax\"}\n{\"bye\":true}\n";
 
@@ -379,7 +379,7 @@ fn agents_may_speak_json(rt: HostRuntime) -> Result<(), Fail> {
     Ok(())
 }
 
-// What the agents of the other seats ask.
+// What the agents of the other seats send.
 const OTHERS: &[&[u8]] = &[
     b"hello seat2\nquit\n",
     b"hello seat3\nquit\n",
@@ -454,7 +454,7 @@ fn links_come_over_the_loopback(rt: HostRuntime) -> Result<(), Fail> {
     drop(client);
     assert_eq!(rt; link.read(&mut into).ok(), Some(0));
     assert_eq!(rt; (link.faults(), link.write_faults()), (0, 0));
-    // A peer that leaves with bytes unread resets its connection, which is a fault, and no end.
+    // A peer that leaves with bytes unread resets its connection, which is a fault and not an end.
     let mut client = TcpStream::connect(&rt, ("127.0.0.1", 28471))?;
     let mut link = links.next().ok().ok_or("next")?.ok_or("a link")?;
     assert_eq!(rt; link.write(b"xyz\n").ok(), Some(4));

@@ -44,7 +44,7 @@ impl SleepTicker {
         }
     }
 
-    /// How long the time of a tick is still to come, where so much time is over since the first wait began.
+    /// The time left until a tick, when this much time has passed since the first wait began.
     fn left(&self, tick: u8, over: Duration) -> Duration
         ensures { as_nanos result ≡ min (as_nanos self.now.pace * tick) max_nanos - as_nanos over }
     {
@@ -52,7 +52,7 @@ impl SleepTicker {
         due.saturating_sub(over)
     }
 
-    /// Sleeps until the time of a tick, if it is still to come.
+    /// Sleeps until the time of a tick, unless it has passed.
     fn sleep<R: Wait + Clock>(&mut self, rt: &R, tick: u8) -> io::Result<()>
         ensures faults { self.new.faults ≡ self.old.faults }
         ensures pace { self.new.pace ≡ self.old.pace }

@@ -6,8 +6,8 @@ ghost use Rattle.tacd.specs.Prelude.{HasCause, NotesFailure, Takes};
 use std::io::Write;
 use tac_io::{Failed, Sink};
 
-/// A writer of the system as a sink. It counts its faults; no clause says what it took. That the writer took just that, a clause of
-/// `write` says for every writer whose content is known.
+/// A writer of the system as a sink. It counts its faults. No clause says what it took; for every writer whose content is known, a clause
+/// of `write` says that the writer took just that.
 #[derive(Drop)]
 pub(crate) struct StdSink<W> {
     writer: W,

@@ -1,10 +1,10 @@
-// Games that are played line by line, as their scripts come.
+// Games that are played line by line, while their scripts are read.
 use crate::tests::{
     BIDS, Case, FIRST_CLIENT, Faults, NO_FAULT, TRADES, check, check_all, plain_game, run,
 };
 use std::test::Fail;
 
-// How many bytes of a file come at once.
+// How many bytes one read of a file gives.
 const PIECES: &[usize] = &[1, 7, 1_000_000];
 
 // Scripts whose lines are good.
@@ -68,7 +68,7 @@ fn the_lines_before_a_bad_one_are_answered(rt: HostRuntime) -> Result<(), Fail> 
     Ok(())
 }
 
-// A game is selected, read, and read at its end, and then its script.
+// A game is selected, read, and read at its end, and then its script is.
 const UNREAD: &[Case<'static>] = &[
     ("step game other", "", 0, 3, &["fault read\n"]),
     ("step bad script", "0 cash\n", 4, 2, &["game 20 4\n"]),

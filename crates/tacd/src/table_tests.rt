@@ -9,20 +9,20 @@ use std::sync::Wait;
 use std::test::Fail;
 use std::thread::Threads;
 
-// The word `table`, and so many times a game and a log that is not sound.
+// The word `table`, and this many pairs of a game and a log that is not sound.
 fn table_of(alloc: Global, pairs: usize) -> Result<String, Fail> {
     let pairs = " game unsound".repeat(alloc, pairs)?;
     Ok(format!(in alloc; "table{pairs}")?)
 }
 
-// The standings after two games, in both of which was traded, and after three, in one.
+// The standings after two games, both with trades, and after three, one with trades.
 const TWICE: &str =
     "table 2\nteam seat0 2 880 440/1 1\nteam seat1 2 -560 -280/1 8\nteam seat2 2 -120 -60/1 7\nteam seat3 2 0 0/1 2\nteam seat4 2 0 0/1 2\nteam seat5 2 0 0/1 2\nteam seat6 2 0 0/1 2\nteam seat7 2 0 0/1 2\nend\n";
 
 const ONCE: &str =
     "table 3\nteam seat0 3 440 440/3 1\nteam seat1 3 -280 -280/3 8\nteam seat2 3 -60 -20/1 7\nteam seat3 3 0 0/1 2\nteam seat4 3 0 0/1 2\nteam seat5 3 0 0/1 2\nteam seat6 3 0 0/1 2\nteam seat7 3 0 0/1 2\nend\n";
 
-// Who has no seat does not count, so five teams play once.
+// An agent without a seat does not count, so five teams play once.
 const SEATED: &str =
     "table 2\nteam seat0 2 440 220/1 1\nteam seat1 2 -280 -140/1 8\nteam seat2 2 -60 -30/1 7\nteam seat3 1 0 0/1 2\nteam seat4 1 0 0/1 2\nteam seat5 1 0 0/1 2\nteam seat6 1 0 0/1 2\nteam seat7 1 0 0/1 2\nend\n";
 
@@ -35,7 +35,7 @@ const TABLES: &[(&str, u8, &str)] = &[
     ("table game", 1, "usage\n"),
     ("table", 1, "usage\n"),
     ("table game idle game", 1, "usage\n"),
-    // Behind a log that is not sound no file is asked for.
+    // After a log that is not sound no file is selected.
     ("table game unsound game missing", 9, "unsound 0\n"),
     ("table game unsound missing idle", 9, "unsound 0\n"),
     ("table game unsound bad bad_log", 9, "unsound 0\n"),
@@ -48,7 +48,7 @@ const TABLES: &[(&str, u8, &str)] = &[
     ("table game idle game missing", 3, "fault read\n"),
 ];
 
-// Runs a line over files. Fails where the code or the text is another.
+// Runs a line over files. Fails if the code or the text is another.
 fn check<R: Threads + Sync + Wait + Clock>(
     rt: &R,
     alloc: Global,

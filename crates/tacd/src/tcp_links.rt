@@ -7,8 +7,8 @@ use std::io::{ErrorKind, Read, Write};
 use std::net::{Net, TcpListener, TcpStream};
 use tac_io::{Failed, Link, Links};
 
-/// A stream as a link, such as a TCP connection. It counts its faults; no clause says what goes over it. Clauses of `read` and `write`
-/// say that it passes on what the stream gave or took, and a failure as a fault, for every stream whose content is known.
+/// A stream as a link, such as a TCP connection. It counts its faults. No clause says what goes over it. For every stream whose content is
+/// known, clauses of `read` and `write` say that it passes on what the stream gave or took, and a failure as a fault.
 #[derive(Drop)]
 pub(crate) struct TcpLink<S> {
     stream: S,
@@ -105,7 +105,7 @@ impl<'a, R: Net<Listener = TcpListener, Stream = TcpStream>> TcpLinks<'a, R> {
         }
     }
 
-    /// The link of a connection. None is a fault, and not the end of the links, since peers may come at any time.
+    /// Returns the link of a connection. None is a fault, and not the end of the links, since peers may come at any time.
     fn link_or_fault(
         &mut self,
         stream: Option<TcpStream>,
@@ -125,16 +125,16 @@ impl<'a, R: Net<Listener = TcpListener, Stream = TcpStream>> TcpLinks<'a, R> {
     }
 }
 
-/// Waits for a connection, and gives it; None if it cannot be waited for any more.
+/// Waits for a connection, and returns it; None if it cannot wait any more.
 fn accept(listener: &TcpListener) -> Option<TcpStream> {
     for _ in 0..u64::MAX {
         match listener.accept() {
             Ok((stream, _)) => {
-                // A reply is one short line, to be sent at once. If that cannot be set, it is sent all the same.
+                // A reply is one short line, to be sent at once. If this option cannot be set, the reply is sent all the same.
                 let _ = stream.set_nodelay(true);
                 return Some(stream);
             }
-            // A peer that went away before it was taken ends no game.
+            // A peer that went away before it was taken does not end the game.
             Err(error) if error.kind() == ErrorKind::ConnectionAborted => {}
             Err(_) => return None,
         }
@@ -150,7 +150,7 @@ impl<'a, R: Net<Listener = TcpListener, Stream = TcpStream>> Links for TcpLinks<
     ghost state = { λ s. record { listens = is_some s.listener; ports = None; pending = None; faults = s.faults } };
 
     fn listen(&mut self, port: u16) -> Result<(), Failed> {
-        // If the machine has no addresses of version 6, they listen on those of version 4.
+        // If the machine has no IPv6 addresses, they listen on its IPv4 addresses.
         let bound = match TcpListener::bind(self.rt, ("::", port)) {
             Ok(listener) => Ok(listener),
             Err(_) => TcpListener::bind(self.rt, ("0.0.0.0", port)),

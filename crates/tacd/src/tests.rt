@@ -12,7 +12,7 @@ use std::thread::Threads;
 use tac_base::limits::NAME_BYTES;
 use tac_io::{Link, MemFile, MemFiles, MemLink, MemLinks, MemSink, MemTicker, Ticker};
 
-// What a run left: its code, what it wrote, the links that it took, and whether a game was played over them.
+// The result of a run: its code, what it wrote, the links that it took, and whether a game was played over them.
 #[derive(Drop)]
 pub(crate) struct Ran<L> {
     pub(crate) code: u8,
@@ -40,7 +40,7 @@ pub(crate) const NO_FAULT: Faults = Faults {
     given_at_once: 1_000_000,
 };
 
-// A size that no other growth has. A run stands between two growths of it, so that checks/refuse.c refuses none outside.
+// A size that no other growth has. A run lies between two growths of it, so that checks/refuse.c refuses none outside.
 const MARK: usize = 76_543;
 
 fn mark(alloc: Global) -> Result<(), Fail> {
@@ -48,7 +48,7 @@ fn mark(alloc: Global) -> Result<(), Fail> {
     Ok(())
 }
 
-// Runs the words of a line, parted by spaces, over files, each with its name, over links and a ticker. Every run of the tests is one of this.
+// Runs the words of a line, separated by spaces, over files, each with its name, over links and a ticker. Every run of the tests is made here.
 pub(crate) fn run_over<R: Threads + Sync + Wait + Clock, L: Link + Send + Drop, T: Ticker + Send>(
     rt: &R,
     alloc: Global,
@@ -123,7 +123,7 @@ pub(crate) fn run<R: Threads + Sync + Wait + Clock>(
     run_over(rt, alloc, line, files, Vec::new(alloc), &mut ticker, faults)
 }
 
-// What a line writes over files, without faults.
+// The text that a line writes over files, without faults.
 pub(crate) fn written<R: Threads + Sync + Wait + Clock>(
     rt: &R,
     alloc: Global,
@@ -149,7 +149,7 @@ pub(crate) fn log_of<R: Threads + Sync + Wait + Clock>(
     Ok(String::from_str(alloc, log)?)
 }
 
-// The text with its first part that is the first of the two made the other.
+// The text, with the first occurrence of the first of the two replaced by the other.
 pub(crate) fn changed(alloc: Global, text: &str, change: &(&str, &str)) -> Result<String, Fail> {
     let (before, behind) = text.split_once(change.0).ok_or("no such part")?;
     let mut whole = String::from_str(alloc, before)?;
@@ -161,7 +161,7 @@ pub(crate) fn changed(alloc: Global, text: &str, change: &(&str, &str)) -> Resul
 // A line, the script beside it, the read that fails, 0 for none, and what is due: the code, and the parts of the text.
 pub(crate) type Case<'a> = (&'a str, &'a str, u64, u8, &'a [&'a str]);
 
-// Runs a line over the plain game, one with a bad line 20, one with a scarce night and live quotes, an account and a script. Fails where the
+// Runs a line over the plain game, one with a bad line 20, one with a scarce night and live quotes, an account and a script. Fails if the
 // code is another, the text does not begin with the first of the parts, or lacks one of them, or the first is alone and not the whole text.
 pub(crate) fn check<R: Threads + Sync + Wait + Clock>(
     rt: &R,
@@ -207,7 +207,7 @@ pub(crate) fn check_all<R: Threads + Sync + Wait + Clock>(
     Ok(())
 }
 
-// Whether the text begins with the first of the parts, and has the others; or is the first, where that is alone.
+// Whether the text begins with the first of the parts, and has the others; or is the first, if that is alone.
 fn has_parts(text: &str, parts: &[&str]) -> bool {
     match parts {
         [whole] => text == *whole,
@@ -221,7 +221,7 @@ fn has_parts(text: &str, parts: &[&str]) -> bool {
 // The line of the first client.
 pub(crate) const FIRST_CLIENT: &str = "client 0 0 1 2 100 0 0 100\n";
 
-// The same, whose client leaves on the day on which it comes.
+// The same, but the client leaves on the day on which it arrives.
 pub(crate) const BAD_CLIENT: &str = "client 0 0 2 2 100 0 0 100\n";
 
 // A scarce night, and quotes that move with each bid.
@@ -278,7 +278,7 @@ fn agent_lines(alloc: Global) -> Result<String, Fail> {
     Ok(lines)
 }
 
-// The lines of the clients but the first.
+// The lines of the clients except the first.
 fn client_lines(alloc: Global) -> Result<String, Fail> {
     let mut lines = String::new(alloc);
     for number in 1..64 {

@@ -13,9 +13,9 @@ use std::thread::Threads;
 use tac_commands::{run_words, service_asked};
 use tac_io::{Files, Links, Sink, Ticker};
 
-/// Runs the command of the words of a command line after the program's name, over the files, the
-/// sink, the links and the ticker of the outside. Where the files tell the names that were selected,
-/// there is none yet, and each word has at most 1024 bytes.
+/// Runs the command of a command line, given by the words after the program's name, over the files,
+/// the sink, the links and the ticker of the outside. If the names of the selected files are known,
+/// there are none yet, and each word has at most 1024 bytes.
 pub fn tac<R: Threads + Sync + Wait + Clock, F: Files, K: Sink, N: Links, T: Ticker + Send>(
     rt: &R,
     alloc: Global,
@@ -29,11 +29,11 @@ pub fn tac<R: Threads + Sync + Wait + Clock, F: Files, K: Sink, N: Links, T: Tic
     requires short { IfSome (F.state files.old).names (λ _. All (λ word. string_len word ≤ NAME_BYTES) words.now) }
     requires ports { IfSome (N.state links.old).ports (λ ports. ports ≡ []) }
     requires ticks { IfSome (T.state ticker.old).waited (λ ticks. ticks ≡ []) }
-    // The outcome is one that the words and the files allow, and the files that were selected are those that it implies.
+    // The outcome is one that the words and the files allow, and the selected files are those that it implies.
     ensures outcome { (outcome : Outcome)
         × Allows (command_of (bytes_of_words words.now)) (F.state files.old) (F.state files.new) outcome
         × Reports outcome (K.state out.old) (K.state out.new) result.code }
-    // A game over links: the log shows what was played, and what each link asked and was sent.
+    // In a game over links, the log shows what was played, and what each link asked and was sent.
     ensures service { IfSome (service_of (bytes_of_words words.now)) (λ service. Serves N.Link.state service
         (outside_of (F.state files.old) (K.state out.old) (N.state links.old) (T.state ticker.old))
         (outside_of (F.state files.new) (K.state out.new) (N.state links.new) (T.state ticker.new)) result) }
@@ -51,7 +51,7 @@ pub fn tac<R: Threads + Sync + Wait + Clock, F: Files, K: Sink, N: Links, T: Tic
     ensures complete { IsComplete (command_of (bytes_of_words words.now))
         (outside_of (F.state files.old) (K.state out.old) (N.state links.old) (T.state ticker.old))
         (outside_of (F.state files.new) (K.state out.new) (N.state links.new) (T.state ticker.new)) result.code }
-    // A game that is played line by line is answered at once.
+    // A game that is played line by line has replied to all lines that came before the last read.
     ensures prompt { IsPromptCommand (command_of (bytes_of_words words.now)) (F.state files.old) (F.state files.new) (K.state out.old) (K.state out.new) }
     ensures names { Selects (command_of (bytes_of_words words.now)) (F.state files.old) (F.state files.new) result.code }
 {

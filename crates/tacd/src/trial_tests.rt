@@ -8,7 +8,7 @@ const IDLE_TRIAL: &str =
 
 const TRIALS: &[Case<'static>] = &[
     ("trial 7 0", "", 0, 0, &[IDLE_TRIAL]),
-    // No agent has 1024 requests at one good here, so each is an entry, beside the 480 of the clock.
+    // No agent has 1024 requests at one good here, so each is an entry, in addition to the 480 of the clock.
     (
         "trial 7 50000",
         "",

@@ -3,7 +3,7 @@ use crate::tests::{FIRST_CLIENT, NO_FAULT, SERVED, TRADES, changed, log_of, plai
 use std::alloc::Global;
 use std::test::Fail;
 
-// An agent, what its link asked behind its greeting, what it was said behind its ten lines, and the code and the text that are due.
+// An agent, what its link asked after its greeting, what it was sent after its ten lines, and the code and the text that are due.
 const LINKS: &[(u8, &str, &str, u8, &str)] = &[
     (
         2,
@@ -12,7 +12,7 @@ const LINKS: &[(u8, &str, &str, u8, &str)] = &[
         0,
         "vouched 2 whole 2\n",
     ),
-    // A reply that did not come, or not whole.
+    // A reply that did not arrive, or not whole.
     (2, "bid 24 ((1 70))\n", "", 0, "vouched 2 cut 0 1\n"),
     (2, "bid 24 ((1 70))\n", "@2 take", 0, "vouched 2 cut 0 1\n"),
     (
@@ -44,7 +44,7 @@ const LINKS: &[(u8, &str, &str, u8, &str)] = &[
         9,
         "unvouched line 2\n",
     ),
-    // An entry that no line asked.
+    // An entry that no line requested.
     (2, "quit\n", "bye\n", 9, "unvouched entry 24 2\n"),
     (
         0,
@@ -91,7 +91,7 @@ fn logs_are_judged_by_links(rt: HostRuntime) -> Result<(), Fail> {
     Ok(())
 }
 
-// What agent 2 was said behind its ten lines, in JSON.
+// What agent 2 was sent after its ten lines, in JSON.
 const ANSWERS: &str = "{\"at\":2,\"taken\":[1,0]}\n{\"bye\":true}\n";
 
 // A line, and the code and the text that are due.
@@ -109,7 +109,7 @@ const FILES: &[(&str, u8, &str)] = &[
     ),
     ("vouch game log none answers json", 9, "unvouched seat\n"),
     ("vouch game log objects missing", 3, "fault read\n"),
-    // The files of a link are read only behind a log that is sound.
+    // The files of a link are read only after a log that is sound.
     ("vouch game unsound missing missing", 9, "unsound score 0\n"),
     ("vouch game objects missing missing", 8, "text 1 1\n"),
     ("vouch log log missing missing", 2, "game 1 1\n"),

@@ -15,7 +15,7 @@ use tac_io::{Files, MemLink, MemLinks, MemSink, MemTicker, Sink, read_file, writ
 // Agent 0 buys 15 rooms.
 const HOTEL: &str = "0 bid ((15 100))\nclose\n";
 
-// How many runs end at a failed write, where the first write fails in the first of them, the second in the next, and so on until no write
+// The number of runs that end at a failed write, if the first write fails in the first run, the second in the next, and so on until no write
 // fails; each has code 4 and a first part of the text that is due, but not all of it.
 fn count_failed<R: Threads + Sync + Wait + Clock>(
     rt: &R,
@@ -42,7 +42,7 @@ fn count_failed<R: Threads + Sync + Wait + Clock>(
     Err(Fail::from("too many writes"))
 }
 
-// A line, how many bytes the sink takes at once, and how many writes fail at least.
+// A line, how many bytes the sink takes at once, and the least number of writes that fail.
 const WRITES: &[(&str, usize, u64)] = &[
     ("hotel hotel", 1, 41),
     ("show game", 100, 9),
@@ -73,7 +73,7 @@ fn each_write_fails_in_its_place(rt: HostRuntime) -> Result<(), Fail> {
     check(&rt, alloc, "hotel script", HOTEL, no_byte, 4, &[""])
 }
 
-// Writes a line to a file of the system, and gives how many bytes its sink took, and how many faults it counts.
+// Writes a line to a file of the system, and returns how many bytes its sink took, and how many faults it counts.
 fn write_line(rt: &HostRuntime, name: &str) -> Result<(Option<usize>, u64), Fail> {
     let mut sink = StdSink::new(File::create(rt, name)?);
     let taken = sink.write(b"close\n").ok();
@@ -93,7 +93,7 @@ fn the_ends_of_the_system_pass_bytes_on_and_count_faults(rt: HostRuntime) -> Res
     fs::remove_file(&rt, name)?;
     assert!(rt; files.select("no-such-file-of-a-test").is_err());
     assert_eq!(rt; files.faults(), 1);
-    // A folder is opened, and cannot be read.
+    // A folder can be opened, but not read.
     assert!(rt; read_file(rt.alloc(), &mut files, ".", 6).is_err());
     assert_eq!(rt; files.faults(), 2);
     Ok(())
@@ -125,7 +125,7 @@ fn play_file<R: Threads + Sync + Wait + Clock + rt::Files<File = File>>(
     Ok((answer.code, out.bytes().to_vec(alloc)?))
 }
 
-// The path of a file in this folder, which is named so many times before.
+// The path of a file in this folder, which the path names this many times before.
 fn long_path(alloc: Global, folders: usize, name: &str) -> Result<String, Fail> {
     let mut path = "./".repeat(alloc, folders)?;
     path.push_str(name)?;

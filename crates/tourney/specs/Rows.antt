@@ -10,7 +10,7 @@ abbrev pub signed : ℤ → ℕ → ℤ
 signed (pos total) dollars = pos dollars
 signed (negsuc total) dollars = neg_ℤ (pos dollars)
 
--- a total over this many games as a fraction in lowest terms with a positive denominator
+-- a total divided by this many games, as a fraction in lowest terms with a positive denominator
 pub record IsAverage (total : ℤ) (games : ℕ) (over : ℤ) (under : ℕ) : Type 0 where
   pub same : over *ℤ pos games ≡ total *ℤ pos under
   pub positive : 1 ≤ under

@@ -2,7 +2,7 @@
 use Rattle.std.specs.Prelude.{ℕ, ◌+◌, not, nat_lt, List, [], ◌∷◌, Bool, true, ℤ, pos, ◌+ℤ◌, ◌*ℤ◌, int_lt, map, filter, fold, count_by, slice_index_or, flat_map, bytes_eq}
 use Rattle.tourney.specs.Prelude.{agents, GameFile, Head, Play, Serve, LoggedGame, seatings}
 
--- whether an agent counts in a game: each does if a script was played, and otherwise those that were given their seat
+-- whether an agent counts in a game: each does if a script was played; otherwise those that were given their seat do
 abbrev pub counts : Head → ℕ → Bool
 counts Play agent = true
 counts (Serve verdicts ends missed) agent = nat_lt 0 (seatings verdicts agent)
@@ -32,7 +32,7 @@ teams_in results = firsts (map (λ result. result.0) results)
 abbrev pub results_with : List ℕ → List (List ℕ × ℤ) → List (List ℕ × ℤ)
 results_with word results = filter (λ result. bytes_eq word result.0) results
 
--- in how many games a team counts
+-- the number of games in which a team counts
 abbrev pub games_in : List (List ℕ × ℤ) → List ℕ → ℕ
 games_in results word = count_by (λ result. bytes_eq word result.0) results
 
@@ -40,7 +40,7 @@ games_in results word = count_by (λ result. bytes_eq word result.0) results
 abbrev pub total_in : List (List ℕ × ℤ) → List ℕ → ℤ
 total_in results word = fold ◌+ℤ◌ (pos 0) (map (λ result. result.1) (results_with word results))
 
--- ---- of games
+-- ---- over games
 
 abbrev pub teams : List (GameFile × LoggedGame) → List (List ℕ)
 teams played = teams_in (results played)
@@ -51,7 +51,7 @@ game_count played word = games_in (results played) word
 abbrev pub total : List (GameFile × LoggedGame) → List ℕ → ℤ
 total played word = total_in (results played) word
 
--- whether a total over this many games has a greater average than another one: n / d is above m / e if m * d is below n * e
+-- whether one total over this many games has a greater average than another: n / d is above m / e if m * d is below n * e
 abbrev pub is_above : ℤ → ℕ → ℤ → ℕ → Bool
 is_above total games other_total other_games = int_lt (other_total *ℤ pos games) (total *ℤ pos other_games)
 

@@ -32,7 +32,7 @@ standings_lines played rows = row_text (codes "table") (pos (length played) ∷ 
 abbrev pub standings_text : List (GameFile × LoggedGame) → List TeamRow → List ℕ
 standings_text played rows = text_of (standings_lines played rows)
 
--- the text after the standings of games were appended to another one
+-- the text after the standings of games were appended to it
 pub record IsPrinted (played : List (GameFile × LoggedGame)) (before after : List ℕ) : Type 0 where
   pub rows : List TeamRow
   pub are : AreRows played rows
