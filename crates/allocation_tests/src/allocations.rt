@@ -13,13 +13,13 @@ const HALF_DOLLARS: &str = "client 0 4 5 67 200 100 200\nclient 1 4 5 67 200 100
     client 2 4 5 67 200 100 200\nclient 3 4 5 148 200 100 200\nclient 4 4 5 56 200 100 200\n\
     client 5 4 5 83 200 100 200\nclient 6 4 5 133 100 100 100\nclient 7 4 5 143 100 100 100\n";
 
-/// Clients of whom several want the same. By the first rule the search leaves more parts than its limit, so that it begins anew.
+/// Clients several of whom want the same. By the first rule the search leaves more parts than its limit, so it begins anew.
 const SAME_WISHES: &str = "client 0 3 5 100 200 200 200\nclient 1 3 5 100 200 200 200\n\
     client 2 3 5 100 200 200 200\nclient 3 3 4 100 49 99 0\n\
     client 4 3 4 100 49 99 0\nclient 5 3 4 100 49 99 0\n\
     client 6 3 5 100 200 200 200\nclient 7 3 5 100 200 200 200\n";
 
-/// Holdings and clients, and what the best allocation is worth; an integer-program solver gives the totals of the last three.
+/// Holdings and clients, and the worth of the best allocation. An integer-program solver gives the totals of the last three.
 const ACCOUNTS: [(&str, &str, u32); 4] = [
     (ONE_SEAT, WRESTLING_FANS, 1150),
     (

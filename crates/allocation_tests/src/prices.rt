@@ -5,7 +5,7 @@ use packages::{Package, leaf_bound};
 use relaxation::{Relaxation, Split, SplitRule};
 use std::test::Fail;
 
-/// Clients of whose relaxation the best solution, which is the only one, has halves of packages.
+/// Clients whose relaxation has a single best solution, which has halves of packages.
 const HALVES: &str =
     "client 0 3 4 144 200 0 200\nclient 1 3 5 103 0 0 200\nclient 2 2 3 103 0 0 0\n\
     client 3 1 4 102 200 0 200\nclient 4 1 3 85 200 200 200\nclient 5 1 5 62 137 74 172\n\
@@ -55,8 +55,8 @@ fn split_is_the_one_that_the_rule_says(rt: HostRuntime) -> Result<(), Fail> {
     )?;
     let relaxation = Relaxation::new(&account);
     let prices = relaxation.prices_for(6052);
-    // The three free features have two values each with half a share. By an LP solver a part is worth at most 6150 where client 2's trip is
-    // fixed, 6085 where client 0's night in the museum is, and 6052 where client 7's night in the amusement park is.
+    // The three free features have two values each with half a share. By an LP solver a part is worth at most 6150 if client 2's trip is
+    // fixed, 6085 if client 0's night in the museum is, and 6052 if client 7's night in the amusement park is.
     let mut fixed = [[Some(0); 4]; 8];
     fixed[0] = [Some(0), Some(0), Some(0), None];
     fixed[2] = [None, Some(0), Some(0), Some(0)];
@@ -94,7 +94,7 @@ fn split_is_the_one_that_the_rule_says(rt: HostRuntime) -> Result<(), Fail> {
 
 #[test]
 fn split_has_the_fewest_open_parts_where_packages_are_whole(rt: HostRuntime) -> Result<(), Fail> {
-    // Some of each good is left over, so each client has a package that is worth most to it, 8650 dollars together, and all prices are 0.
+    // Some of each good is left over, so each client gets a package that is worth most to it, 8650 dollars together, and all prices are 0.
     let account = account(
         rt.alloc(),
         "9 9 9 9 9 9 9 9 9 9 9 9 9 9 9 9 9 9 9 9 9 9 9 9 9 9 9 9",

@@ -31,7 +31,7 @@ fn begin_two(
     Ok((lock, first, second))
 }
 
-/// The pass makes all its calls: posts, numbered from 0.
+/// Makes all calls of a pass: posts, numbered from 0.
 fn spend<R: Wait + Clock>(
     rt: &R,
     lock: &TurnLock<CashBook>,
@@ -53,7 +53,7 @@ fn spend<R: Wait + Clock>(
     pass
 }
 
-/// Each pass makes its calls in a thread of its own: the last one in parallel with all the others.
+/// Makes the calls of each pass in its own thread: those of the last one in parallel with all the others.
 fn spend_all<R: Threads + Wait + Clock + Sync>(
     rt: &R,
     lock: &TurnLock<CashBook>,
@@ -91,7 +91,7 @@ fn take_back(lock: &mut TurnLock<CashBook>, mut passes: Vec<Pass<CashBook>>)
     }
 }
 
-/// The book after callers made this many posts each, concurrently.
+/// Returns the book after callers made this many posts each, concurrently.
 fn posted<R: Threads + Wait + Clock + Sync>(
     rt: &R,
     alloc: Global,
@@ -107,7 +107,7 @@ fn posted<R: Threads + Wait + Clock + Sync>(
     Ok(lock.close())
 }
 
-/// How many posts a caller has, if they are numbered from 0 in their order.
+/// The number of posts of a caller, if they are numbered from 0 in order.
 fn posts_of(book: &CashBook, caller: u8) -> Option<u32> {
     let mut count = 0u32;
     for position in 0..2001 {

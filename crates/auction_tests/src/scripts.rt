@@ -4,7 +4,7 @@ use script_run::{PlayCount, play};
 use std::test::Fail;
 use tac_io::MemSink;
 
-/// Scripts and what is written of their lines, in the quiet game.
+/// Scripts and what is written for their lines, in the quiet game.
 const ROWS: [(&str, &str, (u32, u32)); 2] = [
     (
         "0 bid 24 ((1 80) (-1 70))\n0 bid 0 ((-1 300))\n0 withdraw 8\n0 withdraw 24\n",

@@ -23,7 +23,7 @@ fn begin_two(alloc: Global, game: &Game) -> Result<(Floor, Desk, Desk), Fail>
     Ok((floor, agent, clock))
 }
 
-/// Looks on: a tick is due where the first flight has an entry for each tick before it.
+/// Watches the game: a tick is due once the first flight has an entry for each tick before it.
 #[derive(Drop)]
 struct FlightLook<'a> {
     floor: &'a Floor,

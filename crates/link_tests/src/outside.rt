@@ -156,7 +156,7 @@ fn a_looking_ticker_lapses_where_no_tick_is_due(rt: HostRuntime) -> Result<(), F
     Ok(())
 }
 
-// A link of two lines. The second comes once another link was sent the ten lines of a welcome and
+// A link of two lines. The second arrives once another link was sent the ten lines of a welcome and
 // a reply.
 fn held<C: LineCount + Drop>(
     alloc: Global,
@@ -173,7 +173,7 @@ fn held<C: LineCount + Drop>(
     Ok(HeldLink::new(link, Arc::try_clone(lines_sent)?, Some(hold)))
 }
 
-// Welcomes a link and replies to each of its two lines. Says whether both came, the second not
+// Welcomes a link and replies to each of its two lines. Returns whether both arrived, the second not
 // before the other link was sent its reply.
 fn serves(link: HeldLink, other: &LinesSent) -> bool {
     let mut lines = Lines::new(link);
@@ -206,7 +206,7 @@ fn two_links_wait_for_one_another(rt: HostRuntime) -> Result<(), Fail> {
     Ok(())
 }
 
-// The second read looks for the other link's eleventh line, so many times at most.
+// The second read looks for the other link's eleventh line, at most this many times.
 #[test]
 fn a_held_read_fails_at_the_end_of_its_turns(rt: HostRuntime) -> Result<(), Fail> {
     let alloc = rt.alloc();
@@ -262,7 +262,7 @@ fn next_two<L: Link>(lines: &mut Lines<L>) -> Option<LineGot>
     }
 }
 
-// Puts the next answer at the end of a text: `[LINE]`, `long`, `end`, `failed` or `budget`. Says
+// Appends the next answer to a text: `[LINE]`, `long`, `end`, `failed` or `budget`. Returns
 // whether another may come.
 fn tell_next<L: Link>(lines: &mut Lines<L>, text: &mut Vec<u8>) -> Result<bool, AllocError>
     requires { goes_on (last_of lines.old) ≡ true }

@@ -26,7 +26,7 @@ impl Look for MeetingLook {
     }
 }
 
-/// The link of an agent. It is sent a reply, and asks for a quote once the count of another has come to a number.
+/// The link of an agent. It is sent a reply, and asks for a quote once the count of another has reached a number.
 fn held(
     alloc: Global,
     agent: u8,
@@ -47,7 +47,7 @@ fn held(
 }
 
 // The agents and the clock wait for one another in a ring: each agent for the first reply to the next one, the last agent for the calls of
-// tick 1, and the clock for the first reply to agent 0. So nobody of the nine may run before or after the others.
+// tick 1, and the clock for the first reply to agent 0. So none of the nine can run before or after the others.
 #[test]
 fn sessions_overlap(rt: HostRuntime) -> Result<(), Fail> {
     let alloc = rt.alloc();

@@ -1,8 +1,8 @@
 //! The public calls that users of the crates make, with their types, and the public fields and
-//! variants of what they take and give: if a type, the order of parameters, a field or a variant
+//! variants of what they take and return: if a type, the order of parameters, a field or a variant
 //! changes, this crate no longer compiles. A call is named by a pointer of its type: in a constant,
-//! which costs no proof, or, if it is a method, in a local. A call to which no pointer is had, as it
-//! is generic or lends its answer, is made in a closure. Nothing here is run.
+//! which needs no proof, or, if it is a method, in a local. A call to which there is no pointer, as
+//! it is generic or lends its result, is made in a closure. Nothing here is run.
 #![tactic(auto)]
 
 ghost use Rattle.std.specs.Prelude.{◌≡◌, ◌<◌, [], IfSome, length};
@@ -42,7 +42,7 @@ use tourney::*;
 use trade_ledger::*;
 use turn_lock::*;
 
-/// A call takes these arguments in this order, and gives this, or lends it of its first argument.
+/// A call takes these arguments in this order, and returns this, or a borrow of its first argument.
 macro_rules! call {
     ($($name:ident)::+ $(<$($of:ty),*>)? ($($argument:ident: $at:ty),*) -> $result:ty) => {
         let _ = |$($argument: $at),*| -> $result { $($name)::+ $(::<$($of),*>)? ($($argument),*) };
@@ -417,7 +417,7 @@ pub fn audits_and_standings() {
     shape!(struct TeamRow { team: u16, games: u8, total: i64, over: i64, under: u8, rank: u16 });
 }
 
-/// Of `link_audit`: the forms of lines in which it is known what a line asked.
+/// Of `link_audit`: the forms of lines that show what each line requested.
 pub fn known_dialects<D: KnownDialect>() {
     const _: fn() = known_dialects::<LineDialect>;
     const _: fn() = known_dialects::<JsonDialect>;

@@ -1,4 +1,4 @@
--- What each command does with its files and makes of their values, and so which outcomes the words and the files allow.
+-- What each command does with its files and their values, and so which outcomes the words and the files allow.
 use Rattle.std.specs.Prelude.{◌≡◌, ℕ, ◌<◌, ⊤, codes, List, [], ◌∷◌, ◌++◌, length, Option, Some, None, ◌≤ℤ◌, ◌<ℤ◌, pos}
 use Rattle.tac_commands.specs.Prelude.{GOODS, FilesState, GameFile, canonical_text, upgraded, AccountFile, IsSolvedText, made_game, made_script, Scored, GameLine as ScriptLine, PlayCount, hotel_out, IsSheetOf, closed_game, first_out, play_out, replies, IsSummary, LoggedGame, IsSound, Flaw, IsFirstFlaw, Dialect, Difference, Vouching, IsFirstDifference, IsJudged, IsYes, IsPrinted}
 use Rattle.good_worth.specs.Worth.{IsUp, IsDown, held}
@@ -19,24 +19,24 @@ use Rattle.tac_commands.specs.Steps.{Steps, Reads, Judges, Hears, EndsWith, file
 use Rattle.tac_commands.specs.Trials.{trial_text}
 use Rattle.tac_commands.specs.VouchingTexts.{difference_text, vouching_text}
 
--- the text that is due is written, or memory was refused
+-- the due text is written, or a memory allocation failed
 abbrev pub WritesDue : (List ℕ → Type 0) → Outcome → Type 0
 WritesDue IsDue (Done text) = IsDue text
 WritesDue IsDue (Refused Memory) = ⊤
 WritesDue IsDue outcome = ⊥
 
--- the text that is due is written, or its first part alone, if memory was refused for the rest
+-- the due text is written, or its first part alone, if a memory allocation failed for the rest
 abbrev pub WritesOrStops : (List ℕ → Type 0) → (List ℕ → Type 0) → Outcome → Type 0
 WritesOrStops IsDue IsFirst (Done text) = IsDue text
 WritesOrStops IsDue IsFirst (Stopped text Memory) = IsFirst text
 WritesOrStops IsDue IsFirst outcome = ⊥
 
--- the same, or memory was refused before anything was written
+-- the same, or a memory allocation failed before anything was written
 abbrev pub WritesInParts : (List ℕ → Type 0) → (List ℕ → Type 0) → Outcome → Type 0
 WritesInParts IsDue IsFirst (Refused Memory) = ⊤
 WritesInParts IsDue IsFirst outcome = WritesOrStops IsDue IsFirst outcome
 
--- the replies and the log of a game by the lines of a script, with some sheet of it; that log is sound, and in its ranges
+-- the replies and the log of a game played from the lines of a script, with some sheet of it; that log is sound, and in its ranges
 abbrev pub IsPlayText : GameFile → List ScriptLine → List ℕ → Type 0
 IsPlayText game lines text =
     (sheet : List Scored) × IsSheetOf game (closed_game game lines) sheet × (text ≡ play_out game lines sheet)
@@ -47,8 +47,8 @@ abbrev pub IsTrial : ℕ → ℕ → List ℕ → Type 0
 IsTrial seed count text =
     (played : PlayCount) × (sheet : List Scored) × IsSummary (made_game seed) (made_script seed count) played sheet × (text ≡ trial_text seed count played sheet)
 
--- What the two numbers of a good say: what one unit more adds to the best total, and what one unit less takes from it, in dollars and never
--- below 0; one unit less of a good that is not held takes nothing, and one unit more of one that is owed adds nothing.
+-- The meaning of a good's two numbers: what one unit more adds to the best total, and what one unit less takes from it, in dollars and never
+-- below 0; one unit less of a good that is not held takes nothing, and one unit more of one that the agent is short of adds nothing.
 pub record AreWorthsOf (account : AccountFile) (v : Valuation) (good : ℕ) : Type 0 where
   pub up : IsUp account good (up_at v good)
   pub down : IsDown account good (down_at v good)
@@ -61,11 +61,11 @@ abbrev pub IsValued : AccountFile → List ℕ → Type 0
 IsValued account text =
     (v : Valuation) × AreWorths account v × ((good : ℕ) → good < GOODS → AreWorthsOf account v good) × (text ≡ worth_spelling v)
 
--- a game by the lines of a script is written so, and the cash in its sheet is that of the posts
+-- what a game played from the lines of a script may write; the cash in its sheet is that of the posts
 abbrev pub PlayAllows : GameFile → List ScriptLine → Outcome → Type 0
 PlayAllows game lines outcome = WritesInParts (IsPlayText game lines) (λ text. text ≡ first_out game lines) outcome × IsCashOfPosts (closed_game game lines)
 
--- a game whose replies were written line by line is written so: memory may be refused for its sheet, and not before
+-- the same for a game whose replies were written line by line; an allocation may fail for its sheet, and not before
 abbrev pub StepAllows : GameFile → List ScriptLine → Outcome → Type 0
 StepAllows game lines outcome = WritesOrStops (IsPlayText game lines) (λ text. text ≡ first_out game lines) outcome × IsCashOfPosts (closed_game game lines)
 
@@ -75,11 +75,11 @@ pub record IsFlawText (game : GameFile) (log : LoggedGame) (text : List ℕ) : T
   pub first : IsFirstFlaw game log flaw
   pub due : text ≡ flaw_text flaw
 
--- a game is played by the script of that name
+-- the script in the file of this name is read, and the game is played from it
 abbrev pub play_steps : GameFile → List ℕ → Steps
 play_steps game script = Reads (file GameScript script) (λ lines. EndsWith (PlayAllows game lines))
 
--- a game is played line by line, as the script of that name is heard
+-- the game is played line by line, while the script in the file of this name is read
 abbrev pub step_steps : GameFile → List ℕ → Steps
 step_steps game script = Hears script (replies game) (StepAllows game)
 
@@ -87,12 +87,12 @@ step_steps game script = Hears script (replies game) (StepAllows game)
 abbrev pub audit_steps : GameFile → LoggedGame → Steps
 audit_steps game log = Judges (IsSound game log) (IsFlawText game log) (EndsWith (WritesDue (λ text. text ≡ codes "sound\n")))
 
--- the text of a link that the log is right about, as that of one of its agents
+-- the text about a link that the log is right about, as that of one of its agents
 abbrev pub IsVouchedText : GameFile → Dialect → LoggedGame → List ℕ → List ℕ → List ℕ → Type 0
 IsVouchedText game dialect log asked said text =
     (vouching : Vouching) × ((agent : ℕ) × IsYes agent vouching) × IsJudged game dialect log asked said vouching × (text ≡ vouching_text vouching)
 
--- a log is judged by the bytes that a link asked and was said: it is right about them, or the first difference is reported
+-- a log is judged by the bytes that a link asked and was sent: it is right about them, or the first difference is reported
 abbrev pub link_steps : GameFile → Dialect → LoggedGame → List ℕ → List ℕ → Steps
 link_steps game dialect log asked said =
     Judges ((agent : ℕ) × IsVouched game dialect log agent asked said) (λ text. (difference : Difference) × IsFirstDifference game dialect log asked said difference × (text ≡ difference_text difference))
@@ -107,7 +107,7 @@ link_file_steps game dialect log asked_name said_name =
 abbrev pub vouch_steps : GameFile → Dialect → List ℕ → List ℕ → LoggedGame → Steps
 vouch_steps game dialect asked_name said_name log = Judges (IsSound game log) (IsFlawText game log) (link_file_steps game dialect log asked_name said_name)
 
--- Pairs of a game and its log are read and audited in turn, after those of the games that were played before them, and then the standings of
+-- Pairs of a game and its log are read and audited in turn, after the pairs of the games already played, and then the standings of
 -- all are written. The first log that is not sound is reported by the number of pairs before it.
 abbrev pub table_steps : List (GameFile × LoggedGame) → List (List ℕ × List ℕ) → Steps
 table_steps played [] = EndsWith (WritesDue (IsPrinted played []))
@@ -127,7 +127,7 @@ batch_steps (Upgrade name) = Reads (file Game name) (λ game. EndsWith (WritesDu
 batch_steps (Make seed) = EndsWith (WritesDue (λ text. text ≡ canonical_text (made_game seed)))
 -- a best allocation of an account, with a certificate
 batch_steps (Solve name) = Reads (file Account name) (λ account. EndsWith (WritesDue (IsSolvedText account)))
--- what one unit more and one unit less of each good of an account change
+-- what one unit more and one unit less of each good would change for an account
 batch_steps (Worth name) = Reads (file Account name) (λ account. EndsWith (WritesDue (IsValued account)))
 -- a game, played by a script
 batch_steps (Play name script) = Reads (file Game name) (λ game. play_steps game script)
@@ -143,8 +143,8 @@ batch_steps (Vouch name log_name asked_name said_name form) =
 -- the standings of the teams of several games whose logs are sound
 batch_steps (Table pairs) = table_steps [] pairs
 
--- How the service of a game with a good file may end: its log is written, whole or without its sheet; or the links failed, or memory was
--- refused for the game. What the log says, and what became of the links, is defined with the service.
+-- How the service of a game with a good file may end: its log is written, whole or without its sheet; or the links failed, or a memory
+-- allocation failed for the game. What the log says, and what happened to the links, is defined with the service.
 abbrev pub IsServiceEnd : Outcome → Type 0
 IsServiceEnd (Done text) = ⊤
 IsServiceEnd (Lapsed text) = ⊤
@@ -162,7 +162,7 @@ abbrev pub steps_of : Command → Steps
 steps_of (Batch command) = batch_steps command
 steps_of (Serve service) = Reads (file Game service.game) (λ _. EndsWith IsServiceEnd)
 
--- The outcome, and the names that were selected, are those of the command, if there is one; otherwise the usage is written.
+-- The outcome, and the selected names, are those of the command, if there is one; otherwise the usage is written.
 abbrev pub Allows : Option Command → FilesState → FilesState → Outcome → Type 0
 Allows None files files' outcome = (outcome ≡ Refused Usage) × AreUnasked files files'
 Allows (Some command) files files' outcome = Runs (steps_of command) files files' outcome

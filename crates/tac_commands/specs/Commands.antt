@@ -1,4 +1,4 @@
--- What the words of a command line ask for.
+-- What the words of a command line request.
 use Rattle.std.specs.Prelude.{ℕ, ◌+◌, ◌%◌, ◌^◌, ◌==◌, ◌&&◌, nat_lt, nat_le, List, [], ◌∷◌, length, Option, Some, None, if◌then◌else◌, codes, option_map, bytes_eq}
 use Rattle.tac_commands.specs.Prelude.{FILE_NAMES, MADE_REQUESTS, below, numeral}
 use Rattle.tac_commands.specs.declared.services.Form.{Form}
@@ -23,14 +23,14 @@ pub data BatchCommand : Type 0 where
   Vouch : (game : List ℕ) → (log : List ℕ) → (asked : List ℕ) → (said : List ℕ) → (form : Form) → BatchCommand
   Table : (pairs : List (List ℕ × List ℕ)) → BatchCommand
 
--- a command of the list
+-- any command of `tac`
 pub data Command : Type 0 where
   Batch : (command : BatchCommand) → Command
   Serve : (service : Service) → Command
 
 -- ---- the words of a command that needs no links
 
--- a command of one word after its own; a seed is a numeral of at most 20 digits that has 64 bits
+-- a command of one word after its own; a seed is a numeral of at most 20 digits, below 2^64
 abbrev pub batch_with : List ℕ → List ℕ → Option BatchCommand
 batch_with word argument =
     if bytes_eq word (codes "hotel") then Some (Hotel argument)
@@ -59,7 +59,7 @@ batch_with_two word first second =
 abbrev pub vouch_with : List ℕ → List ℕ → List ℕ → List ℕ → List ℕ → Form → Option BatchCommand
 vouch_with word game log asked said form = if bytes_eq word (codes "vouch") then Some (Vouch game log asked said form) else None
 
--- a command by how many words come after its own
+-- a command, by the number of words after its own
 abbrev pub batch_by_count : List ℕ → List (List ℕ) → Option BatchCommand
 batch_by_count word (argument ∷ []) = batch_with word argument
 batch_by_count word (first ∷ second ∷ []) = batch_with_two word first second
@@ -72,7 +72,7 @@ abbrev pub in_pairs : List (List ℕ) → List (List ℕ × List ℕ)
 in_pairs (game ∷ log ∷ words) = (game, log) ∷ in_pairs words
 in_pairs words = []
 
--- a table has a game and its log of each of 1 to 64 games
+-- a table has a game and its log for each of 1 to 64 games
 abbrev pub table_of : List (List ℕ) → Option BatchCommand
 table_of words = if nat_lt 0 (length words) && nat_le (length words) FILE_NAMES && (length words % 2 == 0) then Some (Table (in_pairs words)) else None
 
@@ -82,7 +82,7 @@ batch_of (word ∷ words) = if bytes_eq word (codes "table") then table_of words
 
 -- ---- the words of any command
 
--- a service, if the words ask for one, or else a command that needs no links
+-- a service, if the words request one, or else a command that needs no links
 abbrev pub service_or_batch : Option Service → Option BatchCommand → Option Command
 service_or_batch (Some service) batch = Some (Serve service)
 service_or_batch None batch = option_map Batch batch

@@ -9,7 +9,7 @@ use Rattle.tac_commands.specs.declared.refusals.Refusal.TheVariants.{GameLine, G
 use Rattle.tac_commands.specs.declared.file_kinds.FileKind.{FileKind}
 use Rattle.tac_commands.specs.declared.file_kinds.FileKind.TheVariants.{Game, HotelScript, GameScript, Account, Log, Bytes}
 
--- the most bytes of such a file
+-- the most bytes that such a file may have
 abbrev pub most_bytes : FileKind → ℕ
 most_bytes Game = GAME_BYTES
 most_bytes Bytes = LINK_BYTES - 1
@@ -29,11 +29,11 @@ abbrev pub lines_or_fault : {A : Type 0} → Result A BadLine → Result A GameF
 lines_or_fault (Ok lines) = Ok lines
 lines_or_fault (Err bad) = Err (Line bad.0 bad.1)
 
--- a script that is not too long
+-- a script, if it is not too long
 abbrev pub script_in : {A : Type 0} → List ℕ → Result A BadLine → Result A GameFault
 script_in bytes read = if nat_lt TEXT_BYTES (length bytes) then Err TooLong else lines_or_fault read
 
--- a log has one reason for a bad line; reading it by its definition takes no memory
+-- a log has one reason for a bad line; reading it by its definition needs no memory
 abbrev pub log_as_game_fault : LogFault → GameFault
 log_as_game_fault (logs.Line line) = Line line 1
 log_as_game_fault logs.TooLong = TooLong
@@ -47,7 +47,7 @@ logged_or_fault (Err fault) = Err (log_as_game_fault fault)
 abbrev pub bytes_in : List ℕ → Result (List ℕ) GameFault
 bytes_in bytes = if nat_lt (LINK_BYTES - 1) (length bytes) then Err TooLong else Ok bytes
 
--- what the bytes of such a file hold; or that they are too many, or the first bad line with the first reason
+-- what the bytes of such a file hold; or that they are too many; or the first bad line with the first reason
 abbrev pub read_as : (kind : FileKind) → List ℕ → Result (Value kind) GameFault
 read_as Game bytes = game_of bytes
 read_as HotelScript bytes = script_in bytes (script_of bytes)
@@ -61,12 +61,12 @@ abbrev pub game_refusal : GameFault → Refusal
 game_refusal (Line line reason) = GameLine line reason
 game_refusal TooLong = GameTooLong
 
--- what is written if any other file has it
+-- what is written if any other file has this fault
 abbrev pub text_refusal : GameFault → Refusal
 text_refusal (Line line reason) = TextLine line reason
 text_refusal TooLong = TextTooLong
 
--- what is written if a file of this kind has it
+-- what is written if a file of this kind has this fault
 abbrev pub refusal_of : FileKind → GameFault → Refusal
 refusal_of Game fault = game_refusal fault
 refusal_of kind fault = text_refusal fault

@@ -1,4 +1,4 @@
--- Reading a file of a command. A read fault comes exactly if the count of faults of the files rose. Memory may be refused at any time.
+-- Reading a file of a command. The read has a fault exactly if the count of faults of the files rose. An allocation may fail at any time.
 use Rattle.std.specs.Prelude.{◌≡◌, ℕ, ◌⊎◌, List, Option, Ok, Err}
 use Rattle.tac_commands.specs.Prelude.{Rose, IsFile, FilesState, GameFault}
 use Rattle.tac_commands.specs.declared.file_kinds.FileKind.{FileKind}
@@ -10,15 +10,15 @@ use Rattle.tac_commands.specs.FileKinds.{Value, read_as, refusal_of}
 abbrev pub Content : Type 0
 Content = Option (List ℕ → Option (List ℕ))
 
--- the file of that name is of the kind, and holds the value
+-- the file of this name is of the kind, and holds the value
 abbrev pub IsFileRead : Content → (kind : FileKind) → List ℕ → Value kind → Type 0
 IsFileRead content kind name value = (bytes : List ℕ) × IsFile content name bytes × (read_as kind bytes ≡ Ok value)
 
--- the file of that name has the fault
+-- the file of this name has the fault
 abbrev pub HasFault : Content → FileKind → List ℕ → GameFault → Type 0
 HasFault content kind name fault = (bytes : List ℕ) × IsFile content name bytes × (read_as kind bytes ≡ Err fault)
 
--- what is written in place of the value of that file: a read failed, memory was refused, or the file is refused
+-- what is written in place of that file's value: a read failed, a memory allocation failed, or the file is refused
 abbrev pub IsNotRead : FilesState → FilesState → FileKind → List ℕ → Refusal → Type 0
 IsNotRead files files' kind name refusal =
     ((refusal ≡ ReadFault) × Rose files.faults files'.faults)

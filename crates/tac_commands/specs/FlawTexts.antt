@@ -1,4 +1,4 @@
--- What is written of a log that is not sound.
+-- What is written about a log that is not sound.
 use Rattle.std.specs.Prelude.{ℕ, List, codes}
 use Rattle.log_audit.specs.declared.findings.Flaw.{Flaw}
 use Rattle.log_audit.specs.declared.findings.Flaw.TheVariants.{Entry, Clock, Cash, Post, Unposted, Score, Head}

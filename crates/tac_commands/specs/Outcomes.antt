@@ -14,14 +14,14 @@ pub data Outcome : Type 0 where
   Unsound : (text : List ℕ) → Outcome
   -- a first part of a text, and then a refusal
   Stopped : (text : List ℕ) → (refusal : Refusal) → Outcome
-  -- a first part of a text, of which a write failed
+  -- a first part of a text, during which a write failed
   Unwritten : (text : List ℕ) → Outcome
-  -- the replies to the lines of a script that came before a read failed, and then the refusal for that
+  -- the replies to the lines of a script that came before a read failed, and then the refusal for that read
   Unread : (replies : List ℕ) → Outcome
   -- a refusal in place of a text
   Refused : (refusal : Refusal) → Outcome
 
--- the code that a refusal ends with, and the line that is written
+-- the code of a refusal, and the line that is written
 abbrev pub refusal_end : Refusal → ℕ × List ℕ
 refusal_end Usage = (1, codes "usage\n")
 refusal_end (GameLine line reason) = (2, numbered (codes "game") line reason)
@@ -32,7 +32,7 @@ refusal_end Memory = (7, codes "memory\n")
 refusal_end (TextLine line reason) = (8, numbered (codes "text") line reason)
 refusal_end TextTooLong = (8, codes "text too long\n")
 
--- the code that the process ends with, and the text that is due on the sink
+-- the code of the process, and the text that is due on the sink
 abbrev pub exit_of : Outcome → ℕ × List ℕ
 exit_of (Done text) = (0, text)
 exit_of (Lapsed text) = (6, text)

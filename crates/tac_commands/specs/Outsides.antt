@@ -1,4 +1,4 @@
--- The state of all objects of the outside that a command may ask.
+-- The state of all objects of the outside that a command may call.
 use Rattle.tac_io.specs.States.{FilesState, SinkState, LinksState, TickerState}
 
 pub record Outside (L : Type 0) : Type 0 where

@@ -1,4 +1,4 @@
--- Which words of a command line ask for the service of a game, and the forms of lines.
+-- Which words of a command line request the service of a game, and the forms of lines.
 use Rattle.std.specs.Prelude.{◌≡◌, ℕ, ◌⊎◌, ◌&&◌, nat_le, List, [], ◌∷◌, Option, Some, None, Err, String, if◌then◌else◌, codes, map, string_bytes, bytes_eq}
 use Rattle.std.specs.declared.alloc.Global.{Global}
 use Rattle.tac_commands.specs.Prelude.{PACE, PORT, numeral, request_of, Dialect}
@@ -13,7 +13,7 @@ use Rattle.tac_commands.specs.declared.services.Form.TheVariants.{Lines, Json}
 abbrev pub bytes_of_words : List (String Global) → List (List ℕ)
 bytes_of_words words = map (λ word. string_bytes word) words
 
--- the name of a game's file, a port, 1 to 65535, a pace, 1 to 60000 milliseconds a tick, and a form of lines
+-- the name of a game's file, a port, 1 to 65535, a pace, 1 to 60000 milliseconds per tick, and a form of lines
 pub record Service : Type 0 where
   pub game : List ℕ
   pub port : ℕ
@@ -25,7 +25,7 @@ abbrev pub positive_to : ℕ → Option ℕ → Option ℕ
 positive_to most None = None
 positive_to most (Some n) = if nat_le 1 n && nat_le n most then Some n else None
 
--- a service that has a port and a pace
+-- a service, if it has a port and a pace
 abbrev pub service_with : List ℕ → Option ℕ → Option ℕ → Form → Option Service
 service_with game (Some port) (Some pace) form = Some (record { game = game; port = port; pace = pace; form = form })
 service_with game port pace form = None
@@ -40,7 +40,7 @@ service_of words = None
 
 -- ---- the form of lines
 
--- what a request line of a link may be read as, and what the link is sent for a reply; a line of JSON may also be read as one for which there
+-- what a request line of a link may be read as, and the line of each reply; a line of JSON may also be read as one for which there
 -- was no memory, whatever it says
 abbrev pub dialect_in : Form → Dialect
 dialect_in Lines = record { may_answer = λ line answer. answer ≡ request_of line; text = said_text }

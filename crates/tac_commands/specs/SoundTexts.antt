@@ -3,12 +3,12 @@ use Rattle.std.specs.Prelude.{◌≡◌, ℕ, ◌≤◌, List, ◌++◌, length}
 use Rattle.tac_commands.specs.Prelude.{TEXT_BYTES, GameFile, ClosedGame, Scored, histories_of, LoggedGame, IsLogged, logged_text, IsSound, IsRanged}
 use Rattle.line_protocol.specs.Heads.{Head}
 
--- what the log of a game holds: how it was played, its histories, its cash history, and a sheet of it
+-- the contents of the log of a game: how it was played, its histories, its cash history, and a sheet of it
 abbrev pub log_of_game : Head → ClosedGame → List Scored → LoggedGame
 log_of_game head closed sheet = record { head = head; histories = histories_of closed; cash = closed.cash; scores = sheet }
 
--- What follows in the text is this log, and nothing else. It is sound by the game, and in the ranges of logs but for the lines of its
--- certificates; in all of them if it has no more bytes than a log that is read.
+-- The rest of the text is this log, and nothing else. It is sound by the game, and in the ranges of logs except for the lines of its
+-- certificates; it is in all of them if it has no more bytes than a log that is read.
 pub record EndsInSoundLog (game : GameFile) (log : LoggedGame) (before text : List ℕ) : Type 0 where
   pub due : text ≡ before ++ logged_text log
   pub sound : IsSound game log

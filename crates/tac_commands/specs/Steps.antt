@@ -13,9 +13,9 @@ pub record NamedFile : Type 0 where
 abbrev pub file : FileKind → List ℕ → NamedFile
 file kind name = record { kind = kind; name = name }
 
--- A command reads a file, and goes on with its value; or it judges a log, by its game or by a link, and goes on if it is right, while one that
--- is not is reported by a text of which this holds; or it hears a game script line by line, writes the replies to its lines, which are a text of them, and
--- ends after them with an outcome of which this holds; or it ends with an outcome of which this holds.
+-- A command reads a file and continues with its value; or it judges a log, by its game or by a link, continues if the log is right, and
+-- otherwise reports it by a text of which this holds; or it plays a game script line by line, writes the replies to its lines, a text of
+-- them, and ends after them with an outcome of which this holds; or it ends with an outcome of which this holds.
 pub data Steps : Type 1 where
   Reads : (file : NamedFile) → (Value file.kind → Steps) → Steps
   Judges : (IsRight : Type 0) → (List ℕ → Type 0) → Steps → Steps

@@ -8,7 +8,7 @@ use Rattle.tac_commands.specs.NumberedLines.{counted}
 abbrev pub trial_line : ℕ → ℕ → List ℕ
 trial_line seed count = codes "trial " ++ decimal seed ++ codes " " ++ decimal count ++ codes "\n"
 
--- how much happened in the auctions, and the scores of the eight agents, a line each
+-- the counts of entries and trades, and the scores of the eight agents, one per line
 abbrev pub trial_text : ℕ → ℕ → PlayCount → List Scored → List ℕ
 trial_text seed count played sheet =
     trial_line seed count

@@ -1,4 +1,4 @@
--- What `serve` leaves: the game that was played, its log, the links and the ticker.
+-- What `serve` does: the game that it played, its log, the links and the ticker.
 use Rattle.std.specs.Prelude.{◌≡◌, ℕ, ◌<◌, ◌⊎◌, List, [], Ok, Err, Some, None, MatchOption, option_map}
 use Rattle.std.specs.Global.{Vec}
 use Rattle.tacd.specs.Prelude.{Rose, LinkState, FilesState, GameFile, game_of, head_of, WaitsForAll, Scored, play_part, log_text, IsSheetOf, HostedGame, IsGameEnd, IsNotPlayed, Refusal, ReadFault, LinkFault, Memory, game_refusal, Outcome, Done, Lapsed, Stopped, Refused, Outside, Reports}
@@ -11,11 +11,11 @@ use Rattle.tacd.specs.SoundLogs.{IsSoundLog}
 
 -- ---- the game file
 
--- the file of that name holds the game
+-- the file of this name holds the game
 abbrev pub IsGameFile : FilesState → List ℕ → GameFile → Type 0
 IsGameFile files name game = (bytes : List ℕ) × IsFile files.content name bytes × (game_of bytes ≡ Ok game)
 
--- what is written if that file could not be read: a read failed, memory was refused, or the file is refused
+-- what is written if that file could not be read: a read failed, a memory allocation failed, or the file is refused
 abbrev pub IsNoGameFile : FilesState → FilesState → List ℕ → Refusal → Type 0
 IsNoGameFile files files' name refusal =
     ((refusal ≡ ReadFault) × Rose files.faults files'.faults)
@@ -32,8 +32,8 @@ pub record IsLogOf (game : GameFile) (played : Played) (text : List ℕ) : Type 
   pub due : text ≡ log_text (head_of played.head) played.closed sheet
   pub sound : IsSoundLog game played sheet text
 
--- the log of the game that was played is written, with another code if ticks lapsed; or its first part alone, if memory was refused for
--- its sheet
+-- the log of the game that was played is written, with another code if ticks lapsed; or its first part alone, if an allocation failed
+-- for its sheet
 abbrev pub PlayedAllows : GameFile → Played → ℕ → Outcome → Type 0
 PlayedAllows game played missed (Done text) = IsLogOf game played text × (missed ≡ 0)
 PlayedAllows game played missed (Lapsed text) = IsLogOf game played text × (0 < missed)
@@ -47,14 +47,14 @@ abbrev pub at_pace : {L : Type 0} → ℕ → Outside L → Outside L
 at_pace pace outside = record outside { ticker = record (outside.ticker) { paced = option_map (λ _. Some pace) outside.ticker.paced } }
 
 module _ {L : Type 0} (state : L → LinkState) where
-  -- no game was played, since the links failed; or since memory was refused for it, and nothing was asked of them
+  -- no game was played: the links failed; or a memory allocation failed for the game, and the links are unchanged
   abbrev pub HasNoGame : HostedGame → Outside L → Outside L → Vec L → Outcome → Type 0
   HasNoGame hosted before after ended (Refused LinkFault) = IsNotPlayed state hosted before.links after.links ended.items × (after.ticker ≡ before.ticker)
   HasNoGame hosted before after ended (Refused Memory) = (after.links ≡ before.links) × (ended.items ≡ []) × (after.ticker ≡ before.ticker)
   HasNoGame hosted before after ended outcome = ⊥
 
   -- The game was played over the links and by the ticker, and its log is written; or no game was played. So a game was played exactly if
-  -- the links were asked to listen and did not fail.
+  -- the server listened and the links did not fail.
   abbrev pub ServesGame : HostedGame → Outside L → Outside L → Answer L → Outcome → Type 0
   ServesGame hosted before after answer outcome = MatchOption answer.played
       (HasNoGame hosted before after answer.ended outcome)
@@ -62,7 +62,7 @@ module _ {L : Type 0} (state : L → LinkState) where
       × WaitsForAll before.ticker after.ticker end.missed
       × PlayedAllows hosted.game played end.missed outcome)
 
-  -- the game of that file is served; or the game file is refused, and nothing was asked
+  -- the game of that file is served; or the game file is refused, and links and ticker are unchanged
   abbrev pub ServeAllows : Service → Outside L → Outside L → Answer L → Outcome → Type 0
   ServeAllows service before after answer outcome =
       ((game : GameFile) × IsGameFile before.files service.game game
@@ -71,6 +71,6 @@ module _ {L : Type 0} (state : L → LinkState) where
       ⊎ ((refusal : Refusal) × (outcome ≡ Refused refusal) × IsNoGameFile before.files after.files service.game refusal
       × (after.links ≡ before.links) × (after.ticker ≡ before.ticker) × (answer.ended.items ≡ []) × (answer.played ≡ None))
 
-  -- the service of that game left the outside so, wrote what is due, and answered so
+  -- the service of that game changed the outside in this way, wrote what is due, and returned this answer
   abbrev pub Serves : Service → Outside L → Outside L → Answer L → Type 0
   Serves service before after answer = (outcome : Outcome) × ServeAllows service before after answer outcome × Reports outcome before.out after.out answer.code

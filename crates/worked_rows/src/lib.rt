@@ -1,3 +1,3 @@
-//! Rows of the definitions that the promise rests on, each worked out by hand and compared with what the definition
-//! computes. There is no code here, and nothing rests on it.
+//! Rows of the definitions on which the headline depends, each worked out by hand and compared with what the definition
+//! computes. There is no code here, and nothing depends on it.
 #![tactic(auto)]
