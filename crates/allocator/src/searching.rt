@@ -308,7 +308,7 @@ fn explore_parts(
     })
 }
 
-/// Searches a part that is not solved yet: by the split of the part that it is like, if a hint has one, or else if the known prices don't
+/// Searches a part that is not solved yet: by the split of the part that it is like, if a hint has one, or else if the known prices do not
 /// bound it. It stops if the attempt has reached its limit of parts. After an error the best is still a feasible allocation.
 #[cycle(search)]
 fn explore_part(

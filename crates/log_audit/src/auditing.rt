@@ -70,7 +70,7 @@ fn last_flaw(game: &Game, log: &Log, accounts: &Accounts) -> Option<Flaw>
 
 /// Judges a log by its game: whether its histories are legal and its posts right, whether the scores are those that are due, with packages
 /// and certificates for them, and whether the head agrees with all that. It plays nothing over links and searches for no best allocation.
-/// A log does not hold what links sent and were sent, so this says nothing of it. After `Memory` it found nothing.
+/// A log does not hold what links sent and were sent, so this says nothing about it. After `Memory` it found nothing.
 pub fn audit_log(alloc: Global, game: &Game, log: &Log) -> Result<Finding, Memory>
     ensures sound { IfOk result (λ finding. (finding ≡ Finding.Sound) ↔ IsSound game.now log.now) }
     // A flaw that it reports is one of the log, and no flaw of the log comes before it.

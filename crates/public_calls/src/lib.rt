@@ -42,7 +42,7 @@ use tourney::*;
 use trade_ledger::*;
 use turn_lock::*;
 
-/// A call takes these arguments in this order, and returns this, or a borrow of its first argument.
+/// A call takes these arguments in this order, and returns this, or borrows it from the first.
 macro_rules! call {
     ($($name:ident)::+ $(<$($of:ty),*>)? ($($argument:ident: $at:ty),*) -> $result:ty) => {
         let _ = |$($argument: $at),*| -> $result { $($name)::+ $(::<$($of),*>)? ($($argument),*) };

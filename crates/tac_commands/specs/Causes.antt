@@ -1,5 +1,5 @@
 -- The cause of each code. A failed write takes precedence over every other cause, so code 4 may replace any other code;
--- if a memory allocation fails, the code is 7.
+-- if memory does not suffice for the command, the code is 7.
 use Rattle.std.specs.Prelude.{◌≡◌, ℕ, ◌-◌, ◌^◌, ◌<◌, ◌⊎◌, ⊤, List, Option, Some, None, Ok, Err, IfSome}
 use Rattle.tac_commands.specs.Prelude.{Rose, FilesState, SinkState, LinksState, TickerState, GameFault, GameLine as ScriptLine}
 use Rattle.tac_commands.specs.declared.file_kinds.FileKind.TheVariants.{GameScript}
