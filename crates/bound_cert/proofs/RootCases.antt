@@ -1,7 +1,7 @@
 -- Reading a whole text, case by case.
 use Rattle.std.proofs.Common.{◌≡◌, ℕ, zero, suc, ◌<◌, ◌≤◌, true, false, ltb, List, length, Result, Ok, Err, arith}
 use Rattle.std.proofs.lemmas.Bool.Decides.{nat_tests}
-use Rattle.bound_cert.specs.{BadLine, Remaining, lines_from, due_of, at_line, nothing_left, ◌>>=◌, parts_of, values_of, cert_fault, or_cert_fault, IsCertReading, node_line_of, Tree, split, more, Reader, forest_by, node_by, last_node, node_line_in, tree_in, root_in, cert_of}
+use Rattle.bound_cert.specs.{TEXT_BYTES, BadLine, Remaining, lines_from, due_of, at_line, nothing_left, ◌>>=◌, parts_of, values_of, cert_fault, or_cert_fault, IsCertReading, node_line_of, Tree, split, more, Reader, forest_by, node_by, last_node, node_line_in, tree_in, root_in, cert_of}
 use Rattle.bound_cert.specs.declared.faults.CertFault.{CertFault}
 use Rattle.bound_cert.specs.declared.faults.CertFault.TheVariants as faults
 use Rattle.bound_cert.specs.declared.node_lines.NodeLine.{NodeLine}
@@ -19,13 +19,13 @@ pub whole_root : (left after : Remaining) (tree : Tree) (u : Unit {0}) → tree_
 unfolding root_in
 whole_root left after tree u h e = rw (h, e)
 
-pub long_text : (text : List ℕ) → 67108864 < length text → cert_of text ≡ Err faults.TooLong
+pub long_text : (text : List ℕ) → TEXT_BYTES < length text → cert_of text ≡ Err faults.TooLong
 unfolding cert_of
-long_text text long = let test : ltb 67108864 (length text) ≡ true = grind (arith, nat_tests) in rw test
+long_text text long = let test : ltb TEXT_BYTES (length text) ≡ true = grind (arith, nat_tests) in rw test
 
-pub short_text : (text : List ℕ) → length text ≤ 67108864 → cert_of text ≡ root_in (lines_from false 1 (parts_of 10 text))
+pub short_text : (text : List ℕ) → length text ≤ TEXT_BYTES → cert_of text ≡ root_in (lines_from false 1 (parts_of 10 text))
 unfolding cert_of
-short_text text short = let test : ltb 67108864 (length text) ≡ false = grind (arith, nat_tests) in rw test
+short_text text short = let test : ltb TEXT_BYTES (length text) ≡ false = grind (arith, nat_tests) in rw test
 
 -- ---- no line is refused for the text's length
 

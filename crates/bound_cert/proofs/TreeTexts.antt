@@ -7,7 +7,7 @@ use Rattle.std.proofs.lemmas.List.Concat.{flat_map-cons}
 use Rattle.std.proofs.lemmas.List.Elements.{All-head, All-tail}
 use Rattle.std.proofs.lemmas.List.Splits.{join_with_byte-slice_split, length-slice_split}
 use Rattle.tac_base.proofs.NumeralLaws.{both_true}
-use Rattle.bound_cert.specs.{BadLine, NumberedLine, Remaining, AreLinesLeft, lines_from, due_of, at_line, nothing_left, text_of, within, is_in, all_in, row, row_text, AllBetween, IsBetween, ◌>>=◌, read_by, words_of, parts_of, values_of, or_cert_fault, leaf_columns, split_columns, is_leaf, leaf_of, split_of, node_line_of, leaf_text, split_text, tree_lines, forest_lines, cert_text, Reader, forest_by, node_by, last_node, node_line_in, tree_in, root_in, cert_of}
+use Rattle.bound_cert.specs.{TEXT_BYTES, BadLine, NumberedLine, Remaining, AreLinesLeft, lines_from, due_of, at_line, nothing_left, text_of, within, is_in, all_in, row, row_text, AllBetween, IsBetween, ◌>>=◌, read_by, words_of, parts_of, values_of, or_cert_fault, leaf_columns, split_columns, is_leaf, leaf_of, split_of, node_line_of, leaf_text, split_text, tree_lines, forest_lines, cert_text, Reader, forest_by, node_by, last_node, node_line_in, tree_in, root_in, cert_of}
 use Rattle.text_forms.proofs.Columns.{is_within, columns_within}
 use Rattle.text_forms.proofs.RowLaws.{row_is}
 use Rattle.text_forms.proofs.Reading.{Took, took_then, took_line, took_all, ok_is, bind_ok, read_took}
@@ -199,4 +199,4 @@ root_printed text tree e =
 
 pub cert_printed : (text : List ℕ) (tree : Tree) → cert_of text ≡ Ok tree → IsPrinted text tree
 unfolding cert_of
-cert_printed text tree e = root_printed text tree (by_length (ltb 67108864 (length text)) (lines_from false 1 (parts_of 10 text)) tree e)
+cert_printed text tree e = root_printed text tree (by_length (ltb TEXT_BYTES (length text)) (lines_from false 1 (parts_of 10 text)) tree e)

@@ -8,7 +8,7 @@ use Rattle.std.proofs.lemmas.List.Concat.{flat_map-cons}
 use Rattle.std.proofs.lemmas.List.Elements.{All-nil, All-cons}
 use Rattle.tac_base.proofs.NumeralLaws.{both_true}
 use Rattle.tac_base.proofs.Signed.{Lacks}
-use Rattle.bound_cert.specs.{Column, Remaining, lines_from, text_of, all_in, row_text, AllBetween, IsBetween, words_of, parts_of, values_of, leaf_columns, split_columns, node_line_of, leaf_text, split_text, tree_lines, forest_lines, cert_text, forest_by, tree_in, root_in, cert_of}
+use Rattle.bound_cert.specs.{TEXT_BYTES, Column, Remaining, lines_from, text_of, all_in, row_text, AllBetween, IsBetween, words_of, parts_of, values_of, leaf_columns, split_columns, node_line_of, leaf_text, split_text, tree_lines, forest_lines, cert_text, forest_by, tree_in, root_in, cert_of}
 use Rattle.text_forms.proofs.Columns.{in_within, within_columns, abs_pos}
 use Rattle.text_forms.proofs.Joins.{joined_parts, parts_more}
 use Rattle.text_forms.proofs.RowLaws.{is_column, numbers_lack, row_again}
@@ -152,8 +152,8 @@ spelling_again tree is =
     let cut = lines_ahead (tree_lines tree) 1 in
     ap (λ (parts : List (List ℕ)). root_in (lines_from false 1 parts)) (parts_again (tree_lines tree) (tree_lines_lack 32 tree is)) ∙ ap root_in cut.2 ∙ root_again tree cut.1 cut.0 is
 
-pub cert_again : (tree : Tree) → IsCertificate tree → length (cert_text tree) ≤ 67108864 → cert_of (cert_text tree) ≡ Ok tree
+pub cert_again : (tree : Tree) → IsCertificate tree → length (cert_text tree) ≤ TEXT_BYTES → cert_of (cert_text tree) ≡ Ok tree
 cert_again tree is short = short_text (cert_text tree) short ∙ spelling_again tree is
 
-pub text_again : (text : List ℕ) (tree : Tree) → IsCertificate tree → length text ≤ 67108864 → text ≡ cert_text tree → cert_of text ≡ Ok tree
-text_again text tree is short same = ap cert_of same ∙ cert_again tree is (subst (λ (t : List ℕ). length t ≤ 67108864) same short)
+pub text_again : (text : List ℕ) (tree : Tree) → IsCertificate tree → length text ≤ TEXT_BYTES → text ≡ cert_text tree → cert_of text ≡ Ok tree
+text_again text tree is short same = ap cert_of same ∙ cert_again tree is (subst (λ (t : List ℕ). length t ≤ TEXT_BYTES) same short)

@@ -15,7 +15,7 @@ fn node_line_in<'a>(lines: TextLines<'a>) -> Result<(u32, NodeLine, TextLines<'a
     ensures { result ≡ reading.node_line_in lines.entry }
 {
     let (line, left) = lines.due()?;
-    let node = at_line(line.number(), node_line_of(line.bytes()))?;
+    let (node, left) = at_line(&line, node_line_of(line.bytes()), left)?;
     Ok((line.number(), node, left))
 }
 

@@ -3,7 +3,7 @@ use Rattle.std.proofs.Common.{ℕ, ◌+◌, ◌≤◌, List, [], ◌∷◌, ◌+
 use Rattle.std.specs.List.{AllByRecursion}
 use Rattle.std.proofs.lemmas.List.Elements.{All-from_recursion}
 use Rattle.text_forms.specs.Steps.{lines_of_parts}
-use Rattle.game_log.specs.Prelude.{tree_lines, Scored, first_lines, histories_text, agent_lines, sheet_part, LoggedGame, IsLogged, logged_text}
+use Rattle.game_log.specs.Prelude.{TEXT_BYTES, tree_lines, Scored, first_lines, histories_text, agent_lines, sheet_part, LoggedGame, IsLogged, logged_text}
 use Rattle.log_text.proofs.SheetsAgain.{lines_short, agent_long}
 use Rattle.game_log.specs.LogRanges.{IsRanged}
 
@@ -23,7 +23,7 @@ trees_short log =
     agents_long 0 log.scores (length (logged_text log)) (omega (arith, one, two, lines, apart))
 
 -- a log that is not too long
-pub short_log : (log : LoggedGame) → IsRanged log → length (logged_text log) ≤ 67108864 → IsLogged log
+pub short_log : (log : LoggedGame) → IsRanged log → length (logged_text log) ≤ TEXT_BYTES → IsLogged log
 short_log log ranged short =
     let few = All-from_recursion (λ (scored : Scored). length (tree_lines scored.tree) ≤ length (logged_text log)) log.scores (trees_short log) in
     record {

@@ -1,5 +1,5 @@
 -- The names of crates below that this crate cites, passed on from one place.
-pub use Rattle.tac_base.specs.declared.limits.TheConstants.{AGENTS, CASH_ENTRIES, GOODS}
+pub use Rattle.tac_base.specs.declared.limits.TheConstants.{AGENTS, CASH_ENTRIES, GOODS, TEXT_BYTES}
 pub use Rattle.line_protocol.specs.Heads.{Head, Play, Serve, head_of}
 pub use Rattle.game_text.specs.Games.{GameFile, IsGame}
 pub use Rattle.bound_cert.specs.Texts.{tree_lines}

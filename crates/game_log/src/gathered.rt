@@ -5,6 +5,7 @@ ghost use Rattle.game_log.specs.Gathering.{Gathers};
 
 use arrayvec::ArrayVec;
 use std::marker::Model;
+use tac_base::limits::REPLY_TEXT;
 use tac_io::{Failed, Sink, write_all};
 
 /// The number of bytes that a piece can hold: some hundred lines of a log.
@@ -46,7 +47,7 @@ impl Gathered {
 
     /// Adds a text. If both do not fit, it first writes the bytes that it holds.
     pub(crate) fn add<K: Sink>(&mut self, sink: &mut K, text: &[u8]) -> Result<(), Failed>
-        requires short { length text.now ≤ 640 }
+        requires short { length text.now ≤ REPLY_TEXT }
         ensures { Gathers text.now self.old self.new (K.state sink.old) (K.state sink.new) result }
     {
         if text.len() > GATHERED_BYTES - self.bytes.len() {

@@ -3,7 +3,7 @@ use Rattle.std.proofs.Common.{◌≡◌, ℕ, ◌≤◌, ◌<◌, true, ltb, fal
 use Rattle.std.specs.List.{list_all}
 use Rattle.std.proofs.lemmas.List.Elements.{All-nil, All-cons, All-head, All-tail}
 use Rattle.tac_base.proofs.NumeralLaws.{both_true}
-use Rattle.game_text.specs.{Preferences, IsClient, BadLine, parts_of, Remaining, lines_from, nothing_left, AreLinesLeft, within, is_in, all_in, row, row_text, ◌>>=◌, read_by, repeat, lines_of_parts, one_line, client_numbers, AreClients, nothing_from, read_end_line}
+use Rattle.game_text.specs.{TEXT_BYTES, Preferences, IsClient, BadLine, parts_of, Remaining, lines_from, nothing_left, AreLinesLeft, within, is_in, all_in, row, row_text, ◌>>=◌, read_by, repeat, lines_of_parts, one_line, client_numbers, AreClients, nothing_from, read_end_line}
 use Rattle.text_forms.proofs.Columns.{in_column, in_from, same_columns, abs_pos}
 use Rattle.text_forms.proofs.RowLaws.{row_is, row_again}
 use Rattle.text_forms.proofs.PrintedLines.{lacks_from, ahead, at_end, left_ahead}
@@ -152,7 +152,7 @@ account_is : (text : List ℕ) (account : AccountFile) → account_of text ≡ O
 unfolding account_of
 account_is text account e =
     let left = lines_from true 1 (parts_of 10 text) in
-    account_in_is left account (within_limit (ltb 67108864 (length text)) (account_in left) account e)
+    account_in_is left account (within_limit (ltb TEXT_BYTES (length text)) (account_in left) account e)
 
 pub if_read : (text : List ℕ) (r : Result AccountFile GameFault) → r ≡ account_of text → IfOk r (λ account. IsAccountText account text × IsAccount account)
 if_read text (Ok account) e = account_is text account (sym e)
@@ -167,19 +167,19 @@ account_in_again account numbers m is =
     let f = parts_again owned_part (one_line owned_text) IsClient 8 owned_part_again account.clients is.clients.count is.clients.each (drop 1 (drop 1 numbers)) (codes "end" ∷ []) after in
     rw (title_again, hold_again account.holdings (record { count = is.count; each = is.holdings }), f.1, end_again) refl
 
-pub only_account : (text : List ℕ) (account : AccountFile) → length text ≤ 67108864 → IsAccountText account text → IsAccount account → account_of text ≡ Ok account
+pub only_account : (text : List ℕ) (account : AccountFile) → length text ≤ TEXT_BYTES → IsAccountText account text → IsAccount account → account_of text ≡ Ok account
 unfolding account_of
 only_account text account size are is =
     let left = lines_from true 1 (parts_of 10 text) in
-    let long : ltb 67108864 (length text) ≡ false = le-ltb _ _ size in
+    let long : ltb TEXT_BYTES (length text) ≡ false = le-ltb _ _ size in
     let ahead-is = left_ahead (account_lines account) left are in
     let read : account_in left ≡ Ok account = ap account_in ahead-is.2 ∙ account_in_again account ahead-is.1 ahead-is.0 is in
     rw (long, read) refl
 
 -- ---- a text that is too long
 
-pub too_long : (text : List ℕ) (r : Result AccountFile GameFault) → r ≡ account_of text → (r ≡ Err TooLong → 67108864 < length text) × (67108864 < length text → r ≡ Err TooLong)
+pub too_long : (text : List ℕ) (r : Result AccountFile GameFault) → r ≡ account_of text → (r ≡ Err TooLong → TEXT_BYTES < length text) × (TEXT_BYTES < length text → r ≡ Err TooLong)
 unfolding account_of
 too_long text r is =
-    let both = by_length 67108864 (length text) (account_in (lines_from true 1 (parts_of 10 text))) (ltb 67108864 (length text)) refl in
+    let both = by_length TEXT_BYTES (length text) (account_in (lines_from true 1 (parts_of 10 text))) (ltb TEXT_BYTES (length text)) refl in
     (λ h. both.0 (sym is ∙ h), λ lt. is ∙ both.1 lt)

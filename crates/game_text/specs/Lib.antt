@@ -35,5 +35,5 @@ pub use Rattle.game_text.specs.Games.{GameFile, IsGame, canonical_text, nights_o
 unfoldable pub use Rattle.game_text.specs.Games.{game_in, game_of}
 pub use Rattle.game_text.specs.OneAgent.{agent_line, lines_of_agent}
 pub use Rattle.game_text.specs.Schedule.{hotel_nights}
-pub use Rattle.game_text.specs.Prelude.{AllBetween, AreLinesLeft, BadLine, IsBetween, IsClient, Keyword, NotDue, OutOfRange, Preferences, Reason, Remaining, Repeated, Spelling, WordCount, all_in, is_in, lines_from, lines_of_parts, nothing_left, one_line, parts_of, read_by, row_text, text_of, within, words_of, ◌>>=◌}
+pub use Rattle.game_text.specs.Prelude.{AllBetween, AreLinesLeft, BadLine, IsBetween, IsClient, Keyword, NotDue, OutOfRange, Preferences, Reason, Remaining, Repeated, Spelling, TEXT_BYTES, WordCount, all_in, is_in, lines_from, lines_of_parts, nothing_left, one_line, parts_of, read_by, row_text, text_of, within, words_of, ◌>>=◌}
 unfoldable pub use Rattle.game_text.specs.Prelude.{repeat, row}

@@ -71,8 +71,7 @@ fn title_at(lines: TextLines<'_>) -> Result<((), TextLines<'_>), BadLine>
     ensures { result ≡ steps.read_by accounts.title_of lines.entry }
 {
     let (line, left) = lines.due()?;
-    at_line(line.number(), title_of(line.bytes()))?;
-    Ok(((), left))
+    at_line(&line, title_of(line.bytes()), left)
 }
 
 /// Reads the line of the holdings.
@@ -80,8 +79,7 @@ fn holdings_at(lines: TextLines<'_>) -> Result<([i32; 28], TextLines<'_>), BadLi
     ensures { result ≡ steps.read_by accounts.hold_of lines.entry }
 {
     let (line, left) = lines.due()?;
-    let holdings = at_line(line.number(), hold_of(line.bytes()))?;
-    Ok((holdings, left))
+    at_line(&line, hold_of(line.bytes()), left)
 }
 
 /// The clients, each in a line of its own.
@@ -99,8 +97,7 @@ impl Part for Owned {
         lines: TextLines<'a>,
     ) -> Result<(Client, TextLines<'a>), BadLine> {
         let (line, left) = lines.due()?;
-        let client = at_line(line.number(), owned_of(client, line.bytes()))?;
-        Ok((client, left))
+        at_line(&line, owned_of(client, line.bytes()), left)
     }
 }
 

@@ -5,11 +5,12 @@ ghost use Rattle.game_text.specs.{row_text, IsClient, IsEndowment, endow_text, c
 use crate::Game;
 use crate::client_lines::client_numbers;
 use crate::endowments::endow_numbers;
+use tac_base::limits::REPLY_TEXT;
 use tac_base::{Agent, Client, Text, print_signed};
 
 /// Appends a number after a space.
 fn print_number(number: i64, out: &mut Text)
-    requires { length out.old + 21 ≤ 640 }
+    requires { length out.old + 21 ≤ REPLY_TEXT }
     ensures { out.new ≡ out.old ++ 32 ∷ signed_decimal number }
 {
     out.push(b' ');
@@ -18,7 +19,7 @@ fn print_number(number: i64, out: &mut Text)
 
 /// Appends a line of a keyword and numbers without a line end; 20 more bytes must be free.
 fn print_line(keyword: &[u8], numbers: &[i64], out: &mut Text)
-    requires { length out.old + length (row_text keyword.now numbers.now) + 20 ≤ 640 }
+    requires { length out.old + length (row_text keyword.now numbers.now) + 20 ≤ REPLY_TEXT }
     ensures { out.new ≡ out.old ++ row_text keyword.now numbers.now }
 {
     out.push_bytes(keyword);
@@ -30,7 +31,7 @@ fn print_line(keyword: &[u8], numbers: &[i64], out: &mut Text)
 /// Appends the line of an agent's endowment.
 fn print_endowment(agent: u8, endow: &[u8; 12], out: &mut Text)
     requires range { IsEndowment endow.now }
-    requires room { length out.old + 256 ≤ 640 }
+    requires room { length out.old + 256 ≤ REPLY_TEXT }
     ensures text { out.new ≡ out.old ++ endow_text agent endow.now }
     ensures len { length (endow_text agent endow.now) ≤ 256 }
     ensures one_line { All (λ byte. byte ≢ 10) (endow_text agent endow.now) }
@@ -41,7 +42,7 @@ fn print_endowment(agent: u8, endow: &[u8; 12], out: &mut Text)
 /// Appends the line of a client of an agent.
 fn print_client(agent: u8, number: u8, wants: &Client, out: &mut Text)
     requires range { IsClient wants.now }
-    requires room { length out.old + 256 ≤ 640 }
+    requires room { length out.old + 256 ≤ REPLY_TEXT }
     ensures text { out.new ≡ out.old ++ client_text agent number wants.now }
     ensures len { length (client_text agent number wants.now) ≤ 256 }
     ensures one_line { All (λ byte. byte ≢ 10) (client_text agent number wants.now) }
@@ -53,7 +54,7 @@ fn print_client(agent: u8, number: u8, wants: &Client, out: &mut Text)
 /// and lines 1..8 its clients 0..7. It allocates no memory.
 pub fn print_agent_line(game: &Game, agent: Agent, n: u8, out: &mut Text)
     requires number { n ≤ 8 }
-    requires room { length out.old + 256 ≤ 640 }
+    requires room { length out.old + 256 ≤ REPLY_TEXT }
     ensures text { out.new ≡ out.old ++ agent_line game.now agent n }
     ensures len { length (agent_line game.now agent n) ≤ 256 }
     ensures one_line { All (λ byte. byte ≢ 10) (agent_line game.now agent n) }

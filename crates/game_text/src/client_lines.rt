@@ -103,8 +103,7 @@ impl Part for AgentClients {
         lines: TextLines<'a>,
     ) -> Result<(Client, TextLines<'a>), BadLine> {
         let (line, left) = lines.due()?;
-        let client = at_line(line.number(), client_of(self.agent, client, line.bytes()))?;
-        Ok((client, left))
+        at_line(&line, client_of(self.agent, client, line.bytes()), left)
     }
 }
 

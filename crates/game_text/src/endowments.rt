@@ -54,8 +54,7 @@ impl Part for Endowments {
         lines: TextLines<'a>,
     ) -> Result<([u8; 12], TextLines<'a>), BadLine> {
         let (line, left) = lines.due()?;
-        let endow = at_line(line.number(), endow_of(agent, line.bytes()))?;
-        Ok((endow, left))
+        at_line(&line, endow_of(agent, line.bytes()), left)
     }
 }
 

@@ -132,8 +132,7 @@ impl Part for Flights {
         lines: TextLines<'a>,
     ) -> Result<(FlightLine, TextLines<'a>), BadLine> {
         let (line, left) = lines.due()?;
-        let flight = at_line(line.number(), flight_of(good, line.bytes()))?;
-        Ok((flight, left))
+        at_line(&line, flight_of(good, line.bytes()), left)
     }
 }
 

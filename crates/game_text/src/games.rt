@@ -62,8 +62,7 @@ fn header_at(lines: TextLines<'_>) -> Result<(u8, TextLines<'_>), BadLine>
     ensures { result ≡ steps.read_by headers.header_of lines.entry }
 {
     let (line, left) = lines.due()?;
-    let version = at_line(line.number(), header_of(line.bytes()))?;
-    Ok((version, left))
+    at_line(&line, header_of(line.bytes()), left)
 }
 
 /// Reads the line of the seat words.
@@ -71,8 +70,7 @@ fn seats_at(lines: TextLines<'_>) -> Result<([SeatWord; 8], TextLines<'_>), BadL
     ensures { result ≡ steps.read_by seats.seats_of lines.entry }
 {
     let (line, left) = lines.due()?;
-    let words = at_line(line.number(), seats_of(line.bytes()))?;
-    Ok((words, left))
+    at_line(&line, seats_of(line.bytes()), left)
 }
 
 /// Reads the line of the closing order.
@@ -80,8 +78,7 @@ fn order_at(lines: TextLines<'_>) -> Result<([Good; 8], TextLines<'_>), BadLine>
     ensures { result ≡ steps.read_by orders.order_of lines.entry }
 {
     let (line, left) = lines.due()?;
-    let order = at_line(line.number(), order_of(line.bytes()))?;
-    Ok((order, left))
+    at_line(&line, order_of(line.bytes()), left)
 }
 
 /// Reads the game from the lines that are left.

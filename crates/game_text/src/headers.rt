@@ -72,6 +72,5 @@ pub(crate) fn end_at(lines: TextLines<'_>) -> Result<((), TextLines<'_>), BadLin
     ensures { result ≡ steps.read_by headers.read_end_line lines.entry }
 {
     let (line, left) = lines.due()?;
-    at_line(line.number(), end_of(line.bytes()))?;
-    Ok(((), left))
+    at_line(&line, end_of(line.bytes()), left)
 }

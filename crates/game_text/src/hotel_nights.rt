@@ -34,8 +34,7 @@ fn rooms_at(lines: TextLines<'_>) -> Result<([u8; 8], TextLines<'_>), BadLine>
     ensures { result ≡ steps.read_by nights.read_rooms lines.entry }
 {
     let (line, left) = lines.due()?;
-    let rooms = at_line(line.number(), rooms_of(line.bytes()))?;
-    Ok((rooms, left))
+    at_line(&line, rooms_of(line.bytes()), left)
 }
 
 /// Returns whether the word stands for live quotes.
@@ -77,8 +76,7 @@ fn quotes_at(lines: TextLines<'_>) -> Result<(bool, TextLines<'_>), BadLine>
     ensures { result ≡ steps.read_by nights.quotes_of lines.entry }
 {
     let (line, left) = lines.due()?;
-    let live = at_line(line.number(), quotes_of(line.bytes()))?;
-    Ok((live, left))
+    at_line(&line, quotes_of(line.bytes()), left)
 }
 
 /// Reads the hotel nights from a file of this version; version 1 has no lines for them.

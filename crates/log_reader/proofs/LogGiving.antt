@@ -4,7 +4,7 @@ use Rattle.std.specs.List.{AllByRecursion, enumerate_from}
 use Rattle.std.proofs.lemmas.Fmt.{decimal_digit}
 use Rattle.std.proofs.lemmas.List.Concat.{flat_map-cons}
 use Rattle.std.proofs.lemmas.List.Elements.{All-head, All-tail}
-use Rattle.log_reader.specs.{Call, Reply, IsCall, IsReply, IsTrade, IsEntry, IsHistory, CashEntry, words_of, repeat, Verdict, Cause, Head, Play, Serve, reply_text, is_text, read_link, read_end, read_missed, first_is, auction_of, trade_of, read_entry, read_cash_line, cash_entry_of, line_by, begins, as_long_as, is_served, served_in, head_in, entry_in, history_in, cash_in}
+use Rattle.log_reader.specs.{TEXT_BYTES, Call, Reply, IsCall, IsReply, IsTrade, IsEntry, IsHistory, CashEntry, words_of, repeat, Verdict, Cause, Head, Play, Serve, reply_text, is_text, read_link, read_end, read_missed, first_is, auction_of, trade_of, read_entry, read_cash_line, cash_entry_of, line_by, begins, as_long_as, is_served, served_in, head_in, entry_in, history_in, cash_in}
 use Rattle.tac_base.proofs.Signed.{Lacks, decimal_lacks}
 use Rattle.auction_rules.specs.History.{Entry}
 use Rattle.text_forms.proofs.Joins.{parts_more}
@@ -85,7 +85,7 @@ served_given links ends missed is number rest =
     let after_links = flat_map end_line ends ++ (missed_line missed ++ rest) in
     let a = as_long_given (codes "link") (λ place. line_by (read_link place)) (λ place v. link_line (place, v)) IsLink link_gives link_starts links 255 0 is.few_links (are_links 0 links (let few = is.few_links in omega (arith, few)) is.links_are) number after_links
     (ends_begin ends missed is.ends_are is.few_missed rest) in
-    let b = as_long_given (codes "end") (λ _. line_by read_end) (λ _ e. end_line e) (λ _ e. IsLoggedEnd e) end_gives end_starts ends 67108864 0 is.few_ends (each_alike IsLoggedEnd 0 ends is.ends_are) a.0 (missed_line missed ++ rest)
+    let b = as_long_given (codes "end") (λ _. line_by read_end) (λ _ e. end_line e) (λ _ e. IsLoggedEnd e) end_gives end_starts ends TEXT_BYTES 0 is.few_ends (each_alike IsLoggedEnd 0 ends is.ends_are) a.0 (missed_line missed ++ rest)
     (missed_begins missed is.few_missed (codes "end") refl rest) in
     let c = missed_given missed b.0 rest is.few_missed in
     let links_are = ap (λ (t : List ℕ). t ++ after_links) (sym (parts_numbered (λ place v. link_line (place, v)) 0 links)) in
@@ -94,8 +94,8 @@ served_given links ends missed is number rest =
     ∙ ap (λ (t : List ℕ). flat_map link_line (enumerate_from 0 links) ++ t) (append_assoc (flat_map end_line ends) (missed_line missed) rest) in
     let first : as_long_as (codes "link") (λ place. line_by (read_link place)) 255 0 (at number ((flat_map link_line (enumerate_from 0 links) ++ (flat_map end_line ends ++ missed_line missed)) ++ rest)) ≡ Ok (links, at a.0 after_links) =
     ap (λ (t : List ℕ). as_long_as (codes "link") (λ place. line_by (read_link place)) 255 0 (at number t)) (whole ∙ links_are) ∙ a.1 in
-    let second : as_long_as (codes "end") (λ _. line_by read_end) 67108864 0 (at a.0 after_links) ≡ Ok (ends, at b.0 (missed_line missed ++ rest)) =
-    ap (λ (t : List ℕ). as_long_as (codes "end") (λ _. line_by read_end) 67108864 0 (at a.0 t)) ends_are ∙ b.1 in
+    let second : as_long_as (codes "end") (λ _. line_by read_end) TEXT_BYTES 0 (at a.0 after_links) ≡ Ok (ends, at b.0 (missed_line missed ++ rest)) =
+    ap (λ (t : List ℕ). as_long_as (codes "end") (λ _. line_by read_end) TEXT_BYTES 0 (at a.0 t)) ends_are ∙ b.1 in
     (b.0 + 1, rw (first, second, c) refl)
 
 pub text_given : (text : List ℕ) (number : ℕ) (rest : List ℕ) → Lacks 10 text → line_by (is_text text) (at number ((text ++ 10 ∷ []) ++ rest)) ≡ Ok (tt, at (number + 1) rest)

@@ -4,7 +4,7 @@ use Rattle.std.specs.List.{AllByRecursion, enumerate_from, join_with_byte, onto_
 use Rattle.std.proofs.lemmas.Option.{cond_some, same_Some}
 use Rattle.std.proofs.lemmas.Grind.{flat_map-append}
 use Rattle.std.proofs.lemmas.List.Concat.{flat_map-cons}
-use Rattle.log_reader.specs.{Call, Reply, Trade, CashEntry, BadLine, parts_of, NumberedLine, Remaining, lines_from, text_of, due_of, at_line, with_line, first_number, block_in, block_of, nothing_left, TextEnd, IsTrade, IsEntry, IsHistory, Package, IsPackage, Tree, IsCertificate, tree_lines, cert_text, cert_of, CertFault, Scored, Verdict, Cause, Head, Play, Serve, formed, is_text, read_link, read_end, read_missed, auction_of, trade_of, read_entry, read_cash_line, cash_entry_of, read_score, package_of, read_count, line_by, as_long_as, is_served, served_in, head_by, head_in, entry_in, history_in, cash_in, cert_by, block_by, cert_in, score_in, log_in}
+use Rattle.log_reader.specs.{TEXT_BYTES, Call, Reply, Trade, CashEntry, BadLine, parts_of, NumberedLine, Remaining, lines_from, text_of, due_of, at_line, with_line, first_number, block_in, block_of, nothing_left, TextEnd, IsTrade, IsEntry, IsHistory, Package, IsPackage, Tree, IsCertificate, tree_lines, cert_text, cert_of, CertFault, Scored, Verdict, Cause, Head, Play, Serve, formed, is_text, read_link, read_end, read_missed, auction_of, trade_of, read_entry, read_cash_line, cash_entry_of, read_score, package_of, read_count, line_by, as_long_as, is_served, served_in, head_by, head_in, entry_in, history_in, cash_in, cert_by, block_by, cert_in, score_in, log_in}
 use Rattle.auction_rules.specs.History.{Entry}
 use Rattle.text_forms.specs.Steps.{◌>>=◌, repeat, lines_of_parts, one_line}
 use Rattle.text_forms.proofs.Reading.{bind_ok, ok_is}
@@ -88,10 +88,10 @@ record TookKind (served : Bool) (left : Remaining) (x : Head × Remaining) : Typ
 served_took : (left : Remaining) (x : Head × Remaining) → AreLines left → served_in left ≡ Ok x → TookKind true left x
 served_took left x are e =
     let a = bind_ok (as_long_as (codes "link") (λ place. line_by (read_link place)) 255 0 left) _ x e in
-    let b = bind_ok (as_long_as (codes "end") (λ _. line_by read_end) 67108864 0 a.0.1) _ x a.2 in
+    let b = bind_ok (as_long_as (codes "end") (λ _. line_by read_end) TEXT_BYTES 0 a.0.1) _ x a.2 in
     let c = bind_ok (line_by read_missed b.0.1) _ x b.2 in
     let links = as_long_took (codes "link") (λ place. line_by (read_link place)) (λ place v. link_line (place, v)) (λ _ v. IsLoggedVerdict v) link_takes 255 0 left a.0 are a.1 in
-    let ends = as_long_took (codes "end") (λ _. line_by read_end) (λ _ e. end_line e) (λ _ e. IsLoggedEnd e) end_takes 67108864 0 a.0.1 b.0 (links.0.took.lines are) b.1 in
+    let ends = as_long_took (codes "end") (λ _. line_by read_end) (λ _ e. end_line e) (λ _ e. IsLoggedEnd e) end_takes TEXT_BYTES 0 a.0.1 b.0 (links.0.took.lines are) b.1 in
     let missed = missed_took b.0.1 c.0 c.1 in
     subst (TookKind true left) (ok_is {E = BadLine} (Serve a.0.0 b.0.0 c.0.0, c.0.1) x c.2) (record {
       took = took_both left a.0.1 c.0.1 (flat_map link_line (enumerate_from 0 a.0.0)) (flat_map end_line b.0.0 ++ missed_line c.0.0)

@@ -7,7 +7,7 @@ use Rattle.std.proofs.lemmas.Option.{same_Some}
 use Rattle.std.proofs.lemmas.List.Sums.{count_by-le-length}
 use Rattle.std.proofs.lemmas.List.Splits.{length-slice_split}
 use Rattle.std.proofs.lemmas.Bool.{cases_Bool}
-use Rattle.log_reader.specs.{Reason, TextEnd, parts_of, words_of, row, NumberedLine, Remaining, lines_from, nothing_in, nothing_left, with_line, block_in, block_of, first_number, CertFault, or_cert_fault, IsCertRefusal, Tree, split, Trees, more, Reader, forest_by, tree_in, root_in, cert_of, last_number, AreLow, IsLowFault}
+use Rattle.log_reader.specs.{TEXT_BYTES, Reason, TextEnd, parts_of, words_of, row, NumberedLine, Remaining, lines_from, nothing_in, nothing_left, with_line, block_in, block_of, first_number, CertFault, or_cert_fault, IsCertRefusal, Tree, split, Trees, more, Reader, forest_by, tree_in, root_in, cert_of, last_number, AreLow, IsLowFault}
 use Rattle.text_forms.specs.Steps.{◌>>=◌}
 use Rattle.packages.specs.Features.{values_of}
 use Rattle.bound_cert.specs.declared.faults.CertFault.TheVariants as certs
@@ -26,7 +26,7 @@ from_low number (line ∷ next ∷ parts) low h =
     record { lines = (low, others.lines); last = others.last }
 
 -- those of a text that is not too long
-pub whole_low : (text : List ℕ) → length text ≤ 67108864 → AreLow (lines_from false 1 (parts_of 10 text))
+pub whole_low : (text : List ℕ) → length text ≤ TEXT_BYTES → AreLow (lines_from false 1 (parts_of 10 text))
 whole_low text short =
     from_low 1 (parts_of 10 text) (omega arith) (omega (arith, length-slice_split (λ b. eqb b 10) text, count_by-le-length (λ b. eqb b 10) text))
 
@@ -128,7 +128,7 @@ root_low left low =
     then_low (Leaves Tree) (λ (tree : Tree). ⊤) (tree_in 32 left) (λ tree. or_cert_fault (nothing_left tree.1) >>= λ done. Ok tree.0) (tree_low 32 left low)
     (λ tree is. then_low (λ (x : Unit {0}). ⊤) (λ (t : Tree). ⊤) (or_cert_fault (nothing_left tree.1)) (λ done. Ok tree.0) (nothing_low tree.1 tree.1.lines is.last is.lines) (λ done _. tt))
 
-text_low : (text : List ℕ) (long : Bool) → (long ≡ false → length text ≤ 67108864) → Outcome (λ (tree : Tree). ⊤) (cond long (Err certs.TooLong) (root_in (lines_from false 1 (parts_of 10 text))))
+text_low : (text : List ℕ) (long : Bool) → (long ≡ false → length text ≤ TEXT_BYTES) → Outcome (λ (tree : Tree). ⊤) (cond long (Err certs.TooLong) (root_in (lines_from false 1 (parts_of 10 text))))
 text_low text true short = tt
 text_low text false short = root_low (lines_from false 1 (parts_of 10 text)) (whole_low text (short refl))
 
@@ -136,6 +136,6 @@ text_low text false short = root_low (lines_from false 1 (parts_of 10 text)) (wh
 pub cert_low : (text : List ℕ) (fault : CertFault) → IsCertRefusal fault (cert_of text) → IsLowFault fault
 unfolding cert_of
 cert_low text (certs.Line line reason) h =
-    subst (λ (read : Result Tree CertFault). Outcome (λ (tree : Tree). ⊤) read) h (text_low text (ltb 67108864 (length text)) (λ short. grind (arith, nat_tests)))
+    subst (λ (read : Result Tree CertFault). Outcome (λ (tree : Tree). ⊤) read) h (text_low text (ltb TEXT_BYTES (length text)) (λ short. grind (arith, nat_tests)))
 cert_low text certs.TooLong h = tt
 cert_low text certs.Memory h = tt

@@ -1,6 +1,6 @@
 -- Reading the head of a log, its cash history and a score, case by case.
 use Rattle.std.proofs.Common.{◌≡◌, ℕ, Bool, List, Result, Ok, Err, ℤ, refl, codes}
-use Rattle.log_reader.specs.{BadLine, Remaining, repeat, Package, Tree, Verdict, Cause, Head, Serve, is_text, read_link, read_end, read_missed, read_cash_line, cash_entry_of, read_score, package_of, line_by, as_long_as, is_served, served_in, head_by, head_in, cash_in, cert_in, score_in}
+use Rattle.log_reader.specs.{TEXT_BYTES, BadLine, Remaining, repeat, Package, Tree, Verdict, Cause, Head, Serve, is_text, read_link, read_end, read_missed, read_cash_line, cash_entry_of, read_score, package_of, line_by, as_long_as, is_served, served_in, head_by, head_in, cash_in, cert_in, score_in}
 
 -- ---- links, ends and the ticks that were missed
 
@@ -8,7 +8,7 @@ abbrev pub links_in : Remaining → Result (List Verdict × Remaining) BadLine
 links_in left = as_long_as (codes "link") (λ place. line_by (read_link place)) 255 0 left
 
 abbrev pub ends_in : Remaining → Result (List (ℕ × Cause) × Remaining) BadLine
-ends_in left = as_long_as (codes "end") (λ _. line_by read_end) 67108864 0 left
+ends_in left = as_long_as (codes "end") (λ _. line_by read_end) TEXT_BYTES 0 left
 
 pub no_links : (left : Remaining) (bad : BadLine) → links_in left ≡ Err bad → served_in left ≡ Err bad
 no_links left bad h = rw h refl

@@ -5,7 +5,7 @@ use Rattle.std.proofs.lemmas.Grind.{flat_map-append}
 use Rattle.std.proofs.lemmas.List.Concat.{flat_map-cons}
 use Rattle.std.proofs.lemmas.List.Elements.{All-head, All-tail}
 use Rattle.tac_base.proofs.Signed.{Lacks}
-use Rattle.log_reader.specs.{Remaining, text_of, first_number, block_in, block_of, repeat, lines_of_parts, one_line, Package, IsPackage, Tree, leaf, split, IsCertificate, tree_lines, cert_text, Scored, is_text, read_score, package_of, line_by, cert_in, score_in, log_in}
+use Rattle.log_reader.specs.{TEXT_BYTES, Remaining, text_of, first_number, block_in, block_of, repeat, lines_of_parts, one_line, Package, IsPackage, Tree, leaf, split, IsCertificate, tree_lines, cert_text, Scored, is_text, read_score, package_of, line_by, cert_in, score_in, log_in}
 use Rattle.bound_cert.proofs.TreesAgain.{text_again, tree_lines_lack}
 use Rattle.line_protocol.proofs.JoinedWords.{lacks}
 use Rattle.log_text.specs.{histories_text, first_lines, score_line, package_line, cert_line, agent_lines, sheet_part, LoggedGame, logged_text, IsLoggedScore, IsLogged}
@@ -60,7 +60,7 @@ some_line (split client feature children) = omega arith
 count_lacks : (agent count : ℕ) → agent ≤ 7 → count ≤ 4294967295 → Lacks 10 (cert_line agent count)
 count_lacks agent count low few = line_lacks (cert_words agent count) (cert_are agent count (omega (arith, low)) (number_is count few))
 
-cert_given : (agent : ℕ) (tree : Tree) → agent ≤ 7 → IsCertificate tree → length (tree_lines tree) ≤ 4294967295 → length (cert_text tree) ≤ 67108864 → (number : ℕ) (rest : List ℕ) →
+cert_given : (agent : ℕ) (tree : Tree) → agent ≤ 7 → IsCertificate tree → length (tree_lines tree) ≤ 4294967295 → length (cert_text tree) ≤ TEXT_BYTES → (number : ℕ) (rest : List ℕ) →
     (m : ℕ) × (cert_in agent (at number (agents_cert_text agent tree ++ rest)) ≡ Ok (tree, at m rest))
 unfolding cert_in
 cert_given agent tree low fits few short number rest =
@@ -80,7 +80,7 @@ cert_given agent tree low fits few short number rest =
 pub record IsScore (agent : ℕ) (scored : Scored) : Type 0 where
   pub low : agent ≤ 7
   pub range : IsLoggedScore scored
-  pub short : length (cert_text scored.tree) ≤ 67108864
+  pub short : length (cert_text scored.tree) ≤ TEXT_BYTES
 
 package_gives : (agent : ℕ) → agent ≤ 7 → GivesBytes (λ client. line_by (package_of agent client)) (λ client p. text_of (package_line agent client p ∷ [])) (λ client p. (client ≤ 7) × IsPackage p) Any
 unfolding GivesBytes
@@ -121,7 +121,7 @@ score_gives agent scored is number rest q =
 -- ---- the log
 
 -- the certificates of a text that is short enough are short enough
-short_scores : (from : ℕ) (scores : List Scored) (most : ℕ) → from + length scores ≤ 8 → All IsLoggedScore scores → length (bytes_of_parts (λ agent s. text_of (agent_lines agent s)) from scores) ≤ most → most ≤ 67108864 → AllFrom IsScore from scores
+short_scores : (from : ℕ) (scores : List Scored) (most : ℕ) → from + length scores ≤ 8 → All IsLoggedScore scores → length (bytes_of_parts (λ agent s. text_of (agent_lines agent s)) from scores) ≤ most → most ≤ TEXT_BYTES → AllFrom IsScore from scores
 short_scores from [] most few all short le = tt
 short_scores from (s ∷ ss) most few all short le =
     let both = length-append (text_of (agent_lines from s)) (bytes_of_parts (λ agent x. text_of (agent_lines agent x)) (from + 1) ss) in
@@ -155,7 +155,7 @@ log_given_by log is each =
     ap (λ (t : List ℕ). line_by (is_text (codes "end")) (at scores.0 t)) (sym (append-nil last)) ∙ text_given (codes "end") scores.0 [] (lacks 10 (codes "end") refl) in
     whole_log (at 1 (logged_text log)) (is_read _ _ head.1) (is_read _ _ histories.2) (is_read _ _ histories.3) (sym title) (is_read _ _ agents) (sym end) tt refl
 
-pub log_given : (log : LoggedGame) → IsLogged log → length (logged_text log) ≤ 67108864 → log_in (at 1 (logged_text log)) ≡ Ok log
+pub log_given : (log : LoggedGame) → IsLogged log → length (logged_text log) ≤ TEXT_BYTES → log_in (at 1 (logged_text log)) ≡ Ok log
 log_given log is short =
     let scores_bytes = bytes_of_parts (λ agent s. text_of (agent_lines agent s)) 0 log.scores in
     let last = codes "end" ++ 10 ∷ [] in

@@ -32,7 +32,7 @@ abbrev pub night_of : ℕ → ℕ → ℕ
 night_of arrive night = if night == 0 then 0 else arrive + night - 1
 
 abbrev pub packages_of : ℕ → ℕ × ℕ → List Package
-packages_of hotel trip = map (λ nights. Trip hotel trip.0 trip.1 (map (night_of trip.0) nights)) (nights_within (trip.1 - trip.0))
+packages_of hotel (arrive, depart) = map (λ nights. Trip hotel arrive depart (map (night_of arrive) nights)) (nights_within (depart - arrive))
 
 -- every package, once
 unfoldable pub packages : List Package

@@ -1,6 +1,6 @@
 -- The first bad line of certificates.
 use Rattle.std.proofs.Common.{◌≡◌, ℕ, ◌≤◌, ◌↔◌, false, List, length, Ok, Err, refl, sym, ap, ◌∙◌}
-use Rattle.reading_laws.specs.{CertFault, root_in, cert_of, Tree, IsFirstBadLine}
+use Rattle.reading_laws.specs.{TEXT_BYTES, CertFault, root_in, cert_of, Tree, IsFirstBadLine}
 use Rattle.bound_cert.specs.declared.faults.CertFault.TheVariants.{Line, TooLong, Memory}
 use Rattle.bound_cert.proofs.RootCases.{short_text}
 use Rattle.bound_cert.proofs.TreeTexts.{root_printed}
@@ -26,7 +26,7 @@ shown text line (Line at reason) e is = (reason, e ∙ ap (λ (n : ℕ). Err (Li
 shown text line TooLong e is = absurd is
 shown text line Memory e is = absurd is
 
-pub certificate_law : (text : List ℕ) (line : ℕ) → length text ≤ 67108864 → IsRefusedAt text line ↔ IsFirstBadLine IsCertificateText text line
+pub certificate_law : (text : List ℕ) (line : ℕ) → length text ≤ TEXT_BYTES → IsRefusedAt text line ↔ IsFirstBadLine IsCertificateText text line
 certificate_law text line short = (
   λ r. is_first IsFaultAt any_line Never false root_in IsCertificateText found only root_closes one_place text (λ fault w. w.place.refused) line (Line line r.0) (sym (short_text text short) ∙ r.1) refl,
   λ is. let r = is_refused IsFaultAt any_line Never false root_in IsCertificateText found only root_closes text line (λ fault w. absurd w.place.refused) is in shown text line r.0 (short_text text short ∙ r.1) r.2,

@@ -4,7 +4,7 @@ use Rattle.std.proofs.Common.{◌≡◌, ℕ, zero, suc, ◌+◌, ◌<◌, ◌�
 use Rattle.std.specs.List.{AllByRecursion}
 use Rattle.std.proofs.lemmas.Fmt.{decimal_digit}
 use Rattle.std.proofs.lemmas.List.{append_cancel_right, map-append}
-use Rattle.reading_laws.specs.Prelude.{BadLine, Spelling, NumberedLine, Remaining, block_of, nothing_left, text_of, row, ◌>>=◌, repeat, parts_of, words_of, cert_of, tree_lines, forest_lines, Tree, leaf, split, Trees, no_trees, more, Play, Serve, cert_line, is_text, link_of_words, read_link, end_of_words, read_end, read_missed, first_is, auction_of, trade_of, read_entry, read_cash_line, cash_entry_of, read_score, package_of, read_count, line_by, begins, as_long_as, is_served, served_in, head_by, head_in, entry_in, history_in, cash_in, cert_in, score_in, log_in}
+use Rattle.reading_laws.specs.Prelude.{TEXT_BYTES, BadLine, Spelling, NumberedLine, Remaining, block_of, nothing_left, text_of, row, ◌>>=◌, repeat, parts_of, words_of, cert_of, tree_lines, forest_lines, Tree, leaf, split, Trees, no_trees, more, Play, Serve, cert_line, is_text, link_of_words, read_link, end_of_words, read_end, read_missed, first_is, auction_of, trade_of, read_entry, read_cash_line, cash_entry_of, read_score, package_of, read_count, line_by, begins, as_long_as, is_served, served_in, head_by, head_in, entry_in, history_in, cash_in, cert_in, score_in, log_in}
 use Rattle.text_forms.proofs.Reading.{bind_ok, ok_is}
 use Rattle.bound_cert.proofs.TreesAgain.{parts_again, tree_lines_lack}
 use Rattle.bound_cert.proofs.TreeTexts.{cert_printed}
@@ -305,7 +305,7 @@ module _ (agent : ℕ) (low : agent ≤ 7) where
   unfolding read_link read_end read_missed row
   served_meets =
       then_meets (as_long_as (codes "link") (λ place. line_by (read_link place)) 255 0) _ (run_meets (codes "link") (λ count. refl) (λ place. line_by (read_link place)) (λ place. line_meets (read_link place) (λ count. no_link place (words_after count))) 255 0) (λ links.
-      then_meets (as_long_as (codes "end") (λ _. line_by read_end) 67108864 0) _ (run_meets (codes "end") (λ count. refl) (λ _. line_by read_end) (λ _. line_meets read_end (λ count. no_end (words_after count))) 67108864 0) (λ ends.
+      then_meets (as_long_as (codes "end") (λ _. line_by read_end) TEXT_BYTES 0) _ (run_meets (codes "end") (λ count. refl) (λ _. line_by read_end) (λ _. line_meets read_end (λ count. no_end (words_after count))) TEXT_BYTES 0) (λ ends.
       then_meets (λ left. line_by read_missed left) _ (line_meets read_missed (λ count. refl)) (λ missed. done_meets (Serve links ends missed))))
 
   head_by_meets : (served : Bool) → Meets (head_by served)

@@ -4,7 +4,7 @@ use Rattle.std.proofs.lemmas.Bool.Decides.{nat_tests}
 use Rattle.std.proofs.lemmas.List.{append_cancel_left, length-map}
 use Rattle.std.proofs.lemmas.List.Concat.{flat_map-cons}
 use Rattle.std.proofs.lemmas.List.Elements.{All-nil, All-cons, All-head, All-tail}
-use Rattle.reading_laws.specs.{BadLine, TextEnd, parts_of, NumberedLine, Remaining, lines_from, due_of, at_line, first_number, block_in, block_of, nothing_left, ◌>>=◌, repeat, CertFault, cert_of, cert_text, Tree, cert_line, LoggedGame, IsLoggedScore, formed, is_text, read_score, package_of, read_count, line_by, head_in, history_in, cash_in, cert_by, block_by, cert_in, score_in, log_in, log_of, with_ends}
+use Rattle.reading_laws.specs.{TEXT_BYTES, BadLine, TextEnd, parts_of, NumberedLine, Remaining, lines_from, due_of, at_line, first_number, block_in, block_of, nothing_left, ◌>>=◌, repeat, CertFault, cert_of, cert_text, Tree, cert_line, LoggedGame, IsLoggedScore, formed, is_text, read_score, package_of, read_count, line_by, head_in, history_in, cash_in, cert_by, block_by, cert_in, score_in, log_in, log_of, with_ends}
 use Rattle.text_forms.proofs.Reading.{bind_ok, ok_is}
 use Rattle.bound_cert.specs.declared.faults.CertFault.TheVariants as certs
 use Rattle.bound_cert.proofs.RootCases.{long_text}
@@ -26,12 +26,12 @@ use Rattle.reading_laws.proofs.CertificateLines.{there, log_meets}
 
 -- ---- what was read has short certificates
 
-short_of : (text : List ℕ) (tree : Tree) → cert_of text ≡ Ok tree → length text ≤ 67108864
-short_of text tree e = by_length (ltb 67108864 (length text)) refl where
-  no_tree : cert_of text ≡ Ok tree → 67108864 < length text → ⊥
+short_of : (text : List ℕ) (tree : Tree) → cert_of text ≡ Ok tree → length text ≤ TEXT_BYTES
+short_of text tree e = by_length (ltb TEXT_BYTES (length text)) refl where
+  no_tree : cert_of text ≡ Ok tree → TEXT_BYTES < length text → ⊥
   no_tree h long = absurd (let none = long_text text long in cc)
 
-  by_length : (long : Bool) → ltb 67108864 (length text) ≡ long → length text ≤ 67108864
+  by_length : (long : Bool) → ltb TEXT_BYTES (length text) ≡ long → length text ≤ TEXT_BYTES
   by_length true h = absurd (no_tree e (grind (arith, nat_tests, h)))
   by_length false h = grind (arith, nat_tests, h)
 
@@ -42,7 +42,7 @@ cert_short agent left x e =
     let b = bind_ok (at_line a.0.0.number (formed (read_count agent a.0.0.bytes))) (λ count. block_by a.0.0.number (block_of count a.0.1)) x a.2 in
     let r = read_block 0 (lit≤ tt) a.0.0.number b.0 a.0.1 x (block_of b.0 a.0.1) refl b.2 in
     let printed = cert_printed r.block.0 x.0 r.tree in
-    subst (λ (t : List ℕ). length t ≤ 67108864) {x = r.block.0} {y = cert_text x.0} printed.same (short_of r.block.0 x.0 r.tree)
+    subst (λ (t : List ℕ). length t ≤ TEXT_BYTES) {x = r.block.0} {y = cert_text x.0} printed.same (short_of r.block.0 x.0 r.tree)
 
 score_short : (agent : ℕ) (left : Remaining) (x : Scored × Remaining) → score_in agent left ≡ Ok x → HasShortText x.0.tree
 unfolding score_in
@@ -260,22 +260,22 @@ exception_refused text line b =
 
 -- ---- the law
 
-short_log : (text : List ℕ) → length text ≤ 67108864 → log_of text ≡ or_log_fault (log_in (left_of false text))
+short_log : (text : List ℕ) → length text ≤ TEXT_BYTES → log_of text ≡ or_log_fault (log_in (left_of false text))
 unfolding log_of
-short_log text short = let long : ltb 67108864 (length text) ≡ false = le-ltb _ _ short in rw long refl
+short_log text short = let long : ltb TEXT_BYTES (length text) ≡ false = le-ltb _ _ short in rw long refl
 
 bad_line_of : {A : Type 0} (r : Result A BadLine) (line : ℕ) → or_log_fault r ≡ Err (Line line) → BadLineOf r line
 bad_line_of (Ok x) line e = absurd cc
 bad_line_of (Err bad) line e = record { bad = bad; is = refl; at = cc }
 
-shown : (text : List ℕ) (line : ℕ) → length text ≤ 67108864 → (bad : BadLine) × (log_in (left_of false text) ≡ Err bad) × (bad.line ≡ line) → IsRefusedLogAt text line
+shown : (text : List ℕ) (line : ℕ) → length text ≤ TEXT_BYTES → (bad : BadLine) × (log_in (left_of false text) ≡ Err bad) × (bad.line ≡ line) → IsRefusedLogAt text line
 shown text line short r = short_log text short ∙ ap or_log_fault r.1 ∙ ap (λ (n : ℕ). Err (Line n)) r.2
 
 -- the exception gives one line
 one_line : (text : List ℕ) (bad : BadLine) → log_in (left_of false text) ≡ Err bad → (line : ℕ) → IsBadCertificateLine text line → line ≡ bad.line
 one_line text bad e line is = let r = exception_refused text line is in let same : r.0 ≡ bad = cc in sym r.2 ∙ ap (λ (b : BadLine). b.line) same
 
-log_refused : (text : List ℕ) (line : ℕ) → length text ≤ 67108864 → IsRefusedLogAt text line → IsBadLogLine text line
+log_refused : (text : List ℕ) (line : ℕ) → length text ≤ TEXT_BYTES → IsRefusedLogAt text line → IsBadLogLine text line
 log_refused text line short r =
     let bad = bad_line_of (log_in (left_of false text)) line (sym (short_log text short) ∙ r) in
     elim (is_first_or_within IsBadAt is_calm BadBlock false log_in IsLogText found only log_closes one_place text line bad.bad bad.is bad.at) as (λ _. IsBadLogLine text line) [
@@ -283,10 +283,10 @@ log_refused text line short r =
       | inr w ↦ inl (subst (IsBadCertificateLine text) bad.at (bad_within text bad.bad w))
     ]
 
-log_bad : (text : List ℕ) (line : ℕ) → length text ≤ 67108864 → IsBadLogLine text line → IsRefusedLogAt text line
+log_bad : (text : List ℕ) (line : ℕ) → length text ≤ TEXT_BYTES → IsBadLogLine text line → IsRefusedLogAt text line
 log_bad text line short (inl is) = shown text line short (exception_refused text line is)
 log_bad text line short (inr first) =
     shown text line short (is_refused IsBadAt is_calm BadBlock false log_in IsLogText found only log_closes text line (λ fault w. first.1 fault.line (bad_within text fault w)) first.0)
 
-pub log_law : (text : List ℕ) (line : ℕ) → length text ≤ 67108864 → IsRefusedLogAt text line ↔ IsBadLogLine text line
+pub log_law : (text : List ℕ) (line : ℕ) → length text ≤ TEXT_BYTES → IsRefusedLogAt text line ↔ IsBadLogLine text line
 log_law text line short = (log_refused text line short, log_bad text line short)

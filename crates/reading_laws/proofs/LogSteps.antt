@@ -1,7 +1,7 @@
 -- The reader of logs goes from line to line, but for the block of a certificate.
 use Rattle.std.proofs.Common.{◌≡◌, ℕ, ◌+◌, ◌<◌, ◌≤◌, inl, inr, Bool, true, false, not, ◌&&◌, eqb, cond, List, [], ◌∷◌, ◌++◌, Option, Some, None, Result, Ok, Err, refl, sym, ap, subst, ◌∙◌, arith, lit≤, lit<, pos, codes, decimal, replicate, ◌==◌, eq-eqb}
 use Rattle.std.proofs.lemmas.Fmt.{decimal_digit}
-use Rattle.reading_laws.specs.Prelude.{numeral, BadLine, TextEnd, Spelling, NumberedLine, Remaining, block_of, row, ◌>>=◌, repeat, words_of, CertFault, cert_of, cert_text, Tree, leaf, Play, Serve, package_line, formed, is_text, read_link, read_end, read_missed, first_is, auction_of, trade_of, read_entry, read_cash_line, cash_entry_of, read_score, package_of, read_count, line_by, as_long_as, is_served, served_in, head_by, head_in, entry_in, history_in, cash_in, cert_by, block_by, cert_in, score_in, log_in}
+use Rattle.reading_laws.specs.Prelude.{TEXT_BYTES, numeral, BadLine, TextEnd, Spelling, NumberedLine, Remaining, block_of, row, ◌>>=◌, repeat, words_of, CertFault, cert_of, cert_text, Tree, leaf, Play, Serve, package_line, formed, is_text, read_link, read_end, read_missed, first_is, auction_of, trade_of, read_entry, read_cash_line, cash_entry_of, read_score, package_of, read_count, line_by, as_long_as, is_served, served_in, head_by, head_in, entry_in, history_in, cash_in, cert_by, block_by, cert_in, score_in, log_in}
 use Rattle.tac_base.specs.declared.calls.Call.TheVariants as calls
 use Rattle.tac_base.specs.declared.calls.Reply.TheVariants as replies
 use Rattle.tac_base.proofs.Signed.{decimal_lacks}
@@ -90,7 +90,7 @@ missed_read = refl
 served_calmly : Calmly served_in
 served_calmly =
     then_calmly (as_long_as (codes "link") (λ place. line_by (read_link place)) 255 0) _ (run_goes_on is_calm BadBlock (codes "link") (λ line h. (quiet line h).0) read_link 255 0) (λ links.
-    then_calmly (as_long_as (codes "end") (λ _. line_by read_end) 67108864 0) _ (run_goes_on is_calm BadBlock (codes "end") (λ line h. (quiet line h).1) (λ _. read_end) 67108864 0) (λ ends.
+    then_calmly (as_long_as (codes "end") (λ _. line_by read_end) TEXT_BYTES 0) _ (run_goes_on is_calm BadBlock (codes "end") (λ line h. (quiet line h).1) (λ _. read_end) TEXT_BYTES 0) (λ ends.
     then_calmly (λ left. line_by read_missed left) _ (calm_line read_missed (codes "missed 0") 0 (record { lacks = lacks_from 10 (codes "missed 0") refl; kept = refl }) refl missed_read) (λ missed.
     steady_done IsBadAt is_calm BadBlock (Serve links ends missed))))
 

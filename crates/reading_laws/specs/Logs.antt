@@ -1,7 +1,6 @@
 -- The texts of logs, and when a text is refused as one at a line.
 use Rattle.std.specs.Prelude.{◌≡◌, ◌+◌, ◌<◌, ◌≤◌, ◌==◌, ◌⊎◌, ℕ, List, [], ◌∷◌, ◌++◌, Err, flat_map, if◌then◌else◌, length, take, All}
-use Rattle.tac_base.specs.declared.limits.TheConstants.{AGENTS, TEXT_BYTES}
-use Rattle.reading_laws.specs.Prelude.{CertFault, cert_of, cert_text, Tree, cert_line, LoggedGame, IsLogged, logged_text, log_of}
+use Rattle.reading_laws.specs.Prelude.{AGENTS, TEXT_BYTES, CertFault, cert_of, cert_text, Tree, cert_line, LoggedGame, IsLogged, logged_text, log_of}
 use Rattle.bound_cert.specs.declared.faults.CertFault.TheVariants as certs
 use Rattle.log_reader.specs.declared.fault.LogFault.TheVariants.{Line}
 use Rattle.reading_laws.specs.FirstBadLine.{lines_with_ends, IsFirstBadLine}

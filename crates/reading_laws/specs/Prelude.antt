@@ -1,4 +1,5 @@
 -- The names of crates below that this crate cites, passed on from one place.
+pub use Rattle.tac_base.specs.declared.limits.TheConstants.{AGENTS, TEXT_BYTES}
 unfoldable pub use Rattle.tac_base.specs.Numerals.{numeral, signed_numeral}
 pub use Rattle.text_forms.specs.Lines.{NumberedLine, Remaining, at_line, block_in, block_of, due_of, first_number, is_comment, lines_from, nothing_left, reason_number, text_of}
 unfoldable pub use Rattle.text_forms.specs.Rows.{row}

@@ -1,6 +1,6 @@
 -- A script that is heard piece by piece, up to what ends the game.
 use Rattle.std.proofs.Common.{◌≡◌, ℕ, ◌+◌, ◌<◌, ◌≤◌, false, List, [], ◌++◌, length, length-append, take, refl, sym, ap, ◌∙◌, subst, arith, inl, inr, ◌⊎◌, Result, Ok, Err}
-use Rattle.script_run.specs.{parts_of, Rose, FilesState, SinkState, IsAtEnd, then_known, GameFile, TookWhole, TookPart, HasRunGame, Heard, heard, heard_from, heard_lines, Reading, AtEnd, AtFault, Before, Standing, Whole, BadAt, Overlong, BrokenOff, Open, script_standing, standing_after, replies, BadLine, HasReadCause, IsPrompt, StopsThere, StepsGame, Tells, Answered, EndsScript, HasAnswered, HearsLines, IsStepping, TookMore}
+use Rattle.script_run.specs.{TEXT_BYTES, parts_of, Rose, FilesState, SinkState, IsAtEnd, then_known, GameFile, TookWhole, TookPart, HasRunGame, Heard, heard, heard_from, heard_lines, Reading, AtEnd, AtFault, Before, Standing, Whole, BadAt, Overlong, BrokenOff, Open, script_standing, standing_after, replies, BadLine, HasReadCause, IsPrompt, StopsThere, StepsGame, Tells, Answered, EndsScript, HasAnswered, HearsLines, IsStepping, TookMore}
 use Rattle.tac_io.proofs.KnownPieces.{known_then-nothing, then_known-nothing, then_known-twice}
 use Rattle.tac_io.proofs.WholeFiles.{still_at_end}
 use Rattle.script_run.specs.declared.fault.StepFault.{StepFault}
@@ -20,7 +20,7 @@ pub record HeardOutside : Type 0 where
 pub record IsHearing (game : GameFile) (before after : HeardOutside) (stepper : Stepper) (count : ℕ) : Type 0 where
   pub given : List ℕ
   pub count_is : count ≡ length given
-  pub within : count ≤ 67108864
+  pub within : count ≤ TEXT_BYTES
   pub answered : HasAnswered game given before.sink stepper after.sink
   pub left : before.files.left ≡ then_known given after.files.left
   pub quiet : after.files.faults ≡ before.files.faults
@@ -50,7 +50,7 @@ module _ (game : GameFile) (files : FilesState) (start : SinkState) where
   )
 
   module _ (files' : FilesState) (sink : SinkState) (stepper : Stepper) (count : ℕ) (h : IsHearing game (record { files = files; sink = start }) (record { files = files'; sink = sink }) stepper count) where
-    short : length h.given ≤ 67108864
+    short : length h.given ≤ TEXT_BYTES
     short = let is = h.count_is in let low = h.within in omega (arith, is, low)
 
     so_far : heard h.given ≡ ((h.answered.stepping).lines, Ok (h.answered.stepping).rest)
@@ -102,19 +102,19 @@ module _ (game : GameFile) (files : FilesState) (start : SinkState) where
         at_end (Err Memory) ended = absurd ended
 
       -- more bytes came than a script may have
-      pub too_long : count ≡ 67108864 → 0 < length (take n piece) → length (take n piece) ≤ 1024 → StepsGame game files files'' start sink (Err TooLong)
+      pub too_long : count ≡ TEXT_BYTES → 0 < length (take n piece) → length (take n piece) ≤ 1024 → StepsGame game files files'' start sink (Err TooLong)
       too_long full some few =
           let bytes : List ℕ = take n piece in
-          let all : length h.given ≡ 67108864 = sym h.count_is ∙ full in
+          let all : length h.given ≡ TEXT_BYTES = sym h.count_is ∙ full in
           let same : heard (h.given ++ bytes) ≡ heard h.given = heard_beyond h.given bytes all in
-          let long : 67108864 < length (h.given ++ bytes) = omega (arith, all, some, length-append h.given bytes) in
+          let long : TEXT_BYTES < length (h.given ++ bytes) = omega (arith, all, some, length-append h.given bytes) in
           ends (h.given ++ bytes) Before Overlong files'' sink (Err TooLong) (stands_beyond (h.given ++ bytes) Before (h.answered.stepping).lines (h.answered.stepping).rest long (same ∙ so_far)) left tt quiet
           (refl, subst (λ (x : Heard). TookWhole start sink (replies game x.0)) (sym same) took)
           (prompt_after game h.given bytes start sink sink few took (took_none sink))
 
       -- the lines of a piece were answered
-      module _ (sink' : SinkState) (within : count + length (take n piece) ≤ 67108864) (few : length (take n piece) ≤ 1024) (more : TookMore sink sink') where
-        short' : length (h.given ++ take n piece) ≤ 67108864
+      module _ (sink' : SinkState) (within : count + length (take n piece) ≤ TEXT_BYTES) (few : length (take n piece) ≤ 1024) (more : TookMore sink sink') where
+        short' : length (h.given ++ take n piece) ≤ TEXT_BYTES
         short' = let is = h.count_is in omega (arith, is, within, length-append h.given (take n piece))
 
         pub answered_fault : (fault : StepFault) (stepper' : Stepper) → Answered game (h.given ++ take n piece) start stepper' sink' (Err fault) → StepsGame game files files'' start sink' (Err fault)

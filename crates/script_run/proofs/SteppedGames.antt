@@ -2,7 +2,7 @@
 use Rattle.std.proofs.Common.{◌≡◌, ℕ, ◌<◌, ◌≤◌, Bool, true, false, List, [], ◌++◌, length, refl, sym, ap, ◌∙◌, subst, arith, append_assoc, append-nil, inl, inr, ◌⊎◌, nat_lt, Result, Ok, Err, take_all}
 use Rattle.std.proofs.lemmas.Bool.Decides.{nat_tests}
 use Rattle.std.proofs.lemmas.List.{take-append-le}
-use Rattle.script_run.specs.{parts_of, SinkState, known_then, GameFile, TookWhole, Heard, heard, heard_from, heard_lines, Reading, Before, Standing, Overlong, Open, script_standing, standing_after, replies, BadLine, IsPrompt, Tells, IsStepping, HasAnswered, TookMore}
+use Rattle.script_run.specs.{TEXT_BYTES, parts_of, SinkState, known_then, GameFile, TookWhole, Heard, heard, heard_from, heard_lines, Reading, Before, Standing, Overlong, Open, script_standing, standing_after, replies, BadLine, IsPrompt, Tells, IsStepping, HasAnswered, TookMore}
 use Rattle.tac_io.proofs.KnownPieces.{known_then-nothing, known_then-twice}
 use Rattle.script_run.specs.declared.fault.StepFault.{StepFault}
 use Rattle.script_run.specs.declared.game.lines.GameLine.{GameLine}
@@ -11,11 +11,11 @@ use Rattle.script_run.proofs.Hearing.{heard_rest}
 
 -- ---- what was heard of bytes within the limit
 
-pub heard_within : (given : List ℕ) → length given ≤ 67108864 → heard given ≡ heard_from [] (parts_of 10 given)
-heard_within given short = ap (λ (l : List ℕ). heard_from [] (parts_of 10 l)) (take_all 67108864 given short)
+pub heard_within : (given : List ℕ) → length given ≤ TEXT_BYTES → heard given ≡ heard_from [] (parts_of 10 given)
+heard_within given short = ap (λ (l : List ℕ). heard_from [] (parts_of 10 l)) (take_all TEXT_BYTES given short)
 
 -- the lines so far, and the rest
-pub heard_so_far : (game : GameFile) (given written : List ℕ) (stepper : Stepper) → length given ≤ 67108864 → (s : IsStepping game given written stepper) → heard given ≡ (s.lines, Ok s.rest)
+pub heard_so_far : (game : GameFile) (given written : List ℕ) (stepper : Stepper) → length given ≤ TEXT_BYTES → (s : IsStepping game given written stepper) → heard given ≡ (s.lines, Ok s.rest)
 heard_so_far game given written stepper short s =
     heard_within given short
     ∙ (ap (λ (l : List ℕ). heard_from [] (parts_of 10 l)) (sym (append-nil given)) ∙ (s.heard []
@@ -24,23 +24,23 @@ heard_so_far game given written stepper short s =
 -- ---- how a script stands
 
 -- a script within the limit
-pub stands_within : (given : List ℕ) (reading : Reading) (lines : List GameLine) (end : Result (List ℕ) BadLine) → length given ≤ 67108864 → heard given ≡ (lines, end) →
+pub stands_within : (given : List ℕ) (reading : Reading) (lines : List GameLine) (end : Result (List ℕ) BadLine) → length given ≤ TEXT_BYTES → heard given ≡ (lines, end) →
     script_standing given reading ≡ standing_after lines end false reading
 stands_within given reading lines end short is =
-    let test : nat_lt 67108864 (length given) ≡ false = grind (arith, nat_tests) in
-    ap (λ (h : Heard). standing_after h.0 h.1 (nat_lt 67108864 (length given)) reading) is ∙ ap (λ (b : Bool). standing_after lines end b reading) test
+    let test : nat_lt TEXT_BYTES (length given) ≡ false = grind (arith, nat_tests) in
+    ap (λ (h : Heard). standing_after h.0 h.1 (nat_lt TEXT_BYTES (length given)) reading) is ∙ ap (λ (b : Bool). standing_after lines end b reading) test
 
 -- and one that is longer, whose lines are good so far
-pub stands_beyond : (given : List ℕ) (reading : Reading) (lines : List GameLine) (rest : List ℕ) → 67108864 < length given → heard given ≡ (lines, Ok rest) → script_standing given reading ≡ Overlong
+pub stands_beyond : (given : List ℕ) (reading : Reading) (lines : List GameLine) (rest : List ℕ) → TEXT_BYTES < length given → heard given ≡ (lines, Ok rest) → script_standing given reading ≡ Overlong
 stands_beyond given reading lines rest long is =
-    let test : nat_lt 67108864 (length given) ≡ true = grind (arith, nat_tests) in
-    ap (λ (h : Heard). standing_after h.0 h.1 (nat_lt 67108864 (length given)) reading) is ∙ ap (λ (b : Bool). standing_after lines (Ok rest) b reading) test
+    let test : nat_lt TEXT_BYTES (length given) ≡ true = grind (arith, nat_tests) in
+    ap (λ (h : Heard). standing_after h.0 h.1 (nat_lt TEXT_BYTES (length given)) reading) is ∙ ap (λ (b : Bool). standing_after lines (Ok rest) b reading) test
 
 -- the bytes beyond the limit are not heard
-pub heard_beyond : (given more : List ℕ) → length given ≡ 67108864 → heard (given ++ more) ≡ heard given
+pub heard_beyond : (given more : List ℕ) → length given ≡ TEXT_BYTES → heard (given ++ more) ≡ heard given
 heard_beyond given more full =
-    let within : 67108864 ≤ length given = omega (arith, full) in
-    ap (λ (l : List ℕ). heard_from [] (parts_of 10 l)) (take-append-le 67108864 given more within)
+    let within : TEXT_BYTES ≤ length given = omega (arith, full) in
+    ap (λ (l : List ℕ). heard_from [] (parts_of 10 l)) (take-append-le TEXT_BYTES given more within)
 
 pub open_stands : (lines : List GameLine) (end : Result (List ℕ) BadLine) → (standing_after lines end false Before ≡ Open) ⊎ ((bad : BadLine) × (end ≡ Err bad))
 open_stands lines (Ok rest) = inl refl
@@ -49,7 +49,7 @@ open_stands lines (Err bad) = inr (bad, refl)
 -- ---- what was answered
 
 -- the replies to all lines so far were written
-pub took_replies : (game : GameFile) (given : List ℕ) (start sink : SinkState) (stepper : Stepper) → length given ≤ 67108864 → HasAnswered game given start stepper sink →
+pub took_replies : (game : GameFile) (given : List ℕ) (start sink : SinkState) (stepper : Stepper) → length given ≤ TEXT_BYTES → HasAnswered game given start stepper sink →
     TookWhole start sink (replies game (heard_lines given))
 took_replies game given start sink stepper short has =
     subst (TookWhole start sink) (has.all ∙ ap (λ (h : Heard). replies game h.0) (sym (heard_so_far game given has.written stepper short has.stepping))) has.took

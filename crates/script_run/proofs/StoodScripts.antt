@@ -4,7 +4,7 @@ use Rattle.std.proofs.lemmas.Bool.Decides.{nat_tests}
 use Rattle.text_forms.specs.Words.{parts_of}
 use Rattle.script_run.specs.declared.fault.ScriptReason.TheVariants.{NoLineEnd}
 use Rattle.script_run.specs.declared.game.lines.GameLine.{GameLine}
-use Rattle.script_run.specs.{game_script, heard, heard_from, heard_lines, Reading, AtEnd, AtFault, Before, Whole, BadAt, Overlong, script_standing, standing_after, BadLine, script_reason_number}
+use Rattle.script_run.specs.{TEXT_BYTES, game_script, heard, heard_from, heard_lines, Reading, AtEnd, AtFault, Before, Whole, BadAt, Overlong, script_standing, standing_after, BadLine, script_reason_number}
 use Rattle.script_run.proofs.Hearing.{bad_stays, lines_in, script_heard}
 use Rattle.script_run.proofs.SteppedGames.{heard_within}
 
@@ -19,20 +19,20 @@ whole_so lines (Ok rest) false Before is = absurd cc
 whole_so lines (Ok []) false AtEnd is = (refl, refl, refl)
 whole_so lines (Ok (byte ∷ rest)) false AtEnd is = absurd cc
 
-within : (given : List ℕ) → nat_lt 67108864 (length given) ≡ false → length given ≤ 67108864
+within : (given : List ℕ) → nat_lt TEXT_BYTES (length given) ≡ false → length given ≤ TEXT_BYTES
 within given test = grind (arith, nat_tests)
 
-beyond : (given : List ℕ) → nat_lt 67108864 (length given) ≡ true → 67108864 < length given
+beyond : (given : List ℕ) → nat_lt TEXT_BYTES (length given) ≡ true → TEXT_BYTES < length given
 beyond given test = grind (arith, nat_tests)
 
 pub record IsWhole (given : List ℕ) (reading : Reading) : Type 0 where
   pub read : reading ≡ AtEnd
-  pub within : length given ≤ 67108864
+  pub within : length given ≤ TEXT_BYTES
   pub good : game_script given ≡ Ok (heard_lines given)
 
 pub whole_is : (given : List ℕ) (reading : Reading) → script_standing given reading ≡ Whole → IsWhole given reading
 whole_is given reading is =
-    let so = whole_so (heard given).0 (heard given).1 (nat_lt 67108864 (length given)) reading is in
+    let so = whole_so (heard given).0 (heard given).1 (nat_lt TEXT_BYTES (length given)) reading is in
     let short = within given so.1 in
     record {
       read = so.2;
@@ -62,11 +62,11 @@ bad_so lines (Ok (byte ∷ rest)) false AtEnd line reason is =
     AtLast refl (λ i. Err (at i, why i))
 
 -- such a script is refused for that line, if it is not too long
-pub bad_is : (given rest : List ℕ) (reading : Reading) (line reason : ℕ) → script_standing given reading ≡ BadAt line reason → (reading ≡ AtEnd → rest ≡ []) → length (given ++ rest) ≤ 67108864 →
+pub bad_is : (given rest : List ℕ) (reading : Reading) (line reason : ℕ) → script_standing given reading ≡ BadAt line reason → (reading ≡ AtEnd → rest ≡ []) → length (given ++ rest) ≤ TEXT_BYTES →
     game_script (given ++ rest) ≡ Err (line, reason)
-bad_is given rest reading line reason is all short = by_so (bad_so (heard given).0 (heard given).1 (nat_lt 67108864 (length given)) reading line reason is)
+bad_is given rest reading line reason is all short = by_so (bad_so (heard given).0 (heard given).1 (nat_lt TEXT_BYTES (length given)) reading line reason is)
   where
-    short' : length given ≤ 67108864
+    short' : length given ≤ TEXT_BYTES
     short' = omega (arith, short, length-append given rest)
 
     heard_as : (end : Result (List ℕ) BadLine) → (heard given).1 ≡ end → heard_from [] (parts_of 10 given) ≡ (heard_lines given, end)
@@ -88,5 +88,5 @@ overlong_so lines (Ok rest) false Before is = absurd cc
 overlong_so lines (Ok []) false AtEnd is = absurd cc
 overlong_so lines (Ok (byte ∷ rest)) false AtEnd is = absurd cc
 
-pub overlong_is : (given : List ℕ) (reading : Reading) → script_standing given reading ≡ Overlong → 67108864 < length given
-overlong_is given reading is = beyond given (overlong_so (heard given).0 (heard given).1 (nat_lt 67108864 (length given)) reading is)
+pub overlong_is : (given : List ℕ) (reading : Reading) → script_standing given reading ≡ Overlong → TEXT_BYTES < length given
+overlong_is given reading is = beyond given (overlong_so (heard given).0 (heard given).1 (nat_lt TEXT_BYTES (length given)) reading is)

@@ -1,7 +1,7 @@
 -- A script that was heard, or not, and why the run ended so.
 use Rattle.std.proofs.Common.{◌≡◌, ℕ, ◌≤◌, Bool, true, false, List, [], ◌++◌, length, length-append, refl, ap, ◌∙◌, subst, inl, inr, arith, append-nil, Option, Some, None, ◌⊎◌, nat_lt, Err}
 use Rattle.std.proofs.lemmas.Bool.Decides.{nat_tests}
-use Rattle.tac_commands.specs.{Rose, IsFile, FilesState, IsAtEnd, GameFault, GameLine as ScriptLine, HasReadCause, StopsThere, read_as, refused_code, Content, HasFault, IsFileRead, IsScriptOutcome, IsGiven, IsScriptHeard, IsUnheard, Outcome, code_of}
+use Rattle.tac_commands.specs.{TEXT_BYTES, Rose, IsFile, FilesState, IsAtEnd, GameFault, GameLine as ScriptLine, HasReadCause, StopsThere, read_as, refused_code, Content, HasFault, IsFileRead, IsScriptOutcome, IsGiven, IsScriptHeard, IsUnheard, Outcome, code_of}
 use Rattle.game_text.specs.declared.fault.GameFault.TheVariants.{Line, TooLong}
 use Rattle.script_run.specs.HeardScripts.{heard_lines, Reading, AtEnd, Standing, Whole, BadAt, Overlong, BrokenOff, Open, script_standing}
 use Rattle.script_run.proofs.StoodScripts.{bad_is, overlong_is, whole_is}
@@ -46,12 +46,12 @@ given_file None name given reading left is stops = ([], tt, λ read. refl)
 given_file (Some files) name given reading left is stops = (is.0, is.1, λ read. subst IsAtEnd is.2 (subst (λ (r : Reading). StopsThere r left) read stops))
 
 bad_bytes : (given rest : List ℕ) (reading : Reading) (line reason : ℕ) → script_standing given reading ≡ BadAt line reason → (reading ≡ AtEnd → rest ≡ []) → (fault : GameFault) × (read_as GameScript (given ++ rest) ≡ Err fault)
-bad_bytes given rest reading line reason is all = by_test (nat_lt 67108864 (length (given ++ rest))) refl
+bad_bytes given rest reading line reason is all = by_test (nat_lt TEXT_BYTES (length (given ++ rest))) refl
   where
-    by_test : (b : Bool) → nat_lt 67108864 (length (given ++ rest)) ≡ b → (fault : GameFault) × (read_as GameScript (given ++ rest) ≡ Err fault)
+    by_test : (b : Bool) → nat_lt TEXT_BYTES (length (given ++ rest)) ≡ b → (fault : GameFault) × (read_as GameScript (given ++ rest) ≡ Err fault)
     by_test true test = (TooLong, long_file GameScript (given ++ rest) (grind (arith, nat_tests)))
     by_test false test =
-        let short : length (given ++ rest) ≤ 67108864 = grind (arith, nat_tests) in
+        let short : length (given ++ rest) ≤ TEXT_BYTES = grind (arith, nat_tests) in
         (Line line reason, bad_script (given ++ rest) line reason short (bad_is given rest reading line reason is all short))
 
 long_bytes : (given rest : List ℕ) (reading : Reading) → script_standing given reading ≡ Overlong → read_as GameScript (given ++ rest) ≡ Err TooLong

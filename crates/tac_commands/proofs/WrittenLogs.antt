@@ -1,7 +1,7 @@
 -- Reading a written log again, and auditing it.
 use Rattle.std.proofs.Common.{◌≡◌, ℕ, ◌≤◌, List, ◌++◌, length, refl, sym, ap, ◌∙◌, subst, inl, inr, append_assoc, ◌⊎◌, codes, Ok}
 use Rattle.std.proofs.lemmas.List.{append_cancel_left}
-use Rattle.tac_commands.specs.{FilesState, GameFile, ClosedGame, first_lines, histories_text, play_part, sheet_part, IsHead, IsPlayed, HaveOneHistory, LoggedGame, logged_text, IsSound, WritesDue, IsFlawText, audit_steps, read_as, logged_or_fault, Outcome, Done, Lapsed, Unsound, Stopped, Unread, Unwritten, Refused, EndsInSoundLog}
+use Rattle.tac_commands.specs.{TEXT_BYTES, FilesState, GameFile, ClosedGame, first_lines, histories_text, play_part, sheet_part, IsHead, IsPlayed, HaveOneHistory, LoggedGame, logged_text, IsSound, WritesDue, IsFlawText, audit_steps, read_as, logged_or_fault, Outcome, Done, Lapsed, Unsound, Stopped, Unread, Unwritten, Refused, EndsInSoundLog}
 use Rattle.auction_rules.specs.History.{Entry}
 use Rattle.line_protocol.specs.Heads.{Head}
 use Rattle.log_reader.proofs.LogTexts.{only_log}
@@ -14,10 +14,10 @@ use Rattle.tac_commands.proofs.LoggedNumbers.{head_is, game_in, game_is, same_hi
 text_of : (game : GameFile) (log : LoggedGame) (before text : List ℕ) → EndsInSoundLog game log before (before ++ text) → text ≡ logged_text log
 text_of game log before text ends = append_cancel_left before text (logged_text log) ends.due
 
-pub read_again : (game : GameFile) (log : LoggedGame) (before text : List ℕ) → EndsInSoundLog game log before (before ++ text) → length text ≤ 67108864 → read_as Log text ≡ Ok log
+pub read_again : (game : GameFile) (log : LoggedGame) (before text : List ℕ) → EndsInSoundLog game log before (before ++ text) → length text ≤ TEXT_BYTES → read_as Log text ≡ Ok log
 read_again game log before text ends short =
     let same = text_of game log before text ends in
-    ap logged_or_fault (only_log text log (ends.logged (subst (λ (t : List ℕ). length t ≤ 67108864) same short)) short same)
+    ap logged_or_fault (only_log text log (ends.logged (subst (λ (t : List ℕ). length t ≤ TEXT_BYTES) same short)) short same)
 
 -- a text that begins with the part of the game of a log
 begins : (game : GameFile) (log : LoggedGame) → logged_text log ≡ play_part log.head (game_in game log) ++ sheet_part log.scores

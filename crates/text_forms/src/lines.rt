@@ -1,6 +1,7 @@
-ghost use Rattle.std.specs.Prelude.{◌≡◌, ℕ, ◌+◌, ◌^◌, ◌<◌, ◌≤◌, ◌&&◌, length, true, false, Some, None, IfSome, MatchOption};
+ghost use Rattle.std.specs.Prelude.{◌≡◌, ℕ, ◌+◌, ◌^◌, ◌<◌, ◌≤◌, ◌&&◌, length, true, false, Ok, Some, None, IfSome, MatchOption};
 ghost use Rattle.text_forms.specs.Blocks.{IsFirstKept, block_at};
 ghost use Rattle.text_forms.specs.Lines as lines;
+ghost use Rattle.text_forms.specs.Steps.{◌>>=◌ as and_then};
 ghost use Rattle.text_forms.specs.Words.{parts_of};
 
 use crate::cut;
@@ -269,12 +270,19 @@ fn is_skipped(skips_comments: bool, line: &[u8]) -> bool
     skips_comments && is_comment(line)
 }
 
-/// Returns what was read from a line, or the line with the reason why it is bad.
-pub fn at_line<T>(line: u32, read: Result<T, Reason>) -> Result<T, BadLine>
-    ensures { result ≡ lines.at_line line read }
+/// Returns what was read from a line and the lines after it, or the line with the reason why it is bad.
+pub fn at_line<'a, T>(
+    line: &NumberedLine<'_>,
+    read: Result<T, Reason>,
+    left: TextLines<'a>,
+) -> Result<(T, TextLines<'a>), BadLine>
+    ensures { result ≡ and_then (lines.at_line line.now.number read) (λ value. Ok (value, left.entry)) }
 {
     match read {
-        Ok(value) => Ok(value),
-        Err(reason) => Err(BadLine { line, reason }),
+        Ok(value) => Ok((value, left)),
+        Err(reason) => Err(BadLine {
+            line: line.number(),
+            reason,
+        }),
     }
 }

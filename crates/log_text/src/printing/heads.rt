@@ -4,11 +4,12 @@ ghost use Rattle.log_text.specs.LogText as log;
 
 use crate::printing::lines::push_number;
 use line_protocol::{Cause, Verdict};
+use tac_base::limits::REPLY_TEXT;
 use tac_base::{Agent, Text};
 
 /// Appends the verdict on a link.
 fn push_verdict(verdict: Verdict, out: &mut Text)
-    requires { length out.old + 27 ≤ 640 }
+    requires { length out.old + 27 ≤ REPLY_TEXT }
     ensures value { out.new ≡ out.old ++ log.verdict_text verdict }
     ensures len { length out.new ≤ length out.old + 27 }
 {

@@ -5,12 +5,13 @@ ghost use Rattle.log_text.specs.LogText as log;
 
 use bid_strings::print_points;
 use line_protocol::print_answer;
+use tac_base::limits::REPLY_TEXT;
 use tac_base::{Call, Caller, Good, Nets, Points, Reply, Text, Trade, print_numeral, print_signed};
 use trade_ledger::{CashCall, CashEntry, CashReply};
 
 /// Appends a space and a number.
 pub(crate) fn push_number(n: u64, out: &mut Text)
-    requires { length out.old + 21 ≤ 640 }
+    requires { length out.old + 21 ≤ REPLY_TEXT }
     ensures value { out.new ≡ out.old ++ log.then_number n }
     ensures len { length out.new ≤ length out.old + 21 }
 {
@@ -20,7 +21,7 @@ pub(crate) fn push_number(n: u64, out: &mut Text)
 
 /// Appends a space and a number that may have a sign.
 fn push_signed(n: i64, out: &mut Text)
-    requires { length out.old + 21 ≤ 640 }
+    requires { length out.old + 21 ≤ REPLY_TEXT }
     ensures value { out.new ≡ out.old ++ log.then_signed n }
     ensures len { length out.new ≤ length out.old + 21 }
 {
@@ -30,7 +31,7 @@ fn push_signed(n: i64, out: &mut Text)
 
 /// Appends a caller.
 fn push_caller(caller: Caller, out: &mut Text)
-    requires { length out.old + 20 ≤ 640 }
+    requires { length out.old + 20 ≤ REPLY_TEXT }
     ensures value { out.new ≡ out.old ++ decimal caller }
     ensures len { length out.new ≤ length out.old + 20 }
 {
@@ -39,7 +40,7 @@ fn push_caller(caller: Caller, out: &mut Text)
 
 /// Appends the text of a bid.
 fn push_bid(points: &Points, out: &mut Text)
-    requires { length out.old + 260 ≤ 640 }
+    requires { length out.old + 260 ≤ REPLY_TEXT }
     ensures value { out.new ≡ out.old ++ log.call_text (Bid points.now) }
     ensures len { length out.new ≤ length out.old + 260 }
 {
@@ -49,7 +50,7 @@ fn push_bid(points: &Points, out: &mut Text)
 
 /// Appends the text of a call.
 fn push_call(call: &Call, out: &mut Text)
-    requires { length out.old + 260 ≤ 640 }
+    requires { length out.old + 260 ≤ REPLY_TEXT }
     ensures value { out.new ≡ out.old ++ log.call_text call.now }
     ensures len { length out.new ≤ length out.old + 260 }
 {
@@ -110,7 +111,7 @@ pub fn auction_line(good: Good, count: u32) -> Text
 
 /// Appends what each party gained, in dollars.
 fn push_nets(nets: &Nets, out: &mut Text)
-    requires { length out.old + 189 ≤ 640 }
+    requires { length out.old + 189 ≤ REPLY_TEXT }
     ensures value { out.new ≡ out.old ++ flat_map log.then_signed nets.now.dollars }
     ensures len { length out.new ≤ length out.old + 189 }
 {
@@ -121,7 +122,7 @@ fn push_nets(nets: &Nets, out: &mut Text)
 
 /// Appends the text of a cash call.
 fn push_cash_call(call: &CashCall, out: &mut Text)
-    requires { length out.old + 240 ≤ 640 }
+    requires { length out.old + 240 ≤ REPLY_TEXT }
     ensures value { out.new ≡ out.old ++ log.cash_call_text call.now }
     ensures len { length out.new ≤ length out.old + 240 }
 {
@@ -142,7 +143,7 @@ fn push_cash_call(call: &CashCall, out: &mut Text)
 
 /// Appends the reply of the cash book.
 fn push_cash_reply(reply: CashReply, out: &mut Text)
-    requires { length out.old + 21 ≤ 640 }
+    requires { length out.old + 21 ≤ REPLY_TEXT }
     ensures value { out.new ≡ out.old ++ log.cash_reply_text reply }
     ensures len { length out.new ≤ length out.old + 21 }
 {

@@ -35,7 +35,7 @@ fn line_to_agent(agent: Agent, said: &Said) -> Text
     line
 }
 
-/// Plays a line, and appends the text to be written for it: at most 640 bytes.
+/// Plays a line, and appends the text to be written for it: at most `REPLY_TEXT` bytes.
 fn play_line(table: &mut Table, text: &mut Vec<u8>, line: &GameLine) -> Result<(), AllocError>
     ensures game { table.new.game ≡ table.old.game }
     ensures state { table.new.state ≡ run.after_line table.old.game line.now table.old.state }
@@ -75,7 +75,7 @@ impl<'a> GameRun<'a> {
         })
     }
 
-    /// Plays the line of this number. If there is room for 640 bytes of text, it requests no memory. After an error no further line may follow.
+    /// Plays the line of this number. If there is room for `REPLY_TEXT` bytes of text, it requests no memory. After an error no further line may follow.
     pub(crate) fn step(&mut self, number: u32, line: &[u8]) -> Result<(), ScriptFault>
         ensures steps { (game : GameFile) (lines : List GameLine) (written : List ℕ) → HasRunGame game lines written self.old → PlaysGameLine game lines written (record { number = number; bytes = line.now }) self.new result }
         ensures len { vec_len self.new.text ≤ vec_len self.old.text + REPLY_TEXT }

@@ -1,4 +1,4 @@
-use Rattle.std.proofs.Common.{◌≡◌, ◌+◌, ◌-◌, ℕ, List, [], ◌∷◌, length, map, Ok, Err, sym, ◌∙◌, subst, arith, Result, IfOk, ◌↔◌, slice_range}
+use Rattle.std.proofs.Common.{◌≡◌, ◌+◌, ◌-◌, ℕ, List, [], ◌∷◌, map, Ok, Err, sym, ◌∙◌, subst, arith, Result, IfOk, ◌↔◌, slice_range}
 use Rattle.std.specs.Global.{Vec}
 use Rattle.link_audit.specs.{Board, LINK_BYTES, SESSION_LINES, all_answers, ended_line, Dialect, Subject, AreBoards, IsAhead, subject_of, IsJudged, IsYes, HasHeard, IsFinished, IsHeard, TakesSeat, lines_at, replies_at}
 use Rattle.tac_base.specs.declared.memory.Memory.{Memory}
@@ -58,12 +58,10 @@ returns-in-Through g c =
     let end = c.in-Some.end in let line = slice_range asked 0 end in let lines = lines_at asked (end + 1) in
     let first : all_answers [] LINK_BYTES asked ≡ ended_line line ∷ lines = lines_here asked 0 c.requires.short (omega arith) end c.in-Some.ensures.0 c.in-Some.ensures.1 c.in-Some.ensures.2 in
     let agent = c.in-Some-seat_of.agent in let seat : TakesSeat game log line agent = c.in-Some-seat_of.ensures in
-    let told = c.in-Some-behind_welcome.told in let replies = replies_at said told in
-    let boards : List (Vec Board) = c.deref.result.now in
+    let replies = replies_at said c.in-Some-behind_welcome.told in
+    let boards : List (Vec Board) = c.deref.result.now in let s : Subject = subject_of log boards agent in
     let are : AreBoards game log (map (λ (row : Vec Board). row.items) boards) =
     subst (λ (l : List (Vec Board)). AreBoards game log (map (λ (row : Vec Board). row.items) l)) (sym c.deref.ensures.value) c.in_ok-boards.ensures.boards in
-    let goods : length log.histories ≡ 28 = c.head-head.ensures.logged.goods in
-    let s : Subject = subject_of log boards agent in
     let places = c.in-Through.places in let at = c.in-Through.at in let n = c.in-Through.lines in
     let heard : IsHeard dialect s asked (end + 1) replies (Through places at n) = subst (IsHeard dialect s asked (end + 1) replies) c.in-Through.is c.in_ok-places.ensures.ahead in
     let has : HasHeard dialect s asked (end + 1) replies (Through places at n) = subst (HasHeard dialect s asked (end + 1) replies) c.in-Through.is c.in_ok-places.ensures.turns in
@@ -75,7 +73,7 @@ returns-in-Through g c =
     (subst (λ (l : List (Vec Board)). IfOk c.finish.result
     (λ v. (other : ℕ) → IsYes other v ↔ ((agent ≡ other) × IsAhead dialect (subject_of log l agent) places (lines_at asked at) [] (SESSION_LINES - n)))) same c.finish.ensures.yes)
     (subst (λ (l : List (Vec Board)). IfOk c.finish.result (IsFinished dialect (subject_of log l agent) asked c.is_ended-ended.result (Through places at n))) same c.finish.ensures.how)
-    (through_judged game dialect log asked said line (end + 1) first agent seat goods (map (λ (row : Vec Board). row.items) boards) are replies c.in-Some-behind_welcome.ensures.1 c.is_ended-ended.result c.is_ended-ended.ensures
+    (through_judged game dialect log asked said line (end + 1) first agent seat c.head-head.ensures.logged.goods (map (λ (row : Vec Board). row.items) boards) are replies c.in-Some-behind_welcome.ensures.1 c.is_ended-ended.result c.is_ended-ended.ensures
     places at n heard has)
 
 pub returns-in-Gone : goal.returns-in-Gone
@@ -85,15 +83,13 @@ returns-in-Gone g c =
     let end = c.in-Some.end in let line = slice_range asked 0 end in let lines = lines_at asked (end + 1) in
     let first : all_answers [] LINK_BYTES asked ≡ ended_line line ∷ lines = lines_here asked 0 c.requires.short (omega arith) end c.in-Some.ensures.0 c.in-Some.ensures.1 c.in-Some.ensures.2 in
     let agent = c.in-Some-seat_of.agent in let seat : TakesSeat game log line agent = c.in-Some-seat_of.ensures in
-    let told = c.in-Some-behind_welcome.told in let replies = replies_at said told in
-    let boards : List (Vec Board) = c.deref.result.now in
+    let replies = replies_at said c.in-Some-behind_welcome.told in
+    let boards : List (Vec Board) = c.deref.result.now in let s : Subject = subject_of log boards agent in
     let are : AreBoards game log (map (λ (row : Vec Board). row.items) boards) =
     subst (λ (l : List (Vec Board)). AreBoards game log (map (λ (row : Vec Board). row.items) l)) (sym c.deref.ensures.value) c.in_ok-boards.ensures.boards in
-    let goods : length log.histories ≡ 28 = c.head-head.ensures.logged.goods in
-    let s : Subject = subject_of log boards agent in
     let heard : IsHeard dialect s asked (end + 1) replies (Gone c.in-Gone.lines) = subst (IsHeard dialect s asked (end + 1) replies) c.in-Gone.is c.in_ok-places.ensures.ahead in
     let has : HasHeard dialect s asked (end + 1) replies (Gone c.in-Gone.lines) = subst (HasHeard dialect s asked (end + 1) replies) c.in-Gone.is c.in_ok-places.ensures.turns in
-    gone_judged game dialect log asked said line (end + 1) first agent seat goods (map (λ (row : Vec Board). row.items) boards) are replies c.in-Some-behind_welcome.ensures.1 c.is_ended-ended.result c.is_ended-ended.ensures
+    gone_judged game dialect log asked said line (end + 1) first agent seat c.head-head.ensures.logged.goods (map (λ (row : Vec Board). row.items) boards) are replies c.in-Some-behind_welcome.ensures.1 c.is_ended-ended.result c.is_ended-ended.ensures
     c.in-Gone.lines heard has c.vouched.result c.vouched.ensures
 
 pub returns : goal.returns
@@ -103,13 +99,11 @@ returns g c =
     let end = c.in-Some.end in let line = slice_range asked 0 end in let lines = lines_at asked (end + 1) in
     let first : all_answers [] LINK_BYTES asked ≡ ended_line line ∷ lines = lines_here asked 0 c.requires.short (omega arith) end c.in-Some.ensures.0 c.in-Some.ensures.1 c.in-Some.ensures.2 in
     let agent = c.in-Some-seat_of.agent in let seat : TakesSeat game log line agent = c.in-Some-seat_of.ensures in
-    let told = c.in-Some-behind_welcome.told in let replies = replies_at said told in
-    let boards : List (Vec Board) = c.deref.result.now in
+    let replies = replies_at said c.in-Some-behind_welcome.told in
+    let boards : List (Vec Board) = c.deref.result.now in let s : Subject = subject_of log boards agent in
     let are : AreBoards game log (map (λ (row : Vec Board). row.items) boards) =
     subst (λ (l : List (Vec Board)). AreBoards game log (map (λ (row : Vec Board). row.items) l)) (sym c.deref.ensures.value) c.in_ok-boards.ensures.boards in
-    let goods : length log.histories ≡ 28 = c.head-head.ensures.logged.goods in
-    let s : Subject = subject_of log boards agent in
     let heard : IsHeard dialect s asked (end + 1) replies (Not c.in-Not.difference) = subst (IsHeard dialect s asked (end + 1) replies) c.in-Not.is c.in_ok-places.ensures.ahead in
     let has : HasHeard dialect s asked (end + 1) replies (Not c.in-Not.difference) = subst (HasHeard dialect s asked (end + 1) replies) c.in-Not.is c.in_ok-places.ensures.turns in
-    different_judged game dialect log asked said line (end + 1) first agent seat goods (map (λ (row : Vec Board). row.items) boards) are replies c.in-Some-behind_welcome.ensures.1 c.is_ended-ended.result c.is_ended-ended.ensures
+    different_judged game dialect log asked said line (end + 1) first agent seat c.head-head.ensures.logged.goods (map (λ (row : Vec Board). row.items) boards) are replies c.in-Some-behind_welcome.ensures.1 c.is_ended-ended.result c.is_ended-ended.ensures
     c.in-Not.difference heard has

@@ -9,26 +9,14 @@ ok_then : (result : Result Vouching Memory) (P Q : Vouching → Type 0) → IfOk
 ok_then (Ok v) P Q is then = then v is
 ok_then (Err memory) P Q is then = tt
 
-pub returns-clause-yes : goal.returns-clause-yes
-returns-clause-yes g c =
+pub returns : goal.returns
+returns g c =
     let dialect : Dialect = g.D.Dialect.form c.args.dialect.now in
     let game = c.args.game.now in let log = c.args.log.now in let asked = c.args.asked.now in let said = c.args.said.now in
-    ok_then c.judge.result (IsJudged game dialect log asked said) (λ v. (agent : ℕ) → IsYes agent v ↔ IsVouched game dialect log agent asked said) c.judge.ensures (λ v is. is.yes)
-
-pub returns-clause-whole : goal.returns-clause-whole
-returns-clause-whole g c =
-    let dialect : Dialect = g.D.Dialect.form c.args.dialect.now in
-    let game = c.args.game.now in let log = c.args.log.now in let asked = c.args.asked.now in let said = c.args.said.now in
-    ok_then c.judge.result (IsJudged game dialect log asked said) (λ v. (agent : ℕ) → IsWhole agent v ↔ IsWholeLink game dialect log agent asked said) c.judge.ensures (λ v is. is.whole)
-
-pub returns-clause-numbers : goal.returns-clause-numbers
-returns-clause-numbers g c =
-    let dialect : Dialect = g.D.Dialect.form c.args.dialect.now in
-    let game = c.args.game.now in let log = c.args.log.now in let asked = c.args.asked.now in let said = c.args.said.now in
-    ok_then c.judge.result (IsJudged game dialect log asked said) (λ v. (agent : ℕ) (w : IsVouched game dialect log agent asked said) → HasNumbers v w.heard w.unheard) c.judge.ensures (λ v is. is.numbers)
-
-pub returns-clause-difference : goal.returns-clause-difference
-returns-clause-difference g c =
-    let dialect : Dialect = g.D.Dialect.form c.args.dialect.now in
-    let game = c.args.game.now in let log = c.args.log.now in let asked = c.args.asked.now in let said = c.args.said.now in
-    ok_then c.judge.result (IsJudged game dialect log asked said) (IsDifferenceOf game dialect log asked said) c.judge.ensures (λ v is. is.difference)
+    let Judged : Vouching → Type 0 = IsJudged game dialect log asked said in
+    record {
+      yes = ok_then c.judge.result Judged (λ v. (agent : ℕ) → IsYes agent v ↔ IsVouched game dialect log agent asked said) c.judge.ensures (λ v is. is.yes);
+      whole = ok_then c.judge.result Judged (λ v. (agent : ℕ) → IsWhole agent v ↔ IsWholeLink game dialect log agent asked said) c.judge.ensures (λ v is. is.whole);
+      numbers = ok_then c.judge.result Judged (λ v. (agent : ℕ) (w : IsVouched game dialect log agent asked said) → HasNumbers v w.heard w.unheard) c.judge.ensures (λ v is. is.numbers);
+      difference = ok_then c.judge.result Judged (IsDifferenceOf game dialect log asked said) c.judge.ensures (λ v is. is.difference);
+    }

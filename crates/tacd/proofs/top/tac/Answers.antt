@@ -1,10 +1,16 @@
 use Rattle.std.proofs.Common.{ℕ, ◌≡◌, ◌<◌, ◌≤◌, List, [], Option, Some, None, length, arith, IfSome}
-use Rattle.tac_commands.specs.Outsides.{outside_of}
+use Rattle.tac_commands.specs.{FilesState, SinkState, Command, Outcome, outside_of, Allows, Reports, Selects, UsageExactly, ReadFaultExactly, GameRefusedExactly, TextRefusedExactly, UnsoundExactly}
 use Rattle.tac_commands.proofs.CommandCauses as causes
 use Rattle.tac_commands.proofs.CodedOutcomes.{coded}
 use Rattle.tacd.proofs.PostedCash.{in_service}
 use Rattle.tacd.proofs.ServiceCauses.{allowed, clock_fault, link_fault, no_clock_fault, no_link_fault}
 use Rattle.tacd.proofs.top.tac.Goals as goal
+
+-- what follows from the outcome, by the lemma that says it of each
+by_outcome : {command : Option Command} {files files' : FilesState} {sink sink' : SinkState} {code : ℕ} (P : Option Command → FilesState → FilesState → ℕ → Type 0)
+    → ((files files' : FilesState) (outcome : Outcome) (sink sink' : SinkState) (code : ℕ) → Reports outcome sink sink' code → (command : Option Command) → Allows command files files' outcome → P command files files' code)
+    → (outcome : Outcome) × Allows command files files' outcome × Reports outcome sink sink' code → P command files files' code
+by_outcome P follows told = follows _ _ told.0 _ _ _ told.2 _ told.1
 
 -- ---- the service of a game
 
@@ -36,34 +42,22 @@ pub returns-in-Some-clause-prompt : goal.returns-in-Some-clause-prompt
 returns-in-Some-clause-prompt g c = rw c.in-Some.ensures.service tt
 
 pub returns-in-Some-clause-usage : goal.returns-in-Some-clause-usage
-returns-in-Some-clause-usage g c =
-    let outcome = returns-in-Some-clause-outcome g c in
-    causes.usage _ _ outcome.0 _ _ _ outcome.2 _ outcome.1
+returns-in-Some-clause-usage g c = by_outcome (λ command files files' code. UsageExactly command code) causes.usage (returns-in-Some-clause-outcome g c)
 
 pub returns-in-Some-clause-game_refused : goal.returns-in-Some-clause-game_refused
-returns-in-Some-clause-game_refused g c =
-    let outcome = returns-in-Some-clause-outcome g c in
-    causes.game_refused _ _ outcome.0 _ _ _ outcome.2 _ outcome.1
+returns-in-Some-clause-game_refused g c = by_outcome GameRefusedExactly causes.game_refused (returns-in-Some-clause-outcome g c)
 
 pub returns-in-Some-clause-text_refused : goal.returns-in-Some-clause-text_refused
-returns-in-Some-clause-text_refused g c =
-    let outcome = returns-in-Some-clause-outcome g c in
-    causes.text_refused _ _ outcome.0 _ _ _ outcome.2 _ outcome.1
+returns-in-Some-clause-text_refused g c = by_outcome TextRefusedExactly causes.text_refused (returns-in-Some-clause-outcome g c)
 
 pub returns-in-Some-clause-unsound : goal.returns-in-Some-clause-unsound
-returns-in-Some-clause-unsound g c =
-    let outcome = returns-in-Some-clause-outcome g c in
-    causes.unsound _ _ outcome.0 _ _ _ outcome.2 _ outcome.1
+returns-in-Some-clause-unsound g c = by_outcome UnsoundExactly causes.unsound (returns-in-Some-clause-outcome g c)
 
 pub returns-in-Some-clause-read_fault : goal.returns-in-Some-clause-read_fault
-returns-in-Some-clause-read_fault g c =
-    let outcome = returns-in-Some-clause-outcome g c in
-    causes.read_fault _ _ outcome.0 _ _ _ outcome.2 _ outcome.1
+returns-in-Some-clause-read_fault g c = by_outcome (λ command. ReadFaultExactly) causes.read_fault (returns-in-Some-clause-outcome g c)
 
 pub returns-in-Some-clause-names : goal.returns-in-Some-clause-names
-returns-in-Some-clause-names g c =
-    let outcome = returns-in-Some-clause-outcome g c in
-    causes.selected _ _ outcome.0 _ _ _ outcome.2 _ outcome.1
+returns-in-Some-clause-names g c = by_outcome Selects causes.selected (returns-in-Some-clause-outcome g c)
 
 pub returns-in-Some-clause-link_fault : goal.returns-in-Some-clause-link_fault
 returns-in-Some-clause-link_fault g c =
@@ -91,34 +85,22 @@ pub returns-in-None-clause-prompt : goal.returns-in-None-clause-prompt
 returns-in-None-clause-prompt g c = rw c.in-None.ensures.service c.run_words-code.ensures.prompt
 
 pub returns-in-None-clause-usage : goal.returns-in-None-clause-usage
-returns-in-None-clause-usage g c =
-    let outcome = returns-in-None-clause-outcome g c in
-    causes.usage _ _ outcome.0 _ _ _ outcome.2 _ outcome.1
+returns-in-None-clause-usage g c = by_outcome (λ command files files' code. UsageExactly command code) causes.usage (returns-in-None-clause-outcome g c)
 
 pub returns-in-None-clause-game_refused : goal.returns-in-None-clause-game_refused
-returns-in-None-clause-game_refused g c =
-    let outcome = returns-in-None-clause-outcome g c in
-    causes.game_refused _ _ outcome.0 _ _ _ outcome.2 _ outcome.1
+returns-in-None-clause-game_refused g c = by_outcome GameRefusedExactly causes.game_refused (returns-in-None-clause-outcome g c)
 
 pub returns-in-None-clause-text_refused : goal.returns-in-None-clause-text_refused
-returns-in-None-clause-text_refused g c =
-    let outcome = returns-in-None-clause-outcome g c in
-    causes.text_refused _ _ outcome.0 _ _ _ outcome.2 _ outcome.1
+returns-in-None-clause-text_refused g c = by_outcome TextRefusedExactly causes.text_refused (returns-in-None-clause-outcome g c)
 
 pub returns-in-None-clause-unsound : goal.returns-in-None-clause-unsound
-returns-in-None-clause-unsound g c =
-    let outcome = returns-in-None-clause-outcome g c in
-    causes.unsound _ _ outcome.0 _ _ _ outcome.2 _ outcome.1
+returns-in-None-clause-unsound g c = by_outcome UnsoundExactly causes.unsound (returns-in-None-clause-outcome g c)
 
 pub returns-in-None-clause-read_fault : goal.returns-in-None-clause-read_fault
-returns-in-None-clause-read_fault g c =
-    let outcome = returns-in-None-clause-outcome g c in
-    causes.read_fault _ _ outcome.0 _ _ _ outcome.2 _ outcome.1
+returns-in-None-clause-read_fault g c = by_outcome (λ command. ReadFaultExactly) causes.read_fault (returns-in-None-clause-outcome g c)
 
 pub returns-in-None-clause-names : goal.returns-in-None-clause-names
-returns-in-None-clause-names g c =
-    let outcome = returns-in-None-clause-outcome g c in
-    causes.selected _ _ outcome.0 _ _ _ outcome.2 _ outcome.1
+returns-in-None-clause-names g c = by_outcome Selects causes.selected (returns-in-None-clause-outcome g c)
 
 pub returns-in-None-clause-link_fault : goal.returns-in-None-clause-link_fault
 returns-in-None-clause-link_fault g c =
