@@ -5,3 +5,4 @@ pub mod WrittenLogs
 pub mod LapsedGames
 pub mod ServiceCauses
 pub mod ServedLinks
+pub mod Headline

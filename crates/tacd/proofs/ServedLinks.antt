@@ -109,7 +109,7 @@ refused_ill refusals.TextTooLong well = high_ill 8 (omega arith) well
 module _ {L : Type 0} (state : L → LinkState) (service : Service) (before after : Outside L) (answer : Answer L) where
   module _ (game : GameFile) (file : IsGameFile before.files service.game game) (text : List ℕ) (written : TookWhole before.out after.out text) (played : Played) (kept : answer.played ≡ Some played)
       (end : IsGameEnd state (hosted_by service game) before.links after.links (record { closed = played.closed; head = played.head; links = answer.ended }))
-      (due : IsLogOf game played text) where
+      (due : IsLogOf game played text) (in_time : answer.code ≡ 0 → end.missed ≡ 0) where
     vouched_by : (agent : ℕ) (asked said : List ℕ) → IsSeatedWith state (links_of state end) agent asked said → HasWelcome game agent said → IsVouchedBy game (dialect_in service.form) (played_log played due.sheet) agent asked said
     vouched_by agent asked said s whole =
         let link = link_of_log state (hosted_by service game) before.links after.links (record { closed = played.closed; head = played.head; links = answer.ended }) end due.sheet agent asked said s in
@@ -127,6 +127,7 @@ module _ {L : Type 0} (state : L → LinkState) (service : Service) (before afte
       log = due;
       read = read_again game (played_log played due.sheet) [] text due.sound;
       end = end;
+      in_time = in_time;
       vouched = vouched_by;
     }
 
@@ -145,8 +146,10 @@ module _ {L : Type 0} (state : L → LinkState) (service : Service) (before afte
     by_played game file None is (Refused refusals.LinkFault) plays told = absurd (low_ill 5 (omega arith) (omega arith) (subst IsWell told.0 well))
     by_played game file None is (Refused refusals.Memory) plays told = absurd (high_ill 7 (omega arith) (subst IsWell told.0 well))
     by_played game file None is outcome plays told = absurd plays
-    by_played game file (Some played) is (Done text) plays told = vouched_service game file text told.1 played is plays.0 plays.2.0
-    by_played game file (Some played) is (Lapsed text) plays told = vouched_service game file text told.1 played is plays.0 plays.2.0
+    by_played game file (Some played) is (Done text) plays told = vouched_service game file text told.1 played is plays.0 plays.2.0 (λ _. plays.2.1)
+    by_played game file (Some played) is (Lapsed text) plays told =
+        let six : answer.code ≡ 6 = told.0 in
+        vouched_service game file text told.1 played is plays.0 plays.2.0 (λ zero. absurd (omega (arith, zero, six)))
     by_played game file (Some played) is (Stopped text refusals.Memory) plays told = absurd (high_ill 7 (omega arith) (subst IsWell told.0 well))
     by_played game file (Some played) is (Stopped text refusal) plays told = absurd plays.2
     by_played game file (Some played) is (Unwritten text) plays told = absurd plays.2

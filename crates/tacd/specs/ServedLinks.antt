@@ -51,8 +51,8 @@ abbrev pub played_log : Played → List Scored → LoggedGame
 played_log played sheet = log_of_game (head_of played.head) played.closed sheet
 
 module _ {L : Type 0} (state : L → LinkState) where
-  -- A service wrote the log of a game that was played. If the text is no longer than a log may be, it is read as that log. The log is vouched for
-  -- by the bytes of each link with a seat, where they are known and its welcome was sent whole.
+  -- A service wrote the log of a game that was played. If its code is 0, no tick lapsed. If the text is no longer than a log may be, it is read as
+  -- that log. The log is vouched for by the bytes of each link with a seat, where they are known and its welcome was sent whole.
   pub record IsVouchedService (service : Service) (before after : Outside L) (answer : Answer L) : Type 0 where
     pub game : GameFile
     pub file : IsGameFile before.files service.game game
@@ -63,5 +63,6 @@ module _ {L : Type 0} (state : L → LinkState) where
     pub log : IsLogOf game played text
     pub read : length text ≤ TEXT_BYTES → read_as Log text ≡ Ok (played_log played log.sheet)
     pub end : IsGameEnd state (hosted_by service game) before.links after.links (record { closed = played.closed; head = played.head; links = answer.ended })
+    pub in_time : answer.code ≡ 0 → end.missed ≡ 0
     pub vouched : (agent : ℕ) (asked said : List ℕ) → IsSeatedWith state (links_of state end) agent asked said → HasWelcome game agent said
         → IsVouchedBy game (dialect_in service.form) (played_log played log.sheet) agent asked said

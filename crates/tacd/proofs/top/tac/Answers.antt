@@ -2,6 +2,7 @@ use Rattle.std.proofs.Common.{ℕ, ◌≡◌, ◌<◌, ◌≤◌, List, [], Opti
 use Rattle.tac_commands.specs.{FilesState, SinkState, Command, Outcome, outside_of, Allows, Reports, Selects, UsageExactly, ReadFaultExactly, GameRefusedExactly, TextRefusedExactly, UnsoundExactly}
 use Rattle.tac_commands.proofs.CommandCauses as causes
 use Rattle.tac_commands.proofs.CodedOutcomes.{coded}
+use Rattle.tacd.proofs.Headline.{writes_true_log}
 use Rattle.tacd.proofs.PostedCash.{in_service}
 use Rattle.tacd.proofs.ServiceCauses.{allowed, clock_fault, link_fault, no_clock_fault, no_link_fault}
 use Rattle.tacd.proofs.top.tac.Goals as goal
@@ -30,6 +31,12 @@ returns-in-Some-clause-outcome g c =
     let before = outside_of (g.F.Files.state c.args.files.now) (g.K.Sink.state c.args.out.now) (g.N.Links.state c.args.links.now) (g.T.Ticker.state c.args.ticker.now) in
     let after = outside_of (g.F.Files.state c.serve.new.files) (g.K.Sink.state c.serve.new.out) (g.N.Links.state c.serve.new.links) (g.T.Ticker.state c.serve.new.ticker) in
     rw c.in-Some.ensures.service (served.0, allowed _ _ before after c.serve.result served.0 c.serve.ensures.names served.1, served.2)
+
+pub returns-in-Some-clause-headline : goal.returns-in-Some-clause-headline
+returns-in-Some-clause-headline g c =
+    let before = outside_of (g.F.Files.state c.args.files.now) (g.K.Sink.state c.args.out.now) (g.N.Links.state c.args.links.now) (g.T.Ticker.state c.args.ticker.now) in
+    let after = outside_of (g.F.Files.state c.serve.new.files) (g.K.Sink.state c.serve.new.out) (g.N.Links.state c.serve.new.links) (g.T.Ticker.state c.serve.new.ticker) in
+    rw c.in-Some.ensures.service (λ zero. writes_true_log _ _ before after c.serve.result zero c.serve.ensures.outcome)
 
 pub returns-in-Some-clause-cash : goal.returns-in-Some-clause-cash
 returns-in-Some-clause-cash g c =
