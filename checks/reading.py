@@ -3,44 +3,31 @@
 
     checks/reading.py            compares the pages with the sources, and fails if they differ
     checks/reading.py --write    writes the pages
+    checks/reading.py --print    prints the definitions of the headline, to be read next to the page
 
 From the clauses of `tac` (crates/tacd/src/top.rt) it follows every name through the modules of
 `specs/`. It fails if a definition is used before its row stands, if a word of the library has no
 explanation, if a listed module imports one that is not listed, since a reader would then open a
-file that says nothing of what is promised, or if a worked row is not what its words say.
+file that says nothing of what is promised, if a worked row is not what its words say, or if a rule
+is not in the words of its page.
 """
 
 import argparse
 import os
 import re
 import sys
-from typing import Dict, Iterable, List, Set, Tuple
+from typing import Container, Dict, Iterable, List, Set, Tuple
 
 from definitions import CRATES, LIMITS, ROOT, Definitions, Module, Target, clauses_of, line_of
 from reading_aids import (
     cases_sentence,
-    causes_table,
-    glance_table,
-    map_table,
     minutes_of,
-    only_beside,
     row_words,
     rowless_table,
-    skipped_of,
     times_table,
+    wrong_guides,
 )
-from reading_guides import (
-    FIELDS,
-    GUIDES,
-    LOOKING_UP,
-    NOTES,
-    OUTSIDE,
-    PLAYED,
-    RULES_NOTE,
-    SKIPPED,
-    SKIPS,
-    TIMES,
-)
+from reading_guides import FIELDS, LEFT_OUT, OUTSIDE, TIMES
 from reading_order import backward, chapters_of, in_order, order_of, row_places
 from reading_print import CodeType, Marks, paragraph, print_chapters, print_preamble
 from reading_rows import ROWS, Lemmas, Row, numbers_of
@@ -69,21 +56,28 @@ from reading_words import (
     HEADLINE,
     HOW_TO_READ,
     IN_WORDS,
-    INTRODUCTION,
+    KEY,
     LEAD,
+    LEFT_TO_SERVICE,
     LIBRARY,
+    MADE_BY,
     NOTATION,
     PICTURE,
     PICTURE_ABOUT,
     PLAIN,
     PREAMBLE_FILE,
     PREAMBLE_WORDS,
+    PRINTED,
     ROWLESS,
     ROW_WORDS,
     SENTENCES,
+    STATEMENT,
     STEP_SENTENCES,
+    PRINTED_WITH_LEMMAS,
     STEP_TRUTHS,
     TRUTHS,
+    UNUSUAL,
+    UNUSUAL_WORDS,
 )
 
 PAGE = os.path.join(ROOT, "docs", "READING.md")
@@ -103,24 +97,23 @@ SEEN_AS_VALUES = [
 ]
 LEMMAS = Lemmas()
 PREAMBLE_HELPERS = {(PREAMBLE_FILE, name) for name in PREAMBLE_WORDS}
-KEY_WORDS = sum(len(f"{sign} {meaning}".split()) for sign, meaning in NOTATION)
-# The names behind which the parts beside begin, each with a mark at its place.
-ENTRY_MARKS: Dict[Target, str] = {}
-# What may be left out for code 0, with why.
-SKIP_MARKS: Dict[Target, str] = {}
+# The names behind which the parts beside begin, each with the heading of its part.
+ENTRIES: Dict[Target, str] = {
+    target_of(name): heading for heading, _, names in BESIDE for name in names
+}
 
 
-def table(definitions: Definitions, rows: Rows, paths: Iterable[str]) -> List[str]:
+def table(
+    definitions: Definitions, rows: Rows, paths: Iterable[str], heading: str = ""
+) -> List[str]:
+    """The definitions of modules, for a chapter or for the part beside with this heading."""
     text = ["| module | lines | content | rule in words | definitions |", "|---|---|---|---|---|"]
-    notes = {target_of(full): f" ({note})" for full, note in NOTES.items()}
     for path in paths:
         module = definitions.modules[path]
         named = sorted((module.definitions[name] for name in rows[path]), key=lambda one: one.line)
         links = " · ".join(
             link(one.name, module.file, one.line)
-            + (" °" if (path, one.name) in SKIP_MARKS else "")
-            + notes.get((path, one.name), "")
-            + ENTRY_MARKS.get((path, one.name), "")
+            + (beside_mark((path, one.name)) if heading != ENTRIES.get((path, one.name)) else "")
             for one in named
         )
         text.append(
@@ -151,15 +144,6 @@ def reached_by_rows(definitions: Definitions) -> Set[Target]:
     """What some worked row leads to."""
     reads = [LEMMAS.read(definitions, lemma) for row in ROWS for lemma in row.lemmas]
     return {target for read in reads if read for target in read[2]}
-
-
-def tried_count(definitions: Definitions, rows: Rows) -> int:
-    """How many lines of these definitions some worked row leads to."""
-    reached = reached_by_rows(definitions)
-    tried = {
-        path: [name for name in names if (path, name) in reached] for path, names in rows.items()
-    }
-    return line_count(definitions, tried, tried)
 
 
 def lemma_links(definitions: Definitions, row: Row, faults: List[str]) -> str:
@@ -375,26 +359,6 @@ def fields_table(definitions: Definitions) -> Tuple[List[str], List[str]]:
     return text, missing
 
 
-def guided(definitions: Definitions, rows: Rows, heading: str, faults: List[str]) -> List[str]:
-    """The guide of a chapter, if it has one, with its paragraphs and lists in lines, and with its
-    table; what is wrong with the table is added to the faults."""
-    text = ["", filled_blocks(GUIDES[heading])] if heading in GUIDES else []
-    if heading == "The rules of the auctions":
-        by_kind, missing = map_table(definitions, rows)
-        faults += missing
-        text += ["", "The map, by kinds of auction:", ""] + by_kind + ["", filled(RULES_NOTE)]
-    if heading == "The session of a link":
-        at_a_glance, missing = glance_table()
-        faults += missing
-        text += ["", "The causes of a session's end, in words:", ""] + causes_table()
-        text += ["", "Worked rows for each cause:", ""] + at_a_glance
-    if heading == "The command `serve`":
-        text += ["", "The name `played` occurs with several meanings:", ""]
-        text += ["| where | type | meaning |", "|---|---|---|"]
-        text += [f"| {' | '.join(cells)} |" for cells in PLAYED]
-    return text
-
-
 def sentences_table(
     definitions: Definitions, rows: Rows, what: str, sentences: List[Tuple[str, List[str]]]
 ) -> Tuple[List[str], List[str]]:
@@ -404,8 +368,10 @@ def sentences_table(
     for sentence, names in sentences:
         links = []
         for full in names:
-            path, name = target_of(full)
-            if name in rows.get(path, []):
+            path, name = target_of(full if "/" in full else STATEMENT)
+            if "/" not in full:
+                links.append(field_link(definitions, full, missing))
+            elif name in rows.get(path, []):
                 links.append(
                     link(
                         name,
@@ -417,6 +383,14 @@ def sentences_table(
                 missing.append(f"{full} of a table of sentences is not what {what} rests on")
         text.append(f"| {sentence} | {' · '.join(links)} |")
     return text, missing
+
+
+def field_link(definitions: Definitions, field: str, missing: List[str]) -> str:
+    """A link to a field of the statement of the headline; if it has none, that is added."""
+    module = definitions.modules[target_of(STATEMENT)[0]]
+    line = line_of(module.file, rf" +pub {field} :")
+    missing += [] if line else [f"{STATEMENT} has no field {field}"]
+    return "the field " + link(field, module.file, line or 1)
 
 
 def library_words(
@@ -458,74 +432,24 @@ def words_of_library(definitions: Definitions, found: Iterable[Target]) -> List[
 def page(definitions: Definitions) -> Tuple[str, List[str], str]:
     """The text of READING.md, what is wrong with it, and a line of figures."""
     clauses = clauses_of(TOP, "tac")
-    start = clauses["service"] + clauses["cash"]
-    entries = [target_of(name) for _, _, names in BESIDE for name in names]
-    headline = definitions.reached(start, entries)
+    headline = definitions.reached(clauses["headline"], ENTRIES)
     everything = definitions.reached([name for names in clauses.values() for name in names])
     rows, all_rows = rows_of(definitions, headline), rows_of(definitions, everything)
     chapters = chapters_of(definitions, rows)
     order = order_of(definitions, chapters)
-    places = row_places(definitions, order, entries, PREAMBLE_HELPERS, LEMMAS)
-    core = line_count(definitions, rows, rows)
-    mark_entries(definitions, rows)
-    SKIP_MARKS.update(skipped_of(definitions, start, entries, headline))
-    sentences, faults = sentences_table(definitions, rows, "the headline", SENTENCES)
-    faults += [f"{name} of the picture is not on the page" for name in names_of_picture(rows)]
-    faults += without_headline()
-    joined = " ".join(half for half, _ in SENTENCES if not half.startswith("("))
-    if joined.replace(" ..", "") != " ".join(HEADLINE.split()):
-        faults.append("the phrases do not make up the headline")
-    preamble = LEMMAS.module(PREAMBLE_FILE)
-    faults += [
-        f"{PREAMBLE_FILE} has no {name}, which the print explains"
-        for name in PREAMBLE_WORDS
-        if preamble is None or name not in preamble.definitions
-    ]
-    proved = LEMMAS.read(definitions, EXAMPLE_ROW)
-    faults += [
-        f"{EXAMPLE_ROW} has no text {text}, which the example has"
-        for text in EXAMPLE_TEXTS
-        if proved is None or text not in proved[3]
-    ]
-    faults += [
-        f"{full} may be left out, and is not what the headline rests on"
-        for full in SKIPPED
-        if target_of(full) not in SKIP_MARKS
-    ]
-    steps, wrong_steps = sentences_table(
-        definitions, all_rows, "the promise of `step`", STEP_SENTENCES
-    )
-    faults += wrong_steps
-    types, wrong_types = types_table(headline)
-    words, wrong_words = library_words(definitions, headline, everything)
-    faults += (
-        wrong_types
-        + wrong_words
-        + backward(definitions, order)
-        + inner_imports(definitions, all_rows)
-    )
-    listed = {(path, name) for path, names in rows.items() for name in names} - set(entries)
-    beside = []
-    for heading, about, names in BESIDE:
-        part = rows_of(
-            definitions,
-            [
-                target
-                for target in definitions.reached(target_of(name) for name in names)
-                if target not in listed
-            ],
-        )
-        listed |= {(path, name) for path, names_of in part.items() for name in names_of}
-        beside.append((heading, about, part))
-    others = {
-        path: [name for name in names if (path, name) not in listed]
-        for path, names in all_rows.items()
-    }
-    others = {path: names for path, names in others.items() if names}
-    tried = tried_count(definitions, rows)
-    twice = rows_of(definitions, entries)
-    in_all = core - line_count(definitions, twice, twice)
+    places = row_places(definitions, order, ENTRIES, PREAMBLE_HELPERS, LEMMAS)
+    beside, others = parts_beside(definitions, rows, all_rows)
+    by_heading = {heading: without(chapter, ENTRIES) for heading, chapter in chapters.items()}
+    core = line_count(definitions, rows, rows, ENTRIES)
+    own = without(rows, ENTRIES)
+    in_all = line_count(definitions, own, own)
     in_all += sum(line_count(definitions, part, part) for _, _, part in beside)
+    reached = reached_by_rows(definitions)
+    tried = without(own, {target for target in order if target not in reached})
+    sentences, faults = sentences_table(definitions, rows, "the headline", SENTENCES)
+    faults += texts_that_differ(definitions, rows)
+    faults += wrong_guides(rows, chapters)
+    faults += backward(definitions, order, ENTRIES) + inner_imports(definitions, all_rows)
     text = [
         "# What must be believed",
         "",
@@ -535,8 +459,9 @@ def page(definitions: Definitions) -> Tuple[str, List[str], str]:
         "",
         "## The headline, phrase by phrase",
         "",
-    ] + sentences
-    text += [
+        *sentences,
+        "",
+        filled(LEFT_TO_SERVICE),
         "",
         "Limits of the headline:",
         "",
@@ -565,105 +490,46 @@ def page(definitions: Definitions) -> Tuple[str, List[str], str]:
         "",
         filled(EXAMPLE_END),
         "",
-        "## What else the clauses do not say",
-        "",
-        filled_items(TRUTHS),
-        "",
-        "## How to read this page",
-        "",
-        filled(INTRODUCTION),
+        "## How to read",
         "",
         filled_blocks(HOW_TO_READ),
         "",
-        filled(
-            f"For lines of words, the headline takes {core:,} lines of definitions, not counting"
-            f" comments and imports. With the four parts \"Beside\" it takes {in_all:,}. Worked"
-            f" rows reach {tried:,} of the {core:,} lines. A line that a row reaches is not thereby"
-            " tested: the row shows one case, which may not depend on that line. Most of the lines"
-            " that no row reaches are about whole games, and compute nothing."
-        ),
-        "",
         "## How long it takes",
         "",
-        filled_blocks(TIMES),
+        filled_blocks(TIMES.format(lines=f"{core:,}", all=f"{in_all:,}")),
         "",
     ]
-    faults += [f"nothing says who may leave out {heading}" for heading, chapter in chapters.items()
-               if chapter and heading not in SKIPS]
+    front = re.sub(r"\]\([^)]*\)", "", "\n".join(text + top_of_print(headline, PRINTED)))
     text += times_table(
         {
             heading: (
-                line_count(definitions, chapter, chapter),
-                line_count(definitions, left_of(chapter, SKIP_MARKS), chapter),
+                line_count(definitions, chapter, chapter, ENTRIES),
                 minutes_of(
                     definitions,
                     heading,
-                    left_of(chapter, SKIP_MARKS),
+                    chapter,
                     [row for (path, name), row in places if name in chapter.get(path, [])],
+                    ENTRIES,
                 ),
             )
             for heading, chapter in chapters.items()
-            if chapter and heading in SKIPS
+            if chapter
         },
-        len(re.sub(r"\]\([^)]*\)", "", "\n".join(text)).split()) + KEY_WORDS,
+        len(front.split()),
     )
-    text += ["", filled(LOOKING_UP), "", "## What has no worked row", "", filled(ROWLESS), ""]
-    text += rowless_table(definitions, chapters, reached_by_rows(definitions), SKIP_MARKS)
+    text += ["", filled(LEFT_OUT), "", "## What else the clauses do not say", ""]
+    text += [filled_items(TRUTHS), "", "## What has no worked row", ""]
+    reach = f"{line_count(definitions, tried, tried):,}"
+    text.append(filled(ROWLESS.format(tried=reach, lines=f"{core:,}")))
+    text += ["", *rowless_table(definitions, by_heading, reached)]
     text += ["", filled(cases_sentence(definitions, rows))]
     text += ["", "## Names that are alike", "", filled_blocks(ALIKE)]
-    borrowed = row_words(definitions, rows)
-    faults += [f"no words for {name} of rows" for name in borrowed if name not in ROW_WORDS]
-    faults += [f"no row names {name}" for name in ROW_WORDS if name not in borrowed]
-    text += ["", "## Key", "", "| notation | meaning |", "|---|---|"]
-    text += [f"| {sign} | {meaning} |" for sign, meaning in NOTATION]
-    text += [
-        "",
-        filled(
-            "The definitions use these words of the toolchain's library (`rt lemma WORD`, run in"
-            " the folder of a crate, prints the definition of a word):"
-        ),
-        "",
-        filled_blocks(words),
-        "",
-        "Rows also use these definitions, which are in no chapter:",
-        "",
-        filled_items(
-            "".join(
-                f"\n- {row_link(definitions, name)}: {ROW_WORDS[name]}."
-                for name in borrowed
-                if name in ROW_WORDS
-            )
-        ),
-        "",
-        "## Types of the code",
-        "",
-        "Each type is in `src/` of its crate, and its own calls keep its values in their ranges.",
-        "",
-    ] + types
-    text += ["", "## Limits", ""] + limits_table(everything)
-    text += [
-        "",
-        "## The objects of the outside",
-        "",
-        filled(
-            "In the clauses of `tac`, `F.state`, `K.state`, `N.state`, `N.Link.state` and `T.state`"
-            " are the ghost members `state` of these traits."
-        ),
-        "",
-    ]
-    fields, missing = fields_table(definitions)
-    faults += missing
-    text += outside_tables() + ["", filled(FIELDS), ""] + fields
+    text += key_tables(definitions, rows, headline, everything, faults)
     for heading, about, _ in CHAPTERS:
         chapter = chapters[heading]
         if chapter:
-            text += [
-                "",
-                f"## {heading}",
-                "",
-                filled(f"{about} It has {line_count(definitions, chapter, chapter)} lines."),
-            ]
-            text += guided(definitions, rows, heading, faults) + [""]
+            lines = line_count(definitions, chapter, chapter, ENTRIES)
+            text += ["", f"## {heading}", "", filled(f"{about} It has {lines} lines."), ""]
             text += table(definitions, chapter, chapter)
             text += worked(
                 definitions,
@@ -671,34 +537,25 @@ def page(definitions: Definitions) -> Tuple[str, List[str], str]:
                 faults,
             )
     for heading, about, part in beside:
-        text += [
-            "",
-            f"## Beside: {heading[0].lower() + heading[1:]}",
-            "",
-            filled(f"This part has {line_count(definitions, part, part)} lines. {about}"),
-            "",
-        ]
-        text += table(definitions, part, in_order(definitions, part)) + worked(
-            definitions, rows_first_at(part), faults
-        )
-    text += (
-        [
-            "",
-            "## For the other commands and the codes",
-            "",
-            filled(
-                "The other clauses of `tac` state what each command writes, and with which code it"
-                f" ends. They take {line_count(definitions, others, others):,} more lines."
-            ),
-            "",
-            filled(STEP_TRUTHS),
-            "",
-        ]
-        + steps
-        + [""]
-        + table(definitions, others, in_order(definitions, others))
-        + worked(definitions, rows_first_at(others), faults)
+        lines = line_count(definitions, part, part)
+        text += ["", f"## Beside: {heading[0].lower() + heading[1:]}", ""]
+        text += [filled(f"This part has {lines} lines. {about}"), ""]
+        text += table(definitions, part, in_order(definitions, part), heading)
+        text += worked(definitions, rows_first_at(part), faults)
+    steps, wrong_steps = sentences_table(
+        definitions, all_rows, "the promise of `step`", STEP_SENTENCES
     )
+    faults += wrong_steps
+    lines = line_count(definitions, others, others)
+    about = (
+        "The other clauses of `tac` state what each command writes, and with which code it ends."
+        f" They take {lines:,} more lines."
+    )
+    text += ["", "## For the other commands and the codes", "", filled(about), ""]
+    text += [filled(STEP_TRUTHS), "", *steps, ""]
+    text += table(definitions, others, in_order(definitions, others))
+    text += worked(definitions, rows_first_at(others), faults)
+    text += ["", filled(MADE_BY)]
     on_page = {(path, name) for path, names in all_rows.items() for name in names}
     faults += [
         f"the row of {row.lemmas[0]} tries {row.tries[0]}, which has no row on the page"
@@ -710,6 +567,122 @@ def page(definitions: Definitions) -> Tuple[str, List[str], str]:
         f"{line_count(definitions, all_rows, all_rows)} in {len(all_rows)} modules in all"
     )
     return "\n".join(text) + "\n", faults, figures
+
+
+def parts_beside(
+    definitions: Definitions, rows: Rows, all_rows: Rows
+) -> Tuple[List[Tuple[str, str, Rows]], Rows]:
+    """The parts beside, each with its heading, what it says of itself, and the definitions that no
+    chapter and no earlier part has; and the definitions that none of these has."""
+    own = without(rows, ENTRIES)
+    listed = {(path, name) for path, names in own.items() for name in names}
+    beside = []
+    for heading, about, names in BESIDE:
+        stop = [target for target, part in ENTRIES.items() if part != heading]
+        found = definitions.reached(map(target_of, names), stop)
+        part = rows_of(
+            definitions,
+            [one for one in found if one not in listed and ENTRIES.get(one, heading) == heading],
+        )
+        listed |= {(path, name) for path, names_of in part.items() for name in names_of}
+        beside.append((heading, about, part))
+    return beside, without(all_rows, listed)
+
+
+def without(rows: Rows, left_out: Container[Target]) -> Rows:
+    """These definitions without some."""
+    kept = {
+        path: [name for name in names if (path, name) not in left_out]
+        for path, names in rows.items()
+    }
+    return {path: names for path, names in kept.items() if names}
+
+
+def texts_that_differ(definitions: Definitions, rows: Rows) -> List[str]:
+    """What texts of the page say that the sources, or other pages, do not."""
+    faults = [f"{name} of the picture is not on the page" for name in names_of_picture(rows)]
+    faults += without_headline()
+    if " ".join(half for half, _ in SENTENCES).replace(" ..", "") != " ".join(HEADLINE.split()):
+        faults.append("the phrases do not make up the headline")
+    preamble = LEMMAS.module(PREAMBLE_FILE)
+    faults += [
+        f"{PREAMBLE_FILE} has no {name}, which the print explains"
+        for name in PREAMBLE_WORDS
+        if preamble is None or name not in preamble.definitions
+    ]
+    proved = LEMMAS.read(definitions, EXAMPLE_ROW)
+    return faults + [
+        f"{EXAMPLE_ROW} has no text {text}, which the example has"
+        for text in EXAMPLE_TEXTS
+        if proved is None or text not in proved[3]
+    ]
+
+
+def key_tables(
+    definitions: Definitions,
+    rows: Rows,
+    headline: Iterable[Target],
+    everything: Iterable[Target],
+    faults: List[str],
+) -> List[str]:
+    """What the page explains for reference: signs, words, types, limits, and the outside. What is
+    wrong with it is added to the faults."""
+    words, wrong_words = library_words(definitions, headline, everything)
+    types, wrong_types = types_table(headline)
+    fields, wrong_fields = fields_table(definitions)
+    borrowed = row_words(definitions, rows)
+    faults += wrong_words + wrong_types + wrong_fields
+    faults += [f"no words for {name} of rows" for name in borrowed if name not in ROW_WORDS]
+    faults += [f"no row names {name}" for name in ROW_WORDS if name not in borrowed]
+    library = (
+        "The definitions use these words of the toolchain's library (`rt lemma WORD`, run in the"
+        " folder of a crate, prints the definition of a word):"
+    )
+    members = (
+        "In the clauses of `tac`, `F.state`, `K.state`, `N.state`, `N.Link.state` and `T.state` are"
+        " the ghost members `state` of these traits."
+    )
+    told = (
+        f"\n- {row_link(definitions, name)}: {ROW_WORDS[name]}."
+        for name in borrowed
+        if name in ROW_WORDS
+    )
+    return [
+        "",
+        "## Key",
+        "",
+        "| notation | meaning |",
+        "|---|---|",
+        *(f"| {sign} | {meaning} |" for sign, meaning in NOTATION),
+        "",
+        filled(library),
+        "",
+        filled_blocks(words),
+        "",
+        "Rows also use these definitions, which are in no chapter:",
+        "",
+        filled_items("".join(told)),
+        "",
+        "## Types of the code",
+        "",
+        "Each type is in `src/` of its crate, and its own calls keep its values in their ranges.",
+        "",
+        *types,
+        "",
+        "## Limits",
+        "",
+        *limits_table(everything),
+        "",
+        "## The objects of the outside",
+        "",
+        filled(members),
+        "",
+        *outside_tables(),
+        "",
+        filled(FIELDS),
+        "",
+        *fields,
+    ]
 
 
 def example_lines() -> List[str]:
@@ -753,42 +726,19 @@ def open_text(file: str) -> str:
         return source.read()
 
 
-def beside_words(definitions: Definitions, rows: Rows) -> Dict[Target, str]:
-    """Of each name behind which a part beside begins the words of it that stand there alone."""
-    return {
-        (path, name): ", ".join(
-            f"`{word}`" for word in only_beside(definitions, rows, path, name)
-        )
-        for _, _, names in BESIDE
-        for path, name in map(target_of, names)
-    }
+def beside_mark(target: Target) -> str:
+    """The link to the part beside that has what a name says; empty if a chapter has it."""
+    heading = ENTRIES.get(target)
+    return f" ([beside](#{anchor_of(f'Beside: {heading}')}))" if heading else ""
 
 
-def mark_entries(definitions: Definitions, rows: Rows) -> None:
-    """Marks each name behind which a part beside begins with what of it stands there alone."""
-    words = beside_words(definitions, rows)
-    for heading, _, names in BESIDE:
-        for target in map(target_of, names):
-            anchor = anchor_of(f"Beside: {heading}")
-            ENTRY_MARKS[target] = f" ({words[target]}: [beside](#{anchor}))"
-
-
-def left_of(rows: Rows, skipped: Iterable[Target]) -> Rows:
-    """These definitions without those that may be left out."""
-    return {
-        path: [name for name in names if (path, name) not in skipped]
-        for path, names in rows.items()
-    }
-
-
-def headline_clauses() -> str:
-    """The call `tac` with its premises and the two clauses of the headline, as they stand."""
+def headline_clause() -> str:
+    """The call `tac` with its premises and the clause `headline`, as they stand."""
     text = open_text(TOP)
     head = text[text.index("/// Runs the command") : text.index("\n{\n")]
-    others = re.findall(r"\n    ensures (?!service|cash)(\w+) \{", head)
+    others = re.findall(r"\n    ensures (?!headline)(\w+) \{", head)
     shown = re.sub(
-        r"(?:\n    //[^\n]*)?\n    ensures (?!service|cash)\w+ \{"
-        r"(?:(?!\n    ensures|\n    //).)*",
+        r"(?:\n    //[^\n]*)?\n    ensures (?!headline)\w+ \{(?:(?!\n    ensures|\n    //).)*",
         "",
         head,
         flags=re.S,
@@ -796,43 +746,43 @@ def headline_clauses() -> str:
     return f"{shown}\n    // Clauses that are no part of the headline: {', '.join(others)}."
 
 
-def print_all(definitions: Definitions) -> None:
-    """Prints the two clauses of the headline, the words of rows, and the definitions of the
-    headline with the types of the code."""
-    clauses = clauses_of(TOP, "tac")
-    entries = [target_of(name) for _, _, names in BESIDE for name in names]
-    found = definitions.reached(clauses["service"] + clauses["cash"], entries)
+def top_of_print(found: Iterable[Target], about: str) -> List[str]:
+    """The paragraphs at the beginning of the print: what it is, signs and words, and the limits
+    that these definitions name."""
+    words = "; ".join(f"`{word}`: {LIBRARY[word]}" for word in UNUSUAL_WORDS)
+    limits = "; ".join(f"{name} {value}" for name, value, _ in limits_of(found))
+    signs = [f"{sign}: {meaning}." for sign, meaning in NOTATION[:UNUSUAL]]
+    return [about, KEY, *signs, f"{words}.", f"Limits: {limits}."]
+
+
+def print_all(definitions: Definitions, with_lemmas: bool) -> None:
+    """Prints the clause of the headline, and the definitions on which it depends with the types of
+    the code, and rows in words or, with their lemmas, all rows."""
+    found = definitions.reached(clauses_of(TOP, "tac")["headline"], ENTRIES)
     rows = rows_of(definitions, found)
     chapters = chapters_of(definitions, rows)
     order = order_of(definitions, chapters)
-    print("-- The two clauses of `tac` that say the headline. docs/READING.md has the key.\n")
-    print(headline_clauses())
-    limits = "; ".join(f"{name} {value}" for name, value, _ in limits_of(found))
-    print("\n" + "\n".join(paragraph(f"Limits that the definitions name: {limits}.", "-- ")))
-    print_preamble(
-        LEMMAS,
-        {
-            target_of(name)[1]: ROW_WORDS[name]
-            for name in row_words(definitions, rows)
-            if name in ROW_WORDS
-        },
-    )
+    for one in top_of_print(found, PRINTED_WITH_LEMMAS if with_lemmas else PRINTED):
+        print("\n".join(paragraph(" ".join(one.split()), "-- ", "--   ")))
+    print("\n" + headline_clause())
+    if with_lemmas:
+        print_preamble(
+            LEMMAS,
+            {
+                target_of(name)[1]: ROW_WORDS[name]
+                for name in row_words(definitions, rows)
+                if name in ROW_WORDS
+            },
+        )
     print_chapters(
         definitions,
         chapters,
-        row_places(definitions, order, entries, PREAMBLE_HELPERS, LEMMAS),
+        row_places(definitions, order, ENTRIES, PREAMBLE_HELPERS, LEMMAS),
         [
             CodeType(crate, name, file, line, value_of(open_text(file), name))
             for (crate, name), (file, line) in types_of(found)[0].items()
         ],
-        Marks(
-            reached_by_rows(definitions),
-            {
-                (path, name): f"({words} of it: in a part beside)"
-                for (path, name), words in beside_words(definitions, rows).items()
-            },
-            skipped_of(definitions, clauses["service"] + clauses["cash"], entries, found),
-        ),
+        Marks(reached_by_rows(definitions), ENTRIES, with_lemmas),
         LEMMAS,
     )
 
@@ -868,15 +818,22 @@ def main() -> int:
         action="store_true",
         help="print the definitions of the headline themselves, chapter by chapter",
     )
+    parser.add_argument(
+        "--lemmas", action="store_true", help="print the lemmas of the rows too, and more rows"
+    )
     options = parser.parse_args()
     if options.print:
         try:
-            print_all(Definitions())
+            print_all(Definitions(), options.lemmas)
             sys.stdout.flush()
         except BrokenPipeError:  # the reader has seen enough
             os.dup2(os.open(os.devnull, os.O_WRONLY), sys.stdout.fileno())
         return 0
-    text, faults, figures = page(Definitions())
+    try:
+        text, faults, figures = page(Definitions())
+    except ValueError as fault:  # a rule is not in the words of its page
+        print(f"reading.py: {fault}")
+        return 1
     rules, wrong_rules = rules_page()
     faults += (
         wrong_rules + compare(PAGE, text, options.write) + compare(RULES_PAGE, rules, options.write)

@@ -1,91 +1,144 @@
-"""Tables of docs/READING.md that save a reader time: how long each part takes, the rules by kinds
-of auction, the causes of a session's end in words, and what has no worked row."""
+"""What saves a reader of docs/READING.md time: how long each part takes, the rule that a definition
+states in the words of its page, its guide, and what has no worked row."""
 
 import os
 import re
-from typing import Dict, Iterable, List, Set, Tuple
+from typing import Container, Dict, Iterable, List, Set, Tuple, Union
 
 from definitions import ROOT, Definition, Definitions, Target
 from reading_guides import (
-    BACK,
-    BACK_MINUTES,
-    BY_ROWS,
-    CAUSE_ROWS,
     FRONT,
     GOING_BACK,
     GUIDES,
     PROSE_RATE,
     ROW_RATE,
-    RULES_MAP,
     RULE_RATE,
-    SKIPPED,
-    SKIPS,
     SPELLED,
     SPELLED_RATE,
+    STATED,
     TEXTS,
 )
 from reading_rows import ROWS, Lemmas, Row
 from reading_text import Rows, anchor_of, line_count, link, target_of
-
-
-def skipped_of(
-    definitions: Definitions,
-    start: Iterable[Target],
-    entries: Iterable[Target],
-    found: Iterable[Target],
-) -> Dict[Target, str]:
-    """What of these definitions may be left out for code 0, with why: what is said to be, and what
-    that alone leads to."""
-    said = {target_of(full): why for full, why in SKIPPED.items()}
-    needed = definitions.reached(start, [*entries, *said])
-    return {
-        (path, name): said.get((path, name), "only what may be left out uses it")
-        for path, name in found
-        if path in definitions.modules and ((path, name) in said or (path, name) not in needed)
-    }
+from reading_words import SENTENCES, STATEMENT
 
 
 def minutes_of(
-    definitions: Definitions, heading: str, chapter: Rows, rows: Iterable[Row]
+    definitions: Definitions,
+    heading: str,
+    chapter: Rows,
+    rows: Iterable[Row],
+    short: Container[Target],
 ) -> float:
-    """How many minutes a chapter takes, by the lengths of its definitions, rows, comments and
-    guide."""
-    symbols = comments = 0
+    """How many minutes a chapter takes as it is printed, by the lengths of its definitions, of
+    those in `short` the first line, and of its rows, rules, guides and comments."""
+    symbols, prose = 0, len(guide_of(heading).split())
     for path, names in chapter.items():
         module = definitions.modules[path]
         for one in (module.definitions[name] for name in names):
-            symbols += len("\n".join(one.lines).split())
-            comments += len(" ".join(comment_of(module.file, one)).split())
-    words = sum(len(row.words.split()) for row in rows)
-    prose = comments + len(GUIDES.get(heading, "").split())
+            target = (path, one.name)
+            symbols += len("\n".join(one.lines[:1] if target in short else one.lines).split())
+            prose += len(" ".join(told_above(module.file, target, one)).split())
+    words = sum(len(row.words.split()) for row in rows if not row.more)
     rate = SPELLED_RATE if heading in SPELLED else RULE_RATE
     return (symbols / rate + words / ROW_RATE + prose / PROSE_RATE) * GOING_BACK
 
 
-def times_table(parts: Dict[str, Tuple[int, int, float]], front_words: int) -> List[str]:
-    """How long each chapter takes, how much of it is for code 0, and who may leave it out: of each
-    chapter its lines, those for code 0, and its minutes."""
-    text = [
-        "| chapter | lines | for code 0 | minutes | may be left out by |",
-        "|---|---|---|---|---|",
-    ]
+def times_table(parts: Dict[str, Tuple[int, float]], front_words: int) -> List[str]:
+    """How long each chapter takes: of each its lines and its minutes."""
     front = front_words / PROSE_RATE * GOING_BACK
-    text.append(f"| {FRONT} | | | {front:.0f} | {SKIPS[FRONT]} |")
-    for heading, (lines, needed, minutes) in parts.items():
-        text.append(
-            f"| [{heading}](#{anchor_of(heading)}) | {lines} | {needed} | {minutes:.0f} |"
-            f" {SKIPS[heading]} |"
-        )
-    text.append(f"| {BACK} | | | {BACK_MINUTES} | {SKIPS[BACK]} |")
-    for what, left_out in (("**All**", set()), (f"**{BY_ROWS}**", TEXTS)):
+    text = ["| part | lines | minutes |", "|---|---|---|", f"| {FRONT} | | {front:.0f} |"]
+    for heading, (lines, minutes) in parts.items():
+        text.append(f"| [{heading}](#{anchor_of(heading)}) | {lines} | {minutes:.0f} |")
+    for what, left_out in (("**All**", ()), ("**All but the chapters on texts**", TEXTS)):
         kept = [part for heading, part in parts.items() if heading not in left_out]
-        total = round(front + sum(minutes for _, _, minutes in kept) + BACK_MINUTES)
-        text.append(
-            f"| {what} | {sum(lines for lines, _, _ in kept):,} |"
-            f" {sum(needed for _, needed, _ in kept):,} |"
-            f" {total}, which is {total // 60} h {total % 60:02} | |"
-        )
+        total = round(front + sum(minutes for _, minutes in kept))
+        lines = sum(lines for lines, _ in kept)
+        text.append(f"| {what} | {lines:,} | {total}, which is {total // 60} h {total % 60:02} |")
     return text
+
+
+def told_above(file: str, target: Target, one: Definition) -> List[str]:
+    """What is told of a definition: its rule, its guide, and its comment if it has no rule."""
+    rule = rule_of(target)
+    return [rule, guide_of(target), *([] if rule else comment_of(file, one))]
+
+
+def key_of(target: Target) -> str:
+    """A definition as CRATE/MODULE.NAME."""
+    path, name = target
+    return f"{path.replace('.specs.', '/', 1)}.{name}"
+
+
+def guide_of(place: Union[str, Target]) -> str:
+    """What makes a chapter, or a definition, easier to read; empty if nothing is told of it."""
+    return GUIDES.get(place if isinstance(place, str) else key_of(place), "").strip()
+
+
+def rule_of(target: Target) -> str:
+    """The rule that a definition states, in the words of its page; empty if it has none there. A
+    rule is told by its page and heading, and by pieces of the text, each by its first and its last
+    words. That of the statement is the headline. Raises a ValueError if the page does not have
+    these words."""
+    if key_of(target) == STATEMENT:
+        return " ".join(phrase for phrase, _ in SENTENCES)
+    if key_of(target) not in STATED:
+        return ""
+    place, *pieces = STATED[key_of(target)]
+    text = section_of(place)
+    shown = []
+    for piece in pieces:
+        first, _, last = piece.partition(" .. ")
+        if first not in text or last not in text[text.index(first) + len(first) :]:
+            raise ValueError(f"docs/{place.replace('/', '.md, ', 1)}, does not say: {piece}")
+        at = text.index(first)
+        shown.append(text[at : text.index(last, at + len(first)) + len(last)] if last else first)
+    told = "\n".join(shown).rstrip(".;") + "."
+    return f"({place.replace('/', ', ')})" + ("\n" if "\n" in told else " ") + told
+
+
+def phrases_above(lines: Iterable[str]) -> List[str]:
+    """The lines of the statement, with the phrases of the headline above the fields that say them.
+    A phrase that names no field goes with the one before it."""
+    above: Dict[str, List[str]] = {}
+    field = ""
+    for phrase, names in SENTENCES:
+        field = next((name for name in names if "/" not in name), field)
+        above.setdefault(field, []).append(phrase)
+    shown: List[str] = []
+    for line in lines:
+        named = re.match(r" +pub (\w+) :", line)
+        phrases = above.pop(named.group(1) if named else "", [])
+        indent = line[: len(line) - len(line.lstrip())]
+        shown += [f"{indent}-- {phrase}" for phrase in phrases] + [line]
+    return shown
+
+
+def section_of(place: str) -> str:
+    """The text below a heading of a page, PAGE/HEADING: a line for each paragraph, for each item of
+    a list without its sign, and for each row of a table, as its cells with a colon behind the
+    first. Raises a ValueError if the page has no such heading."""
+    document, heading = place.split("/", 1)
+    with open(os.path.join(ROOT, "docs", document + ".md"), encoding="utf-8") as page:
+        found = re.search(
+            r"^(#+) %s\n(.*?)(?=^##|\Z)" % re.escape(heading), page.read(), re.M | re.S
+        )
+    if not found:
+        raise ValueError(f"docs/{document}.md has no heading {heading}")
+    text = re.sub(r"\n *\|-.*", "", found.group(2))
+    text = re.sub(r"^ *\| (.*?) \| (.*) \|$", r"- \1: \2;", text, flags=re.M)
+    blocks = re.split(r"\n\n(?:- )?|\n *- ", text)
+    return "\n".join(" ".join(block.split()) for block in blocks)
+
+
+def wrong_guides(rows: Rows, chapters: Iterable[str]) -> List[str]:
+    """The guides and rules of what is not on the page."""
+    here = {key_of((path, name)) for path, names in rows.items() for name in names}
+    return [
+        f"a guide, or a rule, is told of {name}, which is not on the page"
+        for name in [*GUIDES, *STATED]
+        if name not in here and name not in chapters
+    ]
 
 
 def comment_of(file: str, one: Definition) -> List[str]:
@@ -98,22 +151,13 @@ def comment_of(file: str, one: Definition) -> List[str]:
     return lines[above + 1 : one.line - 1]
 
 
-def causes_table() -> List[str]:
-    """The table of the causes of a session's end, as docs/PROOFS.md has it."""
-    with open(os.path.join(ROOT, "docs", "PROOFS.md"), encoding="utf-8") as proofs:
-        lines = [line.strip() for line in proofs]
-    first = next(at for at, line in enumerate(lines) if line.startswith("| cause | what the link"))
-    return lines[first : lines.index("", first)]
-
-
 def rowless_table(
     definitions: Definitions,
     chapters: Dict[str, Rows],
     reached: Set[Target],
-    skipped: Dict[Target, str],
 ) -> List[str]:
     """The definitions of each chapter that are none of those to which a worked row leads, with
-    their lines; those that may be left out with a sign."""
+    their lines."""
     text = ["| chapter | lines | definitions |", "|---|---|---|"]
     for heading, chapter in chapters.items():
         alone = {
@@ -128,11 +172,7 @@ def rowless_table(
                 key=lambda each: each.line,
             )
         ]
-        links = [
-            link(one.name, module.file, one.line)
-            + (" °" if (module.path, one.name) in skipped else "")
-            for module, one in found
-        ]
+        links = [link(one.name, module.file, one.line) for module, one in found]
         if links:
             text.append(
                 f"| {heading} | {line_count(definitions, alone, alone)} | {' · '.join(links)} |"
@@ -197,53 +237,3 @@ def row_words(definitions: Definitions, rows: Rows) -> List[str]:
                     if word not in rows.get(used, [])
                 }
     return sorted(found)
-
-
-def glance_table() -> Tuple[List[str], List[str]]:
-    """For each cause of a session's end the rows that show it and those that exclude it; and what
-    of that is not there."""
-    lemmas, missing = Lemmas(), []
-    text = ["| cause | a session that ends so | one that does not |", "|---|---|---|"]
-    for cause, shown in CAUSE_ROWS:
-        cells = []
-        for names in shown:
-            links = []
-            for name in names:
-                module = lemmas.module("worked_rows/Ends")
-                if module and name in module.definitions:
-                    links.append(link(name, module.file, module.definitions[name].line))
-                else:
-                    missing.append(f"there is no lemma worked_rows/Ends:{name} for the causes")
-            cells.append(" · ".join(links))
-        text.append(f"| `{cause}` | {' | '.join(cells)} |")
-    return text, missing
-
-
-def map_table(definitions: Definitions, rows: Rows) -> Tuple[List[str], List[str]]:
-    """The rules by kinds of auction; and what of that is not on the page."""
-    text, missing = ["| question | flights | hotels | tickets |", "|---|---|---|---|"], []
-    for question, cells in RULES_MAP:
-        shown = []
-        for words, names in cells:
-            links = []
-            for full in names:
-                path, name = target_of(full)
-                if name in rows.get(path, []):
-                    module = definitions.modules[path]
-                    links.append(link(name, module.file, module.definitions[name].line))
-                else:
-                    missing.append(f"{full} of the map of the rules has no row on the page")
-            shown.append(words.format(*links))
-        text.append(f"| {question} | {' | '.join(shown)} |")
-    return text, missing
-
-
-def only_beside(definitions: Definitions, rows: Rows, path: str, name: str) -> List[str]:
-    """What a name behind which a part beside begins uses, and that stands in that part alone."""
-    return [
-        word
-        for used, word in definitions.modules[path].targets(name)
-        if definitions.given.get(used, used) in definitions.modules
-        and word in definitions.modules[definitions.given.get(used, used)].definitions
-        and word not in rows.get(definitions.given.get(used, used), [])
-    ]

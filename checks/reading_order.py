@@ -1,7 +1,7 @@
 """The one reading order of docs/READING.md: which definitions each chapter has, and below which of
 them a worked row stands."""
 
-from typing import Dict, Iterable, List, Set, Tuple
+from typing import Container, Dict, Iterable, List, Set, Tuple
 
 from definitions import Definitions, Target
 from reading_rows import ROWS, Lemmas, Row
@@ -102,33 +102,6 @@ def order_of(definitions: Definitions, chapters: Chapters) -> List[Target]:
     ]
 
 
-def nearest_rows(
-    definitions: Definitions,
-    order: List[Target],
-    places: List[Tuple[Target, Row]],
-    lemmas: Lemmas,
-) -> Dict[Target, Target]:
-    """Of each definition to which a row leads, but not the next row below it, the definition below
-    which the nearest one stands that does: the next such row, or else the last one above."""
-    at = {target: number for number, target in enumerate(order)}
-    rows = sorted(
-        (
-            (at[place], {target for lemma in row.lemmas
-                         for target in (lemmas.read(definitions, lemma) or ("", 0, set()))[2]})
-            for place, row in places
-        ),
-        key=lambda one: one[0],
-    )
-    found: Dict[Target, Target] = {}
-    for target in order:
-        leading = [number for number, reached in rows if target in reached]
-        below = [number for number in leading if number >= at[target]]
-        next_row = next((number for number, _ in rows if number >= at[target]), None)
-        if leading and (not below or below[0] != next_row):
-            found[target] = order[below[0] if below else leading[-1]]
-    return found
-
-
 def in_order(definitions: Definitions, rows: Rows) -> List[str]:
     """Modules, each after those that it uses."""
     order: List[str] = []
@@ -146,12 +119,14 @@ def in_order(definitions: Definitions, rows: Rows) -> List[str]:
     return order
 
 
-def backward(definitions: Definitions, order: List[Target]) -> List[str]:
-    """The definitions that use one of another module which stands below them."""
+def backward(
+    definitions: Definitions, order: List[Target], short: Container[Target]
+) -> List[str]:
+    """The definitions, but those in `short`, that use one of another module which stands below."""
     places = {target: at for at, target in enumerate(order)}
     found = []
     for at, (path, name) in enumerate(order):
-        for used in targets_of(definitions, path, name):
+        for used in targets_of(definitions, path, name) if (path, name) not in short else ():
             if used[0] != path and places.get(used, at) > at:
                 found.append(f"{name} of {path} uses {used[1]} of {used[0]}, which stands below")
     return found

@@ -3,14 +3,14 @@
 import os
 import re
 import textwrap
-from typing import Dict, Iterable, List, NamedTuple, Set, Tuple
+from typing import Dict, Iterable, List, NamedTuple, Optional, Set, Tuple
 
 from definitions import ROOT, Definitions, Module, Target
-from reading_aids import cases_without_row, comment_of
-from reading_order import Chapters, nearest_rows, order_of
+from reading_aids import cases_without_row, comment_of, guide_of, phrases_above, rule_of
+from reading_order import Chapters
 from reading_rows import Helper, Lemmas, Row
 from reading_text import Rows, target_of
-from reading_words import PREAMBLE, PREAMBLE_FILE, PREAMBLE_WORDS
+from reading_words import PREAMBLE, PREAMBLE_FILE, PREAMBLE_WORDS, STATEMENT
 
 RULE = "=" * 80
 
@@ -26,12 +26,12 @@ class CodeType(NamedTuple):
 
 
 class Marks(NamedTuple):
-    """What is said above definitions: those to which a row leads, those that are continued in a
-    part beside, with a sentence, and those that may be left out, with why."""
+    """The definitions to which a row leads, those that a part beside has, each with its heading,
+    and whether lemmas and all rows are printed."""
 
     reached: Set[Target]
     beside: Dict[Target, str]
-    skipped: Dict[Target, str]
+    with_lemmas: bool
 
 
 def type_lines(one: CodeType) -> List[str]:
@@ -50,8 +50,13 @@ def type_lines(one: CodeType) -> List[str]:
     while lines[above - 1].startswith(("///", "#[")):
         above -= 1
     about = [each for each in lines[above : one.line - 1] if each.startswith("///")]
-    shown = [each for each in lines[one.line - 1 : end + 1] if not each.lstrip().startswith("#[")]
-    if not any("///" in each for each in shown):
+    shown, told = [], ""
+    for each in lines[one.line - 1 : end + 1]:
+        if each.lstrip().startswith("///"):
+            told += f"  // {each.strip()[4:]}"
+        elif not each.lstrip().startswith("#["):
+            shown, told = shown + [each + told], ""
+    if not any("  // " in each for each in shown):
         shown = [" ".join(" ".join(shown).split())]
     return about + shown
 
@@ -85,7 +90,7 @@ def shared_constructors(
     for one in types:
         lines = [] if one.value else type_lines(one)
         if any(line.startswith("pub enum") for line in lines):
-            text = re.sub(r"///[^\n]*", "", "\n".join(lines))
+            text = re.sub(r"//[^\n]*", "", "\n".join(lines))
             inner = text[text.index("{") + 1 : text.rindex("}")]
             for name in re.findall(r"\b[A-Z]\w*", re.sub(r"\{[^{}]*\}|\([^()]*\)", "", inner)):
                 owners.setdefault(name, []).append(one.name)
@@ -210,13 +215,10 @@ def print_chapters(
     marks: Marks,
     lemmas: Lemmas,
 ) -> None:
-    """Prints each chapter: the types of the code that it is the first to name, and each definition
-    with its comment, directly below it the worked rows that stand there.
-
-    A definition to which no row leads, one of which a case has no row, and one that is continued in
-    a part beside has a line that says so above it; so has one that may be left out, and the first
-    of several whose nearest row is not the next one below.
-    """
+    """Prints each chapter: its guide, the types of the code that it is the first to name, and each
+    definition. Above a definition stand the rule that it states, what makes it easier to read, and
+    its comment; below it stand its worked rows. Of one that a part beside has, the first line is
+    printed."""
     rows: Rows = {}
     for chapter in chapters.values():
         for path, names in chapter.items():
@@ -227,17 +229,18 @@ def print_chapters(
     shared = shared_constructors(definitions, chapters, types)
     told: Set[Helper] = {(PREAMBLE_FILE, name) for name in PREAMBLE_WORDS}
     by_chapter = types_by_chapter(definitions, chapters, types)
-    near = nearest_rows(definitions, order_of(definitions, chapters), places, lemmas)
     for heading, chapter in chapters.items():
         print(f"\n{RULE}\n{heading}\n{RULE}")
+        print_told("", guide_of(heading))
         values = [one for one in by_chapter[heading] if one.value]
         for one in [*values, *(one for one in by_chapter[heading] if not one.value)]:
             print(("" if one in values[1:] else "\n") + "\n".join(type_lines(one)))
         for path, names in chapter.items():
             module = definitions.modules[path]
-            print("\n-- " + os.path.relpath(module.file, ROOT) + f": {module.about}")
+            file = os.path.relpath(module.file, ROOT)
+            print("\n" + "\n".join(paragraph(f"{file}: {module.about}", "-- ", "--   ")))
             print("\n".join(names_here(definitions, module, names, shared) + [""]))
-            header, block, far = None, None, None
+            header, block = None, None
             for one in sorted(
                 (module.definitions[name] for name in names), key=lambda each: each.line
             ):
@@ -245,32 +248,46 @@ def print_chapters(
                 if module.parameters.get(one.name) not in (None, header):
                     header = module.parameters[one.name]
                     print("\n".join(header))
-                if module.mutual.get(one.name) not in (None, block):
+                if module.mutual.get(one.name) not in (None, block) and target not in marks.beside:
                     block = module.mutual[one.name]
                     print("mutual")
-                if target in marks.skipped:
-                    print(f"-- (not needed for code 0: {marks.skipped[target]})")
-                if target not in marks.reached:
+                if target != target_of(STATEMENT):
+                    print_told("RULE ", rule_of(target))
+                print_told("", guide_of(target))
+                if target not in marks.reached and target not in marks.beside:
                     print("-- (no row)")
                 if target in cases:
                     print(f"-- (no row for {', '.join(cases[target])})")
                 if target in marks.beside:
-                    print("\n".join(paragraph(marks.beside[target], "-- ")))
-                if near.get(target) not in (None, far):
-                    print(f"-- (nearest row: below `{near[target][1]}`)")
-                far = near.get(target)
-                print("\n".join(comment_of(module.file, one) + one.lines) + "\n")
+                    print(f"-- (beside: {marks.beside[target]})")
+                lines = one.lines[:1] if target in marks.beside else one.lines
+                comment = [] if rule_of(target) else comment_of(module.file, one)
+                if target == target_of(STATEMENT):
+                    lines = phrases_above(lines)
+                print("\n".join(comment + lines) + "\n")
                 for place, row in places:
-                    if place == target:
-                        print_row(row, lemmas, shown, told)
+                    if place == target and (marks.with_lemmas or not row.more):
+                        print_row(row, target, lemmas, shown, told if marks.with_lemmas else None)
 
 
-def print_row(row: Row, lemmas: Lemmas, shown: Names, told: Set[Helper]) -> None:
-    """Prints a worked row: the words, and what is computed. A helper of the row's file stands above
-    the first row that uses it; `told` has those that were printed."""
-    tried = ", ".join(f"`{target_of(full)[1]}`" for full in row.tries)
-    print("\n".join(paragraph(f"Row of {tried}: {row.words}", "-- ", "--      ")))
-    for lemma in row.lemmas:
+def print_told(sign: str, text: str) -> None:
+    """Prints what is told above a definition: a guide, or each line of a rule as a paragraph."""
+    for at, line in enumerate(filter(None, text.split("\n") if sign else [text])):
+        first = "--   " if at else f"-- {sign}"
+        print("\n".join(paragraph(" ".join(line.split()), first, "--   " if sign else "-- ")))
+
+
+def print_row(
+    row: Row, place: Target, lemmas: Lemmas, shown: Names, told: Optional[Set[Helper]]
+) -> None:
+    """Prints a worked row in words, with the other definitions that it tries. Where `told` has the
+    helpers that were printed, its lemmas follow: a helper of the row's file stands above the first
+    row that uses it."""
+    tried = [target_of(full) for full in row.tries]
+    names = "" if tried == [place] else " of " + ", ".join(f"`{name}`" for _, name in tried)
+    print("\n".join(paragraph(f"Row{names}: {row.words}.", "-- ", "--   ")))
+    for lemma in row.lemmas if told is not None else ():
+        print(f"-- {lemma.replace('/', '/proofs/', 1).replace(':', '.antt: ', 1)}")
         for helper in lemmas.helpers(lemma):
             if helper not in told:
                 told.add(helper)

@@ -3,7 +3,7 @@
 import os
 import re
 import textwrap
-from typing import Dict, Iterable, List
+from typing import Container, Dict, Iterable, List
 
 from definitions import ROOT, Definitions, Target
 
@@ -71,9 +71,12 @@ def rows_of(definitions: Definitions, found: Iterable[Target]) -> Rows:
     return rows
 
 
-def line_count(definitions: Definitions, rows: Rows, paths: Iterable[str]) -> int:
+def line_count(
+    definitions: Definitions, rows: Rows, paths: Iterable[str], short: Container[Target] = ()
+) -> int:
+    """The number of lines of definitions; of those in `short`, only the first line counts."""
     return sum(
-        len(definitions.modules[path].definitions[name].lines)
+        1 if (path, name) in short else len(definitions.modules[path].definitions[name].lines)
         for path in paths
         for name in rows[path]
     )

@@ -26,22 +26,19 @@ CAVEATS: List[str] = [
 ]
 
 LEAD = """\
-This page lists every definition on which the headline depends. The table shows which definitions
-state each part of it."""
+The clause `headline` of the top call `tac` (`crates/tacd/src/top.rt`) says this. The code is proved
+to meet it. Whether it says what is meant, only a reader can judge. This page and its print have
+every definition on which the clause depends."""
 
-INTRODUCTION = """\
-A proof shows that the code meets its contract. Only a reader can judge whether the contract
-describes the game that is meant. This page is for a sceptic with one evening. It lists every
-definition on which the headline depends: the definitions named by two clauses of the top call `tac`
-(`service` and `cash`, in `crates/tacd/src/top.rt`), and all definitions that these use. You need no
-other definition and no proof to know what is promised. The README says what else you have to
-trust."""
+LEFT_TO_SERVICE = """\
+**What the clause `headline` leaves to the clause `service`:** that no seat was given twice; that
+every link without a seat was lost, or refused as its first line says; that links were taken until
+eight agents had a seat, 64 links were taken, or none was left; that the ticks were waited for; and
+what holds with codes other than 0. See the part "Beside: what `service` says besides"."""
 
 PICTURE_ABOUT = """\
-The picture shows how the bytes of one link become lines, turns, entries in two histories, lines of
-the log and a score. The names at an arrow are the definitions that state that step. The
-clock's turns take the same path (`IsClockTranscript`). For both histories, `Legal` and
-`IsLegalCash` state that each entry is the one that the rules give after the entries before it."""
+The bytes of one link become lines, turns, entries in two histories, lines of the log and a score.
+At each arrow stand the definitions that state that step. The clock's turns take the same path."""
 
 PICTURE = """\
 bytes that the link gave                               bytes that the link was sent
@@ -120,34 +117,44 @@ EXAMPLE_TEXTS = [
 
 EXAMPLE_END = """\
 Two inbound seats do not make a trip, so the greatest utility is 0. With -600 dollars and no ticket
-short, the score is 0 - 600 - 200 * 0 = -600. The lines of the log follow from `first_lines`,
-`auction_text`, `cash_text` and `score_line`. A run of `tac play` with the requests of these three
+short, the score is 0 - 600 - 200 * 0 = -600. A run of `tac play` with the requests of these three
 turns wrote the same lines from `auction 0 55` on."""
 
 HOW_TO_READ = """\
-1. Read the table, the picture and the example above, and skim the key.
-2. Run `python3 checks/reading.py --print | less`. It prints the two clauses and then all
-definitions, in the order of the chapters here. Each definition comes after everything that it uses,
-with its comment. Read the output from top to bottom, next to this page: the long chapters have a
-guide here.
-3. Compare each definition with the rule in words to which its row here links.
-4. At the end, go through the table again.
+1. Read this page as far as the times. The rest is for reference.
+2. Run `python3 checks/reading.py --print | less`, and read it from top to bottom. Each definition
+comes after those that it uses, and below the rule that it states.
+3. Compare the two, and look at the row below them: a small case in words. Read slowly where the
+print says "(no row)".
+4. The last definition, `WritesTrueLog`, has the phrases of the table above its fields.
 
-**Worked rows** are small cases. Each is given first in words, and then as the lemma that the
-toolchain checks. A row is printed below the definition that it tries. If it names later
-definitions, it is printed below the last of these. The nearest row for a definition is the next one
-below it, unless `--print` names another place. It does so above the definition, or above the first
-of several in succession. `--print` marks definitions that no
-row reaches with "(no row)", and the section "What has no worked row" lists them. Read these slowly.
+You need no other definition and no proof, and not the parts "Beside". The README says what else you
+have to trust."""
 
-**What you need not read.** The tables of library words, types and limits are for reference. The
-chapters do not depend on the four parts whose headings begin with "Beside". The last chapter, on
-the other commands and the codes, is not part of the headline. You need not believe anything that
-only proofs or private functions use, nor how a certificate is found.
+# The beginning of the print.
+PRINTED = """\
+What must be believed: the clause `headline`, and all definitions on which it depends, each below
+those that it uses. A RULE is in the words of the page that it names, and stands in place of the
+definition's own comment. A row is a small case, which the toolchain checks as a lemma. Of its words
+the script checks that the lemma exists, leads to the definition, and has their numbers.
+docs/READING.md links to the lemmas, and `--lemmas` prints them, with more rows. Of a definition
+with the mark "(beside: ..)" only the first line is printed; that part of READING has the rest."""
+PRINTED_WITH_LEMMAS = """\
+What must be believed, with the lemmas: see `checks/reading.py --print`. Each row is told in words.
+Below it stands the lemma that the toolchain checks, with its file. Of the words, the script checks
+that the lemma exists, leads to the definition, and has their numbers."""
+KEY = """\
+Signs that may be new. Equations are tried from the top. On ℕ, `-` stops at 0. A type of the code
+stands for the value that contracts see: a number of ℕ or ℤ, a text as its bytes, a record or
+variants of these, or what the print says that it appears as. `x.old` and `x.new` are the values
+before and after the call. `Names of T` above a module says of which type its constructors are."""
 
-`checks/reading.py --write` generates this page from the sources. Without `--write`, the script runs
+# The end of the page.
+MADE_BY = """\
+`checks/reading.py --write` makes this page from the sources. Without `--write`, the script runs
 after the gate. It fails if the page differs from what the sources say, if a definition uses one
-that comes below it, or if a listed module imports a module that is not listed."""
+that comes below it, if a listed module imports a module that is not listed, or if a rule is not in
+the words of its page."""
 
 ALIKE = """\
 - **Lawful, legal.** `IsLawful` is about the past of one auction and its rules. `Legal` is about a
@@ -175,13 +182,15 @@ ALIKE = """\
 - **Closed.** `Closed` of `Reply` is a refusal. `is_closed` says whether the auction has ended. The
   field `closed`, a `ClosedGame`, holds the histories of a game whose calls are over.
 - **Part.** `part` gives a caller's entries of one history with their positions. `play_part` is the
-  first part of a log. `TookPart` is about a text.
+  first part of a log.
 
 If a module uses such a name, `--print` says above the module to which type the name belongs."""
 
 ROWLESS = """\
 No worked row leads to these definitions, so read them slowly. Most of them are about whole games,
-or about any number of turns. Those of the outside are records; a table explains their fields."""
+or about any number of turns, and compute nothing. Rows reach {tried} of the {lines} lines. A line
+that a row reaches is not thereby tested: the row shows one case, which may not depend on that
+line."""
 
 TRUTHS = """\
 - **Reading ahead, or answering late.** No clause forbids it in words, but a server that did so
@@ -191,11 +200,12 @@ TRUTHS = """\
 - **Stale quotes.** The board in the reply to a quote may be stale: it may lack the newest entries
   of other callers. It only has to be the board of a prefix of the history that includes everything
   that the agent had seen of it.
-- **When the clock makes its calls.** The clause `service` says that the clock's calls at each good
-  are those of the schedule, that their posts are in the order of the schedule, and that the ticks
-  were waited for. Two more facts are clauses of `run_clock` (`crates/clock_events`), and not of
-  `tac`. One is the order of all calls across the goods. The other is that a tick's calls come after
-  the wait for it and, if the ticker reports its waits, before the next wait.
+- **When the clock makes its calls.** The clause `headline` says that the clock's calls at each good
+  are those of the schedule, and that their posts are in the order of the schedule. The clause
+  `service` says that the ticks were waited for. Two more facts are clauses of `run_clock`
+  (`crates/clock_events`), and not of `tac`. One is the order of all calls across the goods. The
+  other is that a tick's calls come after the wait for it and, if the ticker reports its waits,
+  before the next wait.
 - **How late a post may come.** The desk's clause bounds this, and the clauses of `tac` do not:
   every desk has posted what is due before its call returns. A server that appended the clock's
   posts at the end, in the order of the schedule, would meet the clauses of `tac`.
@@ -222,6 +232,7 @@ ROW_WORDS: Dict[str, str] = {
          "hotels close in the order 8 to 15, and the seat words are `seat0` to `seat7`. Each "
          "client prefers to stay from day 1 to day 2, and values the better hotel at 100 and the "
          "museum at 100"),
+    "game_run/Admission.seats_given": "the seats of a game after verdicts on its first links",
     "link_audit/Links.IsLinkOfLog":
         ("`IsLinkOfLog hosted log agent asked said` states that the log gives the agent's seat to "
          "a link, and that `IsSeated` holds for that link, which holds the bytes `asked` and was "
@@ -233,23 +244,6 @@ ROW_WORDS: Dict[str, str] = {
 }
 
 NOTATION: List[Tuple[str, str]] = [
-    ("`abbrev pub f : A → B`, then `f x = ..`",
-     "a definition, with its type and its equations; you can ignore `unfoldable` and `pub`"),
-    ("equations",
-     ("the equations of a definition are tried from the top, and the first that matches applies; "
-      "so a last line `f x y = ..` covers all other cases")),
-    ("`pub record R (x : A) : Type 0 where pub a : ..`",
-     "a statement all of whose named parts have to hold, or a value with named fields"),
-    ("`pub data D : Type 0 where C : A → D`", "a type with its constructors"),
-    ("`Type 0`, `Type 1`",
-     ("`Type 0` is the type of types and of statements, and `Type 1` is the type of `Type 0`. A "
-      "definition whose result is in `Type 0` is a statement, which is true if it has a value")),
-    ("`mutual`", "the definitions in this block use one another"),
-    ("`module _ (x : A) where`", "each definition in it has the parameter x"),
-    ("`≡`, `≤`, `<`, `→`, `↔`", "equal, at most, below, implies (or a function), if and only if"),
-    ("`A × B`, `A ⊎ B`, `⊤`, `⊥`",
-     ("both hold (or a pair), at least one holds, the statement that always holds, the statement "
-      "that never holds")),
     ("`(x : A) → P x`, `(x : A) × P x`",
      "for every x P holds, and there is an x for which P holds"),
     ("`(k : ℕ) (n : A) → get_elem? xs k ≡ some n → P n`",
@@ -257,6 +251,23 @@ NOTATION: List[Tuple[str, str]] = [
       "says the same; `some` is the library's other spelling of `Some`")),
     ("`(a, b)`, `p.0`, `p.1`, `p.2`",
      "a pair and its parts; `p.2` is the part after the first two of a longer product"),
+    ("`A × B`, `A ⊎ B`, `⊤`, `⊥`",
+     ("both hold (or a pair), at least one holds, the statement that always holds, the statement "
+      "that never holds")),
+    ("`pub record R (x : A) : Type 0 where pub a : ..`",
+     "a statement all of whose named parts have to hold, or a value with named fields"),
+    ("`abbrev pub f : A → B`, then `f x = ..`",
+     "a definition, with its type and its equations; you can ignore `unfoldable` and `pub`"),
+    ("equations",
+     ("the equations of a definition are tried from the top, and the first that matches applies; "
+      "so a last line `f x y = ..` covers all other cases")),
+    ("`pub data D : Type 0 where C : A → D`", "a type with its constructors"),
+    ("`Type 0`, `Type 1`",
+     ("`Type 0` is the type of types and of statements, and `Type 1` is the type of `Type 0`. A "
+      "definition whose result is in `Type 0` is a statement, which is true if it has a value")),
+    ("`mutual`", "the definitions in this block use one another"),
+    ("`module _ (x : A) where`", "each definition in it has the parameter x"),
+    ("`≡`, `≤`, `<`, `→`, `↔`", "equal, at most, below, implies (or a function), if and only if"),
     ("`λ x. ..`, `λ _. ..`, `f x y`",
      "a function, a function that ignores its argument, a function applied to two arguments"),
     ("`x'`", "a name like any other; by convention, `x` is a state before a call, `x'` after it"),
@@ -290,6 +301,12 @@ NOTATION: List[Tuple[str, str]] = [
     ("`x.old`, `x.new`, `x.now`, `result`",
      ("in a clause: the value behind a reference before the call, after it, and at any time; the "
       "value that is returned")),
+]
+# How many of these stand at the beginning of the print, and the words of the library that do.
+UNUSUAL = 3
+UNUSUAL_WORDS = [
+    "codes", "pos", "negsuc", "slice_get", "slice_index_or", "enumerate_from", "AllZip", "IfSome",
+    "count_by", "sum_by",
 ]
 
 LIBRARY: Dict[str, str] = {
@@ -484,7 +501,7 @@ CHAPTERS = [
     Chapter("Requests and replies as lines",
             "This chapter defines what a line requests, and the text of a reply.",
             ["bid_strings", "line_protocol", "json_dialect"]),
-    Chapter("The outside",
+    Chapter("The bytes of a link",
             "This chapter defines what is known about a link before a call and after it.",
             ["tac_io"]),
     Chapter("The session of a link",
@@ -493,18 +510,17 @@ CHAPTERS = [
              "ends."),
             ["agent_gate"]),
     Chapter("A game over links",
-            ("This chapter defines which links get a seat, which game was played, and what became "
-             "of each link."),
+            ("This chapter defines which game was played, and what a link with a seat did in it."),
             ["clock_events", "game_run"]),
     Chapter("The log",
             "This chapter defines the text that is written.",
             ["log_text", "game_log"]),
-    Chapter("Outcomes and codes",
-            ("This chapter defines what a command may write and with which code it ends, and "
-             "states the clause `cash`."),
+    Chapter("The outside before and after",
+            ("This chapter defines what is known of the outside before the call and after it, and "
+             "the words that ask for `serve`."),
             ["tac_commands"]),
-    Chapter("The command `serve`",
-            "This chapter states the clause `service` itself.",
+    Chapter("The headline",
+            "This chapter states what the clause `headline` says with code 0.",
             ["tacd"]),
 ]
 
@@ -517,19 +533,17 @@ LATER: Dict[str, List[str]] = {
         "tac_base/Goods.ticket_night", "game_text/Accounts"],
     "Requests and replies as lines": [
         "tac_base/Bids.point_fault", "tac_base/Bids.first_fault", "tac_base/Bids.fault_of",
-        "tac_base/Numerals", "text_forms/Words.words_of", "text_forms/Steps.◌>>=◌"],
+        "tac_base/Numerals", "text_forms/Words", "text_forms/Steps.◌>>=◌"],
     "The session of a link": [
-        "tac_commands/Services.dialect_in",
-        "game_text/SeatWords", "game_run/Admission.free_seats", "game_run/Admission.seats_given",
-        "turn_lock/Part", "turn_lock/Notes", "floor/ClosedBoards",
+        "tac_commands/Services.dialect_in", "game_text/SeatWords", "game_run/Admission.free_seats",
+        "turn_lock/Part", "turn_lock/Notes", "floor/ClosedBoards"],
+    "The log": [
         "text_forms/Steps.lines_of_parts", "text_forms/Steps.one_line", "text_forms/Rows",
-        "text_forms/Lines.text_of", "game_text/ClientLines", "game_text/AgentLines",
-        "game_text/Endowments", "game_text/OneAgent"],
-    "A game over links": [
-        "tac_io/States.TickWait", "tac_io/States.TickerState", "tac_io/States.LinksState",
-        "tac_io/LinkCalls.GaveBytes", "tac_io/LinkCalls.SendsNothing"],
-    "Outcomes and codes": ["tac_io/States.SinkState", "tac_io/States.FilesState", "tac_io/Taken"],
-    "The command `serve`": ["tac_io/Reading"],
+        "text_forms/Lines.text_of"],
+    "The outside before and after": [
+        "tac_io/States.SinkState", "tac_io/States.FilesState", "tac_io/States.LinksState",
+        "tac_io/States.TickerState", "tac_io/Taken"],
+    "The headline": ["tac_io/Reading", "tac_commands/Cash", "log_text/SoundLog.gives_seat"],
 }
 
 # The file of the rows of the auctions' rules, and the words that these rows use.
@@ -562,16 +576,50 @@ BESIDE: List[Tuple[str, str, List[str]]] = [
      ("You can leave it out if you take the output of `tac show` as the content of a game file: "
       "it is proved that this text is read as the same game."),
      ["game_text/Games.game_of"]),
-    ("When a certificate holds, and its lines",
-     "It only helps readers who check the best total again. No score depends on a certificate.",
-     ["bound_cert/Trees.IsCertificate", "bound_cert/Certificate.holds",
-      "bound_cert/Texts.tree_lines"]),
+    ("When a certificate holds, and the lines that show an allocation",
+     ("It only helps readers who check the best total again. No score depends on a certificate, "
+      "nor on the allocation that the log shows."),
+     ["bound_cert/Trees.Tree", "bound_cert/Trees.IsCertificate", "bound_cert/Certificate.holds",
+      "bound_cert/Certificate.all_left", "bound_cert/Texts.tree_lines",
+      "log_text/SheetText.package_line", "log_text/SheetText.cert_line"]),
+    ("How the text of points is read",
+     ("It is proved that a text is read as some points exactly if it is their `spelling`, and none "
+      "of their numbers has more than five digits (`one_spelling` of `crates/bid_strings`)."),
+     ["bid_strings/BidForm.points_of"]),
     ("Lines of JSON",
      "Only `serve .. json` needs it.",
      ["json_dialect/JsonRequests.asks_json", "json_dialect/JsonReplies.json_text"]),
+    ("How failures are counted",
+     ("The headline needs only that a read or a write failed, or that none did. This part says by "
+      "which counts and places that is known."),
+     ["tac_io/LinkCalls.NoReadFails", "tac_io/LinkCalls.LastReadFails",
+      "tac_io/LinkCalls.NoWriteFails", "tac_io/LinkCalls.LastWriteFails"]),
+    ("The welcome",
+     "A link with a seat is sent these ten lines before its first reply.",
+     ["agent_gate/Welcome.welcome_text"]),
+    ("The head of the log",
+     ("The headline is about the histories and the sheet. The head says which link got which seat, "
+      "and why each session ended."),
+     ["log_text/LogText.head_text"]),
+    ("Which words ask for `serve`",
+     ("The words are `serve GAME PORT PACE`, or the same with `json`. The headline uses only the "
+      "name of the game file and the form of lines."),
+     ["tac_commands/Services.service_of"]),
     ("That the log is sound, as `audit` has it",
-     "It defines a sound log, as `audit` judges it.",
+     ("It defines a sound log, as `audit` judges it. The clause `service` says that the log is "
+      "sound."),
      ["tacd/SoundLogs.IsSoundLog"]),
+    ("What `service` says besides",
+     ("The clause `service` says what `serve` leaves with every code, and with code 0 more than "
+      "the headline: what became of the links without a seat, when no more links were taken, the "
+      "waits for ticks, and that each seated agent has one end. `Serves`: some outcome is "
+      "allowed, and it was reported. `ServeAllows`: the file holds a game, and `ServesGame` "
+      "holds; or the file could not be read or was refused, and the links and the ticker are "
+      "unchanged. `ServesGame`: what became of each link (`IsGameEnd`), the waits, and what was "
+      "written (`PlayedAllows`); or no game was played (`HasNoGame`). `TakesLinks`: each link is "
+      "judged by the seats that earlier links left. The pace is PACE in each wait, since "
+      "`at_pace` has set it."),
+     ["tac_io/States.TickerState", "tacd/Service.Serves"]),
 ]
 
 STEP_TRUTHS = """\
@@ -604,22 +652,22 @@ STEP_SENTENCES: List[Tuple[str, List[str]]] = [
       "tac_commands/Prompt.HearsPromptly"]),
 ]
 
-# The headline, phrase by phrase: the definitions that state it, as CRATE/MODULE.NAME.
+# What the clause of the headline says of a service: a record, one of whose fields says each phrase.
+STATEMENT = "tacd/Headline.WritesTrueLog"
+
+# The headline, phrase by phrase: the definitions that state it, as CRATE/MODULE.NAME, and the
+# fields of the statement, by their names.
 SENTENCES: List[Tuple[str, List[str]]] = [
     ("When `serve` ends with code 0, ..",
-     ["tacd/Service.Serves", "tacd/Service.ServeAllows", "tacd/Service.ServesGame",
-      "tac_commands/Reporting.Reports"]),
+     ["tac_commands/Services.service_of", STATEMENT]),
     ("the log that it wrote ..",
-     ["tacd/Service.PlayedAllows", "tacd/Service.IsLogOf", "log_text/SheetText.log_text"]),
+     ["written", "tac_io/Taken.TookWhole", "log_text/SheetText.log_text"]),
     ("holds 29 legal one-thread histories.",
-     ["game_run/PlayedGame.IsLegalGame", "auction_rules/Legal.Legal",
+     ["legal", "game_run/PlayedGame.IsLegalGame", "auction_rules/Legal.Legal",
       "auction_rules/Legal.trades_by", "auction_rules/Refusals.refusal",
       "trade_ledger/CashHistory.IsLegalCash"]),
-    ("(which links have a seat: the links taken, and the verdict on each)",
-     ["game_run/Admission.AreAllTaken", "game_run/Admission.TakesLinks",
-      "game_run/Admission.CameTo"]),
     ("In each of them, every agent's calls are those that its link asked for,",
-     ["agent_gate/Served.EndsBy", "game_run/Outcomes.IsPlayedOver", "game_run/LinkRuns.IsSeated",
+     ["seated", "absent", "game_run/LinkRuns.IsSeated", "agent_gate/Gates.verdict_of",
       "agent_gate/Transcript.IsTranscript", "agent_gate/Served.IsServed",
       "agent_gate/Items.AreItems", "line_protocol/Requests.request_of"]),
     ("each once,",
@@ -627,17 +675,16 @@ SENTENCES: List[Tuple[str, List[str]]] = [
     ("each after everything that the agent had seen,",
      ["agent_gate/Turns.AreLawful", "agent_gate/Turns.IsNotBehind", "turn_lock/Notes.AreNotes"]),
     ("with the replies that it got;",
-     ["agent_gate/Served.pieces_of", "agent_gate/Served.SendsAll", "agent_gate/Served.IsCutOff",
-      "line_protocol/Replies.said_text"]),
+     ["agent_gate/Served.EndsBy", "agent_gate/Served.pieces_of", "agent_gate/Served.SendsAll",
+      "agent_gate/Served.IsCutOff", "line_protocol/Replies.said_text"]),
     ("the clock's calls are those of the game file.",
-     ["game_run/PlayedGame.IsPlayedBy", "game_run/PlayedGame.IsClockTranscript",
-      "game_text/Schedule.schedule", "clock_events/Clocking.WaitsForAll"]),
+     ["clock", "file", "game_run/PlayedGame.IsClockTranscript", "game_text/Schedule.schedule"]),
     ("Goods and cash equal the recorded trades.",
-     ["trade_ledger/Posts.Matched", "settlement/Settlement.settlement_of",
-      "settlement/Settlement.cash_gained", "auction_rules/Effects.holding",
-      "auction_rules/Effects.dollars", "tac_commands/Cash.IsCashOfPosts"]),
+     ["cash", "tac_commands/Cash.IsCashOfPosts", "trade_ledger/Posts.Matched",
+      "settlement/Settlement.settlement_of", "settlement/Settlement.cash_gained",
+      "auction_rules/Effects.holding", "auction_rules/Effects.dollars"]),
     ("Each score is the greatest utility over all feasible allocations,",
-     ["settlement/Sheets.IsSheet", "settlement/Sheets.IsScored",
+     ["scores", "settlement/Sheets.IsSheet", "settlement/Sheets.IsScored",
       "bound_cert/Solutions.IsSolution", "packages/BestTotal.IsBest",
       "packages/BestTotal.IsFeasible", "packages/Packages.utility_of"]),
     ("less costs and penalties.",

@@ -329,8 +329,6 @@ To change a rule, change all of these places, and the rule's entry in `docs/DECI
 one. `checks/reading.py --write` generates this page, and fails if one of the places does not
 exist."""
 
-OTHERS = ["FORMATS/Game script"]  # headings of other pages that have rules, with their page
-
 UNRULED = {"Where this differs from TAC Classic"}  # headings of GAME.md that repeat rules
 
 
