@@ -57,7 +57,7 @@ STATED: Dict[str, List[str]] = {
          "If quotes are live, .. the agent's old one."],
     "auction_rules/Precedence.precedes":
         ["GAME/Hotels", "One unit precedes another .. with the lower index comes first"],
-    "auction_rules/BeatQuote.need": ["GAME/Hotels", "Let `q` be .. plus 1 or more."],
+    "auction_rules/BeatQuote.need": ["GAME/Hotels", "Let `q` be .. published price plus 1."],
     "auction_rules/HotelClosing.closing_trade":
         ["GAME/Hotels", "**The closing** sells .. the agents' numbers."],
     "auction_rules/Refusals.is_wrong_caller":
