@@ -4,21 +4,22 @@ from typing import Dict, List, NamedTuple, Tuple
 
 HEADLINE = """\
 When `serve` ends with code 0, the log that it wrote holds 29 legal one-thread histories. In each of
-them, every agent's calls are those that its link asked for, each once, each after everything that
-the agent had seen, with the replies that it got; the clock's calls are those of the game file.
-Goods and cash equal the recorded trades. Each score is the greatest utility over all feasible
-allocations, less costs and penalties."""
+them, every agent's calls are those that its link asked for. Each call occurs once, comes after
+everything that the agent had seen, and has the reply that the agent got. The clock's calls are
+those of the game file. Goods and cash equal the recorded trades. Each score is the greatest utility
+over all feasible allocations, less costs and penalties."""
 
 # What stands beside the headline, here and in README.md.
 CAVEATS: List[str] = [
-    """**Some bytes.** The system's sockets and files do not say what they carry. For them the
-    headline holds for *some* bytes, and for a game that *some* text describes (`docs/PROOFS.md`,
+    """**Some bytes.** The system's sockets and files do not say what they carry. So the headline
+    says only that there are *some* bytes, and a game that *some* text describes, for which it holds
+    (`docs/PROOFS.md`,
     "Premises").""",
     """**29 orders.** Each auction has its own history, and so has the cash book. Nothing says which
     of two calls came first if they are in different auctions and have different callers. So
     "everything that the agent had seen" is about one auction at a time.""",
-    """**Fewer than eight agents.** A game begins once eight agents have a seat, 64 links were
-    taken, or no link is left. An empty seat makes no calls but has a score.""",
+    """**Fewer than eight agents.** A game begins once eight agents have a seat, 64 links have been
+    accepted, or no link is left. An empty seat makes no calls but has a score.""",
     """**No memory.** In a game in JSON, the reply to any line may be `{"no":"memory"}`. Such a line
     requests nothing.""",
     """**Costs are subtracted once.** They are in the agent's cash, which is added: a score is the
@@ -666,18 +667,18 @@ SENTENCES: List[Tuple[str, List[str]]] = [
      ["legal", "game_run/PlayedGame.IsLegalGame", "auction_rules/Legal.Legal",
       "auction_rules/Legal.trades_by", "auction_rules/Refusals.refusal",
       "trade_ledger/CashHistory.IsLegalCash"]),
-    ("In each of them, every agent's calls are those that its link asked for,",
+    ("In each of them, every agent's calls are those that its link asked for.",
      ["seated", "absent", "game_run/LinkRuns.IsSeated", "agent_gate/Gates.verdict_of",
       "agent_gate/Transcript.IsTranscript", "agent_gate/Served.IsServed",
       "agent_gate/Items.AreItems", "line_protocol/Requests.request_of"]),
-    ("each once,",
+    ("Each call occurs once,",
      ["agent_gate/Transcript.IsTranscript", "turn_lock/Part.part", "agent_gate/Turns.made_at"]),
-    ("each after everything that the agent had seen,",
+    ("comes after everything that the agent had seen,",
      ["agent_gate/Turns.AreLawful", "agent_gate/Turns.IsNotBehind", "turn_lock/Notes.AreNotes"]),
-    ("with the replies that it got;",
+    ("and has the reply that the agent got.",
      ["agent_gate/Served.EndsBy", "agent_gate/Served.pieces_of", "agent_gate/Served.SendsAll",
       "agent_gate/Served.IsCutOff", "line_protocol/Replies.said_text"]),
-    ("the clock's calls are those of the game file.",
+    ("The clock's calls are those of the game file.",
      ["clock", "file", "game_run/PlayedGame.IsClockTranscript", "game_text/Schedule.schedule"]),
     ("Goods and cash equal the recorded trades.",
      ["cash", "tac_commands/Cash.IsCashOfPosts", "trade_ledger/Posts.Matched",
