@@ -12,9 +12,8 @@ over all feasible allocations, less costs and penalties."""
 # What stands beside the headline, here and in README.md.
 CAVEATS: List[str] = [
     """**Some bytes.** The system's sockets and files do not say what they carry. So the headline
-    says only that there are *some* bytes, and a game that *some* text describes, for which it holds
-    (`docs/PROOFS.md`,
-    "Premises").""",
+    says only that it holds for *some* bytes and for a game described by *some* text
+    (`docs/PROOFS.md`, "Premises").""",
     """**29 orders.** Each auction has its own history, and so has the cash book. Nothing says which
     of two calls came first if they are in different auctions and have different callers. So
     "everything that the agent had seen" is about one auction at a time.""",
@@ -22,8 +21,9 @@ CAVEATS: List[str] = [
     accepted, or no link is left. An empty seat makes no calls but has a score.""",
     """**No memory.** In a game in JSON, the reply to any line may be `{"no":"memory"}`. Such a line
     requests nothing.""",
-    """**Costs are subtracted once.** They are in the agent's cash, which is added: a score is the
-    greatest utility, plus cash, less 200 dollars for each ticket short.""",
+    """**Costs are subtracted once.** They have already been taken out of the agent's cash, and the
+    score includes that cash: it is the greatest utility, plus cash, less 200 dollars for each
+    ticket that the agent is short.""",
 ]
 
 LEAD = """\
