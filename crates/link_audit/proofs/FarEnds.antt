@@ -107,8 +107,7 @@ module _ (taken free : List Bool) (none : (seat : ℕ) → slice_index_or free s
   free_word words None agent is = is
   free_word words (Some word) agent is = free_found (position (bytes_eq word) words) agent is
 
--- so a seat was given as if no verdict had been given before
-pub seated_free : (game : GameFile) (verdicts : List Verdict) (line : List ℕ) (agent : ℕ) → verdict_of (seats_given game verdicts) line ≡ Seated agent → verdict_of (free_seats game) line ≡ Seated agent
+seated_free : (game : GameFile) (verdicts : List Verdict) (line : List ℕ) (agent : ℕ) → verdict_of (seats_given game verdicts) line ≡ Seated agent → verdict_of (free_seats game) line ≡ Seated agent
 seated_free game verdicts line agent is =
     let seats : Seats = seats_given game verdicts in
     let same : seats.words ≡ game.words = given_words (free_seats game) verdicts in

@@ -9,7 +9,7 @@ pub use Rattle.auction_rules.specs.History.{Entry}
 pub use Rattle.auction_core.specs.Auctions.{AuctionHistory}
 pub use Rattle.score_sheet.specs.Sheets.{Scored}
 pub use Rattle.tac_io.specs.Counts.{HasCause, Rose}
-pub use Rattle.tac_io.specs.Known.{NotesFailure, Reads, Takes, known_then, then_known}
+pub use Rattle.tac_io.specs.Known.{NotesFailure, Reads, Takes, known_then}
 pub use Rattle.tac_io.specs.States.{FilesState, LinkState, LinksState, MaySelect, SinkState, TickWait, TickerState}
 pub use Rattle.tac_io.specs.Taken.{TookPart, TookWhole}
 pub use Rattle.clock_events.specs.Clocking.{WaitsForAll}
@@ -20,7 +20,7 @@ pub use Rattle.log_text.specs.SoundLog.{IsService, IsSoundHead, gives_seat, seat
 pub use Rattle.game_log.specs.LogText.{play_part}
 pub use Rattle.game_log.specs.ScoredGames.{IsSheetOf}
 pub use Rattle.game_log.specs.SheetText.{log_text, sheet_part}
-pub use Rattle.game_run.specs.Admission.{CameTo, free_seats, seats_given}
+pub use Rattle.game_run.specs.Admission.{AreAllTaken, CameTo, TakesLinks, free_seats, seats_given}
 pub use Rattle.game_run.specs.Hosted.{HostedGame, hosted_game}
 pub use Rattle.game_run.specs.LinkRuns.{IsSeated}
 pub use Rattle.game_run.specs.Outcomes.{IsGameEnd, IsNotPlayed, IsPlayedOver, missed_of}
