@@ -48,7 +48,7 @@ STATED: Dict[str, List[str]] = {
     "auction_rules/FlightRule.is_sale":
         ["GAME/Flights", "At every admitted bid .. the order of its points."],
     "auction_rules/TicketMatch.arriving":
-        ["GAME/Tickets", "An admitted bid first replaces .. does not trade stands."],
+        ["GAME/Tickets", "An admitted bid first replaces .. becomes a standing unit."],
     "auction_rules/Standing.left_standing":
         ["GAME/Bids and units", "The untraded units of a bid stand. .. nothing stands."],
     "auction_rules/Ask.ask": ["GAME/Hotels", "**The ask** .. the ask is 0."],
