@@ -90,7 +90,7 @@ STATED: Dict[str, List[str]] = {
         ["GAME/Scores", "The best total is .. a feasible allocation."],
     "settlement/Score.score_of": ["GAME/Scores", "An agent's score is .. does not have"],
     "tac_base/Bids.point_fault":
-        ["PROTOCOL/Refusals", "the reply gives the first of .. more than 16 units in all"],
+        ["PROTOCOL/Refusals", "the reply gives whichever of .. more than 16 units in all"],
     "line_protocol/Requests.request_of":
         ["FORMATS/Requests and replies", "`bid G POINTS`: .. at most 5 digits.",
          "1, `no syntax`: .. with fault K;"],
