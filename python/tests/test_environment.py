@@ -18,6 +18,7 @@ from geesefuton.learning.rivals import SeatLink, maker_of, scores_of
 from geesefuton.program import ProgramError
 from geesefuton.records.drawing import drawn_rooms
 from geesefuton.records.games import FLIGHTS, HOTELS, TICKS, Game, GameError, read_game
+from geesefuton.records.made_games import made_game
 from geesefuton.records.order import first_seat, order_of_turn
 from geesefuton.records.rules import prices_of
 from tests import fake_gymnasium
@@ -115,7 +116,9 @@ class Arguments(unittest.TestCase):
                     self.assertRaisesRegex(ActionError, "no game has begun", environment.step, {})
         with mock.patch.dict(os.environ, {"TAC": "/nowhere/tac"}):
             self.assertRaises(ProgramError, Environment(FIRST).reset)
-            self.assertRaises(ProgramError, Environment().reset)
+            environment = Environment()
+            self.assertRaises(ProgramError, environment.reset)
+            self.assertIsNone(environment.seed)
 
     def test_it_is_copied_only_while_no_game_is_played(self) -> None:
         copies: List[Callable[[Environment], Any]] = [
@@ -360,7 +363,7 @@ class Games(unittest.TestCase):
 
     def test_a_seed_that_comes_again_is_not_made_again(self) -> None:
         with Environment() as environment, \
-                mock.patch.object(program, "make", side_effect=program.make) as made:
+                mock.patch("geesefuton.learning.environment.made_game", wraps=made_game) as made:
             texts = []
             for seed in (3, 3, 4, 3):
                 environment.reset(seed)

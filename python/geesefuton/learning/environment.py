@@ -37,7 +37,6 @@ from pathlib import Path
 from types import TracebackType
 from typing import Any, Callable, Dict, List, Mapping, Optional, Sequence, Tuple, Type, Union
 
-from geesefuton import program
 from geesefuton.learning.interfaces import ParallelEnv
 from geesefuton.learning.market import LimitError, Market
 from geesefuton.learning.rivals import Maker, Players, Rivals, maker_of
@@ -46,6 +45,7 @@ from geesefuton.records.books import Books, text_of
 from geesefuton.records.drawing import MOST_SEED, drawn_rooms
 from geesefuton.records.games import (CLIENTS, GOODS, HOTELS, MOST_ROOMS, ROOMS, SEATS, TICKS, Game,
                                       read_game)
+from geesefuton.records.made_games import made_game
 from geesefuton.records.order import order_of_turn
 
 MOST_ROUNDS = 1000  # in a tick
@@ -219,9 +219,9 @@ class Environment(ParallelEnv):  # type: ignore[misc]
         seed = self._next if seed is None else _seed(seed)
         self.close()
         game, text = (self._given, "") if self._given else self._made(seed)
+        market = Market(game, text)
         self.seed = None if self._given else seed
         self._next = (seed + 1) % (MOST_SEED + 1)
-        market = Market(game, text)
         self._clear(market.text)
         self._market = market
         self._books, self._boards = market.books, list(market.books.boards)
@@ -235,14 +235,13 @@ class Environment(ParallelEnv):  # type: ignore[misc]
         return self._observations({}), infos
 
     def _made(self, seed: int) -> Tuple[Game, str]:
-        """The game of a seed, and its canonical text if that is at hand."""
+        """The game of a seed, and its canonical text."""
         if self._last is None or self._last[0] != seed:
-            text = program.make(seed)
-            game = read_game(text, is_canonical=True)
+            game = made_game(seed)
             if self._rooms is not None or self._live:
                 rooms = drawn_rooms(seed, *self._rooms) if self._rooms else [ROOMS] * len(HOTELS)
-                game, text = game.with_rooms(rooms, self._live), ""
-            self._last = seed, game, text
+                game = game.with_rooms(rooms, self._live)
+            self._last = seed, game, game.text()
         return self._last[1:]
 
     def step(self, actions: Actions) -> Step:

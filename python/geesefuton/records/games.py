@@ -30,6 +30,11 @@ _UNITS = [(range(agent, agent + 1), *[range(17)] * len(TICKETS)) for agent in ra
 _WISHES = [[(range(agent, agent + 1), range(number, number + 1), range(1, 5), range(2, 6),
              range(50, 151), *[range(201)] * 3) for number in range(CLIENTS)]
            for agent in range(SEATS)]
+# The lines of numbers.
+_FLIGHT, _CLOSE, _ROOMS, _ENDOW, _CLIENT = (
+    word + " %d" * count for word, count in (
+        ("flight", 3 + DRAWS), ("close", len(HOTELS)), ("rooms", len(HOTELS)),
+        ("endow", 1 + len(TICKETS)), ("client", 8)))
 
 
 class Auction(NamedTuple):
@@ -204,21 +209,16 @@ class Game:
     def text(self) -> str:
         """Its canonical text."""
         lines = [f"tac {self.version}", "words " + " ".join(self.words)]
-        for good, flight in enumerate(self.flights):
-            lines.append(_line("flight", good, flight.first, flight.bound, *flight.draws))
-        lines.append(_line("close", *self.closing))
+        lines += [_FLIGHT % (good, flight.first, flight.bound, *flight.draws)
+                  for good, flight in enumerate(self.flights)]
+        lines.append(_CLOSE % self.closing)
         if self.version == 2:
-            lines += [_line("rooms", *self.rooms), "quotes " + ("live" if self.live else "minute")]
-        lines += [_line("endow", agent, *units) for agent, units in enumerate(self.endow)]
-        for agent, clients in enumerate(self.clients):
-            for number, client in enumerate(clients):
-                lines.append(_line("client", agent, number, client.arrive, client.depart,
-                                   client.premium, *client.values))
+            lines += [_ROOMS % self.rooms, "quotes " + ("live" if self.live else "minute")]
+        lines += [_ENDOW % (agent, *units) for agent, units in enumerate(self.endow)]
+        lines += [_CLIENT % (agent, number, arrive, depart, premium, *values)
+                  for agent, clients in enumerate(self.clients)
+                  for number, (arrive, depart, premium, values) in enumerate(clients)]
         return "\n".join([*lines, "end", ""])
-
-
-def _line(*words: object) -> str:
-    return " ".join(map(str, words))
 
 
 class _Lines:
@@ -278,44 +278,12 @@ def is_seat_word(word: str) -> bool:
     return 1 <= len(word) <= 16 and set(word) <= letters
 
 
-def _read_made(text: str) -> Game:
-    """Reads the text of a game that `tac make` wrote, by the places of its lines.
-
-    Raises:
-        TypeError, ValueError: The text is none.
-    """
-    lines = text.split("\n")
-    close, endow, client, end = 10, 11, 19, 83
-    if lines[0] != "tac 1" or lines[end:] != ["end", ""]:
-        raise ValueError
-    flights = [tuple(map(int, line.split(" ")[2:])) for line in lines[2:close]]
-    words = " ".join(lines[client:end]).split(" ")  # nine of each client
-    arrive, depart, premium, *values = [map(int, words[column::9]) for column in range(3, 9)]
-    clients = list(map(Client, arrive, depart, premium, zip(*values)))
-    return Game(tuple(lines[1].split(" ")[1:]),
-                tuple(Flight(*each[:2], each[2:]) for each in flights),
-                tuple(map(int, lines[close].split(" ")[1:])),
-                tuple(tuple(map(int, line.split(" ")[2:])) for line in lines[endow:client]),
-                tuple(tuple(clients[place:place + CLIENTS])
-                      for place in range(0, SEATS * CLIENTS, CLIENTS)))
-
-
-def read_game(text: str, is_canonical: bool = False) -> Game:
+def read_game(text: str) -> Game:
     """Reads the text of a game file, of version 1 or 2, in the form that `tac` accepts.
-
-    Args:
-        text: The text.
-        is_canonical: Whether `tac` wrote it. Then its lines are not checked again if it is of
-            version 1, which is two thirds of the work.
 
     Raises:
         GameError: The text is no game file; the error names its first bad line.
     """
-    if is_canonical:
-        try:
-            return _read_made(text)
-        except (TypeError, ValueError):
-            pass  # it is of version 2, or gets its error below
     if len(text) > MOST_BYTES:
         raise GameError(1, f"more than {MOST_BYTES:,} bytes: this is not a game file")
     lines = _Lines(text)
