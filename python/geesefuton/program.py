@@ -128,13 +128,14 @@ def find_runnable() -> str:
     """
     file = find()
     name, number = library()
-    least = ".".join(map(str, LEAST_LIBRARY))
-    # A program names the versions that it needs. One that was built on an older system needs less.
-    if name == "glibc" and number < LEAST_LIBRARY and (
-            f"GLIBC_{least}\0".encode() in Path(file).read_bytes()):
-        raise ProgramError(f"{file} needs glibc {least} or later, and this system has "
-                           f"{'.'.join(map(str, number))}: use a newer system, or build it here "
-                           "with the toolchain")
+    if name == "glibc" and number < LEAST_LIBRARY:
+        least = ".".join(map(str, LEAST_LIBRARY))
+        # A program names the versions that it needs. One that was built on an older system needs
+        # less.
+        if f"GLIBC_{least}\0".encode() in Path(file).read_bytes():
+            raise ProgramError(f"{file} needs glibc {least} or later, and this system has "
+                               f"{'.'.join(map(str, number))}: use a newer system, or build it "
+                               "here with the toolchain")
     return file
 
 

@@ -3,6 +3,7 @@
 from __future__ import annotations
 
 import copy
+import re
 from typing import List, Optional, Sequence, Tuple
 
 from geesefuton import program
@@ -16,6 +17,7 @@ from geesefuton.records.replies import read_points
 
 MOST_LINES = 65_536  # of an agent in a game
 TICK = b"tick\n"
+_SCORES = re.compile(rb"\nscore (.*)")
 Requests = Sequence[Tuple[int, str]]  # each a seat and a line
 
 
@@ -171,5 +173,5 @@ def _unasked(line: str) -> str:
 
 def score_rows(log: bytes) -> List[Tuple[int, ...]]:
     """For each agent its best total, its cash, its tickets short and its score, from a log."""
-    sheet = log[log.rindex(b"\nsheet\n"):].split(b"\n")
-    return [tuple(map(int, line.split()[2:])) for line in sheet if line.startswith(b"score ")]
+    lines = _SCORES.findall(log, log.rindex(b"\nsheet\n"))
+    return [tuple(map(int, line.split(b" ")[1:])) for line in lines]

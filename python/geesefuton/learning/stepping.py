@@ -169,12 +169,12 @@ class Stepped:
         pause, poll = FIRST_PAUSE, select.poll()
         poll.register(self._replies, 0)  # its end alone
         while True:
-            poll.poll(pause)
-            part = os.read(self._replies, MOST_READ)
-            if not part:
+            is_ended = bool(poll.poll(pause))
+            parts.append(os.read(self._replies, MOST_READ))
+            is_full = len(parts[-1]) == MOST_READ
+            if is_ended and not is_full:
                 return b"".join(parts)
-            parts.append(part)
-            pause = PAUSE if len(part) < MOST_READ else 0
+            pause = 0 if is_full else PAUSE
 
     def _wait(self) -> int:
         """The exit status of the process, negative for a signal."""

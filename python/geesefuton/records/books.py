@@ -7,7 +7,8 @@ agree with it.
 
 from __future__ import annotations
 
-from typing import Dict, List, Optional, Sequence, Tuple
+from itertools import repeat
+from typing import Dict, List, Optional, Sequence, Set, Tuple
 
 from geesefuton.records.games import (AUCTIONS, CLOCK, FLIGHTS, HOTELS, HOUSE, SEATS, TICKETS,
                                       TICKS, Auction, Game)
@@ -206,14 +207,18 @@ class Books:
         self._flights = [FlightBook(prices_of(flight)) for flight in game.flights]
         self._nights = [NightBook(rooms, game.live) for rooms in game.rooms]
         self._tickets = [TicketBook() for _ in TICKETS]
-        # The prices of all flights before the first tick and after each of the others.
-        self._fares = list(zip(*(flight.prices for flight in self._flights)))
-        self.boards: List[Board] = [(0, price, False) for price in self._fares[0]]
-        self.boards += [(0, 0, False)] * (len(HOTELS) + len(TICKETS))
+        self._bid_for: Set[int] = set()  # the flights in which somebody has bid
+        # The boards of all flights before the first tick and after each of the others.
+        self._fares = list(zip(*[zip(repeat(0), flight.prices, repeat(False))
+                                 for flight in self._flights]))
+        self.boards: List[Board] = [*self._fares[0],
+                                    *[(0, 0, False)] * (len(HOTELS) + len(TICKETS))]
 
     def bid(self, seat: int, good: int, points: Points) -> None:
         """A bid is admitted."""
         auction = self._timed(good)
+        if good in FLIGHTS:
+            self._bid_for.add(good)
         self._book(good, auction.bid(seat, points))
         self.boards[good] = (*auction.board(), False)
 
@@ -271,10 +276,9 @@ class Books:
             self.boards = [*((bid, ask, True) for bid, ask, _ in self.boards[:TICKETS.start]),
                            *[(0, 0, True)] * len(TICKETS)]
             return
-        self.boards[:HOTELS.start] = [(0, price, False) for price in self._fares[self.tick]]
-        for good, flight in enumerate(self._flights):
-            if flight.bids:
-                self._book(good, flight.update(self.tick))
+        self.boards[:HOTELS.start] = self._fares[self.tick]
+        for good in self._bid_for:
+            self._book(good, self._flights[good].update(self.tick))
         if self.tick % MINUTE == 0 and self.tick <= MINUTE * len(HOTELS):
             closing = self._closing[self.tick // MINUTE - 1]
             self._book(closing, self._nights[closing - HOTELS.start].close())
@@ -294,7 +298,7 @@ class Books:
         """The same books, which go on by themselves."""
         other = object.__new__(Books)
         other.tick, other._closing, other.boards = self.tick, self._closing, self.boards[:]
-        other._drawn, other._fares = self._drawn, self._fares
+        other._drawn, other._fares, other._bid_for = self._drawn, self._fares, set(self._bid_for)
         other.holdings, other.cash = [held[:] for held in self.holdings], self.cash[:]
         other.moves = self.moves
         other._flights = [flight.copied() for flight in self._flights]
