@@ -16,20 +16,20 @@ import argparse
 import os
 import re
 import sys
-from typing import Container, Dict, Iterable, List, Set, Tuple
+from typing import Container, Dict, Iterable, List, Tuple
 
 from definitions import CRATES, LIMITS, ROOT, Definitions, Module, Target, clauses_of, line_of
 from reading_aids import (
     cases_sentence,
+    key_of,
     minutes_of,
     row_words,
-    rowless_table,
     times_table,
     wrong_guides,
 )
 from reading_guides import FIELDS, LEFT_OUT, OUTSIDE, TIMES
-from reading_order import backward, chapters_of, in_order, order_of, row_places
-from reading_print import CodeType, Marks, paragraph, print_chapters, print_preamble
+from reading_order import backward, in_order
+from reading_print import RULE, CodeType, Print, print_preamble, renamed_names
 from reading_rows import ROWS, Lemmas, Row, numbers_of
 from reading_text import (
     Rows,
@@ -41,6 +41,7 @@ from reading_text import (
     link,
     rows_of,
     target_of,
+    wrapped,
 )
 from rules import rules_page
 from reading_words import (
@@ -76,6 +77,7 @@ from reading_words import (
     PRINTED_WITH_LEMMAS,
     STEP_TRUTHS,
     TRUTHS,
+    UNPRINTED,
     UNUSUAL,
     UNUSUAL_WORDS,
 )
@@ -96,7 +98,6 @@ SEEN_AS_VALUES = [
     "settlement.scores.Sheet",
 ]
 LEMMAS = Lemmas()
-PREAMBLE_HELPERS = {(PREAMBLE_FILE, name) for name in PREAMBLE_WORDS}
 # The names behind which the parts beside begin, each with the heading of its part.
 ENTRIES: Dict[Target, str] = {
     target_of(name): heading for heading, _, names in BESIDE for name in names
@@ -138,12 +139,6 @@ def rows_first_at(part: Rows) -> List[Row]:
     """The worked rows that try a definition of this part of the page first."""
     targets = ((row, target_of(row.tries[0])) for row in ROWS)
     return [row for row, (path, name) in targets if name in part.get(path, [])]
-
-
-def reached_by_rows(definitions: Definitions) -> Set[Target]:
-    """What some worked row leads to."""
-    reads = [LEMMAS.read(definitions, lemma) for row in ROWS for lemma in row.lemmas]
-    return {target for read in reads if read for target in read[2]}
 
 
 def lemma_links(definitions: Definitions, row: Row, faults: List[str]) -> str:
@@ -190,9 +185,9 @@ def row_link(definitions: Definitions, full: str) -> str:
 def in_words(module: Module) -> str:
     """A link to the heading that says in words what a module says."""
     document, heading = IN_WORDS.get(f"{module.crate}.{module.name}", IN_WORDS[module.crate])
-    with open(os.path.join(ROOT, "docs", document + ".md"), encoding="utf-8") as page_file:
-        if not re.search(r"^##+ %s$" % re.escape(heading), page_file.read(), re.M):
-            raise KeyError(f"docs/{document}.md has no heading {heading}")
+    text = open_text(os.path.join(ROOT, "docs", document + ".md"))
+    if not re.search(r"^##+ %s$" % re.escape(heading), text, re.M):
+        raise KeyError(f"docs/{document}.md has no heading {heading}")
     return f"[{document}, {heading}]({document}.md#{anchor_of(heading)})"
 
 
@@ -246,13 +241,12 @@ def types_table(found: Iterable[Target]) -> Tuple[List[str], List[str]]:
     types, missing = types_of(found)
     text = ["| type | description | appears as |", "|---|---|---|"]
     for (crate, name), (file, line) in types.items():
-        with open(file, encoding="utf-8") as source:
-            lines = source.read().split("\n")
+        lines = open_text(file).split("\n")
         about, above = [], line - 2
         while lines[above].startswith(("#[", "///")):
             about[:0] = [lines[above][4:]] if lines[above].startswith("///") else []
             above -= 1
-        value = value_of("\n".join(lines), name)
+        value = value_of(open_text(file), name)
         text.append(
             f"| {link(f'{crate}::{name}', file, line)} | {' '.join(about)} |"
             f" {f'`{value}`' if value else ''} |"
@@ -298,8 +292,7 @@ def outside_tables() -> List[str]:
         "|---|---|---|",
     ]
     for file in files:
-        with open(file, encoding="utf-8") as source:
-            text = source.read()
+        text = open_text(file)
         for trait in re.finditer(r"((?:    ///.*\n)+)    ghost state: \{ Self → (.*?) \};", text):
             name = re.findall(r"pub trait (\w+)", text[: trait.start()])[-1]
             about = " ".join(line.strip()[4:] for line in trait.group(1).strip().split("\n"))
@@ -308,20 +301,11 @@ def outside_tables() -> List[str]:
                 f" {about} |"
             )
         for made in re.finditer(r"impl(?:<.*?>)? (Files|Sink|Links|Link|Ticker) for (\w+)", text):
-            specs = sorted(
-                set(
-                    re.findall(
-                        r"Rattle\.tac_io\.specs\.(\w+)\.",
-                        text[: made.start()] + text[made.start() :],
-                    )
-                )
-            )
-            own = [
-                word
-                for word in specs
+            links = ", ".join(
+                f"[`{word}`](../crates/tac_io/specs/{word}.antt)"
+                for word in sorted(set(re.findall(r"Rattle\.tac_io\.specs\.(\w+)\.", text)))
                 if os.path.exists(os.path.join(CRATES, "tac_io", "specs", word + ".antt"))
-            ]
-            links = ", ".join(f"[`{word}`](../crates/tac_io/specs/{word}.antt)" for word in own)
+            )
             objects.append(
                 f"| {link(made.group(2), file, line_of(file, f'pub struct {made.group(2)}'))} |"
                 f" `{made.group(1)}` | {links} |"
@@ -434,18 +418,14 @@ def page(definitions: Definitions) -> Tuple[str, List[str], str]:
     clauses = clauses_of(TOP, "tac")
     headline = definitions.reached(clauses["headline"], ENTRIES)
     everything = definitions.reached([name for names in clauses.values() for name in names])
-    rows, all_rows = rows_of(definitions, headline), rows_of(definitions, everything)
-    chapters = chapters_of(definitions, rows)
-    order = order_of(definitions, chapters)
-    places = row_places(definitions, order, ENTRIES, PREAMBLE_HELPERS, LEMMAS)
+    all_rows = rows_of(definitions, everything)
+    rows, shown = print_of(definitions, headline, False)
+    chapters, order, places = shown.chapters, shown.order, shown.places
     beside, others = parts_beside(definitions, rows, all_rows)
-    by_heading = {heading: without(chapter, ENTRIES) for heading, chapter in chapters.items()}
     core = line_count(definitions, rows, rows, ENTRIES)
     own = without(rows, ENTRIES)
     in_all = line_count(definitions, own, own)
     in_all += sum(line_count(definitions, part, part) for _, _, part in beside)
-    reached = reached_by_rows(definitions)
-    tried = without(own, {target for target in order if target not in reached})
     sentences, faults = sentences_table(definitions, rows, "the headline", SENTENCES)
     faults += texts_that_differ(definitions, rows)
     faults += wrong_guides(rows, chapters)
@@ -456,12 +436,6 @@ def page(definitions: Definitions) -> Tuple[str, List[str], str]:
         filled(f"**{' '.join(HEADLINE.split())}**"),
         "",
         filled(LEAD),
-        "",
-        "## The headline, phrase by phrase",
-        "",
-        *sentences,
-        "",
-        filled(LEFT_TO_SERVICE),
         "",
         "Limits of the headline:",
         "",
@@ -499,30 +473,28 @@ def page(definitions: Definitions) -> Tuple[str, List[str], str]:
         filled_blocks(TIMES.format(lines=f"{core:,}", all=f"{in_all:,}")),
         "",
     ]
-    front = re.sub(r"\]\([^)]*\)", "", "\n".join(text + top_of_print(headline, PRINTED)))
+    top = top_of_print(definitions, headline, shown, PRINTED)
+    front = re.sub(r"\]\([^)]*\)", "", "\n".join(text + top))
     text += times_table(
         {
             heading: (
                 line_count(definitions, chapter, chapter, ENTRIES),
-                minutes_of(
-                    definitions,
-                    heading,
-                    chapter,
-                    [row for (path, name), row in places if name in chapter.get(path, [])],
-                    ENTRIES,
-                ),
+                minutes_of(heading, shown.pieces(heading)),
             )
             for heading, chapter in chapters.items()
             if chapter
         },
         len(front.split()),
     )
-    text += ["", filled(LEFT_OUT), "", "## What else the clauses do not say", ""]
+    text += ["", filled(LEFT_OUT), "", "## The headline, phrase by phrase", "", *sentences, ""]
+    text += [filled(LEFT_TO_SERVICE), "", "## What else the clauses do not say", ""]
     text += [filled_items(TRUTHS), "", "## What has no worked row", ""]
+    rowless = [one for one in order if shown.elsewhere.get(one) == "" and one not in ENTRIES]
+    tried = without(own, rowless)
     reach = f"{line_count(definitions, tried, tried):,}"
     text.append(filled(ROWLESS.format(tried=reach, lines=f"{core:,}")))
-    text += ["", *rowless_table(definitions, by_heading, reached)]
-    text += ["", filled(cases_sentence(definitions, rows))]
+    text += ["", filled(" · ".join(row_link(definitions, key_of(one)) for one in rowless))]
+    text += ["", filled(cases_sentence(shown.cases))]
     text += ["", "## Names that are alike", "", filled_blocks(ALIKE)]
     text += key_tables(definitions, rows, headline, everything, faults)
     for heading, about, _ in CHAPTERS:
@@ -746,24 +718,39 @@ def headline_clause() -> str:
     return f"{shown}\n    // Clauses that are no part of the headline: {', '.join(others)}."
 
 
-def top_of_print(found: Iterable[Target], about: str) -> List[str]:
-    """The paragraphs at the beginning of the print: what it is, signs and words, and the limits
-    that these definitions name."""
+def top_of_print(
+    definitions: Definitions, found: Iterable[Target], shown: Print, about: str
+) -> List[str]:
+    """The paragraphs at the beginning of the print: what it is, signs and words, names that stand
+    for others, and the limits that these definitions name."""
     words = "; ".join(f"`{word}`: {LIBRARY[word]}" for word in UNUSUAL_WORDS)
     limits = "; ".join(f"{name} {value}" for name, value, _ in limits_of(found))
     signs = [f"{sign}: {meaning}." for sign, meaning in NOTATION[:UNUSUAL]]
-    return [about, KEY, *signs, f"{words}.", f"Limits: {limits}."]
+    renamed = f"Names from elsewhere: {renamed_names(definitions, shown.chapters, ENTRIES)}."
+    return [about, KEY, *signs, f"{words}.", renamed, f"Limits: {limits}."]
+
+
+def print_of(
+    definitions: Definitions, found: Iterable[Target], with_lemmas: bool
+) -> Tuple[Rows, Print]:
+    """The definitions that are printed of these, and their print with the types that they name."""
+    rows = without(rows_of(definitions, found), set(map(target_of, UNPRINTED)))
+    types = [
+        CodeType(crate, name, file, line)
+        for (crate, name), (file, line) in types_of(found)[0].items()
+        if not value_of(open_text(file), name)
+    ]
+    return rows, Print(definitions, rows, types, ENTRIES, with_lemmas, LEMMAS)
 
 
 def print_all(definitions: Definitions, with_lemmas: bool) -> None:
     """Prints the clause of the headline, and the definitions on which it depends with the types of
     the code, and rows in words or, with their lemmas, all rows."""
     found = definitions.reached(clauses_of(TOP, "tac")["headline"], ENTRIES)
-    rows = rows_of(definitions, found)
-    chapters = chapters_of(definitions, rows)
-    order = order_of(definitions, chapters)
-    for one in top_of_print(found, PRINTED_WITH_LEMMAS if with_lemmas else PRINTED):
-        print("\n".join(paragraph(" ".join(one.split()), "-- ", "--   ")))
+    rows, shown = print_of(definitions, found, with_lemmas)
+    about = PRINTED_WITH_LEMMAS if with_lemmas else PRINTED
+    for one in top_of_print(definitions, found, shown, about):
+        print("\n".join(wrapped(one, "-- ", "--   ")))
     print("\n" + headline_clause())
     if with_lemmas:
         print_preamble(
@@ -774,17 +761,11 @@ def print_all(definitions: Definitions, with_lemmas: bool) -> None:
                 if name in ROW_WORDS
             },
         )
-    print_chapters(
-        definitions,
-        chapters,
-        row_places(definitions, order, ENTRIES, PREAMBLE_HELPERS, LEMMAS),
-        [
-            CodeType(crate, name, file, line, value_of(open_text(file), name))
-            for (crate, name), (file, line) in types_of(found)[0].items()
-        ],
-        Marks(reached_by_rows(definitions), ENTRIES, with_lemmas),
-        LEMMAS,
-    )
+    for heading in shown.chapters:
+        print(f"\n{RULE}\n{heading}\n{RULE}")
+        for piece in shown.pieces(heading):
+            for line in piece.lines:
+                print(line)
 
 
 def compare(file: str, text: str, write: bool) -> List[str]:
@@ -793,19 +774,10 @@ def compare(file: str, text: str, write: bool) -> List[str]:
         with open(file, "w", encoding="utf-8") as page_file:
             page_file.write(text)
         return []
-    try:
-        with open(file, encoding="utf-8") as page_file:
-            same = page_file.read() == text
-    except FileNotFoundError:
-        same = False
-    return (
-        []
-        if same
-        else [
-            f"{os.path.relpath(file, ROOT)} is not what the sources say: run checks/reading.py"
-            " --write"
-        ]
-    )
+    name = os.path.relpath(file, ROOT)
+    if os.path.exists(file) and open_text(file) == text:
+        return []
+    return [f"{name} is not what the sources say: run checks/reading.py --write"]
 
 
 def main() -> int:

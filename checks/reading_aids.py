@@ -3,10 +3,12 @@ states in the words of its page, its guide, and what has no worked row."""
 
 import os
 import re
-from typing import Container, Dict, Iterable, List, Set, Tuple, Union
+from typing import Dict, Iterable, List, Tuple, Union
 
 from definitions import ROOT, Definition, Definitions, Target
 from reading_guides import (
+    ABOUT,
+    COMMENTED,
     FRONT,
     GOING_BACK,
     GUIDES,
@@ -18,30 +20,29 @@ from reading_guides import (
     STATED,
     TEXTS,
 )
-from reading_rows import ROWS, Lemmas, Row
-from reading_text import Rows, anchor_of, line_count, link, target_of
+from reading_rows import ROWS, Lemmas
+from reading_text import DEFINITION, ROW, TYPE, Piece, Rows, anchor_of, target_of
 from reading_words import SENTENCES, STATEMENT
 
 
-def minutes_of(
-    definitions: Definitions,
-    heading: str,
-    chapter: Rows,
-    rows: Iterable[Row],
-    short: Container[Target],
-) -> float:
-    """How many minutes a chapter takes as it is printed, by the lengths of its definitions, of
-    those in `short` the first line, and of its rows, rules, guides and comments."""
-    symbols, prose = 0, len(guide_of(heading).split())
-    for path, names in chapter.items():
-        module = definitions.modules[path]
-        for one in (module.definitions[name] for name in names):
-            target = (path, one.name)
-            symbols += len("\n".join(one.lines[:1] if target in short else one.lines).split())
-            prose += len(" ".join(told_above(module.file, target, one)).split())
-    words = sum(len(row.words.split()) for row in rows if not row.more)
-    rate = SPELLED_RATE if heading in SPELLED else RULE_RATE
-    return (symbols / rate + words / ROW_RATE + prose / PROSE_RATE) * GOING_BACK
+def minutes_of(heading: str, pieces: Iterable[Piece]) -> float:
+    """How many minutes a chapter takes as it is printed. A comment within a definition is read as
+    prose, and a type of the code as a record."""
+    rates = {
+        DEFINITION: SPELLED_RATE if heading in SPELLED else RULE_RATE,
+        TYPE: SPELLED_RATE,
+        ROW: ROW_RATE,
+    }
+    minutes = 0.0
+    for kind, lines in pieces:
+        for line in lines:
+            said, _, comment = line.partition("-- ")
+            for rate, text in (
+                (rates.get(kind, PROSE_RATE), said),
+                (ROW_RATE if kind == ROW else PROSE_RATE, comment),
+            ):
+                minutes += len(re.sub(r"//+", " ", text).split()) / rate
+    return minutes * GOING_BACK
 
 
 def times_table(parts: Dict[str, Tuple[int, float]], front_words: int) -> List[str]:
@@ -56,12 +57,6 @@ def times_table(parts: Dict[str, Tuple[int, float]], front_words: int) -> List[s
         lines = sum(lines for lines, _ in kept)
         text.append(f"| {what} | {lines:,} | {total}, which is {total // 60} h {total % 60:02} |")
     return text
-
-
-def told_above(file: str, target: Target, one: Definition) -> List[str]:
-    """What is told of a definition: its rule, its guide, and its comment if it has no rule."""
-    rule = rule_of(target)
-    return [rule, guide_of(target), *([] if rule else comment_of(file, one))]
 
 
 def key_of(target: Target) -> str:
@@ -132,12 +127,14 @@ def section_of(place: str) -> str:
 
 
 def wrong_guides(rows: Rows, chapters: Iterable[str]) -> List[str]:
-    """The guides and rules of what is not on the page."""
+    """The guides, rules and comments of what is not on the page."""
     here = {key_of((path, name)) for path, names in rows.items() for name in names}
+    here |= {name for names in rows.values() for name in names} | set(chapters)
+    here |= {path.replace(".specs.", "/") for path in rows}
     return [
-        f"a guide, or a rule, is told of {name}, which is not on the page"
-        for name in [*GUIDES, *STATED]
-        if name not in here and name not in chapters
+        f"a guide, a rule or a comment is told of {name}, which is not on the page"
+        for name in [*GUIDES, *STATED, *COMMENTED, *ABOUT]
+        if name not in here
     ]
 
 
@@ -149,35 +146,6 @@ def comment_of(file: str, one: Definition) -> List[str]:
     while above >= 0 and lines[above].lstrip().startswith("--"):
         above -= 1
     return lines[above + 1 : one.line - 1]
-
-
-def rowless_table(
-    definitions: Definitions,
-    chapters: Dict[str, Rows],
-    reached: Set[Target],
-) -> List[str]:
-    """The definitions of each chapter that are none of those to which a worked row leads, with
-    their lines."""
-    text = ["| chapter | lines | definitions |", "|---|---|---|"]
-    for heading, chapter in chapters.items():
-        alone = {
-            path: [name for name in names if (path, name) not in reached]
-            for path, names in chapter.items()
-        }
-        found = [
-            (definitions.modules[path], one)
-            for path, names in alone.items()
-            for one in sorted(
-                (definitions.modules[path].definitions[name] for name in names),
-                key=lambda each: each.line,
-            )
-        ]
-        links = [link(one.name, module.file, one.line) for module, one in found]
-        if links:
-            text.append(
-                f"| {heading} | {line_count(definitions, alone, alone)} | {' · '.join(links)} |"
-            )
-    return text
 
 
 def cases_without_row(
@@ -209,16 +177,15 @@ def cases_without_row(
     return missing
 
 
-def cases_sentence(definitions: Definitions, rows: Rows) -> str:
+def cases_sentence(cases: Dict[Target, List[str]]) -> str:
     """Which cases of statements that have rows have none themselves."""
-    found = cases_without_row(definitions, rows, Lemmas())
     told = "; ".join(
         f"`{name}`: {', '.join(f'`{word}`' for word in words)}"
-        for (_, name), words in sorted(found.items())
+        for (_, name), words in sorted(cases.items())
     )
     return (
         f"Rows try these statements, but not all of their cases. The cases without a row: {told}."
-        if found
+        if cases
         else "If rows try a statement by cases, each case that the statement names has a row."
     )
 

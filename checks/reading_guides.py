@@ -4,11 +4,11 @@ computed, the rules in words, guides to chapters and definitions, and the outsid
 from typing import Dict, List, Tuple
 
 TIMES = """\
-No person was timed. The minutes are computed from the definitions, comments, rules, guides and rows
-that are printed, at the rates of a reader that was a language model: 95 symbols of definitions a
-minute (150 in chapters of texts and records), 150 words of rows, and 220 words of the rest, with a
-seventh more for going back. For an earlier edition these rates gave 3 h 38, without the rules,
-which stood on other pages; a fresh reader, also a language model, estimated 4 h 20 with them.
+No person was timed. The minutes are computed at reading rates from all that is printed: 95 symbols
+of definitions a minute (150 in chapters of texts and records, and for the types of the code), 150
+words of rows, and 220 words of the rest, with a seventh more for going back. To check a definition
+against its rule takes longer than to read the two. Two language models that were asked to read an
+earlier edition as inspectors (4 to 5 lines of rules a minute) said five hours.
 
 The headline takes {lines} lines of definitions, not counting comments and imports. With the parts
 "Beside" it takes {all}."""
@@ -110,19 +110,25 @@ STATED: Dict[str, List[str]] = {
 
 # Guides: of a chapter, or of a definition as CRATE/MODULE.NAME, what makes it easier to read.
 GUIDES: Dict[str, str] = {
-    "The rules of the auctions": """\
-The chapter leads to `Legal`: each entry of a history is `entry_of` of the entries before it. First
-comes what all auctions share, then flights, tickets, standing units and hotels; `Refusals`, `Board`
-and `Legal` put the kinds together. A past has its newest entry first: in `e ∷ past`, `e` has the
-position `length past`. An agent never trades with itself: the house sells seats and rooms, and
-`faces` pairs tickets of different agents.""",
+    "Histories and trades": """\
+This chapter and the next three lead to `Legal`: each entry of a history is `entry_of` of the
+entries before it. A past has its newest entry first: in `e ∷ past`, `e` has the position
+`length past`.""",
+    "Tickets and flights": """\
+An agent never trades with itself: the house sells seats and rooms, and `faces` pairs tickets of
+different agents.""",
     "auction_rules/History.bid_units": """\
 Five steps make these units: each agent's last bid (`last_bid`, `last_bids`), its units
 (`units_of_last`), all in one list (`units_of_bids`). Nothing is dropped on the way.""",
     "auction_rules/FlightRule.looked_at": """\
-A sale at a flight is stated twice: here for units, which `gone_by` takes from those that stand, and
-in `points_looked_at` for points, which trade. Both sell the same, since all units of a point have
-its price (proved: `by_units`, crates/flight_auction/proofs/UnitTrades.antt).""",
+A call looks at the standing units, for the caller of a bid at its new ones instead; those at or
+above the price are sold. It is said of units (`looked_at`, `gone_by`) for what stands afterwards,
+and of points (`points_looked_at`, `is_sold`, `flight_trades`) for the trades. Both sell the same,
+since all units of a point have its price (proved: `by_units`,
+crates/flight_auction/proofs/UnitTrades.antt).""",
+    "auction_rules/Standing.gone_by": """\
+For a flight this says of units what `points_looked_at`, `is_sold` and `flight_trades` say of
+points: of `looked_at`, those at or above the price after the call are sold.""",
     "auction_rules/FlightSales.standing_points": """\
 These are the units of `stand`, put together again as points: of each point as many as stand.""",
     "auction_rules/TicketMatch.if_crossing": """\
@@ -139,16 +145,16 @@ the standing unit. `stand` is that of the past, without the new bid.""",
 By this chapter alone the caller of a reading could be no agent. Such a reading would change no
 post, no total and no agent's part.""",
     "trade_ledger/Posts.HoldSame": """\
-The weight that is 1 for one entry and 0 for all others counts that entry. So the lists have the
-same entries, each equally often.""",
+The weight that is 1 for one entry and 0 for all others counts that entry.""",
     "game_text/Schedule.schedule": """\
 The default 0 of `get_or` is never used: a text that is read as a game has 53 draws for each flight,
 and 8 nights in its order.""",
     "packages/Packages.utility_of": """\
 The `-` never stops at 0: each of the two days is off by at most 3.""",
     "bound_cert/Solutions.IsSolution": """\
-A score needs only the field `best`. The other fields are about the allocation and the certificate
-that the log shows.""",
+A score needs only the field `best`. The fields `certificate` and `holds` say that `tree` is the
+search's own proof of the bound, and that it holds; the headline does not rest on it, since `IsBest`
+is a field of its own.""",
     "settlement/Sheets.IsScored": """\
 No number of a score is free: each is fixed by the account and the cash of the same agent.""",
     "Requests and replies as lines": """\
@@ -170,10 +176,13 @@ twice. `EndsBy` says that the replies were sent.""",
 length that earlier replies have shown. An entry at position p shows the length p + 1.""",
     "agent_gate/Served.EndsBy": """\
 A session with a read fault also has `ComesTo gots.End`, since the lines depend on the bytes alone.
-That a read failed is said by `LastReadFails`.""",
+That a read failed is said by `LastReadFails`. Look for `SendsAll` in four equations: the rows need
+it only for `End`.""",
     "game_run/LinkRuns.IsSeated": """\
 `all_answers` cuts the bytes into a first line and `answers`. The first line has the word of the
 seat. `IsServed` splits `answers` into the lines of the turns and the `rest`.""",
+    "log_text/SheetText.agent_lines": """\
+`cert_line` and `tree_lines` print the certificate, on which no score depends.""",
     "The log": """\
 Read the rows, and look at numbers and counts. Two games with different heads or histories never
 have the same text; this is proved apart (`written_log_law`).""",
@@ -185,6 +194,18 @@ All fields are about one `game` and one `played`. `came` are the links that were
 is what became of them, in the order of the log's verdicts. Left to `service`: which verdict a link
 without a seat has, and that the log has no more `end` lines than seated agents.""",
 }
+
+# Modules above which the print has their sentence, as CRATE/MODULE: it says more than a rule does.
+ABOUT = {"auction_rules/Standing", "tac_io/Known"}
+# What computes something, and has a comment that says more than its name and its equations.
+COMMENTED = set(
+    """
+    block point_units last_bid dollars holding price_after looked_at pairs left_points left
+    by_position standing_of standing_points points_looked_at quote_to_beat hotel_refusal entry_of
+    cash_total due_posts open_after closed_last at_least_none short_of all_answers known_then
+    then_known dialect_in made_at cash_by shown_length part_from histories_text
+    """.split()
+)
 
 FIELDS = """\
 The next table gives, for each field, the assumption about the system's own files, connections and

@@ -23,9 +23,9 @@ def chapters_of(definitions: Definitions, rows: Rows) -> Chapters:
         if path in placed or path not in rows:
             return
         placed.add(path)
-        for used in definitions.used_modules(path, rows[path]):
-            place(used, chapter)
         names = [name for name in rows[path] if (path, name) not in moved]
+        for used in definitions.used_modules(path, names):
+            place(used, chapter)
         if names:
             chapter[path] = names
 
@@ -156,4 +156,35 @@ def row_places(
         ]
         at = max([places[first]] + [places[used] for used in named if used in places])
         found.append((order[at], row))
+    return found
+
+
+def rows_elsewhere(
+    definitions: Definitions, order: List[Target], places: List[Tuple[Target, Row]], lemmas: Lemmas
+) -> Dict[Target, str]:
+    """Below which definition the row of each stands, if it isn't the next row below: one that tries
+    the definition, or what uses it in one step or two, or else the nearest that leads to it; empty
+    if there is none."""
+    at = {target: number for number, target in enumerate(order)}
+    tried = {target_of(full): place for place, row in reversed(places) for full in row.tries}
+    users: Dict[Target, List[Target]] = {}
+    for user in order:
+        for used in targets_of(definitions, *user):
+            users.setdefault(used, []).append(user)
+    leading: Dict[Target, List[Target]] = {}
+    for place, row in places:
+        for read in (lemmas.read(definitions, lemma) for lemma in row.lemmas):
+            for target in read[2] if read else ():
+                leading.setdefault(target, []).append(place)
+    found, below, following = {}, set(dict(places)), None
+    for target in reversed(order):
+        following = target if target in below else following
+        near = [target]
+        for _ in range(2):
+            near += [user for one in near for user in users.get(one, []) if user not in near]
+        named = [tried[one] for one in near if one in tried]
+        led = sorted(leading.get(target, []), key=lambda place: abs(at[place] - at[target]))
+        nearest = (named + led + [("", "")])[0]
+        if target not in below and nearest != following:
+            found[target] = nearest[1]
     return found

@@ -1,44 +1,31 @@
-"""Prints what the headline rests on, in the order of the page: `checks/reading.py --print`."""
+"""What `checks/reading.py --print` prints of the headline, in the order of the page."""
 
-import os
 import re
 import textwrap
-from typing import Dict, Iterable, List, NamedTuple, Optional, Set, Tuple
+from typing import Container, Dict, Iterable, Iterator, List, NamedTuple, Optional, Set, Tuple
 
-from definitions import ROOT, Definitions, Module, Target
+from definitions import Definition, Definitions, Module, Target
 from reading_aids import cases_without_row, comment_of, guide_of, phrases_above, rule_of
-from reading_order import Chapters
+from reading_guides import ABOUT, COMMENTED
+from reading_order import Chapters, chapters_of, order_of, row_places, rows_elsewhere
 from reading_rows import Helper, Lemmas, Row
-from reading_text import Rows, target_of
+from reading_text import DEFINITION, PROSE, ROW, TYPE, Piece, Rows, target_of, wrapped
 from reading_words import PREAMBLE, PREAMBLE_FILE, PREAMBLE_WORDS, STATEMENT
 
 RULE = "=" * 80
 
 
 class CodeType(NamedTuple):
-    """A type of the code: its crate and name, its file and line, and what contracts see of it."""
+    """A type of the code: its crate and name, and its file and line."""
 
     crate: str
     name: str
     file: str
     line: int
-    value: str
-
-
-class Marks(NamedTuple):
-    """The definitions to which a row leads, those that a part beside has, each with its heading,
-    and whether lemmas and all rows are printed."""
-
-    reached: Set[Target]
-    beside: Dict[Target, str]
-    with_lemmas: bool
 
 
 def type_lines(one: CodeType) -> List[str]:
-    """A type: what contracts see of it if that is something else, and otherwise its comment and its
-    fields or variants, without attributes."""
-    if one.value:
-        return [f"{one.name} appears as {one.value}"]
+    """A type: its comment and its fields or variants, without attributes."""
     with open(one.file, encoding="utf-8") as source:
         lines = source.read().split("\n")
     end = next(
@@ -61,73 +48,63 @@ def type_lines(one: CodeType) -> List[str]:
     return about + shown
 
 
-def types_by_chapter(
+def types_by_module(
     definitions: Definitions, chapters: Chapters, types: Iterable[CodeType]
-) -> Dict[str, List[CodeType]]:
-    """The types of the code, each in the first chapter that names it; one that no chapter names is
-    in the first chapter."""
-    first: Dict[Tuple[str, str], str] = {}
-    for heading, chapter in chapters.items():
-        for path, names in chapter.items():
-            module = definitions.modules[path]
-            for place, _ in (target for name in names for target in module.targets(name)):
-                found = re.match(
-                    r"(\w+)\.specs\.declared\.(?:.+?)\.(\w+)(?:\.TheVariants)?$", place
-                )
-                if found:
-                    first.setdefault((found.group(1), found.group(2)), heading)
-    by_chapter: Dict[str, List[CodeType]] = {heading: [] for heading in chapters}
-    for one in types:
-        by_chapter[first.get((one.crate, one.name), next(iter(chapters)))].append(one)
-    return by_chapter
+) -> Dict[Tuple[str, str], List[CodeType]]:
+    """The types of the code, each at the chapter and the path of the first module that names it,
+    behind the types that it names itself; one that no module names is at the first module."""
+    left = {(one.crate, one.name): one for one in types}
+    places = [(heading, path) for heading, chapter in chapters.items() for path in chapter]
+    by_module: Dict[Tuple[str, str], List[CodeType]] = {place: [] for place in places}
+
+    def put(one: CodeType, here: List[CodeType]) -> None:
+        if left.pop((one.crate, one.name), None):
+            words = set(re.findall(r"\w+", re.sub(r"//.*", "", "\n".join(type_lines(one)))))
+            for inner in [each for each in left.values() if each.name in words]:
+                put(inner, here)
+            here.append(one)
+
+    for heading, path in places:
+        module = definitions.modules[path]
+        for name in chapters[heading][path]:
+            for place, _ in module.targets(name):
+                found = re.match(r"(\w+)\.specs\.declared\..+?\.(\w+)(?:\.TheVariants)?$", place)
+                if found and found.groups() in left:
+                    put(left[found.groups()], by_module[heading, path])
+    for one in list(left.values()):
+        put(one, by_module[places[0]])
+    return by_module
 
 
-def shared_constructors(
-    definitions: Definitions, chapters: Chapters, types: Iterable[CodeType]
-) -> Dict[str, List[str]]:
-    """The names that constructors of several types share, each with these types."""
-    owners: Dict[str, List[str]] = {"None": ["Option"], "Some": ["Option"]}
-    for one in types:
-        lines = [] if one.value else type_lines(one)
-        if any(line.startswith("pub enum") for line in lines):
-            text = re.sub(r"//[^\n]*", "", "\n".join(lines))
-            inner = text[text.index("{") + 1 : text.rindex("}")]
-            for name in re.findall(r"\b[A-Z]\w*", re.sub(r"\{[^{}]*\}|\([^()]*\)", "", inner)):
-                owners.setdefault(name, []).append(one.name)
-    for chapter in chapters.values():
-        for path, names in chapter.items():
-            for name in names:
-                head, *rows = definitions.modules[path].definitions[name].lines
-                for row in rows if re.search(r"\bdata ", head) else []:
-                    found = re.match(r"\s+([A-Z]\w*) :", row)
-                    if found:
-                        owners.setdefault(found.group(1), []).append(name)
-    return {name: types_of for name, types_of in owners.items() if len(types_of) > 1}
-
-
-def names_here(
-    definitions: Definitions, module: Module, names: Iterable[str], shared: Dict[str, List[str]]
-) -> List[str]:
-    """What names of a module's definitions stand for that other modules may mean otherwise:
-    constructors that several types have, and imports under another name."""
-    text = "\n".join(
-        line for name in names for line in module.definitions[name].lines
+def renamed_names(
+    definitions: Definitions, chapters: Chapters, beside: Container[Target]
+) -> str:
+    """What these definitions name otherwise than where it is defined, by the type or the module
+    that has it: imports under another name, and types and modules under one of their own. Raises a
+    ValueError if a name stands for two things."""
+    told: Dict[str, str] = {}
+    for path, names in (part for chapter in chapters.values() for part in chapter.items()):
+        module = definitions.modules[path]
+        text = "\n".join(
+            line
+            for name in names
+            for line in module.definitions[name].lines[: 1 if (path, name) in beside else None]
+        )
+        said = {
+            word: (f"`{word}` (= `{found}`)", owner_of(definitions, place, found))
+            for word, (place, found) in module.imports.items()
+            if word != found
+        }
+        for alias, place in module.aliases.items():
+            said[f"{alias}."] = (f"`{alias}.NAME`", owner_of(definitions, place, ""))
+        for word, (shown, owner) in said.items():
+            if re.search(r"(?<![\w.'])%s(?:(?<=\.)|(?![\w']))" % re.escape(word), text):
+                if told.setdefault(shown, owner) != owner:
+                    raise ValueError(f"{shown} is of {told[shown]}, and in {path} of {owner}")
+    return "; ".join(
+        f"of `{owner}`: {', '.join(shown for shown in told if told[shown] == owner)}"
+        for owner in dict.fromkeys(told.values())
     )
-    by_type: Dict[str, List[str]] = {}
-    for word, (path, found) in module.imports.items():
-        owner = owner_of(definitions, path, found)
-        if not re.search(r"(?<![\w.'])%s(?![\w'])" % re.escape(word), text):
-            continue
-        if word != found:
-            by_type.setdefault(owner, []).append(f"`{word}` (= `{found}`)")
-        elif word in shared and owner != "Option":
-            by_type.setdefault(owner, []).append(f"`{word}`")
-    for alias, path in module.aliases.items():
-        if re.search(r"\b%s\." % alias, text):
-            owner = owner_of(definitions, path, "")
-            by_type.setdefault(owner, []).append(f"`{alias}.NAME`")
-    told = "; ".join(f"of `{owner}`: {', '.join(words)}" for owner, words in by_type.items())
-    return paragraph(f"Names {told}.", "-- ") if told else []
 
 
 def owner_of(definitions: Definitions, path: str, name: str) -> str:
@@ -142,18 +119,6 @@ def owner_of(definitions: Definitions, path: str, name: str) -> str:
                 return one.name
         return f"{module.crate}/{module.name}"
     return "Option" if name in ("None", "Some") else path.split(".")[-1]
-
-
-def paragraph(text: str, sign: str, further: str = "") -> List[str]:
-    """A paragraph as a comment, in lines of at most 100 columns."""
-    return textwrap.wrap(
-        text,
-        100,
-        initial_indent=sign,
-        subsequent_indent=further or sign,
-        break_long_words=False,
-        break_on_hyphens=False,
-    )
 
 
 class Names:
@@ -197,101 +162,117 @@ def print_preamble(lemmas: Lemmas, borrowed: Dict[str, str]) -> None:
     """Prints the words of the rows of the auctions' rules, each with its definition, and in words
     the names that rows borrow from definitions that no chapter has."""
     print(f"\n{RULE}\nWords of the rows\n{RULE}\n")
-    print("\n".join(paragraph(" ".join(PREAMBLE.split()), "-- ")) + "\n")
+    print("\n".join(wrapped(PREAMBLE, "-- ", "-- ")) + "\n")
     for name, words in PREAMBLE_WORDS.items():
-        print("\n".join(paragraph(words, "-- ")))
+        print("\n".join(wrapped(words, "-- ", "-- ")))
         lines = lemmas.helper_lines((PREAMBLE_FILE, name))
         print("\n".join(line for line in lines if not line.startswith("-- ")) + "\n")
     print("-- Rows also use these definitions, which are in no chapter:")
     for name, words in borrowed.items():
-        print("\n".join(paragraph(f"`{name}`: {words}.", "-- ", "--     ")))
+        print("\n".join(wrapped(f"`{name}`: {words}.", "-- ", "--     ")))
 
 
-def print_chapters(
-    definitions: Definitions,
-    chapters: Chapters,
-    places: List[Tuple[Target, Row]],
-    types: List[CodeType],
-    marks: Marks,
-    lemmas: Lemmas,
-) -> None:
-    """Prints each chapter: its guide, the types of the code that it is the first to name, and each
-    definition. Above a definition stand the rule that it states, what makes it easier to read, and
-    its comment; below it stand its worked rows. Of one that a part beside has, the first line is
+class Print:
+    """Chapters as they are printed: each definition below the rule that it states, what makes it
+    easier to read, and its comment; above its worked rows; and the types of the code above the
+    first module that names them. Of a definition that a part beside has, the first line is
     printed."""
-    rows: Rows = {}
-    for chapter in chapters.values():
-        for path, names in chapter.items():
-            rows[path] = rows.get(path, []) + names
-    cases = cases_without_row(definitions, rows, lemmas)
-    taken = {name for names in rows.values() for name in names}
-    shown = Names(lemmas, [row for _, row in places], taken | {"read", "ticket"})
-    shared = shared_constructors(definitions, chapters, types)
-    told: Set[Helper] = {(PREAMBLE_FILE, name) for name in PREAMBLE_WORDS}
-    by_chapter = types_by_chapter(definitions, chapters, types)
-    for heading, chapter in chapters.items():
-        print(f"\n{RULE}\n{heading}\n{RULE}")
-        print_told("", guide_of(heading))
-        values = [one for one in by_chapter[heading] if one.value]
-        for one in [*values, *(one for one in by_chapter[heading] if not one.value)]:
-            print(("" if one in values[1:] else "\n") + "\n".join(type_lines(one)))
-        for path, names in chapter.items():
-            module = definitions.modules[path]
-            file = os.path.relpath(module.file, ROOT)
-            print("\n" + "\n".join(paragraph(f"{file}: {module.about}", "-- ", "--   ")))
-            print("\n".join(names_here(definitions, module, names, shared) + [""]))
-            header, block = None, None
-            for one in sorted(
-                (module.definitions[name] for name in names), key=lambda each: each.line
-            ):
-                target = (path, one.name)
-                if module.parameters.get(one.name) not in (None, header):
-                    header = module.parameters[one.name]
-                    print("\n".join(header))
-                if module.mutual.get(one.name) not in (None, block) and target not in marks.beside:
-                    block = module.mutual[one.name]
-                    print("mutual")
-                if target != target_of(STATEMENT):
-                    print_told("RULE ", rule_of(target))
-                print_told("", guide_of(target))
-                if target not in marks.reached and target not in marks.beside:
-                    print("-- (no row)")
-                if target in cases:
-                    print(f"-- (no row for {', '.join(cases[target])})")
-                if target in marks.beside:
-                    print(f"-- (beside: {marks.beside[target]})")
-                lines = one.lines[:1] if target in marks.beside else one.lines
-                comment = [] if rule_of(target) else comment_of(module.file, one)
-                if target == target_of(STATEMENT):
-                    lines = phrases_above(lines)
-                print("\n".join(comment + lines) + "\n")
-                for place, row in places:
-                    if place == target and (marks.with_lemmas or not row.more):
-                        print_row(row, target, lemmas, shown, told if marks.with_lemmas else None)
+
+    def __init__(
+        self,
+        definitions: Definitions,
+        rows: Rows,
+        types: List[CodeType],
+        beside: Dict[Target, str],
+        with_lemmas: bool,
+        lemmas: Lemmas,
+    ) -> None:
+        self.definitions, self.lemmas = definitions, lemmas
+        self.beside, self.with_lemmas = beside, with_lemmas
+        self.told: Set[Helper] = {(PREAMBLE_FILE, name) for name in PREAMBLE_WORDS}
+        self.chapters = chapters_of(definitions, rows)
+        self.order = order_of(definitions, self.chapters)
+        self.places = row_places(definitions, self.order, beside, set(self.told), lemmas)
+        self.printed = [one for one in self.places if with_lemmas or not one[1].more]
+        self.types = types_by_module(definitions, self.chapters, types)
+        self.elsewhere = rows_elsewhere(definitions, self.order, self.printed, lemmas)
+        self.cases = cases_without_row(definitions, rows, lemmas)
+        taken = {name for names in rows.values() for name in names} | {"read", "ticket"}
+        self.names = Names(lemmas, [row for _, row in self.places], taken)
+
+    def pieces(self, heading: str) -> Iterator[Piece]:
+        """What is printed of a chapter, below its heading."""
+        yield Piece(PROSE, told_lines("", guide_of(heading)))
+        for path, names in self.chapters[heading].items():
+            module = self.definitions.modules[path]
+            for one in self.types[heading, path]:
+                yield Piece(TYPE, ["", *type_lines(one)])
+            place = f"{module.crate}/{module.name}"
+            about = f"{place}: {module.about}" if place in ABOUT else place
+            yield Piece(PROSE, ["", *wrapped(about, "-- ", "--   "), ""])
+            yield from self.definition_pieces(module, names)
+
+    def definition_pieces(self, module: Module, names: Iterable[str]) -> Iterator[Piece]:
+        """These definitions of a module, each with what stands above it and its rows."""
+        header, block = None, None
+        for one in sorted((module.definitions[name] for name in names), key=lambda each: each.line):
+            target = (module.path, one.name)
+            if module.parameters.get(one.name) not in (None, header):
+                header = module.parameters[one.name]
+                yield Piece(DEFINITION, header)
+            if module.mutual.get(one.name) not in (None, block) and target not in self.beside:
+                block = module.mutual[one.name]
+                yield Piece(DEFINITION, ["mutual"])
+            yield Piece(PROSE, self.lines_above(module, one))
+            lines = one.lines[: 1 if target in self.beside else None]
+            if self.elsewhere.get(target) and target not in self.beside:
+                lines = [f"{lines[0]}   -- (row: {self.elsewhere[target]})", *lines[1:]]
+            shown = phrases_above(lines) if target == target_of(STATEMENT) else lines
+            yield Piece(DEFINITION, [*shown, ""])
+            for place, row in self.printed:
+                if place == target:
+                    told = self.told if self.with_lemmas else None
+                    yield Piece(ROW, row_lines(row, target, self.lemmas, self.names, told))
+
+    def lines_above(self, module: Module, one: Definition) -> List[str]:
+        """What stands above a definition: its rule, its guide, which rows it has not, and its
+        comment, if it has no rule and the comment says more than the definition."""
+        target = (module.path, one.name)
+        rule = "" if target == target_of(STATEMENT) else rule_of(target)
+        lines = told_lines("RULE ", rule) + told_lines("", guide_of(target))
+        if target in self.beside:
+            lines.append(f"-- (beside: {self.beside[target]})")
+        elif self.elsewhere.get(target) == "":
+            lines.append("-- (no row)")
+        if target in self.cases:
+            lines.append(f"-- (no row for {', '.join(self.cases[target])})")
+        says_more = target in self.beside or one.name[0].isupper() or one.name in COMMENTED
+        return lines + (comment_of(module.file, one) if says_more and not rule_of(target) else [])
 
 
-def print_told(sign: str, text: str) -> None:
-    """Prints what is told above a definition: a guide, or each line of a rule as a paragraph."""
+def told_lines(sign: str, text: str) -> List[str]:
+    """What is told above a definition: a guide, or each line of a rule as a paragraph."""
+    lines: List[str] = []
     for at, line in enumerate(filter(None, text.split("\n") if sign else [text])):
-        first = "--   " if at else f"-- {sign}"
-        print("\n".join(paragraph(" ".join(line.split()), first, "--   " if sign else "-- ")))
+        lines += wrapped(line, "--   " if at else f"-- {sign}", "--   " if sign else "-- ")
+    return lines
 
 
-def print_row(
+def row_lines(
     row: Row, place: Target, lemmas: Lemmas, shown: Names, told: Optional[Set[Helper]]
-) -> None:
-    """Prints a worked row in words, with the other definitions that it tries. Where `told` has the
-    helpers that were printed, its lemmas follow: a helper of the row's file stands above the first
-    row that uses it."""
+) -> List[str]:
+    """A worked row in words, with the other definitions that it tries. Where `told` has the helpers
+    that were printed, its lemmas follow: a helper of the row's file stands above the first row that
+    uses it."""
     tried = [target_of(full) for full in row.tries]
     names = "" if tried == [place] else " of " + ", ".join(f"`{name}`" for _, name in tried)
-    print("\n".join(paragraph(f"Row{names}: {row.words}.", "-- ", "--   ")))
+    lines = wrapped(f"Row{names}: {row.words}.", "-- ", "--   ")
     for lemma in row.lemmas if told is not None else ():
-        print(f"-- {lemma.replace('/', '/proofs/', 1).replace(':', '.antt: ', 1)}")
+        lines.append(f"-- {lemma.replace('/', '/proofs/', 1).replace(':', '.antt: ', 1)}")
         for helper in lemmas.helpers(lemma):
             if helper not in told:
                 told.add(helper)
-                lines = shown.renamed(helper[0], lemmas.helper_lines(helper))
-                print(textwrap.indent("\n".join(lines), "    "))
-        print("\n".join(shown.renamed(lemma.split(":")[0], lemmas.statement(lemma))))
-    print()
+                helped = shown.renamed(helper[0], lemmas.helper_lines(helper))
+                lines += textwrap.indent("\n".join(helped), "    ").split("\n")
+        lines += shown.renamed(lemma.split(":")[0], lemmas.statement(lemma))
+    return [*lines, ""]

@@ -156,9 +156,9 @@ ROWS = [
         "Of the five calls of `short_sale`, agent 1 made those at positions 0 and 3", more=True),
     Row(["worked_rows/Auctions:history_is_lawful_by_its_replies"], ["auction_rules/Legal.IsLawful"],
         ("The entries that the rules give for a bid and a publication are lawful. A publication "
-         "with the reply `closed` before any closing is not"), more=True),
+         "with the reply `closed` before any closing is not")),
     Row(["worked_rows/Auctions:cap_of_agents_and_clock"], ["auction_rules/Legal.cap"],
-        "The agents 0 and 7 may have 1024 entries each, and the clock, 8, may have 64", more=True),
+        "The agents 0 and 7 may have 1024 entries each, and the clock, 8, may have 64"),
     # The cash book
     Row(["worked_rows/Logs:trades_are_posted_with_their_nets"], ["trade_ledger/Posts.due_post"],
         ("Agent 0 buys 2 seats at 300 by entry 0 of good 0. It owes a post: -600 for itself, 600 "
@@ -214,9 +214,9 @@ ROWS = [
     Row(["worked_rows/Trips:lacking_goods_or_seven_packages_are_not_feasible"],
         ["packages/BestTotal.IsFeasible"],
         ("Not feasible: a trip from day 1 without good 0; a museum trip on night 4 without good "
-         "27; 7 packages"), more=True),
+         "27; 7 packages")),
     Row(["worked_rows/Trips:one_traveller_is_worth_1000"], ["packages/BestTotal.total_of"],
-        "One traveller and seven at home are worth 1000 together", more=True),
+        "One traveller and seven at home are worth 1000 together"),
     # Scores
     Row(["worked_rows/Logs:goods_and_cash_that_are_left"],
         ["settlement/Settlement.settlement_of", "settlement/Settlement.holdings_of",
@@ -309,13 +309,13 @@ ROWS = [
     Row(["worked_rows/Ends:end_with_all_taken", "worked_rows/Ends:no_end_with_bytes_left",
          "worked_rows/Ends:read_fault_with_bytes_left"],
         ["agent_gate/Served.EndsBy", "agent_gate/Served.ComesTo"],
-        ("No further line comes. If no byte is left, the cause is `End`; if an `x` is left, it "
-         "is not. If the last read failed, the cause is `ReadFault`")),
+        ("Reads alone, with all sent: no further line comes. If no byte is left, the cause is "
+         "`End`; if an `x` is left, it is not. If the last read failed, it is `ReadFault`")),
     Row(["worked_rows/Ends:no_end_with_a_reply_unsent",
          "worked_rows/Ends:write_fault_cuts_the_last_line"],
         ["agent_gate/Served.EndsBy", "agent_gate/Served.IsCutOff"],
-        ("Only `no too` of the reply `no toolong` was sent. The cause is not `End`. It is "
-         "`WriteFault`: the first 6 bytes of the last line were sent, and a write failed there")),
+        ("Only `no too` of the reply `no toolong` was sent. So `SendsAll` fails, and the cause is "
+         "not `End`. If a write failed after these 6 bytes of the last line, it is `WriteFault`")),
     Row(["worked_rows/Ends:no_budget_after_one_turn", "worked_rows/Ends:budget_after_65536_turns",
          "worked_rows/Ends:budget_with_all_bytes_used_up"],
         ["agent_gate/Served.EndsBy", "agent_gate/Served.IsUsedUp"],
@@ -386,7 +386,7 @@ ROWS = [
          "-50`")),
     Row(["worked_rows/Logs:heads_of_a_script_and_of_links"], ["log_text/LogText.first_lines"],
         ("After `taclog 1` and `serve`, a log has lines such as `link 0 seated 2`, `link 1 "
-         "wrongword`, `link 3 lost`, `end 0 quit`, `missed 1`"), more=True),
+         "wrongword`, `link 3 lost`, `end 0 quit`, `missed 1`")),
     Row(["worked_rows/Logs:lines_of_the_sheet"],
         ["log_text/SheetText.score_line", "log_text/SheetText.package_line",
          "log_text/SheetText.cert_line"],

@@ -3,54 +3,53 @@
 import os
 import re
 import textwrap
-from typing import Container, Dict, Iterable, List
+from typing import Container, Dict, Iterable, List, NamedTuple
 
 from definitions import ROOT, Definitions, Target
 
 Rows = Dict[str, List[str]]  # the names that are used of each module
+DEFINITION, TYPE, ROW, PROSE = "definition", "type", "row", "prose"
+
+
+class Piece(NamedTuple):
+    """Lines of the print, and what they are, which says how fast they are read."""
+
+    kind: str
+    lines: List[str]
+
+
+def wrapped(text: str, first: str = "", further: str = "") -> List[str]:
+    """A paragraph in lines of at most 100 columns, with signs before the first and the others."""
+    return textwrap.wrap(
+        " ".join(text.split()),
+        100,
+        initial_indent=first,
+        subsequent_indent=further,
+        break_long_words=False,
+        break_on_hyphens=False,
+    )
 
 
 def filled(text: str) -> str:
-    """A paragraph in lines of at most 100 columns."""
-    return textwrap.fill(
-        " ".join(text.split()), 100, break_long_words=False, break_on_hyphens=False
-    )
+    """A paragraph."""
+    return "\n".join(wrapped(text))
 
 
 def filled_items(text: str) -> str:
-    """The items of a list, each in lines of at most 100 columns."""
-    return "\n".join(
-        textwrap.fill(
-            " ".join(item.split()),
-            100,
-            initial_indent="- ",
-            subsequent_indent="  ",
-            break_long_words=False,
-            break_on_hyphens=False,
-        )
-        for item in re.split(r"(?:^|\n)- ", text)
-        if item
-    )
+    """The items of a list."""
+    items = filter(None, re.split(r"(?:^|\n)- ", text))
+    return "\n".join(line for item in items for line in wrapped(item, "- ", "  "))
 
 
 def filled_blocks(text: str) -> str:
-    """Paragraphs and lists, with an empty line between them, in lines of at most 100 columns."""
+    """Paragraphs and lists, with an empty line between them."""
     blocks = []
     for block in text.strip().split("\n\n"):
-        items = []
+        lines: List[str] = []
         for item in re.split(r"\n(?=- |\d\. )", block):
             sign, words = re.match(r"(- |\d\. )?(.*)", item, re.S).groups("")
-            items.append(
-                textwrap.fill(
-                    " ".join(words.split()),
-                    100,
-                    initial_indent=sign,
-                    subsequent_indent=" " * len(sign),
-                    break_long_words=False,
-                    break_on_hyphens=False,
-                )
-            )
-        blocks.append("\n".join(items))
+            lines += wrapped(words, sign, " " * len(sign))
+        blocks.append("\n".join(lines))
     return "\n\n".join(blocks)
 
 

@@ -127,19 +127,21 @@ HOW_TO_READ = """\
 comes after those that it uses, and below the rule that it states.
 3. Compare the two, and look at the row below them: a small case in words. Read slowly where the
 print says "(no row)".
-4. The last definition, `WritesTrueLog`, has the phrases of the table above its fields.
+4. The last definition, `WritesTrueLog`, has the phrases of the headline above its fields.
 
 You need no other definition and no proof, and not the parts "Beside". The README says what else you
 have to trust."""
 
 # The beginning of the print.
 PRINTED = """\
-What must be believed: the clause `headline`, and all definitions on which it depends, each below
-those that it uses. A RULE is in the words of the page that it names, and stands in place of the
-definition's own comment. A row is a small case, which the toolchain checks as a lemma. Of its words
-the script checks that the lemma exists, leads to the definition, and has their numbers.
-docs/READING.md links to the lemmas, and `--lemmas` prints them, with more rows. Of a definition
-with the mark "(beside: ..)" only the first line is printed; that part of READING has the rest."""
+What must be believed: the clause `headline`, and the definitions on which it depends, each below
+those that it uses. A RULE is in the words of the page that it names. Comments are left out below a
+RULE, and where the name and the equations say the same. A row is a small case, which the toolchain
+checks as a lemma. Of its words the script checks that the lemma exists, leads to the definition,
+and has their numbers. docs/READING.md links to the lemmas, and `--lemmas` prints them, with more
+rows. The next row below leads to a definition, unless it has the mark "(no row)", or "(row: X)" for
+a row that stands below X. Of a definition with the mark "(beside: ..)" only the first line is
+printed; that part of READING has the rest."""
 PRINTED_WITH_LEMMAS = """\
 What must be believed, with the lemmas: see `checks/reading.py --print`. Each row is told in words.
 Below it stands the lemma that the toolchain checks, with its file. Of the words, the script checks
@@ -147,8 +149,9 @@ that the lemma exists, leads to the definition, and has their numbers."""
 KEY = """\
 Signs that may be new. Equations are tried from the top. On ℕ, `-` stops at 0. A type of the code
 stands for the value that contracts see: a number of ℕ or ℤ, a text as its bytes, a record or
-variants of these, or what the print says that it appears as. `x.old` and `x.new` are the values
-before and after the call. `Names of T` above a module says of which type its constructors are."""
+variants of these; `Points` and `Left` as `List Point`. `x.old` and `x.new` are the values before
+and after the call. Several types have constructors of one name, such as `Own` of `Call` and of
+`Reply`: the type of the place says which is meant."""
 
 # The end of the page.
 MADE_BY = """\
@@ -185,7 +188,7 @@ ALIKE = """\
 - **Part.** `part` gives a caller's entries of one history with their positions. `play_part` is the
   first part of a log.
 
-If a module uses such a name, `--print` says above the module to which type the name belongs."""
+In a definition, the type of the place says which is meant."""
 
 ROWLESS = """\
 No worked row leads to these definitions, so read them slowly. Most of them are about whole games,
@@ -240,6 +243,8 @@ ROW_WORDS: Dict[str, str] = {
          "sent the bytes `said`"),
     "game_run/Hosted.hosted_game":
         "the `HostedGame` made of a game, a dialect and a port",
+    "log_text/SheetText.cert_line":
+        "`cert A L`: the line above the certificate of agent A, which has L lines",
     "log_text/LoggedGames.LoggedGame":
         "the content of a log: its head, the goods' histories, the cash history and the scores",
 }
@@ -290,7 +295,7 @@ NOTATION: List[Tuple[str, str]] = [
      "b with a for x; b with the value of m for x or, if m is an error, that error"),
     ("`causes.Quit`, `OwnCall`",
      ("a name in a module or a type that was imported as `causes`; a name that was imported under "
-      "another name. `--print` explains these names above each module")),
+      "another name. `--print` explains these names at its beginning")),
     ("a re-export",
      ("a crate can re-export a module of another crate (`pub use` in its `specs/Lib.antt`). So "
       "imports name `game_log.specs.LogText` and `game_log.specs.SheetText`, while this page names "
@@ -473,15 +478,25 @@ CHAPTERS = [
     Chapter("Goods, bids, calls and replies",
             "This chapter numbers the goods, parties and callers, and defines the types of bids.",
             ["tac_base"]),
-    Chapter("The rules of the auctions",
-            ("For every history, this chapter defines which units stand, which calls are refused, "
-             "which units trade, and which entry comes next."),
+    Chapter("Histories and trades",
+            ("This chapter defines the units of bids, the entries of a history, each agent's last "
+             "bid, and what parties gain in trades."),
             ["auction_rules.Units", "auction_rules.History", "auction_rules.Setup",
-             "auction_rules.Effects", "auction_rules.FlightRule", "auction_rules.TicketMatch",
-             "auction_rules.Standing", "auction_rules.FlightSales", "auction_rules.Ask",
-             "auction_rules.Precedence", "auction_rules.WinningNumber", "auction_rules.BeatQuote",
-             "auction_rules.HotelClosing", "auction_rules.Refusals", "auction_rules.Board",
-             "auction_rules"]),
+             "auction_rules.Effects"]),
+    Chapter("Tickets and flights",
+            ("This chapter defines which ticket units trade with which, a flight's price, and "
+             "which points the house sells at it."),
+            ["auction_rules.TicketMatch", "auction_rules.FlightRule", "auction_rules.FlightSales"]),
+    Chapter("What stands, and hotels",
+            ("This chapter defines which units and points stand after a history, and what a hotel "
+             "shows, requires and sells."),
+            ["auction_rules.Standing", "auction_rules.Ask", "auction_rules.Precedence",
+             "auction_rules.WinningNumber", "auction_rules.BeatQuote",
+             "auction_rules.HotelClosing"]),
+    Chapter("Refusals, boards and legal histories",
+            ("This chapter defines which calls are refused, what a board shows, and which entry "
+             "comes next in a history."),
+            ["auction_rules.Refusals", "auction_rules.Board", "auction_rules"]),
     Chapter("The cash book",
             "This chapter defines the posts and the readings of cash, and which posts are due.",
             ["trade_ledger"]),
@@ -528,6 +543,9 @@ CHAPTERS = [
 # Definitions that stand in the chapter that needs them first, and not in that of their module, as
 # CRATE/MODULE.NAME or, for all of a module, CRATE/MODULE.
 LATER: Dict[str, List[str]] = {
+    "What stands, and hotels": [
+        "auction_rules/FlightSales.placed_bids", "auction_rules/FlightSales.by_position",
+        "auction_rules/FlightSales.standing_of", "auction_rules/FlightSales.standing_points"],
     "The game file": ["tac_base/Clients"],
     "Packages and the best total": [
         "tac_base/Goods.outbound_flight", "tac_base/Goods.hotel_night",
@@ -570,6 +588,12 @@ PREAMBLE_WORDS: Dict[str, str] = {
     "one_ticket": "a trade: the buyer buys one ticket 24 from the seller at this price",
 }
 
+# Of these parts, what neither the print nor a chapter has: a guide says why it is not needed.
+UNPRINTED = [
+    "bound_cert/Trees.Tree", "bound_cert/Trees.IsCertificate", "bound_cert/Certificate.holds",
+    "bound_cert/Certificate.all_left", "bound_cert/Texts.tree_lines",
+    "log_text/SheetText.cert_line"]
+
 # Parts of the promise that a reader may leave out at first: a heading, why, and the names behind
 # which they begin, as CRATE/MODULE.NAME. What these names say is not needed to read the chapters.
 BESIDE: List[Tuple[str, str, List[str]]] = [
@@ -580,9 +604,7 @@ BESIDE: List[Tuple[str, str, List[str]]] = [
     ("When a certificate holds, and the lines that show an allocation",
      ("It only helps readers who check the best total again. No score depends on a certificate, "
       "nor on the allocation that the log shows."),
-     ["bound_cert/Trees.Tree", "bound_cert/Trees.IsCertificate", "bound_cert/Certificate.holds",
-      "bound_cert/Certificate.all_left", "bound_cert/Texts.tree_lines",
-      "log_text/SheetText.package_line", "log_text/SheetText.cert_line"]),
+     [*UNPRINTED, "log_text/SheetText.package_line"]),
     ("How the text of points is read",
      ("It is proved that a text is read as some points exactly if it is their `spelling`, and none "
       "of their numbers has more than five digits (`one_spelling` of `crates/bid_strings`)."),
@@ -590,11 +612,6 @@ BESIDE: List[Tuple[str, str, List[str]]] = [
     ("Lines of JSON",
      "Only `serve .. json` needs it.",
      ["json_dialect/JsonRequests.asks_json", "json_dialect/JsonReplies.json_text"]),
-    ("How failures are counted",
-     ("The headline needs only that a read or a write failed, or that none did. This part says by "
-      "which counts and places that is known."),
-     ["tac_io/LinkCalls.NoReadFails", "tac_io/LinkCalls.LastReadFails",
-      "tac_io/LinkCalls.NoWriteFails", "tac_io/LinkCalls.LastWriteFails"]),
     ("The welcome",
      "A link with a seat is sent these ten lines before its first reply.",
      ["agent_gate/Welcome.welcome_text"]),

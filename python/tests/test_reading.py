@@ -1,7 +1,5 @@
 """What the check of the definitions makes of a module, of worked rows, and of their order."""
 
-import contextlib
-import io
 import sys
 import tempfile
 import unittest
@@ -10,10 +8,11 @@ from pathlib import Path
 sys.path.insert(0, str(Path(__file__).resolve().parents[2] / "checks"))
 
 from definitions import Definitions, Module, Target  # noqa: E402
-from reading_aids import cases_without_row, skipped_of  # noqa: E402
-from reading_order import backward, chapters_of, nearest_rows, row_places  # noqa: E402
-from reading_print import Names, names_here, print_row  # noqa: E402
+from reading_aids import cases_without_row, minutes_of  # noqa: E402
+from reading_order import backward, chapters_of, row_places, rows_elsewhere  # noqa: E402
+from reading_print import CodeType, Names, renamed_names, row_lines, types_by_module  # noqa: E402
 from reading_rows import ROWS, Lemmas, Row, numbers_of  # noqa: E402
+from reading_text import DEFINITION, PROSE, Piece  # noqa: E402
 
 SOURCE = """\
 -- Doubles.
@@ -119,8 +118,9 @@ class Order(unittest.TestCase):
         )
 
     def test_what_is_used_before_it_stands(self) -> None:
-        self.assertEqual(backward(self.definitions, [self.FAULT, self.JUDGED]), [])
-        self.assertEqual(len(backward(self.definitions, [self.JUDGED, self.FAULT])), 1)
+        self.assertEqual(backward(self.definitions, [self.FAULT, self.JUDGED], []), [])
+        self.assertEqual(len(backward(self.definitions, [self.JUDGED, self.FAULT], [])), 1)
+        self.assertEqual(backward(self.definitions, [self.JUDGED, self.FAULT], [self.JUDGED]), [])
 
     def test_a_row_stands_below_the_last_that_it_names(self) -> None:
         order = [self.FAULT, self.JUDGED]
@@ -143,17 +143,17 @@ class Order(unittest.TestCase):
             row_places(self.definitions, [self.CROSSES], [self.CROSSES], set(), Lemmas()), []
         )
 
-    def test_nearest_row_if_it_is_not_the_next(self) -> None:
-        lemmas = Lemmas()
-        size = ("tac_base.specs.Bids", "size_of")
-        kind = ("tac_base.specs.Kinds", "kind_of")
+    def test_a_row_that_is_not_the_next_below(self) -> None:
+        count: Target = ("auction_rules.specs.Legal", "entries_of")
+        size: Target = ("tac_base.specs.Bids", "size_of")
+        kind: Target = ("tac_base.specs.Kinds", "kind_of")
         places = [
             (kind, row_of("worked_rows/Auctions:last_and_first_goods_of_each_kind")),
             (self.JUDGED, row_of("worked_rows/Bids:faults_of_points_in_their_order")),
         ]
-        order = [size, kind, self.FAULT, self.JUDGED]
+        order = [size, count, kind, self.FAULT, self.JUDGED]
         self.assertEqual(
-            nearest_rows(self.definitions, order, places, lemmas), {size: self.JUDGED}
+            rows_elsewhere(self.definitions, order, places, Lemmas()), {size: "judged", count: ""}
         )
 
 
@@ -183,18 +183,34 @@ class Printed(unittest.TestCase):
             ['f = record { bid = 0; codes "bid" ∷ Sessions.bid ∷ [] }'],
         )
 
-    def test_types_of_names_that_several_have(self) -> None:
-        module = self.definitions.modules["packages.specs.Packages"]
-        told = names_here(self.definitions, module, ["is_package"], {"None": ["Option", "Package"]})
-        self.assertEqual(told, ["-- Names of `Package`: `None`."])
-        self.assertEqual(names_here(self.definitions, module, ["is_package"], {}), [])
+    def test_names_that_stand_for_others(self) -> None:
+        history, served = "auction_rules.specs.History", self.SERVED
+        chapters = {"One": {history: ["is_own", "is_close"]}, "Two": {served: ["EndsBy"]}}
+        own = "of `Call`: `OwnCall` (= `Own`)"
+        told = f"{own}; of `LineGot`: `gots.NAME`; of `Cause`: `causes.NAME`"
+        self.assertEqual(renamed_names(self.definitions, chapters, []), told)
+        self.assertEqual(renamed_names(self.definitions, chapters, [(served, "EndsBy")]), own)
 
-    def test_what_may_be_left_out_takes_what_it_alone_uses(self) -> None:
-        start = [("tacd.specs.Service", "ServeAllows")]
-        found = self.definitions.reached(start)
-        skipped = {name for _, name in skipped_of(self.definitions, start, [], found)}
-        self.assertLessEqual({"IsNoGameFile", "game_refusal"}, skipped)
-        self.assertFalse({"HasNoGame", "ServesGame", "IsLogOf"} & skipped)
+    def test_types_stand_above_the_first_module_that_names_them(self) -> None:
+        folder = tempfile.TemporaryDirectory()
+        self.addCleanup(folder.cleanup)
+        file = Path(folder.name) / "calls.rt"
+        file.write_text("pub struct Call {\n    trade: Trade,\n}\n\npub struct Trade;\n")
+        history, kinds = "auction_rules.specs.History", "tac_base.specs.Kinds"
+        places = [("Call", 1), ("Trade", 5)]
+        types = [CodeType("tac_base", name, str(file), line) for name, line in places]
+        chapters = {"One": {kinds: ["kind_of"]}, "Two": {history: ["Entry"]}}
+        self.assertEqual(
+            types_by_module(self.definitions, chapters, types),
+            {("One", kinds): [], ("Two", history): types[::-1]},
+        )
+
+    def test_a_comment_in_a_definition_is_read_as_prose(self) -> None:
+        lines = ["a b c   -- (row: d)"]
+        self.assertAlmostEqual(
+            minutes_of("", [Piece(DEFINITION, lines)]),
+            minutes_of("", [Piece(DEFINITION, ["a b c"]), Piece(PROSE, ["-- (row: d)"])]),
+        )
 
     def test_a_helper_is_printed_once(self) -> None:
         lemmas, told = Lemmas(), set()
@@ -203,12 +219,12 @@ class Printed(unittest.TestCase):
             row_of("worked_rows/Logs:totals_of_the_book"),
         ]
         names = Names(lemmas, rows, set())
-        shown = io.StringIO()
-        with contextlib.redirect_stdout(shown):
-            for row in rows:
-                print_row(row, lemmas, names, told)
-        self.assertEqual(shown.getvalue().count("abbrev book :"), 1)
-        self.assertIn("-- Row of `cash_reply_of`: ", shown.getvalue())
+        place: Target = ("trade_ledger.specs.CashHistory", "cash_total")
+        shown = "\n".join(
+            line for row in rows for line in row_lines(row, place, lemmas, names, told)
+        )
+        self.assertEqual(shown.count("abbrev book :"), 1)
+        self.assertIn("-- Row of `cash_reply_of`: ", shown)
 
     def test_cases_are_counted_one_by_one(self) -> None:
         lemmas, rows = Lemmas(), {self.SERVED: ["EndsBy"]}
