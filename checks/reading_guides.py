@@ -190,9 +190,9 @@ have the same text; this is proved apart (`written_log_law`).""",
 The headline uses three of these: what the files hold, what the output took, and which links were
 still to come.""",
     "tacd/Headline.WritesTrueLog": """\
-All fields are about one `game` and one `played`. `came` are the links that were taken, and `ended`
-is what became of them, in the order of the log's verdicts. Left to `service`: which verdict a link
-without a seat has, and that the log has no more `end` lines than seated agents.""",
+All fields are about one `game` and one `played`. `ended` is what became of the links, in the order
+of the log's verdicts. Left to `service`: that the ticks were waited for, and that the log has no
+`end` line of an agent without a seat.""",
 }
 
 # Modules above which the print has their sentence, as CRATE/MODULE: it says more than a rule does.

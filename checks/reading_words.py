@@ -32,10 +32,9 @@ to meet it. Whether it says what is meant, only a reader can judge. This page an
 every definition on which the clause depends."""
 
 LEFT_TO_SERVICE = """\
-**What the clause `headline` leaves to the clause `service`:** that no seat was given twice; that
-every link without a seat was lost, or refused as its first line says; that links were taken until
-eight agents had a seat, 64 links were taken, or none was left; that the ticks were waited for; and
-what holds with codes other than 0. See the part "Beside: what `service` says besides"."""
+**What the clause `headline` leaves to the clause `service`:** that the ticks were waited for, that
+the log has no `end` line of an agent without a seat, and what holds with codes other than 0. See
+the part "Beside: what `service` says besides"."""
 
 PICTURE_ABOUT = """\
 The bytes of one link become lines, turns, entries in two histories, lines of the log and a score.
@@ -236,7 +235,6 @@ ROW_WORDS: Dict[str, str] = {
          "hotels close in the order 8 to 15, and the seat words are `seat0` to `seat7`. Each "
          "client prefers to stay from day 1 to day 2, and values the better hotel at 100 and the "
          "museum at 100"),
-    "game_run/Admission.seats_given": "the seats of a game after verdicts on its first links",
     "link_audit/Links.IsLinkOfLog":
         ("`IsLinkOfLog hosted log agent asked said` states that the log gives the agent's seat to "
          "a link, and that `IsSeated` holds for that link, which holds the bytes `asked` and was "
@@ -556,12 +554,13 @@ LATER: Dict[str, List[str]] = {
     "The session of a link": [
         "tac_commands/Services.dialect_in", "game_text/SeatWords", "game_run/Admission.free_seats",
         "turn_lock/Part", "turn_lock/Notes", "floor/ClosedBoards"],
+    "A game over links": ["tac_io/States.LinksState"],
     "The log": [
         "text_forms/Steps.lines_of_parts", "text_forms/Steps.one_line", "text_forms/Rows",
         "text_forms/Lines.text_of"],
     "The outside before and after": [
-        "tac_io/States.SinkState", "tac_io/States.FilesState", "tac_io/States.LinksState",
-        "tac_io/States.TickerState", "tac_io/Taken"],
+        "tac_io/States.SinkState", "tac_io/States.FilesState", "tac_io/States.TickerState",
+        "tac_io/Taken"],
     "The headline": ["tac_io/Reading", "tac_commands/Cash", "log_text/SoundLog.gives_seat"],
 }
 
@@ -681,11 +680,12 @@ SENTENCES: List[Tuple[str, List[str]]] = [
     ("the log that it wrote ..",
      ["written", "tac_io/Taken.TookWhole", "log_text/SheetText.log_text"]),
     ("holds 29 legal one-thread histories.",
-     ["legal", "game_run/PlayedGame.IsLegalGame", "auction_rules/Legal.Legal",
+     ["legal", "callers", "game_run/PlayedGame.IsLegalGame", "auction_rules/Legal.Legal",
       "auction_rules/Legal.trades_by", "auction_rules/Refusals.refusal",
       "trade_ledger/CashHistory.IsLegalCash"]),
     ("In each of them, every agent's calls are those that its link asked for.",
-     ["seated", "absent", "game_run/LinkRuns.IsSeated", "agent_gate/Gates.verdict_of",
+     ["taken", "all", "absent", "game_run/Admission.TakesLinks", "game_run/Admission.AreAllTaken",
+      "game_run/LinkRuns.IsSeated", "agent_gate/Gates.verdict_of",
       "agent_gate/Transcript.IsTranscript", "agent_gate/Served.IsServed",
       "agent_gate/Items.AreItems", "line_protocol/Requests.request_of"]),
     ("Each call occurs once,",
@@ -696,7 +696,7 @@ SENTENCES: List[Tuple[str, List[str]]] = [
      ["agent_gate/Served.EndsBy", "agent_gate/Served.pieces_of", "agent_gate/Served.SendsAll",
       "agent_gate/Served.IsCutOff", "line_protocol/Replies.said_text"]),
     ("The clock's calls are those of the game file.",
-     ["clock", "file", "game_run/PlayedGame.IsClockTranscript", "game_text/Schedule.schedule"]),
+     ["scheduled", "file", "game_run/PlayedGame.IsClockTranscript", "game_text/Schedule.schedule"]),
     ("Goods and cash equal the recorded trades.",
      ["cash", "tac_commands/Cash.IsCashOfPosts", "trade_ledger/Posts.Matched",
       "settlement/Settlement.settlement_of", "settlement/Settlement.cash_gained",
