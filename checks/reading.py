@@ -474,7 +474,7 @@ def page(definitions: Definitions) -> Tuple[str, List[str], str]:
         "",
     ]
     top = top_of_print(definitions, headline, shown, PRINTED)
-    front = re.sub(r"\]\([^)]*\)", "", "\n".join(text + top))
+    front = re.sub(r"\]\([^)]*\)", "", "\n".join([*text, *top, headline_clause()]))
     text += times_table(
         {
             heading: (
@@ -726,7 +726,8 @@ def top_of_print(
     words = "; ".join(f"`{word}`: {LIBRARY[word]}" for word in UNUSUAL_WORDS)
     limits = "; ".join(f"{name} {value}" for name, value, _ in limits_of(found))
     signs = [f"{sign}: {meaning}." for sign, meaning in NOTATION[:UNUSUAL]]
-    renamed = f"Names from elsewhere: {renamed_names(definitions, shown.chapters, ENTRIES)}."
+    names = renamed_names(definitions, shown.chapters, ENTRIES)
+    renamed = f"Names for those of a type or a module: {names}."
     return [about, KEY, *signs, f"{words}.", renamed, f"Limits: {limits}."]
 
 

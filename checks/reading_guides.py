@@ -25,7 +25,6 @@ FRONT = "This page up to here, and the beginning of the print"
 SPELLED = {
     "The game file",
     "Requests and replies as lines",
-    "The bytes of a link",
     "The log",
     "The outside before and after",
 }
@@ -172,8 +171,7 @@ made. `AreItems` maps the lines to the turns, one to one. `IsTranscript` says th
 the turns are the agent's part of each history: whole lists, so no call is missing, invented or made
 twice. `EndsBy` says that the replies were sent.""",
     "agent_gate/Turns.IsNotBehind": """\
-"Everything that the agent had seen": a new position, or the length of a new board, is at least each
-length that earlier replies have shown. An entry at position p shows the length p + 1.""",
+This says "everything that the agent had seen": an entry at position p shows the length p + 1.""",
     "agent_gate/Served.EndsBy": """\
 A session with a read fault also has `ComesTo gots.End`, since the lines depend on the bytes alone.
 That a read failed is said by `LastReadFails`. Look for `SendsAll` in four equations: the rows need

@@ -82,7 +82,7 @@ def renamed_names(
     """What these definitions name otherwise than where it is defined, by the type or the module
     that has it: imports under another name, and types and modules under one of their own. Raises a
     ValueError if a name stands for two things."""
-    told: Dict[str, str] = {}
+    told: Dict[str, Tuple[str, str]] = {}
     for path, names in (part for chapter in chapters.values() for part in chapter.items()):
         module = definitions.modules[path]
         text = "\n".join(
@@ -97,13 +97,13 @@ def renamed_names(
         }
         for alias, place in module.aliases.items():
             said[f"{alias}."] = (f"`{alias}.NAME`", owner_of(definitions, place, ""))
-        for word, (shown, owner) in said.items():
+        for word, meaning in said.items():
             if re.search(r"(?<![\w.'])%s(?:(?<=\.)|(?![\w']))" % re.escape(word), text):
-                if told.setdefault(shown, owner) != owner:
-                    raise ValueError(f"{shown} is of {told[shown]}, and in {path} of {owner}")
+                if told.setdefault(word, meaning) != meaning:
+                    raise ValueError(f"{word} is {told[word]}, and in {path} it is {meaning}")
     return "; ".join(
-        f"of `{owner}`: {', '.join(shown for shown in told if told[shown] == owner)}"
-        for owner in dict.fromkeys(told.values())
+        f"of `{owner}`: {', '.join(shown for shown, of in told.values() if of == owner)}"
+        for owner in dict.fromkeys(of for _, of in told.values())
     )
 
 

@@ -373,9 +373,9 @@ ROWS = [
     Row(["worked_rows/LoggedLinks:ended_by_its_end", "worked_rows/LoggedLinks:ended_by_a_read",
          "worked_rows/LoggedLinks:ended_by_a_write"],
         ["game_run/LinkRuns.IsSeated", "agent_gate/Served.EndsBy"],
-        ("The same link without `quit`: the cause is `End` if its bytes end there, `ReadFault` if "
-         "a read fails within `own 8`, and `WriteFault` if only the first 5 bytes of `@1 cash "
-         "-600` are sent")),
+        ("The link of the example, without `quit`: the cause is `End` if its bytes end there, "
+         "`ReadFault` if a read fails within `own 8`, and `WriteFault` if only the first 5 bytes "
+         "of `@1 cash -600` are sent")),
     # The log
     Row(["worked_rows/Logs:history_of_a_hotel"], ["log_text/LogText.auction_text"],
         ("The history of a hotel is printed as `auction 8 4`, `0 bid ((1 50)) = taken 0 0`, `8 "

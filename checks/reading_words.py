@@ -137,7 +137,8 @@ What must be believed: the clause `headline`, and the definitions on which it de
 those that it uses. A RULE is in the words of the page that it names. Comments are left out below a
 RULE, and where the name and the equations say the same. A row is a small case, which the toolchain
 checks as a lemma. Of its words the script checks that the lemma exists, leads to the definition,
-and has their numbers. docs/READING.md links to the lemmas, and `--lemmas` prints them, with more
+and has their numbers. A row that says that a statement holds would still hold if the statement had
+fewer parts. docs/READING.md links to the lemmas, and `--lemmas` prints them, with more
 rows. The next row below leads to a definition, unless it has the mark "(no row)", or "(row: X)" for
 a row that stands below X. Of a definition with the mark "(beside: ..)" only the first line is
 printed; that part of READING has the rest."""
@@ -190,10 +191,10 @@ ALIKE = """\
 In a definition, the type of the place says which is meant."""
 
 ROWLESS = """\
-No worked row leads to these definitions, so read them slowly. Most of them are about whole games,
-or about any number of turns, and compute nothing. Rows reach {tried} of the {lines} lines. A line
-that a row reaches is not thereby tested: the row shows one case, which may not depend on that
-line."""
+No row of the print leads to these definitions, so read them slowly. Most of them are about whole
+games, or about any number of turns, and compute nothing. Its rows reach {tried} of the {lines}
+lines. A line that a row reaches is not thereby tested: the row shows one case, which may not depend
+on that line."""
 
 TRUTHS = """\
 - **Reading ahead, or answering late.** No clause forbids it in words, but a server that did so
