@@ -189,8 +189,7 @@ The headline uses three of these: what the files hold, what the output took, and
 still to come.""",
     "tacd/Headline.WritesTrueLog": """\
 All fields are about one `game` and one `played`. `ended` is what became of the links, in the order
-of the log's verdicts. Left to `service`: that the ticks were waited for, and that the log has no
-`end` line of an agent without a seat.""",
+of the log's verdicts. Left to `service`: that the ticks were waited for.""",
 }
 
 # Modules above which the print has their sentence, as CRATE/MODULE: it says more than a rule does.

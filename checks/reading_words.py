@@ -32,9 +32,8 @@ to meet it. Whether it says what is meant, only a reader can judge. This page an
 every definition on which the clause depends."""
 
 LEFT_TO_SERVICE = """\
-**What the clause `headline` leaves to the clause `service`:** that the ticks were waited for, that
-the log has no `end` line of an agent without a seat, and what holds with codes other than 0. See
-the part "Beside: what `service` says besides"."""
+**What the clause `headline` leaves to the clause `service`:** that the ticks were waited for, and
+what holds with codes other than 0. See the part "Beside: what `service` says besides"."""
 
 PICTURE_ABOUT = """\
 The bytes of one link become lines, turns, entries in two histories, lines of the log and a score.
@@ -681,12 +680,12 @@ SENTENCES: List[Tuple[str, List[str]]] = [
     ("the log that it wrote ..",
      ["written", "tac_io/Taken.TookWhole", "log_text/SheetText.log_text"]),
     ("holds 29 legal one-thread histories.",
-     ["legal", "callers", "game_run/PlayedGame.IsLegalGame", "auction_rules/Legal.Legal",
-      "auction_rules/Legal.trades_by", "auction_rules/Refusals.refusal",
-      "trade_ledger/CashHistory.IsLegalCash"]),
+     ["callers", "game_run/PlayedGame.IsPlayedBy", "game_run/PlayedGame.IsLegalGame",
+      "auction_rules/Legal.Legal", "auction_rules/Legal.trades_by",
+      "auction_rules/Refusals.refusal", "trade_ledger/CashHistory.IsLegalCash"]),
     ("In each of them, every agent's calls are those that its link asked for.",
-     ["taken", "all", "absent", "game_run/Admission.TakesLinks", "game_run/Admission.AreAllTaken",
-      "game_run/LinkRuns.IsSeated", "agent_gate/Gates.verdict_of",
+     ["over", "game_run/Outcomes.IsPlayedOver", "game_run/Admission.TakesLinks",
+      "game_run/Admission.AreAllTaken", "game_run/LinkRuns.IsSeated", "agent_gate/Gates.verdict_of",
       "agent_gate/Transcript.IsTranscript", "agent_gate/Served.IsServed",
       "agent_gate/Items.AreItems", "line_protocol/Requests.request_of"]),
     ("Each call occurs once,",
@@ -697,7 +696,8 @@ SENTENCES: List[Tuple[str, List[str]]] = [
      ["agent_gate/Served.EndsBy", "agent_gate/Served.pieces_of", "agent_gate/Served.SendsAll",
       "agent_gate/Served.IsCutOff", "line_protocol/Replies.said_text"]),
     ("The clock's calls are those of the game file.",
-     ["scheduled", "file", "game_run/PlayedGame.IsClockTranscript", "game_text/Schedule.schedule"]),
+     ["file", "game_run/PlayedGame.IsPlayedBy", "game_run/PlayedGame.IsClockTranscript",
+      "game_text/Schedule.schedule"]),
     ("Goods and cash equal the recorded trades.",
      ["cash", "tac_commands/Cash.IsCashOfPosts", "trade_ledger/Posts.Matched",
       "settlement/Settlement.settlement_of", "settlement/Settlement.cash_gained",

@@ -1,5 +1,5 @@
 -- The headline follows from what is proved of a service.
-use Rattle.std.proofs.Common.{◌≡◌, ℕ, ◌≤◌, List, ap, ◌∙◌, subst, arith, inl, nat_lt}
+use Rattle.std.proofs.Common.{◌≡◌, ℕ, ◌≤◌, List, ap, ◌∙◌, subst, arith, inl}
 use Rattle.tac_base.specs.Goods.{clock}
 use Rattle.tacd.specs.Prelude.{LinkState, TookWhole, log_text, PlayedGame, Outside, Service}
 use Rattle.line_protocol.specs.Heads.{Head, Serve}
@@ -11,8 +11,6 @@ use Rattle.trade_ledger.specs.declared.cash_calls.CashReply.TheVariants.{Cash, D
 use Rattle.tacd.specs.declared.answer.Answer.{Answer}
 use Rattle.tacd.specs.{Serves, WritesTrueLog, hosted_by}
 use Rattle.tacd.specs.ServedLinks.{IsVouchedService}
-use Rattle.tacd.proofs.SeatedOnce.{never_given}
-use Rattle.tacd.proofs.SoundServices.{seat_is}
 use Rattle.tacd.proofs.PostedCash.{cash_of_posts}
 use Rattle.tacd.proofs.ServedLinks.{vouched_by_links}
 
@@ -26,24 +24,18 @@ logged_caller caller (Read agent) (Cash dollars) is = let low = is.0 in let smal
 module _ {L : Type 0} (state : L → LinkState) (service : Service) (before after : Outside L) (answer : Answer L) (zero : answer.code ≡ 0) where
   true_log : IsVouchedService state service before after answer → WritesTrueLog state service before after answer.ended.items
   true_log v =
-      let over : PlayedGame = record { verdicts = v.end.verdicts; ends = v.end.ends; closed = v.played.closed } in
-      let lawful = v.end.played.lawful in
-      let head = v.end.head ∙ ap (Serve over.verdicts over.ends) (v.in_time zero) in
+      let play : PlayedGame = record { verdicts = v.end.verdicts; ends = v.end.ends; closed = v.played.closed } in
+      let head = v.end.head ∙ ap (Serve play.verdicts play.ends) (v.in_time zero) in
       record {
         game = v.game;
         file = v.file;
-        played = over;
+        played = play;
         sheet = v.log.sheet;
-        written = subst (λ (text : List ℕ). TookWhole before.out after.out text) (v.log.due ∙ ap (λ (h : Head). log_text h over.closed v.log.sheet) head) v.written;
-        legal = lawful.legal_game;
+        written = subst (λ (text : List ℕ). TookWhole before.out after.out text) (v.log.due ∙ ap (λ (h : Head). log_text h play.closed v.log.sheet) head) v.written;
+        over = v.end.played;
         callers = λ k e inside. logged_caller _ _ _ (v.log.sound.ranged.cash k e inside);
-        taken = v.end.played.taken;
-        all = v.end.played.all;
-        absent = λ agent low none. lawful.absent agent low
-            (seat_is state (hosted_by service v.game) before.links after.links over answer.ended.items v.end.played agent (omega (arith, low)) ∙ ap (nat_lt 0) (never_given over.verdicts agent none));
-        scheduled = lawful.clock_transcript;
         scores = v.log.scores;
-        cash = cash_of_posts v.game over.closed lawful.legal_game;
+        cash = cash_of_posts v.game play.closed v.end.played.lawful.legal_game;
       }
 
   -- a service whose code is 0 wrote the log of a game that was played

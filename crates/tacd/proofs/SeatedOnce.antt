@@ -1,6 +1,6 @@
 -- Each seat is given once, and a seat is taken exactly if it was given.
 use Rattle.std.proofs.Common.{◌≡◌, ℕ, ◌+◌, ◌<◌, ◌≤◌, Bool, true, false, cond, List, [], ◌∷◌, length, get_or, set, refl, sym, ap, ◌∙◌, subst, arith, eq-eqb, ne_eqb, filter, ◌||◌, nat_lt, fold, get_or-set_same, get_or-set_other}
-use Rattle.std.specs.List.{AllByRecursion, list_any}
+use Rattle.std.specs.List.{AllByRecursion}
 use Rattle.std.proofs.lemmas.Bool.Decides.{nat_tests}
 use Rattle.std.proofs.lemmas.List.Sums.{sum_by-cons}
 use Rattle.std.proofs.lemmas.Bool.{or_right}
@@ -18,15 +18,6 @@ is_taken seats agent = get_or seats.taken agent false
 -- a verdict more
 seatings_more : (verdict : Verdict) (verdicts : List Verdict) (agent : ℕ) → seatings (verdict ∷ verdicts) agent ≡ cond (gives_seat agent verdict) 1 0 + seatings verdicts agent
 seatings_more verdict verdicts agent = sum_by-cons (λ (v : Verdict). cond (gives_seat agent v) 1 0) verdict verdicts
-
--- no link was given a seat that no verdict gives
-pub never_given : (verdicts : List Verdict) (agent : ℕ) → list_any (gives_seat agent) verdicts ≡ false → seatings verdicts agent ≡ 0
-never_given [] agent none = refl
-never_given (verdict ∷ verdicts) agent none = seatings_more verdict verdicts agent ∙ by_test (gives_seat agent verdict) none (never_given verdicts agent)
-  where
-    by_test : (b : Bool) → (b || list_any (gives_seat agent) verdicts) ≡ false → (list_any (gives_seat agent) verdicts ≡ false → seatings verdicts agent ≡ 0) → cond b 1 0 + seatings verdicts agent ≡ 0
-    by_test true none rest = absurd (let never : true ≡ false = none in cc)
-    by_test false none rest = let bare = rest none in omega (arith, bare)
 
 -- ---- a seat is taken if it was taken before, or given
 

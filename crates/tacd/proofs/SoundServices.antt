@@ -120,7 +120,7 @@ few_missed ticker ticker' missed all =
 module _ {L : Type 0} (state : L → LinkState) (hosted : HostedGame) (before after : LinksState L) (over : PlayedGame) (links : List L)
     (played : IsPlayedOver state hosted before after over links) where
   -- an agent's seat is taken if it was given
-  pub seat_is : (agent : ℕ) → agent ≤ 7 → is_taken (seats_given hosted.game over.verdicts) agent ≡ nat_lt 0 (seatings over.verdicts agent)
+  seat_is : (agent : ℕ) → agent ≤ 7 → is_taken (seats_given hosted.game over.verdicts) agent ≡ nat_lt 0 (seatings over.verdicts agent)
   seat_is agent low =
       let free : get_or (replicate 8 false) agent false ≡ false = get_or-replicate 8 agent false false (omega (arith, low)) in
       taken_after (free_seats hosted.game) over.verdicts agent (omega (arith, low)) ∙ ap (λ (b : Bool). b || nat_lt 0 (seatings over.verdicts agent)) free

@@ -1,5 +1,5 @@
 -- The names of crates below that this crate cites, passed on from one place.
-pub use Rattle.tac_base.specs.declared.limits.TheConstants.{AGENTS, NAME_BYTES, TEXT_BYTES}
+pub use Rattle.tac_base.specs.declared.limits.TheConstants.{NAME_BYTES, TEXT_BYTES}
 pub use Rattle.line_protocol.specs.Heads.{head_of}
 pub use Rattle.line_protocol.specs.declared.admission.Verdict.{Verdict}
 pub use Rattle.line_protocol.specs.declared.admission.Verdict.TheVariants.{Lost, Seated, Syntax, Taken, WrongWord}
@@ -14,17 +14,16 @@ pub use Rattle.tac_io.specs.States.{FilesState, LinkState, LinksState, MaySelect
 pub use Rattle.tac_io.specs.Taken.{TookPart, TookWhole}
 pub use Rattle.clock_events.specs.Clocking.{WaitsForAll}
 pub use Rattle.agent_gate.specs.Dialects.{Dialect}
-pub use Rattle.agent_gate.specs.Transcript.{IsTranscript}
 pub use Rattle.log_text.specs.LoggedGames.{LoggedGame, logged_text}
 pub use Rattle.log_text.specs.SoundLog.{IsService, IsSoundHead, gives_seat, seatings}
 pub use Rattle.game_log.specs.LogText.{play_part}
 pub use Rattle.game_log.specs.ScoredGames.{IsSheetOf}
 pub use Rattle.game_log.specs.SheetText.{log_text, sheet_part}
-pub use Rattle.game_run.specs.Admission.{AreAllTaken, CameTo, TakesLinks, free_seats, seats_given}
+pub use Rattle.game_run.specs.Admission.{CameTo, free_seats, seats_given}
 pub use Rattle.game_run.specs.Hosted.{HostedGame, hosted_game}
 pub use Rattle.game_run.specs.LinkRuns.{IsSeated}
 pub use Rattle.game_run.specs.Outcomes.{IsGameEnd, IsNotPlayed, IsPlayedOver, missed_of}
-pub use Rattle.game_run.specs.PlayedGame.{IsClockTranscript, IsLegalGame, IsPlayedBy, PlayedGame}
+pub use Rattle.game_run.specs.PlayedGame.{IsLegalGame, IsPlayedBy, PlayedGame}
 pub use Rattle.game_run.specs.declared.run.GameEnd.{GameEnd}
 pub use Rattle.link_audit.specs.Links.{HasBytes, HasWelcome, IsLinkOfLog, IsVouched, fresh_link}
 pub use Rattle.tac_commands.specs.Allowed.{Allows, IsServiceEnd, IsVouchedText}
