@@ -322,7 +322,7 @@ ROWS = [
         ("All bytes were sent. After 1 turn and then the end of the bytes, the cause is not "
          "`Budget`. After 65536 turns without `quit`, with bytes left, it is `Budget`, whatever "
          "the turns are. It is also `Budget` after 1 turn if all bytes that may be taken are "
-         "used up"), more=True),
+         "used up")),
     Row(["worked_rows/Ends:end_counts_no_fault",
          "worked_rows/Ends:no_session_writes_after_a_failed_write"],
         ["agent_gate/Served.EndsBy", "agent_gate/Served.IsCutOff"],
