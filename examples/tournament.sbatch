@@ -6,11 +6,11 @@
 #     tools/tournament --join runs/*
 #
 #SBATCH --job-name=tournament
-#SBATCH --array=0-39
+#SBATCH --array=0-49
 #SBATCH --cpus-per-task=4
 #SBATCH --mem=2G
 #SBATCH --time=00:30:00
 #SBATCH --requeue
-games=26 # in each task, of 13 deals where seats are swapped
+games=20 # in each task, of 10 deals where seats are swapped
 seed=$((SLURM_ARRAY_TASK_ID * games + 1))
 exec tools/tournament --turns 40 --games "$games" --seed "$seed" --out "runs/$seed" --resume "$@"
