@@ -8,6 +8,7 @@ no file one of `worked_rows/proofs/Auctions.antt`, or a test. Words are DOCUMENT
 with no heading for a whole page.
 """
 
+import glob
 import os
 import re
 from typing import List, NamedTuple, Optional, Tuple
@@ -163,7 +164,8 @@ RULES = [
     Rule("Hotels",
          "beating the quote",
          ["PROTOCOL/Refusals", "PROTOCOL/What a hotel bid would win"],
-         ["auction_rules/BeatQuote:need", "auction_rules/Refusals:hotel_refusal"],
+         ["auction_rules/BeatQuote:need", "auction_rules/WinningNumber:winning",
+          "auction_rules/BeatQuote:quote_to_beat", "auction_rules/Refusals:hotel_refusal"],
          ["hotel_book/quotes:refusal", "hotel_book/ranking:won"],
          ["hotel_book/book:bid.follows"],
          ["hotel_book/forgets_winning_number"],
@@ -315,19 +317,18 @@ RULES = [
 ]
 
 INTRODUCTION = """\
-This table has a row for each rule of `docs/GAME.md`. Each row links to the sections that state the
-rule in words, to its definition, to the code that implements it, and to the clause that connects
-definition and code. Most rows also link to a refused edit: a wrong function body that the clause
-rules out. The gate fails if the prover accepts such a body. The last column links to a worked row,
-which the prover evaluates, or to a test.
-
-The prover finds some proofs of clauses by itself. The others are in `proofs/` of the clause's
-crate, in a folder named after the call. For example, the clause `follows` of a hotel's `bid`, which
-covers beating the quote, is proved in `crates/hotel_book/proofs/book/Hotel/bid/Answers.antt`.
+This page has a section for each section of `docs/GAME.md` that states rules, and a row for each
+rule. A row links to the words of the rule, to its definition, to the code that implements it, to
+the clause that connects definition and code, and to the files of its proof; where there are none,
+the prover finds the proof by itself. A refused edit is a wrong function body that the clause rules
+out: the gate fails if the prover accepts such a body. The prover evaluates the worked rows.
 
 To change a rule, change all of these places, and the rule's entry in `docs/DECISIONS.md` if it has
 one. `checks/reading.py --write` generates this page, and fails if one of the places does not
 exist."""
+
+HEADER = ["| rule | in words | definition | code | clause | proof | refused edit "
+          "| worked row or test |", "|---|---|---|---|---|---|---|---|"]
 
 UNRULED = {"Where this differs from TAC Classic"}  # headings of GAME.md that repeat rules
 
@@ -391,23 +392,38 @@ def cell(kind: str, places: List[str], faults: List[str]) -> str:
     return " · ".join(shown)
 
 
+def proofs_cell(rule: Rule) -> str:
+    """Links to the proofs of a rule's clauses; those of a call are in a folder of its name."""
+    shown = []
+    for clause in rule.clauses:
+        module, name = clause.split(":")
+        crate, path = module.split("/", 1)
+        proofs = os.path.join(CRATES, crate, "proofs")
+        for file in sorted(glob.glob(
+                os.path.join(proofs, path, "**", name.partition(".")[0], "*.antt"),
+                recursive=True)):
+            link = (f"[`{crate}/{os.path.relpath(file, proofs)[:-len('.antt')]}`]"
+                    f"(../{os.path.relpath(file, ROOT)})")
+            if link not in shown:
+                shown.append(link)
+    return " · ".join(shown)
+
+
 def rules_page() -> Tuple[str, List[str]]:
     """The text of docs/RULES.md, and what is wrong with the table."""
     with open(os.path.join(ROOT, "docs", "GAME.md"), encoding="utf-8") as game:
         headings = re.findall(r"^###? (.*)$", game.read(), re.M)
     faults = [f"rules.py: no rule of the heading {heading} of docs/GAME.md" for heading in headings
               if heading not in UNRULED and not any(rule.heading == heading for rule in RULES)]
-    text = ["# Where each rule is stated, coded and proved", "", INTRODUCTION, "",
-            "| rule | in words | definition | code | clause | refused edit | worked row or test |",
-            "|---|---|---|---|---|---|---|"]
+    text = ["# Where each rule is stated, coded and proved", "", INTRODUCTION]
     heading = ""
     place = {heading: number for number, heading in enumerate(headings)}
     for rule in sorted(RULES, key=lambda one: place.get(one.heading, -1)):
         if rule.heading != heading:
             heading = rule.heading
-            text.append(f"| **[{heading}](GAME.md#{anchor_of(heading)})** | | | | | | |")
+            text += ["", f"## {heading}", "", *HEADER]
         cells = [words_cell(rule, faults), cell("definition", rule.definitions, faults),
                  cell("code", rule.code, faults), cell("clause", rule.clauses, faults),
-                 cell("edit", rule.edits, faults), cell("row", rule.rows, faults)]
+                 proofs_cell(rule), cell("edit", rule.edits, faults), cell("row", rule.rows, faults)]
         text.append(f"| {rule.rule} | {' | '.join(cells)} |")
     return "\n".join(text) + "\n", faults
