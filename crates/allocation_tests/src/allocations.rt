@@ -43,12 +43,10 @@ const ACCOUNTS: [(&str, &str, u32); 4] = [
 fn accounts_have_their_best_totals_and_print_them_first(rt: HostRuntime) -> Result<(), Fail> {
     let alloc = rt.alloc();
     for (hold, clients, total) in ACCOUNTS {
-        let account = account(alloc, hold, clients)?;
-        let solved = solve(alloc, &account)?;
-        assert_eq!(rt; solved.total, total);
+        let solved = solve(alloc, &account(alloc, hold, clients)?)?;
         let text = print_solved(alloc, &solved)?;
         let first = format!(in alloc; "total {total}\npackage 0 ")?;
-        assert!(rt; text.starts_with(first.as_bytes()));
+        assert!(rt; solved.total == total && text.starts_with(first.as_bytes()));
     }
     Ok(())
 }
