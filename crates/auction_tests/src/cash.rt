@@ -127,8 +127,15 @@ fn posts_of(book: &CashBook, caller: u8) -> Option<u32> {
     Some(count)
 }
 
+/// Whether so many callers have so many posts each, and the house this total.
+fn have_posted(book: &CashBook, callers: u8, posts: u32, total: i64) -> bool {
+    (0..callers).all(|caller| posts_of(book, caller) == Some(posts))
+        && book.total(Party::house()) == total
+}
+
 #[test]
 fn callers_take_turns_at_the_cash_book(rt: HostRuntime) -> Result<(), Fail> {
+    let (zero, one) = (Agent::new(0)?, Agent::new(1)?);
     let (mut lock, mut first, mut second) = begin_two(rt.alloc(), 2, 1)?;
     let call = CashCall::Post {
         good: Good::default(),
@@ -137,38 +144,26 @@ fn callers_take_turns_at_the_cash_book(rt: HostRuntime) -> Result<(), Fail> {
             dollars: [-300, 0, 0, 0, 0, 0, 0, 0, 300],
         },
     };
-    let answer = lock.call(&rt, &mut first, &call);
-    assert_eq!(rt; answer, (0, CashReply::Done));
-
+    assert!(rt; lock.call(&rt, &mut first, &call) == (0, CashReply::Done));
     let board = lock.peek(&mut second);
     assert!(rt; board.count == 1 && board.bid == 0 && board.ask == 0 && !board.closed);
-    let agent = Agent::new(1)?;
-    let answer = lock.call(&rt, &mut second, &CashCall::Read { agent });
-    assert_eq!(rt; answer, (1, CashReply::Cash(0)));
-    let agent = Agent::new(0)?;
-    let answer = lock.call(&rt, &mut first, &CashCall::Read { agent });
-    assert_eq!(rt; answer, (2, CashReply::Cash(-300)));
-    assert!(rt; first.left() == 0 && second.left() == 0);
-    assert_eq!(rt; second.caller().get(), 1);
-
+    let call = CashCall::Read { agent: one };
+    assert!(rt; lock.call(&rt, &mut second, &call) == (1, CashReply::Cash(0)));
+    let call = CashCall::Read { agent: zero };
+    assert!(rt; lock.call(&rt, &mut first, &call) == (2, CashReply::Cash(-300)));
+    assert!(rt; first.left() == 0 && second.left() == 0 && second.caller().get() == 1);
     lock.take_back(first);
     lock.take_back(second);
     let book = lock.close();
-    assert_eq!(rt; book.total(Party::house()), 300);
-    assert!(rt; book.entry(3).is_none());
+    assert!(rt; book.total(Party::house()) == 300 && book.entry(3).is_none());
     Ok(())
 }
 
 #[test]
 fn callers_post_at_once(rt: HostRuntime) -> Result<(), Fail> {
     let two = posted(&rt, rt.alloc(), &[1000, 1000])?;
-    assert_eq!(rt; posts_of(&two, 0), Some(1000));
-    assert_eq!(rt; posts_of(&two, 1), Some(1000));
-    assert_eq!(rt; two.total(Party::house()), 2000);
+    assert!(rt; have_posted(&two, 2, 1000, 2000));
     let nine = posted(&rt, rt.alloc(), &[100; 9])?;
-    for caller in 0..9 {
-        assert_eq!(rt; posts_of(&nine, caller), Some(100), "caller {caller}");
-    }
-    assert_eq!(rt; nine.total(Party::house()), 900);
+    assert!(rt; have_posted(&nine, 9, 100, 900));
     Ok(())
 }
