@@ -1,5 +1,6 @@
 // The two calls over the forms in memory, and forms through their traits.
-ghost use Rattle.std.specs.Prelude.{◌≡◌, ◌<◌, ◌∷◌, [], Bool, IfOk, IfSome, length, true, false, option_map};
+ghost use Rattle.std.specs.Prelude.{◌≡◌, ◌<◌, ◌≤◌, ◌∷◌, [], Bool, IfOk, IfSome, length, true, false, option_map};
+ghost use Rattle.tac_base.specs.declared.limits.TheConstants.{NAME_BYTES};
 ghost use Rattle.tac_io.specs.Calls.{one_call_more};
 ghost use Rattle.tac_io.specs.LineAnswers.{goes_on};
 ghost use Rattle.tac_io.specs.Lines.{last_of};
@@ -20,91 +21,108 @@ use tac_io::{
 };
 
 // A file `hello` of these five bytes, a file `empty`, and a file `long` of 200,000 bytes.
-fn files(alloc: Global, most_at_once: usize, failing: Vec<u64>) -> Result<MemFiles, Fail>
+fn files(alloc: Global, most_at_once: usize, failing: u64) -> Result<MemFiles, AllocError>
     ensures { IfOk result (λ all. files_names all ≡ []) }
 {
     let mut files = Vec::new(alloc);
-    for (name, bytes) in [
-        ("hello", b"hello".to_vec(alloc)?),
-        ("empty", Vec::new(alloc)),
-        ("long", vec![in alloc; 7; 200_000]?),
-    ] {
-        files.push(MemFile {
-            name: String::from_str(alloc, name)?,
-            bytes,
-        })?;
-    }
-    Ok(MemFiles::new(alloc, files, most_at_once, failing)?)
+    files.push(file(alloc, "hello", b"hello".to_vec(alloc)?)?)?;
+    files.push(file(alloc, "empty", Vec::new(alloc))?)?;
+    files.push(file(alloc, "long", vec![in alloc; 7; 200_000]?)?)?;
+    MemFiles::new(alloc, files, most_at_once, vec![in alloc; failing]?)
+}
+
+fn file(alloc: Global, name: &str, bytes: Vec<u8>) -> Result<MemFile, AllocError> {
+    let name = String::from_str(alloc, name)?;
+    Ok(MemFile { name, bytes })
+}
+
+// What a file is read as, and how many faults the files count.
+fn read(
+    alloc: Global,
+    most_at_once: usize,
+    failing: u64,
+    name: &str,
+    limit: usize,
+) -> Result<(Result<Vec<u8>, FileFault>, u64), AllocError>
+    requires { length name.now ≤ NAME_BYTES }
+{
+    let mut all = files(alloc, most_at_once, failing)?;
+    let read = read_file(alloc, &mut all, name, limit);
+    Ok((read, all.faults()))
 }
 
 #[test]
 fn a_file_is_read_whole_in_pieces_of_any_size(rt: HostRuntime) -> Result<(), Fail> {
     let alloc = rt.alloc();
     for most_at_once in [0, 1, 2, 4, 5, 6] {
-        let mut all = files(alloc, most_at_once, Vec::new(alloc))?;
-        let hello = read_file(alloc, &mut all, "hello", 5)?;
-        assert_eq!(rt;
-            hello.as_slice(),
-            b"hello".as_slice(),
+        let hello = read(alloc, most_at_once, 0, "hello", 5)?.0?;
+        assert!(rt;
+            hello.as_slice() == b"hello".as_slice(),
             "in pieces of {most_at_once}"
         );
     }
     for most_at_once in [999, 65_536, 65_537, 1_000_000] {
-        let mut all = files(alloc, most_at_once, Vec::new(alloc))?;
-        let long = read_file(alloc, &mut all, "long", 200_000)?;
+        let long = read(alloc, most_at_once, 0, "long", 200_000)?.0?;
         assert!(rt; long.len() == 200_000 && long.iter().all(|byte| *byte == 7));
     }
     Ok(())
 }
 
-// In pieces of two bytes `hello` takes a `select` and four reads.
+// A file, the most bytes that it may have, the call that fails, and why it is refused. In pieces of
+// two bytes `hello` takes a `select` and four reads.
+const READS: &[(&str, usize, u64, Option<FileFault>)] = &[
+    ("hello", 5, 0, None),
+    ("empty", 0, 0, None),
+    ("hello", 4, 0, Some(FileFault::TooLong)),
+    ("hello", 0, 0, Some(FileFault::TooLong)),
+    ("long", 199_999, 0, Some(FileFault::TooLong)),
+    ("hell", 5, 0, Some(FileFault::Failed)),
+    ("HELLO", 5, 0, Some(FileFault::Failed)),
+    ("hello", 5, 1, Some(FileFault::Failed)),
+    ("hello", 5, 2, Some(FileFault::Failed)),
+    ("hello", 5, 5, Some(FileFault::Failed)),
+    ("hello", 5, 6, None),
+];
+
 #[test]
 fn a_file_is_refused_by_its_cause(rt: HostRuntime) -> Result<(), Fail> {
     let alloc = rt.alloc();
-    for (name, limit, failing, refusal) in [
-        ("hello", 5, 0, None),
-        ("empty", 0, 0, None),
-        ("hello", 4, 0, Some(FileFault::TooLong)),
-        ("hello", 0, 0, Some(FileFault::TooLong)),
-        ("long", 199_999, 0, Some(FileFault::TooLong)),
-        ("hell", 5, 0, Some(FileFault::Failed)),
-        ("HELLO", 5, 0, Some(FileFault::Failed)),
-        ("hello", 5, 1, Some(FileFault::Failed)),
-        ("hello", 5, 2, Some(FileFault::Failed)),
-        ("hello", 5, 5, Some(FileFault::Failed)),
-        ("hello", 5, 6, None),
-    ] {
-        let mut all = files(alloc, 2, vec![in alloc; failing]?)?;
-        let read = read_file(alloc, &mut all, name, limit);
-        assert_eq!(rt; read.err(), refusal, "{name} at {limit}, call {failing}");
-        assert_eq!(rt; all.faults() == 1, refusal == Some(FileFault::Failed));
+    for (name, limit, failing, refusal) in READS {
+        let (read, faults) = read(alloc, 2, *failing, name, *limit)?;
+        let failed = *refusal == Some(FileFault::Failed);
+        assert!(rt;
+            read.err() == *refusal && (faults == 1) == failed,
+            "{name} at {limit}, call {failing}"
+        );
     }
     Ok(())
 }
 
+// The room of a sink, how much it takes at once, the write that fails, and what it takes of `hello`.
+const WRITES: &[(usize, usize, u64, &str)] = &[
+    (5, 1, 0, "hello"),
+    (5, 2, 0, "hello"),
+    (9, 9, 2, "hello"),
+    (5, 1, 1, ""),
+    (5, 1, 3, "he"),
+    (5, 2, 3, "hell"),
+    (4, 3, 0, "hell"),
+    (0, 9, 0, ""),
+    (9, 0, 0, ""),
+];
+
 #[test]
 fn a_text_is_written_whole_or_in_part(rt: HostRuntime) -> Result<(), Fail> {
     let alloc = rt.alloc();
-    for (room, most_at_once, failing, written) in [
-        (5, 1, 0, "hello"),
-        (5, 2, 0, "hello"),
-        (9, 9, 2, "hello"),
-        (5, 1, 1, ""),
-        (5, 1, 3, "he"),
-        (5, 2, 3, "hell"),
-        (4, 3, 0, "hell"),
-        (0, 9, 0, ""),
-        (9, 0, 0, ""),
-    ] {
-        let mut sink = MemSink::new(alloc, room, most_at_once, vec![in alloc; failing]?)?;
+    for (room, most_at_once, failing, written) in WRITES {
+        let mut sink = MemSink::new(alloc, *room, *most_at_once, vec![in alloc; *failing]?)?;
         let whole = write_all(&mut sink, b"hello").is_ok();
-        assert_eq!(rt; sink.bytes(), written.as_bytes());
-        assert_eq!(rt;
-            whole,
-            written.len() == 5,
+        assert!(rt;
+            sink.bytes() == written.as_bytes()
+                && whole == (written.len() == 5)
+                && sink.faults() == u64::from(!whole),
             "{room} {most_at_once} {failing}"
         );
-        assert_eq!(rt; sink.faults(), if whole { 0 } else { 1 });
     }
     Ok(())
 }
@@ -126,12 +144,13 @@ fn is_due<R: Wait + Clock, T: Ticker + Send>(rt: &R, ticker: &mut T, tick: Tick)
 
 #[test]
 fn a_ticker_lapses_at_a_stated_tick(rt: HostRuntime) -> Result<(), Fail> {
+    let (first, second, third) = (Tick::new(1)?, Tick::new(2)?, Tick::new(3)?);
     let alloc = rt.alloc();
     let mut ticker = MemTicker::new(alloc, vec![in alloc; 2]?)?;
-    assert!(rt; is_due(&rt, &mut ticker, Tick::new(1)?));
-    assert!(rt; !is_due(&rt, &mut ticker, Tick::new(2)?));
-    assert!(rt; is_due(&rt, &mut ticker, Tick::new(3)?));
-    assert_eq!(rt; ticker.faults(), 1);
+    assert!(rt; is_due(&rt, &mut ticker, first));
+    assert!(rt; !is_due(&rt, &mut ticker, second));
+    assert!(rt; is_due(&rt, &mut ticker, third));
+    assert!(rt; ticker.faults() == 1);
     Ok(())
 }
 
@@ -147,12 +166,13 @@ impl Look for EvenLook {
 
 #[test]
 fn a_looking_ticker_lapses_where_no_tick_is_due(rt: HostRuntime) -> Result<(), Fail> {
+    let (second, third, fourth) = (Tick::new(2)?, Tick::new(3)?, Tick::new(4)?);
     let mut ticker = LookingTicker::new(EvenLook);
-    assert!(rt; ticker.wait(&rt, Tick::new(2)?).is_err());
-    assert!(rt; is_due(&rt, &mut ticker, Tick::new(2)?));
-    assert!(rt; !is_due(&rt, &mut ticker, Tick::new(3)?));
-    assert!(rt; is_due(&rt, &mut ticker, Tick::new(4)?));
-    assert_eq!(rt; ticker.faults(), 2);
+    assert!(rt; ticker.wait(&rt, second).is_err());
+    assert!(rt; is_due(&rt, &mut ticker, second));
+    assert!(rt; !is_due(&rt, &mut ticker, third));
+    assert!(rt; is_due(&rt, &mut ticker, fourth));
+    assert!(rt; ticker.faults() == 2);
     Ok(())
 }
 
@@ -162,21 +182,21 @@ fn held<C: LineCount + Drop>(
     alloc: Global,
     lines_sent: &LinesSent,
     other: C,
-) -> Result<HeldLink<C>, Fail> {
+) -> Result<HeldLink<C>, AllocError> {
     let bytes = b"hello\nquit\n".to_vec(alloc)?;
+    let link = MemLink::new(alloc, bytes, 100, 100, Vec::new(alloc), Vec::new(alloc))?;
     let hold = Hold {
         read: 2,
         other,
         lines: 11,
     };
-    let link = MemLink::new(alloc, bytes, 100, 100, Vec::new(alloc), Vec::new(alloc))?;
     Ok(HeldLink::new(link, Arc::try_clone(lines_sent)?, Some(hold)))
 }
 
 // Welcomes a link and replies to each of its two lines. Returns whether both arrived, the second not
 // before the other link was sent its reply.
-fn serves(link: HeldLink, other: &LinesSent) -> bool {
-    let mut lines = Lines::new(link);
+fn serves(alloc: Global, sent: &LinesSent, other: &LinesSent) -> Result<bool, AllocError> {
+    let mut lines = Lines::new(held(alloc, sent, Arc::try_clone(other)?)?);
     let served = lines.send(b"1\n2\n3\n4\n5\n6\n7\n8\n9\n10\n").is_ok()
         && lines.next() == LineGot::Line
         && lines.line() == b"hello".as_slice()
@@ -187,42 +207,50 @@ fn serves(link: HeldLink, other: &LinesSent) -> bool {
         && lines.send(b"bye\n").is_ok()
         && lines.next() == LineGot::End;
     let link = lines.into_link();
-    served
-        && link.sent() == b"1\n2\n3\n4\n5\n6\n7\n8\n9\n10\nok\nbye\n".as_slice()
-        && link.faults() == 0
-        && link.write_faults() == 0
+    let all = b"1\n2\n3\n4\n5\n6\n7\n8\n9\n10\nok\nbye\n".as_slice();
+    Ok(served && link.sent() == all && link.faults() == 0 && link.write_faults() == 0)
 }
 
 #[test]
 fn two_links_wait_for_one_another(rt: HostRuntime) -> Result<(), Fail> {
     let alloc = rt.alloc();
-    let first = Arc::new(alloc, AtomicU64::new(0))?;
-    let second = Arc::new(alloc, AtomicU64::new(0))?;
-    let one = held(alloc, &first, Arc::try_clone(&second)?)?;
-    let two = held(alloc, &second, Arc::try_clone(&first)?)?;
-    let (one, two) = join(&rt, || serves(one, &second), || serves(two, &first));
-    assert!(rt; one);
-    assert!(rt; two);
+    let one = Arc::new(alloc, AtomicU64::new(0))?;
+    let two = Arc::new(alloc, AtomicU64::new(0))?;
+    let (first, second) = join(
+        &rt,
+        || serves(alloc, &one, &two),
+        || serves(alloc, &two, &one),
+    );
+    assert!(rt; first == Ok(true) && second == Ok(true));
     Ok(())
 }
 
-// The second read looks for the other link's eleventh line, at most this many times.
+// The second read of a held link, which looks at most this many times: what it gave, whether the
+// link took an answer then, how many lines it was sent, and its faults.
+fn second_read<C: LineCount + Drop>(
+    alloc: Global,
+    other: C,
+    turns: u32,
+) -> Result<(Option<LineGot>, bool, u64, u64), AllocError> {
+    let sent = Arc::new(alloc, AtomicU64::new(0))?;
+    let mut lines = Lines::new(held(alloc, &sent, other)?.giving_up_after(turns));
+    let got = next_two(&mut lines);
+    let is_taken = lines.send(b"\nok\nbye").is_ok();
+    let link = lines.into_link();
+    Ok((got, is_taken, sent.load(Ordering::SeqCst), link.faults()))
+}
+
+// It looks for the other link's eleventh line.
 #[test]
 fn a_held_read_fails_at_the_end_of_its_turns(rt: HostRuntime) -> Result<(), Fail> {
     let alloc = rt.alloc();
-    for (other_was_sent, turns, got) in [
-        (10, 5, LineGot::Failed),
-        (11, 0, LineGot::Failed),
-        (11, 1, LineGot::Line),
+    for (other_was_sent, turns, got, faults) in [
+        (10, 5, LineGot::Failed, 1),
+        (11, 0, LineGot::Failed, 1),
+        (11, 1, LineGot::Line, 0),
     ] {
-        let sent = Arc::new(alloc, AtomicU64::new(0))?;
         let other = Arc::new(alloc, AtomicU64::new(other_was_sent))?;
-        let mut lines = Lines::new(held(alloc, &sent, other)?.giving_up_after(turns));
-        assert_eq!(rt; next_two(&mut lines), Some(got));
-        assert!(rt; lines.send(b"\nok\nbye").is_ok());
-        assert_eq!(rt; sent.load(Ordering::SeqCst), 2);
-        let link = lines.into_link();
-        assert_eq!(rt; link.faults() == 1, got == LineGot::Failed);
+        assert!(rt; second_read(alloc, other, turns)? == (Some(got), true, 2, faults));
     }
     Ok(())
 }
@@ -245,9 +273,7 @@ impl LineCount for Rising {
 fn a_held_read_looks_until_it_sees_its_lines(rt: HostRuntime) -> Result<(), Fail> {
     let alloc = rt.alloc();
     for (turns, got) in [(11, LineGot::Failed), (12, LineGot::Line)] {
-        let sent = Arc::new(alloc, AtomicU64::new(0))?;
-        let mut lines = Lines::new(held(alloc, &sent, Rising(0))?.giving_up_after(turns));
-        assert_eq!(rt; next_two(&mut lines), Some(got));
+        assert!(rt; second_read(alloc, Rising(0), turns)?.0 == Some(got));
     }
     Ok(())
 }
@@ -307,51 +333,55 @@ fn answers(
     let mut text = Vec::new(alloc);
     for _ in 0..9 {
         if !tell_next(&mut lines, &mut text)? {
-            return Ok(text);
+            break;
         }
     }
     Ok(text)
 }
 
-// In pieces of two bytes `ab\nc` takes two reads, and a third finds the end.
+// Lines, two of them too long, and the last without an end.
+const LONG: &[&[u8]] = &[
+    b"hello seat0\n\n",
+    &[b'a'; 512],
+    b"\n",
+    &[b'b'; 513],
+    b"\n",
+    &[b'c'; 3000],
+    b"\nquit\nrest",
+];
+
+// The answers of a link that gives them.
+const LONG_TOLD: &[&[u8]] = &[b"[hello seat0][][", &[b'a'; 512], b"]longlong[quit]end"];
+
+// What a link gives, at most how much in a read, the read that fails, and the answers. In pieces of
+// two bytes `ab\nc` takes two reads, and a third finds the end.
+const ANSWERS: &[(&[u8], usize, u64, &[u8])] = &[
+    (b"", 2, 0, b"end"),
+    (b"", 2, 1, b"failed"),
+    (b"\n", 2, 0, b"[]end"),
+    (b"ab\nc", 2, 0, b"[ab]end"),
+    (b"ab\nc", 2, 1, b"failed"),
+    (b"ab\nc", 2, 2, b"failed"),
+    (b"ab\nc", 2, 3, b"[ab]failed"),
+    (b"ab\nc", 2, 4, b"[ab]end"),
+    (&[b'a'; 513], 1024, 0, b"end"),
+];
+
 #[test]
 fn a_link_gives_the_same_lines_however_its_reads_cut_them(rt: HostRuntime) -> Result<(), Fail> {
     let alloc = rt.alloc();
-    let mut bytes = b"hello seat0\n\n".to_vec(alloc)?;
-    bytes.extend_from_slice(&[b'a'; 512])?;
-    bytes.push(b'\n')?;
-    bytes.extend_from_slice(&[b'b'; 513])?;
-    bytes.push(b'\n')?;
-    bytes.extend_from_slice(&[b'c'; 3000])?;
-    bytes.extend_from_slice(b"\nquit\nrest")?;
-    let mut told = b"[hello seat0][][".to_vec(alloc)?;
-    told.extend_from_slice(&[b'a'; 512])?;
-    told.extend_from_slice(b"]longlong[quit]end")?;
-    let whole = told.as_slice();
-    for (bytes, most_at_once, failing, told) in [
-        (bytes.as_slice(), 1, 0, whole),
-        (bytes.as_slice(), 2, 0, whole),
-        (bytes.as_slice(), 511, 0, whole),
-        (bytes.as_slice(), 512, 0, whole),
-        (bytes.as_slice(), 513, 0, whole),
-        (bytes.as_slice(), 514, 0, whole),
-        (bytes.as_slice(), 1024, 0, whole),
-        (bytes.as_slice(), 9999, 0, whole),
-        (b"", 2, 0, b"end"),
-        (b"", 2, 1, b"failed"),
-        (b"\n", 2, 0, b"[]end"),
-        (b"ab\nc", 2, 0, b"[ab]end"),
-        (b"ab\nc", 2, 1, b"failed"),
-        (b"ab\nc", 2, 2, b"failed"),
-        (b"ab\nc", 2, 3, b"[ab]failed"),
-        (b"ab\nc", 2, 4, b"[ab]end"),
-        (&[b'a'; 513], 1024, 0, b"end"),
-    ] {
-        let answers = answers(alloc, bytes, most_at_once, failing)?;
-        assert_eq!(rt;
-            answers.as_slice(),
-            told,
+    for (bytes, most_at_once, failing, told) in ANSWERS {
+        assert!(rt;
+            answers(alloc, bytes, *most_at_once, *failing)?.as_slice() == *told,
             "in pieces of {most_at_once}, read {failing}"
+        );
+    }
+    let bytes = LONG.concat(alloc)?;
+    let told = LONG_TOLD.concat(alloc)?;
+    for most_at_once in [1, 2, 511, 512, 513, 514, 1024, 9999] {
+        assert!(rt;
+            answers(alloc, &bytes, most_at_once, 0)? == told,
+            "in pieces of {most_at_once}"
         );
     }
     Ok(())
