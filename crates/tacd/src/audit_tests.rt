@@ -1,5 +1,5 @@
 // The audit of a log by its game.
-use crate::tests::{NO_FAULT, SERVED, TRADES, changed, check, log_of};
+use crate::tests::{NO_FAULT, SERVED, TRADES, UNSOUND, changed, check, log_of};
 use std::test::Fail;
 
 // A change that leaves a part of the log as it is.
@@ -39,12 +39,7 @@ const JUDGED: &[((&str, &str), (&str, &str), u8, &str)] = &[
         9,
         "unsound unposted 8 1\n",
     ),
-    (
-        ("score 0 1100 -660 0 440\n", "score 0 1100 -660 0 441\n"),
-        KEPT,
-        9,
-        "unsound score 0\n",
-    ),
+    (UNSOUND, KEPT, 9, "unsound score 0\n"),
     (
         ("taclog 1\nplay\n", "taclog 1\nserve\nmissed 0\n"),
         KEPT,

@@ -1,9 +1,9 @@
 // A game over links in memory, and the system's links and ticker.
-ghost use Rattle.std.specs.Prelude.{◌≡◌, [], IfOk, IfSome};
+ghost use Rattle.std.specs.Prelude.{◌≡◌, [], IfOk, IfSome, IsSome};
 
 use crate::sleep_ticker::SleepTicker;
-use crate::tcp_links::TcpLinks;
-use crate::tests::{FIRST_CLIENT, Faults, NO_FAULT, Ran, plain_game, run_over};
+use crate::tcp_links::{TcpLink, TcpLinks};
+use crate::tests::{FIRST_CLIENT, Faults, NO_FAULT, Ran, has_parts, plain_game, run_over};
 use std::alloc::Global;
 use std::io::{Print, Read, Write};
 use std::net::TcpStream;
@@ -138,8 +138,7 @@ fn games_are_served_or_their_links_fail(rt: HostRuntime) -> Result<(), Fail> {
     for most_at_once in [1_000, 1] {
         let given = links(alloc, &FOUR, most_at_once)?;
         let served = check(&rt, alloc, given, NO_FAULT, 0, FOUR_HEADS, FOUR_SENT)?;
-        let text = str::from_utf8(served.text.as_slice())?;
-        assert!(rt; text.find("\nscore 7 0 0 0 0\n").is_some());
+        assert!(rt; has_parts(&served.text, &[FOUR_HEADS, "\nscore 7 0 0 0 0\n"]));
     }
     for (failing, sent) in LINKS_FAIL {
         let faults = Faults {
@@ -191,8 +190,8 @@ fn a_line_has_at_most_512_bytes(rt: HostRuntime) -> Result<(), Fail> {
 }
 
 // The number of the clock's entries in the log.
-fn count_clock(text: &[u8]) -> Result<usize, Fail> {
-    Ok(str::from_utf8(text)?.matches("\n8 ").count())
+fn count_clock(text: &[u8]) -> usize {
+    str::from_utf8(text).map_or(0, |text| text.matches("\n8 ").count())
 }
 
 // What 64 links and one too many send, and what the 64 are sent.
@@ -212,7 +211,7 @@ fn at_most_64_links_are_taken(rt: HostRuntime) -> Result<(), Fail> {
     head.push_str("missed 0\nauction 0 54\n")?;
     let given = links(alloc, UNSEATED, 1_000)?;
     let served = check(&rt, alloc, given, NO_FAULT, 0, head.as_str(), TURNED_AWAY)?;
-    assert_eq!(rt; count_clock(&served.text)?, 480);
+    assert!(rt; count_clock(&served.text) == 480);
     Ok(())
 }
 
@@ -235,16 +234,14 @@ fn the_fault_of_a_link_ends_its_session_alone(rt: HostRuntime) -> Result<(), Fai
         given.push(link(alloc, bytes, 1_000, *room, *read, *write)?)?;
     }
     let served = serve(&rt, alloc, given, NO_FAULT)?;
-    assert_eq!(rt; served.code, 0);
-    let text = str::from_utf8(served.text.as_slice())?;
-    assert!(rt; text.starts_with(FAULTY_HEADS));
-    assert!(rt; text.find("\n0 own = own 0 ()\n").is_some());
-    let welcome = "welcome 3\nendow 3 0 0 0 0 0 0 0 0 0 0 0 0\nclient 3 0 1 2 100 0 0 100\n";
-    assert_eq!(rt; served.ended.len(), 4);
-    assert!(rt; served.ended[1].sent().is_empty());
-    assert!(rt; served.ended[2].sent().is_empty());
-    assert_eq!(rt; served.ended[3].sent().len(), 60);
-    assert!(rt; welcome.as_bytes().starts_with(served.ended[3].sent()));
+    assert!(rt; served.code == 0);
+    assert!(rt; has_parts(&served.text, &[FAULTY_HEADS, "\n0 own = own 0 ()\n"]));
+    let welcome = b"welcome 3\nendow 3 0 0 0 0 0 0 0 0 0 0 0 0\nclient 3 0 1 2 100 0 0 100\n";
+    let [_, second, third, fourth] = served.ended.as_slice() else {
+        return Err("another number of links".into());
+    };
+    assert!(rt; second.sent().is_empty() && third.sent().is_empty());
+    assert!(rt; fourth.sent().len() == 60 && welcome.starts_with(fourth.sent()));
     Ok(())
 }
 
@@ -275,11 +272,11 @@ fn the_calls_of_lapsed_ticks_are_made(rt: HostRuntime) -> Result<(), Fail> {
     let alloc = rt.alloc();
     for (first, end, told) in LAPSES {
         let served = serve_lapsing(&rt, alloc, *first, *end)?;
-        assert_eq!(rt; served.code, 6);
-        let text = str::from_utf8(served.text.as_slice())?;
-        assert!(rt; text.find(told).is_some(), "{told}");
-        assert_eq!(rt; count_clock(&served.text)?, 480);
-        assert!(rt; text.ends_with("\nend\n"));
+        assert!(rt;
+            served.code == 6 && has_parts(&served.text, &["", told]),
+            "{told}"
+        );
+        assert!(rt; count_clock(&served.text) == 480 && served.text.ends_with(b"\nend\n"));
     }
     Ok(())
 }
@@ -312,8 +309,7 @@ fn the_pace_is_set_before_the_first_wait(rt: HostRuntime) -> Result<(), Fail> {
     });
     let served = serve_by(&rt, alloc, SERVE, links, NO_FAULT, &mut ticker)?;
     tell(&rt, &served, &[&sent])?;
-    assert_eq!(rt; served.code, 0);
-    assert!(rt; served.text.starts_with(FOUR_HEADS.as_bytes()));
+    assert!(rt; served.code == 0 && served.text.starts_with(FOUR_HEADS.as_bytes()));
     Ok(())
 }
 
@@ -355,6 +351,10 @@ const JSON_ASKED: &[u8] =
 const JSON_TOLD: &str =
     "{\"at\":0,\"taken\":[1,0]}\n{\"at\":1,\"quote\":[0,300],\"open\":true}\n{\"no\":\"bid\",\"fault\":1}\n{\"no\":\"auction\"}\n{\"no\":\"syntax\"}\n{\"bye\":true}\n";
 
+// How its log begins.
+const JSON_HEADS: &[u8] =
+    b"taclog 1\nserve\nlink 0 seated 0\nend 0 quit\nmissed 0\nauction 0 55\n0 bid ((1 300)) = taken 1 0\n";
+
 #[test]
 fn agents_may_speak_json(rt: HostRuntime) -> Result<(), Fail> {
     let alloc = rt.alloc();
@@ -365,17 +365,12 @@ fn agents_may_speak_json(rt: HostRuntime) -> Result<(), Fail> {
     let mut ticker = LookingTicker::new(PacedLook { sent, lines: 16 });
     let line = "serve game 7411 5 json";
     let served = serve_by(&rt, alloc, line, links, NO_FAULT, &mut ticker)?;
-    assert_eq!(rt; served.code, 0);
-    assert!(rt;
-        served.text.starts_with(
-            b"taclog 1\nserve\nlink 0 seated 0\nend 0 quit\nmissed 0\nauction 0 55\n0 bid ((1 300)) = taken 1 0\n"
-        )
-    );
+    assert!(rt; served.code == 0 && served.text.starts_with(JSON_HEADS));
     let [link] = served.ended.as_slice() else {
         return Err("another number of links".into());
     };
     let told = format!(in alloc; "{WELCOME}{JSON_TOLD}")?;
-    assert_eq!(rt; link.sent(), told.as_bytes());
+    assert!(rt; link.sent() == told.as_bytes());
     Ok(())
 }
 
@@ -388,6 +383,9 @@ const OTHERS: &[&[u8]] = &[
     b"hello seat6\nquit\n",
     b"hello seat7\nquit\n",
 ];
+
+const ALL_QUIT: &str =
+    "\nend 0 quit\nend 1 quit\nend 2 quit\nend 3 quit\nend 4 quit\nend 5 quit\nend 6 quit\nend 7 quit\nmissed 0\n";
 
 #[test]
 fn sessions_run_beside_one_another(rt: HostRuntime) -> Result<(), Fail> {
@@ -424,14 +422,20 @@ fn sessions_run_beside_one_another(rt: HostRuntime) -> Result<(), Fail> {
     }
     let served = serve(&rt, alloc, links, NO_FAULT)?;
     tell(&rt, &served, &[&first, &second, &others])?;
-    assert_eq!(rt; served.code, 0);
-    let text = str::from_utf8(served.text.as_slice())?;
-    assert!(rt;
-        text.find(
-            "\nend 0 quit\nend 1 quit\nend 2 quit\nend 3 quit\nend 4 quit\nend 5 quit\nend 6 quit\nend 7 quit\nmissed 0\n"
-        ).is_some()
-    );
+    assert!(rt; served.code == 0 && has_parts(&served.text, &["", ALL_QUIT]));
     Ok(())
+}
+
+// A client, and the link on which it comes.
+fn connected(
+    rt: &HostRuntime,
+    links: &mut TcpLinks<'_, HostRuntime>,
+) -> Result<(TcpStream, TcpLink<TcpStream>), Fail>
+    requires { IsSome links.old.listener }
+{
+    let client = TcpStream::connect(rt, ("127.0.0.1", 28471))?;
+    let link = links.next().ok().ok_or("next")?.ok_or("a link")?;
+    Ok((client, link))
 }
 
 #[test]
@@ -440,28 +444,25 @@ fn links_come_over_the_loopback(rt: HostRuntime) -> Result<(), Fail> {
     let mut others = TcpLinks::new(&rt);
     assert!(rt; links.listen(28471).is_ok());
     assert!(rt; others.listen(28471).is_err());
-    assert_eq!(rt; (links.faults(), others.faults()), (0, 1));
-    let mut client = TcpStream::connect(&rt, ("127.0.0.1", 28471))?;
+    assert!(rt; links.faults() == 0 && others.faults() == 1);
+    let (mut client, mut link) = connected(&rt, &mut links)?;
     client.write_all(b"hello\n")?;
-    let mut link = links.next().ok().ok_or("next")?.ok_or("a link")?;
     let mut into = [0u8; 16];
-    assert_eq!(rt; link.read(&mut into).ok(), Some(6));
-    assert_eq!(rt; &into[..6], b"hello\n".as_slice());
-    assert_eq!(rt; link.write(b"x\n").ok(), Some(2));
+    assert!(rt; link.read(&mut into) == Ok(6) && into.starts_with(b"hello\n"));
+    assert!(rt; link.write(b"x\n") == Ok(2));
     let mut back = [0u8; 2];
     client.read_exact(&mut back)?;
-    assert_eq!(rt; &back, b"x\n");
+    assert!(rt; back == *b"x\n");
     drop(client);
-    assert_eq!(rt; link.read(&mut into).ok(), Some(0));
-    assert_eq!(rt; (link.faults(), link.write_faults()), (0, 0));
+    assert!(rt; link.read(&mut into) == Ok(0));
+    assert!(rt; link.faults() == 0 && link.write_faults() == 0);
     // A peer that leaves with bytes unread resets its connection, which is a fault and not an end.
-    let mut client = TcpStream::connect(&rt, ("127.0.0.1", 28471))?;
-    let mut link = links.next().ok().ok_or("next")?.ok_or("a link")?;
-    assert_eq!(rt; link.write(b"xyz\n").ok(), Some(4));
+    let (mut client, mut link) = connected(&rt, &mut links)?;
+    assert!(rt; link.write(b"xyz\n") == Ok(4));
     client.read_exact(&mut back)?;
     drop(client);
     assert!(rt; link.read(&mut into).is_err());
-    assert_eq!(rt; (link.faults(), link.write_faults()), (1, 0));
+    assert!(rt; link.faults() == 1 && link.write_faults() == 0);
     Ok(())
 }
 
@@ -471,11 +472,10 @@ fn ticks_come_a_pace_apart(rt: HostRuntime) -> Result<(), Fail> {
     ticker.pace(100);
     let start = Instant::now(&rt)?;
     for number in 1..4u8 {
-        let due = ticker.wait(&rt, Tick::new(number)?);
-        assert!(rt; due.is_ok());
+        assert!(rt; ticker.wait(&rt, Tick::new(number)?).is_ok());
         // No tick comes before its time.
         assert!(rt; start.elapsed(&rt)?.as_millis() >= 100 * u128::from(number));
     }
-    assert_eq!(rt; ticker.faults(), 0);
+    assert!(rt; ticker.faults() == 0);
     Ok(())
 }

@@ -1,5 +1,5 @@
 // The commands that write a game file.
-use crate::tests::{Case, FIRST_CLIENT, NO_FAULT, changed, check, check_all, plain_game, written};
+use crate::tests::{Case, FIRST_CLIENT, changed, check_all, check_line, plain_game, written};
 use std::test::Fail;
 
 const GAMES: &[Case<'static>] = &[
@@ -36,30 +36,17 @@ fn games_are_shown_in_their_canonical_text(rt: HostRuntime) -> Result<(), Fail> 
     let alloc = rt.alloc();
     let game = plain_game(alloc, FIRST_CLIENT)?;
     let commented = format!(in alloc; "# game\n{game}")?;
-    let moved = changed(
-        alloc,
-        game.as_str(),
-        &("flight 0 300 10 10 ", "flight 0 300 10 4294967295 "),
-    )?;
+    let files = [("script", commented.as_bytes())];
+    check_line(&rt, alloc, "show script", &files, 0, game.as_str())?;
+    let change = ("flight 0 300 10 10 ", "flight 0 300 10 4294967295 ");
+    let moved = changed(alloc, game.as_str(), &change)?;
     let made = written(&rt, alloc, "make 42", &[])?;
     let upgraded = written(&rt, alloc, "upgrade game", &[("game", game.as_bytes())])?;
-    for (line, script, text) in &[
-        ("show script", &game, &game),
-        ("show script", &commented, &game),
-        ("show script", &moved, &moved),
-        ("show script", &made, &made),
-        ("show script", &upgraded, &upgraded),
-        ("upgrade script", &upgraded, &upgraded),
-    ] {
-        check(
-            &rt,
-            alloc,
-            line,
-            script.as_str(),
-            NO_FAULT,
-            0,
-            &[text.as_str()],
-        )?;
+    let files = [("script", upgraded.as_bytes())];
+    check_line(&rt, alloc, "upgrade script", &files, 0, upgraded.as_str())?;
+    for text in [game, moved, made, upgraded] {
+        let files = [("script", text.as_bytes())];
+        check_line(&rt, alloc, "show script", &files, 0, text.as_str())?;
     }
     Ok(())
 }

@@ -1,13 +1,10 @@
 // The table of the standings over several games.
 
 use crate::tests::{
-    BAD_CLIENT, FIRST_CLIENT, NO_FAULT, SERVED, TRADES, changed, log_of, plain_game, run,
+    BAD_CLIENT, FIRST_CLIENT, SERVED, TRADES, UNSOUND, changed, check_line, log_of, plain_game,
 };
 use std::alloc::Global;
-use std::rt::Clock;
-use std::sync::Wait;
 use std::test::Fail;
-use std::thread::Threads;
 
 // The word `table`, and this many pairs of a game and a log that is not sound.
 fn table_of(alloc: Global, pairs: usize) -> Result<String, Fail> {
@@ -48,22 +45,6 @@ const TABLES: &[(&str, u8, &str)] = &[
     ("table game idle game missing", 3, "fault read\n"),
 ];
 
-// Runs a line over files. Fails if the code or the text is another.
-fn check<R: Threads + Sync + Wait + Clock>(
-    rt: &R,
-    alloc: Global,
-    line: &str,
-    files: &[(&str, &[u8])],
-    code: u8,
-    text: &str,
-) -> Result<(), Fail> {
-    let ran = run(rt, alloc, line, files, NO_FAULT)?;
-    if ran.code != code || ran.text.as_slice() != text.as_bytes() {
-        return Err(Fail::from(line));
-    }
-    Ok(())
-}
-
 #[test]
 fn standings_are_of_games_whose_logs_are_sound(rt: HostRuntime) -> Result<(), Fail> {
     let alloc = rt.alloc();
@@ -72,11 +53,7 @@ fn standings_are_of_games_whose_logs_are_sound(rt: HostRuntime) -> Result<(), Fa
     let idle = log_of(&rt, alloc, "")?;
     let traded = log_of(&rt, alloc, TRADES)?;
     let served = changed(alloc, traded.as_str(), &("\nplay\n", SERVED))?;
-    let unsound = changed(
-        alloc,
-        traded.as_str(),
-        &("score 0 1100 -660 0 440\n", "score 0 1100 -660 0 441\n"),
-    )?;
+    let unsound = changed(alloc, traded.as_str(), &UNSOUND)?;
     let files = [
         ("game", game.as_bytes()),
         ("bad", bad.as_bytes()),
@@ -87,10 +64,10 @@ fn standings_are_of_games_whose_logs_are_sound(rt: HostRuntime) -> Result<(), Fa
         ("bad_log", b"taclog 2\n".as_slice()),
     ];
     for (line, code, text) in TABLES {
-        check(&rt, alloc, line, &files, *code, text)?;
+        check_line(&rt, alloc, line, &files, *code, text)?;
     }
     let full = table_of(alloc, 64)?;
-    check(&rt, alloc, full.as_str(), &files, 9, "unsound 0\n")?;
+    check_line(&rt, alloc, full.as_str(), &files, 9, "unsound 0\n")?;
     let past = table_of(alloc, 65)?;
-    check(&rt, alloc, past.as_str(), &files, 1, "usage\n")
+    check_line(&rt, alloc, past.as_str(), &files, 1, "usage\n")
 }

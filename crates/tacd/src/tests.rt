@@ -1,9 +1,10 @@
 // What the tests of the commands share: runs over the outside in memory, and a plain game.
 ghost use Rattle.std.specs.Prelude.{◌≡◌, ◌≤◌, ◌↔◌, [], All, IfOk, IfSome, IsTrue, string_len};
 ghost use Rattle.tac_base.specs.declared.limits.TheConstants.{NAME_BYTES};
+ghost use Rattle.tac_io.specs.MemFiles.{files_names};
 
 use crate::top::tac;
-use std::alloc::Global;
+use std::alloc::{AllocError, Global};
 use std::fmt::Write;
 use std::rt::Clock;
 use std::sync::Wait;
@@ -43,7 +44,7 @@ pub(crate) const NO_FAULT: Faults = Faults {
 // A size that no other growth has. A run lies between two growths of it, so that checks/refuse.c refuses none outside.
 const MARK: usize = 76_543;
 
-fn mark(alloc: Global) -> Result<(), Fail> {
+fn mark(alloc: Global) -> Result<(), AllocError> {
     let _marked: Vec<u8> = Vec::with_capacity(alloc, MARK)?;
     Ok(())
 }
@@ -60,30 +61,11 @@ pub(crate) fn run_over<R: Threads + Sync + Wait + Clock, L: Link + Send + Drop, 
 ) -> Result<Ran<L>, Fail>
     requires { IfSome (T.state ticker.old).waited (λ ticks. ticks ≡ []) }
 {
-    let mut held = Vec::new(alloc);
-    for (name, bytes) in files {
-        held.push(MemFile {
-            name: String::from_str(alloc, name)?,
-            bytes: bytes.to_vec(alloc)?,
-        })?;
-    }
     let words = words_of(alloc, line)?;
-    let mut files = MemFiles::new(
-        alloc,
-        held,
-        faults.given_at_once,
-        vec![in alloc; faults.read]?,
-    )?;
-    let mut out = MemSink::new(
-        alloc,
-        1_000_000,
-        faults.most_at_once,
-        vec![in alloc; faults.write]?,
-    )?;
+    let mut files = files_of(alloc, files, faults)?;
+    let failing = vec![in alloc; faults.write]?;
+    let mut out = MemSink::new(alloc, 1_000_000, faults.most_at_once, failing)?;
     let mut links = MemLinks::new(given, vec![in alloc; faults.links]?);
-    if !are_short(&words) {
-        return Err(Fail::from("a word is too long"));
-    }
     mark(alloc)?;
     let answer = tac(rt, alloc, &words, &mut files, &mut out, &mut links, ticker);
     mark(alloc)?;
@@ -95,20 +77,39 @@ pub(crate) fn run_over<R: Threads + Sync + Wait + Clock, L: Link + Send + Drop, 
     })
 }
 
-// Whether each word is short enough for the name of a file in memory.
-fn are_short(words: &[String]) -> bool
-    ensures { IsTrue result ↔ All (λ word. string_len word ≤ NAME_BYTES) words.now }
+// Those files in memory.
+fn files_of(alloc: Global, files: &[(&str, &[u8])], faults: Faults) -> Result<MemFiles, AllocError>
+    ensures { IfOk result (λ all. files_names all ≡ []) }
 {
-    words.iter().all(|word| word.len() <= NAME_BYTES)
+    let mut held = Vec::new(alloc);
+    for (name, bytes) in files {
+        held.push(MemFile {
+            name: String::from_str(alloc, name)?,
+            bytes: bytes.to_vec(alloc)?,
+        })?;
+    }
+    let failing = vec![in alloc; faults.read]?;
+    MemFiles::new(alloc, held, faults.given_at_once, failing)
 }
 
-// The words of a line.
-fn words_of(alloc: Global, line: &str) -> Result<Vec<String>, Fail> {
+// The words of a line, each short enough for the name of a file in memory.
+fn words_of(alloc: Global, line: &str) -> Result<Vec<String>, Fail>
+    ensures { IfOk result (λ words. All (λ word. string_len word ≤ NAME_BYTES) words.items) }
+{
     let mut words = Vec::new(alloc);
     for word in line.split_whitespace() {
         words.push(String::from_str(alloc, word)?)?;
     }
+    if !are_short(&words) {
+        return Err(Fail::from("a word is too long"));
+    }
     Ok(words)
+}
+
+fn are_short(words: &[String]) -> bool
+    ensures { IsTrue result ↔ All (λ word. string_len word ≤ NAME_BYTES) words.now }
+{
+    words.iter().all(|word| word.len() <= NAME_BYTES)
 }
 
 // Runs a line over files, without links.
@@ -158,6 +159,22 @@ pub(crate) fn changed(alloc: Global, text: &str, change: &(&str, &str)) -> Resul
     Ok(whole)
 }
 
+// Runs a line over files. Fails if the code or the text is another.
+pub(crate) fn check_line<R: Threads + Sync + Wait + Clock>(
+    rt: &R,
+    alloc: Global,
+    line: &str,
+    files: &[(&str, &[u8])],
+    code: u8,
+    text: &str,
+) -> Result<(), Fail> {
+    let ran = run(rt, alloc, line, files, NO_FAULT)?;
+    if ran.code != code || ran.text.as_slice() != text.as_bytes() {
+        return Err(Fail::from(line));
+    }
+    Ok(())
+}
+
 // A line, the script beside it, the read that fails, 0 for none, and what is due: the code, and the parts of the text.
 pub(crate) type Case<'a> = (&'a str, &'a str, u64, u8, &'a [&'a str]);
 
@@ -184,9 +201,8 @@ pub(crate) fn check<R: Threads + Sync + Wait + Clock>(
         ("script", script.as_bytes()),
     ];
     let ran = run(rt, alloc, line, &files, faults)?;
-    let text = str::from_utf8(ran.text.as_slice())?;
-    if ran.code != code || !has_parts(text, parts) {
-        return Err(Fail::from(text));
+    if ran.code != code || !has_parts(&ran.text, parts) {
+        return Err(Fail::from(str::from_utf8(&ran.text)?));
     }
     Ok(())
 }
@@ -208,7 +224,10 @@ pub(crate) fn check_all<R: Threads + Sync + Wait + Clock>(
 }
 
 // Whether the text begins with the first of the parts, and has the others; or is the first, if that is alone.
-fn has_parts(text: &str, parts: &[&str]) -> bool {
+pub(crate) fn has_parts(text: &[u8], parts: &[&str]) -> bool {
+    let Ok(text) = str::from_utf8(text) else {
+        return false;
+    };
     match parts {
         [whole] => text == *whole,
         [first, others @ ..] => {
@@ -234,6 +253,9 @@ pub(crate) const TRADES: &str =
 // The head of a log of those trades over links, where the other agents have no seats.
 pub(crate) const SERVED: &str =
     "\nserve\nlink 0 seated 2\nlink 1 seated 0\nlink 2 lost\nlink 3 seated 1\nend 0 quit\nend 1 end\nend 2 quit\nmissed 54\n";
+
+// The change of the log of those trades to another score.
+pub(crate) const UNSOUND: (&str, &str) = ("score 0 1100 -660 0 440\n", "score 0 1100 -660 0 441\n");
 
 // Bids of every fault.
 pub(crate) const BIDS: &str =

@@ -1,5 +1,7 @@
 // The audit of a log by one link.
-use crate::tests::{FIRST_CLIENT, NO_FAULT, SERVED, TRADES, changed, log_of, plain_game, run};
+use crate::tests::{
+    FIRST_CLIENT, NO_FAULT, SERVED, TRADES, UNSOUND, changed, check_line, log_of, plain_game, run,
+};
 use std::alloc::Global;
 use std::test::Fail;
 
@@ -123,11 +125,7 @@ fn files_of_links_come_last(rt: HostRuntime) -> Result<(), Fail> {
     let game = plain_game(alloc, FIRST_CLIENT)?;
     let played = log_of(&rt, alloc, TRADES)?;
     let log = changed(alloc, played.as_str(), &("\nplay\n", SERVED))?;
-    let unsound = changed(
-        alloc,
-        log.as_str(),
-        &("score 0 1100 -660 0 440\n", "score 0 1100 -660 0 441\n"),
-    )?;
+    let unsound = changed(alloc, log.as_str(), &UNSOUND)?;
     let welcome = ten_lines(alloc, 2)?;
     let answers = format!(in alloc; "{welcome}{ANSWERS}")?;
     let files: [(&str, &[u8]); 7] = [
@@ -143,10 +141,7 @@ fn files_of_links_come_last(rt: HostRuntime) -> Result<(), Fail> {
         ("none", b""),
     ];
     for (line, code, told) in FILES {
-        let ran = run(&rt, alloc, line, &files, NO_FAULT)?;
-        if ran.code != *code || ran.text.as_slice() != told.as_bytes() {
-            return Err(Fail::from(*line));
-        }
+        check_line(&rt, alloc, line, &files, *code, told)?;
     }
     Ok(())
 }
