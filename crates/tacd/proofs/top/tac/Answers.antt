@@ -8,10 +8,10 @@ use Rattle.tacd.proofs.ServiceCauses.{allowed, clock_fault, link_fault, no_clock
 use Rattle.tacd.proofs.top.tac.Goals as goal
 
 -- what follows from the outcome, by the lemma that says it of each
-by_outcome : {command : Option Command} {files files' : FilesState} {sink sink' : SinkState} {code : ℕ} (P : Option Command → FilesState → FilesState → ℕ → Type 0)
+by_outcome : {command : Option Command} {files files' : FilesState} {code : ℕ} (sink sink' : SinkState) (P : Option Command → FilesState → FilesState → ℕ → Type 0)
     → ((files files' : FilesState) (outcome : Outcome) (sink sink' : SinkState) (code : ℕ) → Reports outcome sink sink' code → (command : Option Command) → Allows command files files' outcome → P command files files' code)
     → (outcome : Outcome) × Allows command files files' outcome × Reports outcome sink sink' code → P command files files' code
-by_outcome P follows told = follows _ _ told.0 _ _ _ told.2 _ told.1
+by_outcome sink sink' P follows told = follows _ _ told.0 _ _ _ told.2 _ told.1
 
 -- ---- the service of a game
 
@@ -49,22 +49,22 @@ pub returns-in-Some-clause-prompt : goal.returns-in-Some-clause-prompt
 returns-in-Some-clause-prompt g c = rw c.in-Some.ensures.service tt
 
 pub returns-in-Some-clause-usage : goal.returns-in-Some-clause-usage
-returns-in-Some-clause-usage g c = by_outcome (λ command files files' code. UsageExactly command code) causes.usage (returns-in-Some-clause-outcome g c)
+returns-in-Some-clause-usage g c = by_outcome _ _ (λ command files files' code. UsageExactly command code) causes.usage (returns-in-Some-clause-outcome g c)
 
 pub returns-in-Some-clause-game_refused : goal.returns-in-Some-clause-game_refused
-returns-in-Some-clause-game_refused g c = by_outcome GameRefusedExactly causes.game_refused (returns-in-Some-clause-outcome g c)
+returns-in-Some-clause-game_refused g c = by_outcome _ _ GameRefusedExactly causes.game_refused (returns-in-Some-clause-outcome g c)
 
 pub returns-in-Some-clause-text_refused : goal.returns-in-Some-clause-text_refused
-returns-in-Some-clause-text_refused g c = by_outcome TextRefusedExactly causes.text_refused (returns-in-Some-clause-outcome g c)
+returns-in-Some-clause-text_refused g c = by_outcome _ _ TextRefusedExactly causes.text_refused (returns-in-Some-clause-outcome g c)
 
 pub returns-in-Some-clause-unsound : goal.returns-in-Some-clause-unsound
-returns-in-Some-clause-unsound g c = by_outcome UnsoundExactly causes.unsound (returns-in-Some-clause-outcome g c)
+returns-in-Some-clause-unsound g c = by_outcome _ _ UnsoundExactly causes.unsound (returns-in-Some-clause-outcome g c)
 
 pub returns-in-Some-clause-read_fault : goal.returns-in-Some-clause-read_fault
-returns-in-Some-clause-read_fault g c = by_outcome (λ command. ReadFaultExactly) causes.read_fault (returns-in-Some-clause-outcome g c)
+returns-in-Some-clause-read_fault g c = by_outcome _ _ (λ command. ReadFaultExactly) causes.read_fault (returns-in-Some-clause-outcome g c)
 
 pub returns-in-Some-clause-names : goal.returns-in-Some-clause-names
-returns-in-Some-clause-names g c = by_outcome Selects causes.selected (returns-in-Some-clause-outcome g c)
+returns-in-Some-clause-names g c = by_outcome _ _ Selects causes.selected (returns-in-Some-clause-outcome g c)
 
 pub returns-in-Some-clause-link_fault : goal.returns-in-Some-clause-link_fault
 returns-in-Some-clause-link_fault g c =
@@ -92,22 +92,22 @@ pub returns-in-None-clause-prompt : goal.returns-in-None-clause-prompt
 returns-in-None-clause-prompt g c = rw c.in-None.ensures.service c.run_words-code.ensures.prompt
 
 pub returns-in-None-clause-usage : goal.returns-in-None-clause-usage
-returns-in-None-clause-usage g c = by_outcome (λ command files files' code. UsageExactly command code) causes.usage (returns-in-None-clause-outcome g c)
+returns-in-None-clause-usage g c = by_outcome _ _ (λ command files files' code. UsageExactly command code) causes.usage (returns-in-None-clause-outcome g c)
 
 pub returns-in-None-clause-game_refused : goal.returns-in-None-clause-game_refused
-returns-in-None-clause-game_refused g c = by_outcome GameRefusedExactly causes.game_refused (returns-in-None-clause-outcome g c)
+returns-in-None-clause-game_refused g c = by_outcome _ _ GameRefusedExactly causes.game_refused (returns-in-None-clause-outcome g c)
 
 pub returns-in-None-clause-text_refused : goal.returns-in-None-clause-text_refused
-returns-in-None-clause-text_refused g c = by_outcome TextRefusedExactly causes.text_refused (returns-in-None-clause-outcome g c)
+returns-in-None-clause-text_refused g c = by_outcome _ _ TextRefusedExactly causes.text_refused (returns-in-None-clause-outcome g c)
 
 pub returns-in-None-clause-unsound : goal.returns-in-None-clause-unsound
-returns-in-None-clause-unsound g c = by_outcome UnsoundExactly causes.unsound (returns-in-None-clause-outcome g c)
+returns-in-None-clause-unsound g c = by_outcome _ _ UnsoundExactly causes.unsound (returns-in-None-clause-outcome g c)
 
 pub returns-in-None-clause-read_fault : goal.returns-in-None-clause-read_fault
-returns-in-None-clause-read_fault g c = by_outcome (λ command. ReadFaultExactly) causes.read_fault (returns-in-None-clause-outcome g c)
+returns-in-None-clause-read_fault g c = by_outcome _ _ (λ command. ReadFaultExactly) causes.read_fault (returns-in-None-clause-outcome g c)
 
 pub returns-in-None-clause-names : goal.returns-in-None-clause-names
-returns-in-None-clause-names g c = by_outcome Selects causes.selected (returns-in-None-clause-outcome g c)
+returns-in-None-clause-names g c = by_outcome _ _ Selects causes.selected (returns-in-None-clause-outcome g c)
 
 pub returns-in-None-clause-link_fault : goal.returns-in-None-clause-link_fault
 returns-in-None-clause-link_fault g c =
