@@ -9,7 +9,7 @@ use Rattle.trade_ledger.specs.declared.cash_calls.CashCall.TheVariants.{Post, Re
 use Rattle.trade_ledger.specs.declared.cash_calls.CashReply.{CashReply}
 use Rattle.trade_ledger.specs.declared.cash_calls.CashReply.TheVariants.{Cash, Done}
 use Rattle.tacd.specs.declared.answer.Answer.{Answer}
-use Rattle.tacd.specs.{Serves, WritesTrueLog, hosted_by}
+use Rattle.tacd.specs.{Serves, WritesTrueLog}
 use Rattle.tacd.specs.ServedLinks.{IsVouchedService}
 use Rattle.tacd.proofs.PostedCash.{cash_of_posts}
 use Rattle.tacd.proofs.ServedLinks.{vouched_by_links}

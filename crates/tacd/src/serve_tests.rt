@@ -1,8 +1,8 @@
 // A game over links in memory, and the system's links and ticker.
-ghost use Rattle.std.specs.Prelude.{◌≡◌, [], IfOk, IfSome, IsSome};
+ghost use Rattle.std.specs.Prelude.{◌≡◌, [], IfOk, IfSome};
 
 use crate::sleep_ticker::SleepTicker;
-use crate::tcp_links::{TcpLink, TcpLinks};
+use crate::tcp_links::TcpLinks;
 use crate::tests::{FIRST_CLIENT, Faults, NO_FAULT, Ran, has_parts, plain_game, run_over};
 use std::alloc::Global;
 use std::io::{Print, Read, Write};
@@ -426,18 +426,6 @@ fn sessions_run_beside_one_another(rt: HostRuntime) -> Result<(), Fail> {
     Ok(())
 }
 
-// A client, and the link on which it comes.
-fn connected(
-    rt: &HostRuntime,
-    links: &mut TcpLinks<'_, HostRuntime>,
-) -> Result<(TcpStream, TcpLink<TcpStream>), Fail>
-    requires { IsSome links.old.listener }
-{
-    let client = TcpStream::connect(rt, ("127.0.0.1", 28471))?;
-    let link = links.next().ok().ok_or("next")?.ok_or("a link")?;
-    Ok((client, link))
-}
-
 #[test]
 fn links_come_over_the_loopback(rt: HostRuntime) -> Result<(), Fail> {
     let mut links = TcpLinks::new(&rt);
@@ -445,8 +433,9 @@ fn links_come_over_the_loopback(rt: HostRuntime) -> Result<(), Fail> {
     assert!(rt; links.listen(28471).is_ok());
     assert!(rt; others.listen(28471).is_err());
     assert!(rt; links.faults() == 0 && others.faults() == 1);
-    let (mut client, mut link) = connected(&rt, &mut links)?;
+    let mut client = TcpStream::connect(&rt, ("127.0.0.1", 28471))?;
     client.write_all(b"hello\n")?;
+    let mut link = links.next().ok().ok_or("next")?.ok_or("a link")?;
     let mut into = [0u8; 16];
     assert!(rt; link.read(&mut into) == Ok(6) && into.starts_with(b"hello\n"));
     assert!(rt; link.write(b"x\n") == Ok(2));
@@ -457,7 +446,8 @@ fn links_come_over_the_loopback(rt: HostRuntime) -> Result<(), Fail> {
     assert!(rt; link.read(&mut into) == Ok(0));
     assert!(rt; link.faults() == 0 && link.write_faults() == 0);
     // A peer that leaves with bytes unread resets its connection, which is a fault and not an end.
-    let (mut client, mut link) = connected(&rt, &mut links)?;
+    let mut client = TcpStream::connect(&rt, ("127.0.0.1", 28471))?;
+    let mut link = links.next().ok().ok_or("next")?.ok_or("a link")?;
     assert!(rt; link.write(b"xyz\n") == Ok(4));
     client.read_exact(&mut back)?;
     drop(client);
