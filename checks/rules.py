@@ -424,6 +424,7 @@ def rules_page() -> Tuple[str, List[str]]:
             text += ["", f"## {heading}", "", *HEADER]
         cells = [words_cell(rule, faults), cell("definition", rule.definitions, faults),
                  cell("code", rule.code, faults), cell("clause", rule.clauses, faults),
-                 proofs_cell(rule), cell("edit", rule.edits, faults), cell("row", rule.rows, faults)]
+                 proofs_cell(rule), cell("edit", rule.edits, faults),
+                 cell("row", rule.rows, faults)]
         text.append(f"| {rule.rule} | {' | '.join(cells)} |")
     return "\n".join(text) + "\n", faults
