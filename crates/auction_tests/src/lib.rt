@@ -1,4 +1,4 @@
-//! Tests of the public calls on auctions, cash, scripts and made games: worked rows, one after another.
+//! Tests of the public calls on auctions, cash and made games: worked rows, one after another.
 #![tactic(auto)]
 
 #[cfg(test)]
@@ -7,5 +7,3 @@ mod auctions;
 mod cash;
 #[cfg(test)]
 mod made_games;
-#[cfg(test)]
-mod scripts;

@@ -1,4 +1,3 @@
-pub mod Ranks
 pub mod ChoiceLaws
 pub mod Greatest
 pub mod CeilingLaws

@@ -1,6 +1,6 @@
 -- What tables of worths and costs bound.
 use Rattle.std.specs.Prelude.{◌≡◌, ℕ, ◌+◌, ◌<◌, ◌≤ℤ◌, ◌<ℤ◌, ◌+ℤ◌, ◌-ℤ◌, ℤ, pos, true, length, List, [], ◌∷◌, Some, slice_get, slice_index_or, All}
-use Rattle.dual_bound.specs.Prelude.{Preferences, AccountFile, Package, utility_of, packages, Narrowing, cost_of, AreEntries, dollars_at}
+use Rattle.dual_bound.specs.Prelude.{Preferences, AccountFile, IsAccount, Package, utility_of, packages, Narrowing, cost_of, stock_value, leaf_bound, is_within, AreEntries, dollars_at}
 use Rattle.packages.specs.declared.travel_packages.Package.TheVariants as kinds
 
 -- no package that is left to a client is worth more to it than the table says
@@ -8,6 +8,11 @@ abbrev pub IsCeiling : AccountFile → Narrowing → List ℤ → Type 0
 IsCeiling account left table =
     (k n : ℕ) (client : Preferences) (p : Package) → slice_get account.clients k ≡ Some client → slice_get packages n ≡ Some p → left k p ≡ true
     → pos (utility_of client p) ≤ℤ dollars_at table k n
+
+-- whatever the table is a ceiling of, with a stock that costs so much, is bounded by a claim at the prices
+abbrev pub HasAtMost : List ℕ → ℕ → List ℤ → ℕ → Type 0
+HasAtMost prices stock table claim =
+    (account : AccountFile) (left : Narrowing) → IsAccount account → stock ≡ stock_value account.holdings prices → IsCeiling account left table → is_within (leaf_bound account left prices) claim ≡ true
 
 -- a table has for each package what it costs at the prices
 abbrev pub AreCosts : List ℕ → List ℕ → Type 0

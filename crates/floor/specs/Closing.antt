@@ -1,7 +1,10 @@
 -- What holds of a game whose calls are over.
 use Rattle.std.specs.Prelude.{◌≡◌, ℕ, ◌≤◌, List, [], map, length, reverse, take, slice_get, Some, None}
 use Rattle.std.specs.List.{AllZip}
-use Rattle.floor.specs.Prelude.{Board, Points, Bid, Taken, Entry, Legal, refusal, AuctionHistory, ClosedGame, Returned, part, AreNotes, AreKnown}
+use mathlib.Core.Option.{some}
+use lib.ListN.{get_elem?}
+use Rattle.turn_lock.specs.declared.lock.TurnLock.{TurnLock}
+use Rattle.floor.specs.Prelude.{Board, Points, Bid, Taken, Entry, Legal, refusal, AuctionHistory, ClosedGame, Returned, part, AreNotes, AreKnown, start_of, passes_of, returned_to}
 use Rattle.floor.specs.declared.desk.Desk.{Desk}
 use Rattle.floor.specs.Desks.{desk_caller, desk_entries, desk_cash, boards_of}
 use Rattle.floor.specs.ClosedBoards.{board_of}
@@ -13,6 +16,12 @@ pub record IsGivenBack (start : AuctionHistory) (passes : ℕ) (returned : List 
   pub legal : Legal auction.setup auction.history
   pub known : AreKnown (board_of auction) (λ e. e.caller) auction.history returned
   pub nobody_else : (c : ℕ) → passes ≤ c → part (λ e. e.caller) auction.history c ≡ []
+
+module _ {C R G : Type 0} where
+  -- each of the locks, in order, gave back an auction
+  abbrev pub AreGivenBack : List (TurnLock AuctionHistory C R G Entry) → List AuctionHistory → Type 0
+  AreGivenBack locks auctions = (good : ℕ) (lock : _) (auction : _) → get_elem? locks good ≡ some lock → get_elem? auctions good ≡ some auction
+      → IsGivenBack (start_of lock) (passes_of lock) (returned_to lock) auction
 
 -- each board that was seen of a good is that of the prefix of its history of the length that it states
 abbrev pub AreSeenBoards : List AuctionHistory → List (List (ℕ × Board)) → Type 0

@@ -1,5 +1,5 @@
 -- The passes that callers have before any call.
-use Rattle.std.specs.Prelude.{◌≡◌, ℕ, List, [], map, length, replicate}
+use Rattle.std.specs.Prelude.{◌≡◌, ℕ, List, [], ◌∷◌, ◌++◌, map, length, replicate}
 use mathlib.Core.Option.{some}
 use lib.ListN.{get_elem?}
 use Rattle.floor.specs.Prelude.{Ghosts, Pass, Entry, CashEntry, LockId, lock_of, caller_of, turns_left, made_by, noted_by, seen_by}
@@ -18,6 +18,10 @@ module _ {S C R G E : Type 0} {K : Ghosts S C R G E} where
   -- each caller's passes are fresh
   abbrev pub AreFresh : List (LockId S) → (ℕ → ℕ) → List (List (Pass S C R G E K)) → Type 0
   AreFresh ids left hands = (caller : ℕ) (passes : List (Pass S C R G E K)) → get_elem? hands caller ≡ some passes → IsFresh ids caller (left caller) passes
+
+  -- each caller has one more pass, of this lock, and it is fresh if those before it are
+  abbrev pub AreDealt : LockId S → (ℕ → ℕ) → List (List (Pass S C R G E K)) → List (List (Pass S C R G E K)) → Type 0
+  AreDealt id left before after = (ids : List (LockId S)) → AreFresh ids left before → AreFresh (ids ++ id ∷ []) left after
 
 module _ {S C R G T D Q H : Type 0} {K : Ghosts S C R G Entry} {L : Ghosts T D Q H CashEntry} where
   -- the passes of auctions and the pass of the cash book are those of one desk that made no call and no reading

@@ -1,11 +1,16 @@
 -- The invariants of every desk and every floor.
 use Rattle.std.specs.Prelude.{◌≡◌, ℕ, ◌+◌, ◌==◌, ◌<◌, ◌≤◌, not, List, filter, map, length, replicate, count_by, sum_by, slice_index_or, [], ◌++◌, All}
 use Rattle.std.specs.List.Sorted.{IsStrictlyIncreasing}
-use Rattle.floor.specs.Prelude.{CASH_READINGS, GOODS, Board, Call, Entry, clock, cap, AuctionHistory, CashEntry, cash_cap, HoldSame, is_post, posts_of, due_posts}
+use Rattle.floor.specs.Prelude.{CASH_READINGS, GOODS, Board, Call, Entry, clock, cap, AuctionHistory, CashEntry, cash_cap, HoldSame, is_post, posts_of, due_posts, Ghosts, Pass, made_by, turns_left}
 
 -- entries were added to the cash history, all at one position: one entry, or none
 abbrev pub AddsCash : List (ℕ × CashEntry) → List (ℕ × CashEntry) → List CashEntry → Type 0
 AddsCash before after entries = (position : ℕ) × (after ≡ before ++ map (λ e. (position, e)) entries)
+
+module _ {S C R G : Type 0} {K : Ghosts S C R G CashEntry} where
+  -- a pass added entries to the cash history, and used a turn for each
+  abbrev pub AddsByTurns : Pass S C R G CashEntry K → Pass S C R G CashEntry K → List CashEntry → Type 0
+  AddsByTurns before after entries = AddsCash (made_by before) (made_by after) entries × (turns_left after + length entries ≡ turns_left before)
 
 -- a desk's posts are those that are due to its own entries so far, each once
 abbrev pub IsPosted : List (List (ℕ × Entry)) → List (ℕ × CashEntry) → Type 0

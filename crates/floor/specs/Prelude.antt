@@ -14,7 +14,7 @@ pub use Rattle.auction_rules.specs.Refusals.{refusal}
 pub use Rattle.auction_rules.specs.Setup.{Setup}
 pub use Rattle.turn_lock.specs.Notes.{AreNotes}
 pub use Rattle.turn_lock.specs.Part.{part}
-pub use Rattle.turn_lock.specs.Passes.{LockId, caller_of, lock_id, lock_of, made_by, noted_by, passes_of, returned_by, returned_to, seen_by, start_of, turns_left}
+pub use Rattle.turn_lock.specs.Passes.{AreFreshPasses, IsFreshPass, LockId, caller_of, lock_id, lock_of, made_by, noted_by, passes_of, returned_by, returned_to, seen_by, start_of, turns_left}
 pub use Rattle.turn_lock.specs.TurnRule.{AreKnown}
 pub use Rattle.turn_lock.specs.declared.kept.Kept.{Ghosts}
 pub use Rattle.turn_lock.specs.declared.pass.Pass.{Pass}

@@ -1,7 +1,7 @@
-ghost use Rattle.std.specs.Prelude.{◌≡◌, ◌+◌, ◌≤◌, [], ◌∷◌, ◌++◌, length};
+ghost use Rattle.std.specs.Prelude.{◌≡◌, ◌+◌, ◌≤◌, [], ◌∷◌, ◌++◌};
 ghost use Rattle.trade_ledger.specs.declared.cash_calls.CashCall.TheVariants as calls;
 ghost use Rattle.trade_ledger.specs.declared.cash_calls.CashReply.TheVariants as replies;
-ghost use Rattle.floor.specs.{Entry, due_post, lock_of, lock_id, caller_of, turns_left, made_by, AddsCash};
+ghost use Rattle.floor.specs.{Entry, due_post, lock_of, lock_id, caller_of, turns_left, made_by, AddsByTurns};
 ghost use Rattle.auction_core.specs.Struck.{struck_of};
 
 use auction_core::Struck;
@@ -23,8 +23,7 @@ pub(crate) fn post<R: Wait + Clock>(
     requires own { lock_of pass.old ≡ lock_id lock.now }
     requires left { 1 ≤ turns_left pass.old }
     ensures own { (lock_of pass.new ≡ lock_of pass.old) × (caller_of pass.new ≡ caller_of pass.old) }
-    ensures posted { (e : Entry) → struck_of e ≡ struck.now → e.caller ≡ caller_of pass.old →
-        AddsCash (made_by pass.old) (made_by pass.new) (due_post good position e) × (turns_left pass.new + length (due_post good position e) ≡ turns_left pass.old) }
+    ensures posted { (e : Entry) → struck_of e ≡ struck.now → e.caller ≡ caller_of pass.old → AddsByTurns pass.old pass.new (due_post good position e) }
 {
     if struck.trades == 0 {
         return;

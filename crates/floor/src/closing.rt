@@ -3,7 +3,7 @@ ghost use Rattle.std.specs.Prelude.{◌≡◌, ℕ, ◌≤◌, [], length, map, 
 ghost use mathlib.Core.Option.{some};
 ghost use lib.ListN.{get_elem?};
 ghost use Rattle.turn_lock.specs.Passes.{lock_of, lock_id, start_of, passes_of, returned_to, returned_by};
-ghost use Rattle.floor.specs.{with_each, IsGivenBack};
+ghost use Rattle.floor.specs.{with_each, AreGivenBack};
 
 use auction_core::Auction;
 use turn_lock::{Pass, TurnLock};
@@ -28,8 +28,7 @@ pub(crate) fn close_all(locks: Vec<TurnLock<Auction>>, mut room: Vec<Auction>) -
     requires room { (room.items ≡ []) × (length locks.items ≤ vec_capacity room) }
     requires all_back { (good : ℕ) (lock : _) → get_elem? locks.items good ≡ some lock → length (returned_to lock) ≡ passes_of lock }
     ensures length { length result.items ≡ length locks.items }
-    ensures given_back { (good : ℕ) (lock : _) (auction : _) → get_elem? locks.items good ≡ some lock → get_elem? result.items good ≡ some auction
-        → IsGivenBack (start_of lock) (passes_of lock) (returned_to lock) auction }
+    ensures given_back { AreGivenBack locks.items result.items }
 {
     for lock in locks {
         room.push_reserved(lock.close());

@@ -1,8 +1,8 @@
 //! Makes the passes lock by lock, and gives each caller its own.
-ghost use Rattle.std.specs.Prelude.{◌≡◌, ℕ, List, [], ◌∷◌, ◌++◌, length, map, replicate, All, IfOk, OnOk};
+ghost use Rattle.std.specs.Prelude.{◌≡◌, ℕ, [], length, map, replicate, All, IfOk, OnOk};
 ghost use mathlib.Core.Option.{some};
 ghost use lib.ListN.{get_elem?};
-ghost use Rattle.floor.specs.{setup_of, cap, cash_cap, AuctionHistory, LockId, lock_of, lock_id, caller_of, turns_left, made_by, noted_by, seen_by, start_of, passes_of, returned_to, with_each, desk_steps, AreFresh, MakeDesk};
+ghost use Rattle.floor.specs.{setup_of, cap, cash_cap, lock_id, start_of, passes_of, returned_to, with_each, desk_steps, AreDealt, AreFreshPasses, MakeDesk};
 
 use crate::desk::Desk;
 use crate::growing::add;
@@ -79,8 +79,7 @@ pub(crate) fn open(
     requires { length hands.old.items ≡ CALLERS }
     ensures start { IfOk result (λ lock. start_of lock ≡ record { setup = setup_of good game.now; history = [] }) }
     ensures passes { IfOk result (λ lock. (passes_of lock ≡ CALLERS) × (returned_to lock ≡ [])) }
-    ensures dealt { IfOk result (λ lock. (ids : List (LockId AuctionHistory)) → AreFresh ids cap (map (λ hand. hand.items) hands.old.items)
-        → AreFresh (ids ++ lock_id lock ∷ []) cap (map (λ hand. hand.items) hands.new.items)) }
+    ensures dealt { IfOk result (λ lock. AreDealt (lock_id lock) cap (map (λ hand. hand.items) hands.old.items) (map (λ hand. hand.items) hands.new.items)) }
     ensures nine { OnOk result (length hands.new.items ≡ CALLERS) }
 {
     let auction = Auction::begin(alloc, good, game)?;
@@ -92,8 +91,7 @@ pub(crate) fn open(
 /// Makes the lock of the cash book, and its passes.
 pub(crate) fn open_cash(alloc: Global) -> Result<(TurnLock<CashBook>, Vec<Pass<CashBook>>), Memory>
     ensures lock { IfOk result (λ r. (passes_of r.0 ≡ CALLERS) × (returned_to r.0 ≡ [])) }
-    ensures passes { IfOk result (λ r. (length r.1.items ≡ CALLERS) × ((i : ℕ) (p : _) → get_elem? r.1.items i ≡ some p →
-        (lock_of p ≡ lock_id r.0) × (caller_of p ≡ i) × (turns_left p ≡ cash_cap i) × (made_by p ≡ []) × (noted_by p ≡ []) × (seen_by p ≡ 0))) }
+    ensures passes { IfOk result (λ r. (length r.1.items ≡ CALLERS) × AreFreshPasses (lock_id r.0) cash_cap r.1.items) }
 {
     let book = CashBook::begin(alloc)?;
     let (lock, passes) = TurnLock::begin(alloc, book, &CASH_CALLS)?;

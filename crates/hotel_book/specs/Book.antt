@@ -1,6 +1,6 @@
 -- What a contract sees of a hotel auction, and the pasts that it stands for.
-use Rattle.std.specs.Prelude.{◌≡◌, ℕ, suc, ◌+◌, ◌≤◌, ◌==◌, max, ⊤, Bool, if◌then◌else◌, List, [], ◌∷◌, length, slice_set, Option, Some, None, filter_map}
-use Rattle.hotel_book.specs.Prelude.{Point, Trade, Reply, Closed, Unit as ShownUnit, AGENTS, BID_PRICE, BID_UNITS, STANDING_UNITS, agents, house, Placed, BidUnit, Setup, Hotel as HotelRules, units_of, AreShown, Entry, last_bids, is_closed, units_of_bids, published, ask, hotel_refusal}
+use Rattle.std.specs.Prelude.{◌≡◌, ℕ, suc, ◌+◌, ◌≤◌, ◌==◌, max, min, ⊤, Bool, if◌then◌else◌, List, [], ◌∷◌, length, slice_set, Option, Some, None, filter_map}
+use Rattle.hotel_book.specs.Prelude.{Point, Trade, Reply, Closed, Sold, Unit as ShownUnit, AGENTS, BID_PRICE, BID_UNITS, STANDING_UNITS, agents, house, Placed, BidUnit, Setup, Hotel as HotelRules, units_of, AreShown, Entry, last_bids, is_closed, units_of_bids, published, ask, hotel_refusal}
 
 -- a hotel's good and its rules, the last bid of each agent in order, the published price, and whether it is closed
 pub record HotelBook : Type 0 where
@@ -51,6 +51,10 @@ hotel_units_left book = if book.closed then 0 else STANDING_UNITS
 -- the refusal of the bid of an agent that would win this many units, if there is one, by the published price
 abbrev pub book_refusal : ℕ → ℕ → Bool → List Point → Option Reply
 book_refusal won price closed points = if closed then Some Closed else hotel_refusal (max 1 won) (price + 1) points
+
+-- the reply to the closing of a hotel where these units stand: as many are sold, up to the rooms, at the ask
+abbrev pub sale_of : ℕ → List BidUnit → Reply
+sale_of rooms units = Sold (min rooms (length units)) (ask rooms units)
 
 -- what an agent buys that wins this many units, each at a price
 abbrev pub winner_trade : ℕ → ℕ → (ℕ → ℕ) → ℕ → Option Trade

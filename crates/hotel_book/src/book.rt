@@ -1,7 +1,6 @@
-ghost use Rattle.std.specs.Prelude.{All, min, ◌≡◌, ◌≤◌, ◌||◌, [], ◌∷◌, length, map, List, false, IsTrue, IsPermutation};
+ghost use Rattle.std.specs.Prelude.{All, ◌≡◌, ◌≤◌, ◌||◌, [], ◌∷◌, length, map, List, false, IsTrue, IsPermutation};
 ghost use Rattle.tac_base.specs.Kinds.{kind_of};
-ghost use Rattle.hotel_book.specs.{clock, Setup, shown_unit, Entry, left, stand, winning, is_wrong_caller, is_wrong_place, Follows, Spends, IsShort, AreRanked, HotelStandsFor, hotel_units_left, with_bid};
-ghost use Rattle.auction_rules.specs.Ask as asks;
+ghost use Rattle.hotel_book.specs.{ask, clock, Setup, shown_unit, Entry, left, stand, winning, is_wrong_caller, is_wrong_place, Follows, Spends, IsShort, AreRanked, HotelStandsFor, hotel_units_left, sale_of, with_bid};
 ghost use Rattle.auction_rules.specs.Board.{board};
 ghost use Rattle.auction_rules.specs.Legal.{entry_of};
 
@@ -42,8 +41,7 @@ impl Hotel {
     pub fn new(good: Good, rooms: u8, live: bool) -> Self
         requires kind { kind_of good ≡ Kind.Hotel }
         requires rooms { 1 ≤ rooms }
-        ensures { (setup : Setup) → setup.good ≡ good → setup.rules ≡ Rules.Hotel rooms live →
-            HotelStandsFor result setup [] }
+        ensures { (setup : Setup) → setup.good ≡ good → setup.rules ≡ Rules.Hotel rooms live → HotelStandsFor result setup [] }
     {
         Hotel {
             good,
@@ -58,8 +56,7 @@ impl Hotel {
     /// Makes an agent's bid, which replaces its earlier one. A refused bid changes nothing.
     /// `fills` is then empty.
     pub fn bid(&mut self, at: u32, agent: Agent, points: &Points, fills: &mut Fills) -> Reply
-        ensures follows { (setup : Setup) (past : List Entry) →
-            HotelStandsFor self.old setup past → at ≡ length past →
+        ensures follows { (setup : Setup) (past : List Entry) → HotelStandsFor self.old setup past → at ≡ length past →
             Follows setup past agent (Call.Bid points.now) result fills.new (HotelStandsFor self.new setup) }
         ensures none { fills.new ≡ [] }
         ensures units { Spends (hotel_units_left self.old) (hotel_units_left self.new) fills.new }
@@ -93,8 +90,7 @@ impl Hotel {
 
     /// Publishes the ask. In a closed hotel the call is refused and changes nothing.
     pub fn publish(&mut self, at: u32) -> Reply
-        ensures follows { (setup : Setup) (past : List Entry) →
-            HotelStandsFor self.old setup past → at ≡ length past →
+        ensures follows { (setup : Setup) (past : List Entry) → HotelStandsFor self.old setup past → at ≡ length past →
             Follows setup past clock Call.Publish result [] (HotelStandsFor self.new setup) }
         ensures units { hotel_units_left self.new ≤ hotel_units_left self.old }
     {
@@ -108,13 +104,11 @@ impl Hotel {
     /// Closes the hotel: sells the rooms and publishes the ask. `fills` then holds the trades.
     /// In a closed hotel the call is refused and changes nothing.
     pub fn close(&mut self, at: u32, fills: &mut Fills) -> Reply
-        ensures follows { (setup : Setup) (past : List Entry) →
-            HotelStandsFor self.old setup past → at ≡ length past →
+        ensures follows { (setup : Setup) (past : List Entry) → HotelStandsFor self.old setup past → at ≡ length past →
             Follows setup past clock Call.Close result fills.new (HotelStandsFor self.new setup) }
         // It sells as many units as stand, up to the rooms.
-        ensures sells { (setup : Setup) (past : List Entry) →
-            HotelStandsFor self.old setup past → self.old.closed ≡ false →
-            result ≡ Reply.Sold (min self.old.rooms (length (stand setup.rules past))) (asks.ask self.old.rooms (stand setup.rules past)) }
+        ensures sells { (setup : Setup) (past : List Entry) → HotelStandsFor self.old setup past → self.old.closed ≡ false →
+            result ≡ sale_of self.old.rooms (stand setup.rules past) }
         ensures units { Spends (hotel_units_left self.old) (hotel_units_left self.new) fills.new }
         ensures short { All IsShort fills.new }
     {
@@ -143,7 +137,7 @@ impl Hotel {
     /// Returns the ask of the standing units, in dollars, published or not: 0 if fewer stand than there are rooms.
     pub fn ask(&self) -> u16
         ensures ask { (setup : Setup) (past : List Entry) →
-            HotelStandsFor self.now setup past → result ≡ asks.ask self.now.rooms (stand setup.rules past) }
+            HotelStandsFor self.now setup past → result ≡ ask self.now.rooms (stand setup.rules past) }
         ensures within { result ≤ BID_PRICE }
     {
         self.ranking.ask()

@@ -1,5 +1,5 @@
 -- A walk under way, by the turns of the lines from the start on.
-use Rattle.std.proofs.Common.{◌≡◌, ℕ, suc, ◌+◌, ◌<◌, ◌≤◌, List, [], ◌∷◌, Bool, true, false, cond, length, drop, Option, None, Some, refl, sym, ap, ◌∙◌, subst, arith, IfSome, drop-drop}
+use Rattle.std.proofs.Common.{◌≡◌, ℕ, suc, ◌+◌, ◌<◌, ◌≤◌, List, [], ◌∷◌, Bool, true, false, cond, length, drop, refl, sym, ap, ◌∙◌, subst, arith, drop-drop}
 use Rattle.link_audit.specs.{SESSION_LINES, Dialect, Subject, FitsReply, IsAsked, IsLeaving, IsOver, IsTaken, IsWide, start, Course, FinishesLog, HasCourse, HaveTurns, IsDifferent, IsFirstLine, IsKept, IsLowestLeft, IsStop, behind_course, has_entry, DiffersAfter, HasHeard, HasLeft, IsBehind, lines_at}
 use Rattle.link_audit.specs.declared.places.Places.{Places}
 use Rattle.link_audit.specs.declared.hearing.Heard.{Heard}
@@ -8,11 +8,6 @@ use Rattle.link_audit.specs.declared.vouching.Difference.{Difference}
 use Rattle.link_audit.specs.declared.vouching.Difference.TheVariants as differences
 use Rattle.link_audit.proofs.Leading.{TheLine}
 use Rattle.link_audit.proofs.Courses.{course_back, course_on, finish_on, kept_by, leaves_last, leaves_none, leaving_course, moved_by, no_course, pass_back, pass_leaving, pass_on, passes_last}
-
--- what holds of a value that is there
-pub some_is : {A : Type 0} (P : A → Type 0) (found : Option A) (a : A) → found ≡ Some a → IfSome found P → P a
-some_is P None a is all = absurd cc
-some_is P (Some b) a is all = let same : b ≡ a = cc in subst P same all
 
 -- the same course, counted otherwise
 pub recounted : (dialect : Dialect) (s : Subject) (from : Places) (lines : List TheLine) (replies : List (List ℕ)) (course : Course) (turns : ℕ) → course.turns ≡ turns
@@ -29,7 +24,7 @@ rest_on all lines lines' line n is lines_are = sym (drop-drop 1 n all) ∙ ap (d
 module _ (dialect : Dialect) (s : Subject) (places : Places) (wide : IsWide places) (line : TheLine) (lines' lines : List TheLine) (lines_are : lines ≡ line ∷ lines')
     (reply : List ℕ) (replies' replies : List (List ℕ)) (replies_are : replies ≡ reply ∷ replies') (all : List TheLine) (told : List (List ℕ)) (n : ℕ)
     (courses : (course : Course) → IsBehind (HasCourse dialect s start all told (behind_course n course)) (HasCourse dialect s places lines replies course)) where
-  pub heard_course : (to : Places) → IsTaken (IsAsked dialect true line) (FitsReply dialect.text true reply) s places to
+  pub heard_course : (to : Places) → IsTaken (IsAsked dialect true line) (FitsReply dialect true reply) s places to
       → (course : Course) → IsBehind (HasCourse dialect s start all told (behind_course (n + 1) course)) (HasCourse dialect s to lines' replies' course)
   heard_course to t course =
       let more : Course = record { turns = suc course.turns; left = course.left; to = course.to } in
@@ -81,7 +76,7 @@ module _ (dialect : Dialect) (s : Subject) (places : Places) (wide : IsWide plac
     (lines_are : lines ≡ line ∷ lines') (reply : List ℕ) (replies' replies : List (List ℕ)) (replies_are : replies ≡ reply ∷ replies')
     (courses : (course : Course) → IsBehind (HasCourse dialect s start (lines_at asked from) told (behind_course n course)) (HasCourse dialect s places lines replies course))
     (finishes : (entries : ℕ) → FinishesLog dialect s start (lines_at asked from) told entries → FinishesLog dialect s places lines replies entries)
-    (told_so : length told ≡ n + length replies) (low : n < SESSION_LINES) (t : IsLeaving (IsAsked dialect true line) (FitsReply dialect.text true reply) s places) where
+    (told_so : length told ≡ n + length replies) (low : n < SESSION_LINES) (t : IsLeaving (IsAsked dialect true line) (FitsReply dialect true reply) s places) where
   left_here : HasCourse dialect s places lines replies (record { turns = 1; left = true; to = places })
   left_here = subst (λ (w : List TheLine × List (List ℕ)). HasCourse dialect s places w.0 w.1 (record { turns = 1; left = true; to = places })) (λ i. (sym lines_are i, sym replies_are i))
       (leaving_course dialect s places wide line lines' reply replies' t)
@@ -161,7 +156,7 @@ most_one false count result is = omega (arith, is)
 
 module _ (dialect : Dialect) (s : Subject) (places : Places) (wide : IsWide places) (line : TheLine) (lines' lines : List TheLine) (lines_are : lines ≡ line ∷ lines') (reached : Places) (all : List TheLine) where
   pub passed_course : (n n' : ℕ) → n' ≡ n + 1 → ((course : Course) → IsBehind (HasCourse dialect s reached all [] (behind_course n course)) (HasCourse dialect s places lines [] course))
-      → (to : Places) → IsTaken (IsAsked dialect false line) (FitsReply dialect.text false []) s places to
+      → (to : Places) → IsTaken (IsAsked dialect false line) (FitsReply dialect false []) s places to
       → (course : Course) → IsBehind (HasCourse dialect s reached all [] (behind_course n' course)) (HasCourse dialect s to lines' [] course)
   passed_course n n' next courses to t course =
       let more : Course = record { turns = suc course.turns; left = course.left; to = course.to } in
@@ -174,7 +169,7 @@ module _ (dialect : Dialect) (s : Subject) (places : Places) (wide : IsWide plac
             (pass_back dialect s places wide line lines' to t course.turns course.left course.to h)));
       }
 
-  pub passed_finish : (count count' : ℕ) → (to : Places) (t : IsTaken (IsAsked dialect false line) (FitsReply dialect.text false []) s places to) → count' ≡ count + cond (has_entry t.turn) 1 0
+  pub passed_finish : (count count' : ℕ) → (to : Places) (t : IsTaken (IsAsked dialect false line) (FitsReply dialect false []) s places to) → count' ≡ count + cond (has_entry t.turn) 1 0
       → (IsOver s places → ⊥)
       → ((entries : ℕ) → FinishesLog dialect s reached all [] entries → (k : ℕ) × (entries ≡ count + k) × FinishesLog dialect s places lines [] k)
       → (entries : ℕ) → FinishesLog dialect s reached all [] entries → (k : ℕ) × (entries ≡ count' + k) × FinishesLog dialect s to lines' [] k
@@ -197,7 +192,7 @@ module _ (dialect : Dialect) (s : Subject) (places reached : Places) (all lines 
   }
 
   -- the agent leaves by the next line
-  pub stop_left : (wide : IsWide places) (line : TheLine) (lines' : List TheLine) → lines ≡ line ∷ lines' → IsLeaving (IsAsked dialect false line) (FitsReply dialect.text false []) s places
+  pub stop_left : (wide : IsWide places) (line : TheLine) (lines' : List TheLine) → lines ≡ line ∷ lines' → IsLeaving (IsAsked dialect false line) (FitsReply dialect false []) s places
       → used + n < SESSION_LINES → IsStop dialect s reached all used left
   stop_left wide line lines' lines_are t few = record {
     course = behind_course n (record { turns = 1; left = true; to = places });

@@ -93,7 +93,7 @@ module _ (dialect : Dialect) (s : Subject) (from : Places) where
       record IsOpen (course : Course) : Type 0 where
         pub turn : Turn
         pub turns : List Turn
-        pub possible : IsPossible (IsAsked dialect true line) (FitsReply dialect.text true reply) s from turn
+        pub possible : IsPossible (IsAsked dialect true line) (FitsReply dialect true reply) s from turn
         pub answered : AreAnswered dialect turns lines replies
         pub last : is_leaving turn ≡ true → turns ≡ []
         pub allowed : AreAllowed (behind_turn from turn) turns
@@ -121,11 +121,11 @@ module _ (dialect : Dialect) (s : Subject) (from : Places) where
             to = to;
           }
 
-      pub course_stuck : IsStuck (IsAsked dialect true line) (FitsReply dialect.text true reply) s from → (course : Course) (n : ℕ) → course.turns ≡ suc n
+      pub course_stuck : IsStuck (IsAsked dialect true line) (FitsReply dialect true reply) s from → (course : Course) (n : ℕ) → course.turns ≡ suc n
           → HasCourse dialect s from (line ∷ lines) (reply ∷ replies) course → ⊥
       course_stuck stuck course n is c = let o = open_course course n is c in stuck o.turn o.possible
 
-      module _ (to : Places) (t : IsTaken (IsAsked dialect true line) (FitsReply dialect.text true reply) s from to) (n : ℕ) (left : Bool) (end : Places) where
+      module _ (to : Places) (t : IsTaken (IsAsked dialect true line) (FitsReply dialect true reply) s from to) (n : ℕ) (left : Bool) (end : Places) where
         pub course_on : HasCourse dialect s from (line ∷ lines) (reply ∷ replies) (record { turns = suc n; left = left; to = end })
             → HasCourse dialect s to lines replies (record { turns = n; left = left; to = end })
         course_on c =
@@ -155,7 +155,7 @@ module _ (dialect : Dialect) (s : Subject) (from : Places) where
         }
 
       -- turns by which nothing is left
-      pub heard_on : (to : Places) → IsTaken (IsAsked dialect true line) (FitsReply dialect.text true reply) s from to
+      pub heard_on : (to : Places) → IsTaken (IsAsked dialect true line) (FitsReply dialect true reply) s from to
           → (entries : ℕ) → FinishesLog dialect s from (line ∷ lines) (reply ∷ replies) entries → FinishesLog dialect s to lines replies entries
       heard_on to t entries f = by_turns f.turns f.answered f.replied f.allowed f.next f.over f.entries_are
         where
@@ -163,7 +163,7 @@ module _ (dialect : Dialect) (s : Subject) (from : Places) where
               → IsOver s (walked from turns) → count_by has_entry (drop (suc (length replies)) turns) ≡ entries → FinishesLog dialect s to lines replies entries
           by_turns [] answered replied allowed next over is = absurd (omega (arith, replied))
           by_turns (turn ∷ turns) answered replied allowed next over is =
-              let possible : IsPossible (IsAsked dialect true line) (FitsReply dialect.text true reply) s from turn = record { asked = answered.0; fits = λ came. answered.1; allowed = allowed.0; next = next.0 } in
+              let possible : IsPossible (IsAsked dialect true line) (FitsReply dialect true reply) s from turn = record { asked = answered.0; fits = λ came. answered.1; allowed = allowed.0; next = next.0 } in
               let easy = easy_turns s to (behind_turn from turn) turns (t.easiest turn possible) (subst IsWide (sym t.to_is) (wide_after from t.turn wide)) (wide_after from turn wide) allowed.2 next.1 in
               record {
                 turns = turns;
@@ -176,7 +176,7 @@ module _ (dialect : Dialect) (s : Subject) (from : Places) where
               }
 
       -- the agent leaves by it
-      module _ (t : IsLeaving (IsAsked dialect true line) (FitsReply dialect.text true reply) s from) where
+      module _ (t : IsLeaving (IsAsked dialect true line) (FitsReply dialect true reply) s from) where
         pub leaving_course : HasCourse dialect s from (line ∷ lines) (reply ∷ replies) (record { turns = 1; left = true; to = from })
         leaving_course = let p = t.possible in record {
           turns = Left ∷ [];
@@ -201,7 +201,7 @@ module _ (dialect : Dialect) (s : Subject) (from : Places) where
                 → count_by has_entry (drop (suc (length replies)) turns) ≡ entries → entries ≡ 0
             by_turns [] answered replied allowed next is = absurd (omega (arith, replied))
             by_turns (turn ∷ turns) answered replied allowed next is =
-                let possible : IsPossible (IsAsked dialect true line) (FitsReply dialect.text true reply) s from turn = record { asked = answered.0; fits = λ came. answered.1; allowed = allowed.0; next = next.0 } in
+                let possible : IsPossible (IsAsked dialect true line) (FitsReply dialect true reply) s from turn = record { asked = answered.0; fits = λ came. answered.1; allowed = allowed.0; next = next.0 } in
                 let none : turns ≡ [] = allowed.1 (ap is_leaving (t.only turn possible)) in
                 sym is ∙ ap (count_by has_entry) (ap (drop (length replies)) none ∙ drop-none (length replies))
 
@@ -210,7 +210,7 @@ module _ (dialect : Dialect) (s : Subject) (from : Places) where
     record IsOpenUnheard (course : Course) : Type 0 where
       pub turn : Turn
       pub turns : List Turn
-      pub possible : IsPossible (IsAsked dialect false line) (FitsReply dialect.text false []) s from turn
+      pub possible : IsPossible (IsAsked dialect false line) (FitsReply dialect false []) s from turn
       pub answered : AreAnswered dialect turns lines []
       pub last : is_leaving turn ≡ true → turns ≡ []
       pub allowed : AreAllowed (behind_turn from turn) turns
@@ -238,15 +238,15 @@ module _ (dialect : Dialect) (s : Subject) (from : Places) where
           to = to;
         }
 
-    pub pass_course_stuck : IsStuck (IsAsked dialect false line) (FitsReply dialect.text false []) s from → (course : Course) (n : ℕ) → course.turns ≡ suc n
+    pub pass_course_stuck : IsStuck (IsAsked dialect false line) (FitsReply dialect false []) s from → (course : Course) (n : ℕ) → course.turns ≡ suc n
         → HasCourse dialect s from (line ∷ lines) [] course → ⊥
     pass_course_stuck stuck course n is c = let o = open_unheard course n is c in stuck o.turn o.possible
 
-    module _ (to : Places) (t : IsTaken (IsAsked dialect false line) (FitsReply dialect.text false []) s from to) where
+    module _ (to : Places) (t : IsTaken (IsAsked dialect false line) (FitsReply dialect false []) s from to) where
       wide_to : IsWide to
       wide_to = subst IsWide (sym t.to_is) (wide_after from t.turn wide)
 
-      like_taken : (turn : Turn) → IsPossible (IsAsked dialect false line) (FitsReply dialect.text false []) s from turn → has_entry t.turn ≡ has_entry turn
+      like_taken : (turn : Turn) → IsPossible (IsAsked dialect false line) (FitsReply dialect false []) s from turn → has_entry t.turn ≡ has_entry turn
       like_taken turn possible = same_entries from t.turn turn wide t.possible.allowed possible.allowed (subst (λ (q : Places). IsEasier q (behind_turn from turn)) t.to_is (t.easiest turn possible))
 
       module _ (n : ℕ) (left : Bool) (end : Places) where
@@ -285,7 +285,7 @@ module _ (dialect : Dialect) (s : Subject) (from : Places) where
               → (k : ℕ) × (entries ≡ cond (has_entry t.turn) 1 0 + k) × FinishesLog dialect s to lines [] k
           by_turns [] answered allowed next over is = absurd (more over)
           by_turns (turn ∷ turns) answered allowed next over is =
-              let possible : IsPossible (IsAsked dialect false line) (FitsReply dialect.text false []) s from turn = record { asked = answered.0; fits = λ came. absurd cc; allowed = allowed.0; next = next.0 } in
+              let possible : IsPossible (IsAsked dialect false line) (FitsReply dialect false []) s from turn = record { asked = answered.0; fits = λ came. absurd cc; allowed = allowed.0; next = next.0 } in
               let easy = easy_turns s to (behind_turn from turn) turns (t.easiest turn possible) wide_to (wide_after from turn wide) allowed.2 next.1 in
               let alike : cond {A = ℕ} (has_entry t.turn) 1 0 ≡ cond {A = ℕ} (has_entry turn) 1 0 = ap (λ (b : Bool). cond {A = ℕ} b 1 0) (like_taken turn possible) in (
                 count_by has_entry turns,
@@ -294,7 +294,7 @@ module _ (dialect : Dialect) (s : Subject) (from : Places) where
               )
 
     -- the agent leaves by it
-    module _ (t : IsLeaving (IsAsked dialect false line) (FitsReply dialect.text false []) s from) where
+    module _ (t : IsLeaving (IsAsked dialect false line) (FitsReply dialect false []) s from) where
       pub pass_leaving : HasCourse dialect s from (line ∷ lines) [] (record { turns = 1; left = true; to = from })
       pass_leaving = let p = t.possible in record {
         turns = Left ∷ [];

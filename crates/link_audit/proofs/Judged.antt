@@ -1,7 +1,7 @@
 -- What is said of an answer, by how the lines and the replies of a link were walked over.
 use Rattle.std.proofs.Common.{◌≡◌, ℕ, ◌+◌, ◌-◌, ◌≤◌, List, [], ◌∷◌, ◌++◌, Bool, true, false, length, map, take, drop, Some, refl, sym, ap, ◌∙◌, subst, arith, inl, inr, ◌↔◌, ◌⊎◌, Result, nat_le, slice_get, if◌then◌else◌, count_by, append-nil, length-append, take-append-drop}
 use Rattle.std.proofs.lemmas.List.{length-map}
-use Rattle.link_audit.specs.{Board, LINE_BYTES, LINK_BYTES, SESSION_LINES, GameFile, all_answers, ended_line, LineGot, Request, RequestFault, LoggedGame, Dialect, verdict_of, AreItems, IsItem, Turn, has_left, item_of, said_of, welcome_lines, free_seats, Subject, AreAllowed, AreBoards, IsAhead, IsOver, IsWide, Remains, behind_turn, start, AreAnswered, AreNext, Course, FinishesLog, HasCourse, IsDifferent, IsFirstLeft, IsLowestLeft, IsStop, behind_course, has_entry, walked, IsVouched, MayAsk, whole_lines, DiffersBehind, HasNumbers, IsDifferenceOf, IsFirstDifference, HasSeatAndLines, IsJudged, IsWhole, IsWholeLink, IsYes, HasHeard, IsFinished, IsHeard, TakesSeat, lines_at}
+use Rattle.link_audit.specs.{Board, LINE_BYTES, LINK_BYTES, SESSION_LINES, GameFile, all_answers, ended_line, LineGot, Request, RequestFault, LoggedGame, Dialect, verdict_of, AreItems, IsItem, Turn, has_left, item_of, said_of, welcome_lines, free_seats, Subject, AreAllowed, AreBoards, IsAhead, IsOver, IsWide, Remains, behind_turn, start, AreAnswered, AreNext, Course, FinishesLog, HasCourse, IsDifferent, IsFirstLeft, IsLowestLeft, IsStop, behind_course, has_entry, walked, IsVouched, MayAsk, whole_lines, DiffersBehind, HasNumbers, IsDifferenceOf, IsFirstDifference, HasSeatAndLines, IsJudged, IsWhole, IsWholeLink, IsYes, IsYesExactlyIf, HasHeard, IsFinished, IsHeard, TakesSeat, lines_at}
 use Rattle.tac_io.specs.declared.line_got.LineGot.TheVariants as gots
 use Rattle.link_audit.specs.declared.places.Places.{Places}
 use Rattle.link_audit.specs.declared.hearing.Heard.TheVariants.{Through, Gone}
@@ -307,7 +307,7 @@ module _ (game : GameFile) (dialect : Dialect) (log : LoggedGame) (asked said : 
         by_kind (differences.Entry good position) lowest f = f
         by_kind (differences.Cash position) lowest f = f
 
-    pub through_judged : (v : Vouching) → ((other : ℕ) → IsYes other v ↔ ((agent ≡ other) × IsAhead dialect TheSubject places (lines_at asked at) [] (SESSION_LINES - n)))
+    pub through_judged : (v : Vouching) → IsYesExactlyIf agent (IsAhead dialect TheSubject places (lines_at asked at) [] (SESSION_LINES - n)) v
         → IsFinished dialect TheSubject asked ended (Through places at n) v → IsJudged game dialect log asked said v
     through_judged v is how = record { yes = yes; whole = by_whole v is how; numbers = λ other w. subst (λ (k : ℕ). (w' : IsVouched game dialect log k asked said) → HasNumbers v w'.heard w'.unheard) (same other w) (by_numbers v how) w; difference = by_difference v how }
       where
@@ -317,7 +317,7 @@ module _ (game : GameFile) (dialect : Dialect) (log : LoggedGame) (asked said : 
           (λ found. (is other).1 (same other found, heard.0.there (to_ahead other found))),
         )
 
-        by_whole : (u : Vouching) → ((other : ℕ) → IsYes other u ↔ ((agent ≡ other) × IsAhead dialect TheSubject places (lines_at asked at) [] (SESSION_LINES - n)))
+        by_whole : (u : Vouching) → IsYesExactlyIf agent (IsAhead dialect TheSubject places (lines_at asked at) [] (SESSION_LINES - n)) u
             → IsFinished dialect TheSubject asked ended (Through places at n) u → (other : ℕ) → IsWhole other u ↔ IsWholeLink game dialect log other asked said
         by_whole (Whole seat count) is' how' other = (
           (λ did. (let found = (is' other).0 did in

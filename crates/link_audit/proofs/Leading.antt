@@ -104,12 +104,12 @@ module _ (dialect : Dialect) (s : Subject) where
 
     module _ (line : TheLine) (lines : List TheLine) (room : ℕ) where
       pub open_heard : (reply : List ℕ) (replies : List (List ℕ)) → IsAhead dialect s from (line ∷ lines) (reply ∷ replies) (suc room)
-          → IsOpened (IsAsked dialect true line) (FitsReply dialect.text true reply) from lines replies room
+          → IsOpened (IsAsked dialect true line) (FitsReply dialect true reply) from lines replies room
       open_heard reply replies a = by_heard a.heard a.answered a.lines_are a.heard_items a.few a.replies_are a.remains
         where
           by_heard : (heard : List Turn) (answered : List TheLine) → line ∷ lines ≡ answered ++ (a.unanswered ++ a.later) → AreItems dialect.may_answer answered (map item_of heard)
               → length (heard ++ a.unheard) ≤ suc room → reply ∷ replies ≡ map (λ turn. dialect.text (said_of turn)) heard → Remains s from (heard ++ a.unheard)
-              → IsOpened (IsAsked dialect true line) (FitsReply dialect.text true reply) from lines replies room
+              → IsOpened (IsAsked dialect true line) (FitsReply dialect true reply) from lines replies room
           by_heard [] answered lines_are items few replies_are all = absurd cc
           by_heard (turn ∷ turns) [] lines_are items few replies_are all = absurd items
           by_heard (turn ∷ turns) (first ∷ others) lines_are items few replies_are all =
@@ -140,11 +140,11 @@ module _ (dialect : Dialect) (s : Subject) where
               none_left [] is none rest = (is, none_over s (behind_turn from turn) (subst (λ (l : List Turn). Remains s (behind_turn from turn) l) none rest))
               none_left (u ∷ us) is none rest = absurd cc
 
-      pub open_unheard : IsAhead dialect s from (line ∷ lines) [] (suc room) → (IsOver s from → ⊥) → IsOpened (IsAsked dialect false line) (FitsReply dialect.text false []) from lines [] room
+      pub open_unheard : IsAhead dialect s from (line ∷ lines) [] (suc room) → (IsOver s from → ⊥) → IsOpened (IsAsked dialect false line) (FitsReply dialect false []) from lines [] room
       open_unheard a more = by_heard a.heard a.answered a.lines_are a.heard_items a.few a.replies_are a.remains
         where
           by_unheard : (unheard : List Turn) (unanswered : List TheLine) → line ∷ lines ≡ unanswered ++ a.later → AreItems (MayAsk dialect.may_answer) unanswered (map item_of unheard)
-              → length unheard ≤ suc room → Remains s from unheard → IsOpened (IsAsked dialect false line) (FitsReply dialect.text false []) from lines [] room
+              → length unheard ≤ suc room → Remains s from unheard → IsOpened (IsAsked dialect false line) (FitsReply dialect false []) from lines [] room
           by_unheard [] unanswered lines_are items few all = absurd (more (none_over s from all))
           by_unheard (turn ∷ turns) [] lines_are items few all = absurd items
           by_unheard (turn ∷ turns) (first ∷ others) lines_are items few all =
@@ -171,7 +171,7 @@ module _ (dialect : Dialect) (s : Subject) where
 
           by_heard : (heard : List Turn) (answered : List TheLine) → line ∷ lines ≡ answered ++ (a.unanswered ++ a.later) → AreItems dialect.may_answer answered (map item_of heard)
               → length (heard ++ a.unheard) ≤ suc room → [] ≡ map (λ turn. dialect.text (said_of turn)) heard → Remains s from (heard ++ a.unheard)
-              → IsOpened (IsAsked dialect false line) (FitsReply dialect.text false []) from lines [] room
+              → IsOpened (IsAsked dialect false line) (FitsReply dialect false []) from lines [] room
           by_heard [] [] lines_are items few replies_are all = by_unheard a.unheard a.unanswered lines_are a.unheard_items few all
           by_heard [] (first ∷ others) lines_are items few replies_are all = absurd items
           by_heard (turn ∷ turns) answered lines_are items few replies_are all = absurd cc
@@ -183,7 +183,7 @@ module _ (dialect : Dialect) (s : Subject) where
         never turn stays leaves = absurd (let both : true ≡ false = sym leaves ∙ stays in cc)
 
         -- a line with its reply
-        module _ (reply : List ℕ) (replies : List (List ℕ)) (t : IsTaken (IsAsked dialect true line) (FitsReply dialect.text true reply) s from to) where
+        module _ (reply : List ℕ) (replies : List (List ℕ)) (t : IsTaken (IsAsked dialect true line) (FitsReply dialect true reply) s from to) where
           pub heard_on : IsAhead dialect s from (line ∷ lines) (reply ∷ replies) (suc room) → IsAhead dialect s to lines replies room
           heard_on a =
               let o = open_heard reply replies a in
@@ -207,7 +207,7 @@ module _ (dialect : Dialect) (s : Subject) where
               }
 
         -- a line without a reply
-        module _ (t : IsTaken (IsAsked dialect false line) (FitsReply dialect.text false []) s from to) where
+        module _ (t : IsTaken (IsAsked dialect false line) (FitsReply dialect false []) s from to) where
           pub unheard_on : (IsOver s from → ⊥) → IsAhead dialect s from (line ∷ lines) [] (suc room) → IsAhead dialect s to lines [] room
           unheard_on more a =
               let o = open_unheard a more in
@@ -237,15 +237,15 @@ module _ (dialect : Dialect) (s : Subject) where
 
       -- ---- no way over a line
 
-      pub heard_stuck : (reply : List ℕ) (replies : List (List ℕ)) → IsStuck (IsAsked dialect true line) (FitsReply dialect.text true reply) s from → IsAhead dialect s from (line ∷ lines) (reply ∷ replies) (suc room) → ⊥
+      pub heard_stuck : (reply : List ℕ) (replies : List (List ℕ)) → IsStuck (IsAsked dialect true line) (FitsReply dialect true reply) s from → IsAhead dialect s from (line ∷ lines) (reply ∷ replies) (suc room) → ⊥
       heard_stuck reply replies stuck a = let o = open_heard reply replies a in stuck o.turn o.possible
 
-      pub unheard_stuck : (IsOver s from → ⊥) → IsStuck (IsAsked dialect false line) (FitsReply dialect.text false []) s from → IsAhead dialect s from (line ∷ lines) [] (suc room) → ⊥
+      pub unheard_stuck : (IsOver s from → ⊥) → IsStuck (IsAsked dialect false line) (FitsReply dialect false []) s from → IsAhead dialect s from (line ∷ lines) [] (suc room) → ⊥
       unheard_stuck more stuck a = let o = open_unheard a more in stuck o.turn o.possible
 
       -- ---- the agent leaves by a line
 
-      module _ (reply : List ℕ) (replies : List (List ℕ)) (t : IsLeaving (IsAsked dialect true line) (FitsReply dialect.text true reply) s from) where
+      module _ (reply : List ℕ) (replies : List (List ℕ)) (t : IsLeaving (IsAsked dialect true line) (FitsReply dialect true reply) s from) where
         pub left_on : IsAhead dialect s from (line ∷ lines) (reply ∷ replies) (suc room) → (replies ≡ []) × IsOver s from
         left_on a =
             let o = open_heard reply replies a in
@@ -268,7 +268,7 @@ module _ (dialect : Dialect) (s : Subject) where
           remains = turn_first s from Left [] wide tt (λ leaves. refl) tt (over_none s from over);
         }
 
-      pub unheard_left : (IsOver s from → ⊥) → IsLeaving (IsAsked dialect false line) (FitsReply dialect.text false []) s from → IsAhead dialect s from (line ∷ lines) [] (suc room) → ⊥
+      pub unheard_left : (IsOver s from → ⊥) → IsLeaving (IsAsked dialect false line) (FitsReply dialect false []) s from → IsAhead dialect s from (line ∷ lines) [] (suc room) → ⊥
       unheard_left more t a =
           let o = open_unheard a more in
           let last : o.turn ≡ Left = t.only o.turn o.possible in

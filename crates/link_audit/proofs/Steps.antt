@@ -1,7 +1,7 @@
 -- What a line led to, by what it was read as.
 use Rattle.std.proofs.Common.{◌≡◌, ◌<◌, ◌≤◌, ℕ, List, [], length, Bool, true, false, Ok, Err, refl, sym, ap, subst, le-leb, Result, if◌then◌else◌}
 use Rattle.std.proofs.lemmas.Bool.{lt-leb}
-use Rattle.link_audit.specs.{LINE_BYTES, ended_line, LineGot, Request, RequestFault, Said, Dialect, Item, Asks, Overlong, IsItem, Turn, Called, CallDenied, CashRead, CashDenied, Quoted, Refused, Skipped, Left, item_of, said_of, Subject, ReadsBy, IsAsked, FitsReply, IsPossible, IsEasier, IsTaken, IsStuck, IsStep, IsAnswerTo, behind_turn}
+use Rattle.link_audit.specs.{LINE_BYTES, ended_line, LineGot, Request, RequestFault, Said, Dialect, Item, Asks, Overlong, IsItem, Turn, Called, CallDenied, CashRead, CashDenied, Quoted, Refused, Skipped, Left, item_of, said_of, Subject, ReadsBy, IsAsked, FitsReply, IsPossible, IsEasier, IsTaken, IsStuck, IsStep, IsAnswerTo, AsksOnly, behind_turn}
 use Rattle.tac_io.specs.declared.line_got.LineGot.TheVariants as gots
 use Rattle.line_protocol.specs.declared.asking.Request.TheVariants as requests
 use Rattle.line_protocol.specs.declared.saying.Said.TheVariants as said
@@ -104,15 +104,14 @@ module _ (dialect : Dialect) (heard : Bool) (reply line : List ℕ) where
   long_line many = ap (λ (b : Bool). if b then (gots.Line, line) else (gots.TooLong, [])) (lt-leb (length line) LINE_BYTES many)
 
   module _ (s : Subject) (from to : Places) (result : Step) where
-    pub read_step : (asked : Result Request RequestFault) → length line ≤ LINE_BYTES → ReadsBy dialect.may_answer heard line asked
-        → ((other : Result Request RequestFault) (answer : Said) → ReadsBy dialect.may_answer heard line other → IsAnswerTo other answer → FitsReply dialect.text heard reply answer → other ≡ asked)
-        → IsStep (λ item. item ≡ Asks asked) (FitsReply dialect.text heard reply) s from to result
-        → IsStep (IsAsked dialect heard (ended_line line)) (FitsReply dialect.text heard reply) s from to result
+    pub read_step : (asked : Result Request RequestFault) → length line ≤ LINE_BYTES → ReadsBy dialect.may_answer heard line asked → AsksOnly dialect heard line reply asked
+        → IsStep (λ item. item ≡ Asks asked) (FitsReply dialect heard reply) s from to result
+        → IsStep (IsAsked dialect heard (ended_line line)) (FitsReply dialect heard reply) s from to result
     read_step asked few may only is =
-        subst (λ (l : LineGot × List ℕ). IsStep (IsAsked dialect heard l) (FitsReply dialect.text heard reply) s from to result) (sym (short_line few))
-        (step_as s from (λ item. item ≡ Asks asked) (IsAsked dialect heard (gots.Line, line)) (FitsReply dialect.text heard reply)
+        subst (λ (l : LineGot × List ℕ). IsStep (IsAsked dialect heard l) (FitsReply dialect heard reply) s from to result) (sym (short_line few))
+        (step_as s from (λ item. item ≡ Asks asked) (IsAsked dialect heard (gots.Line, line)) (FitsReply dialect heard reply)
         (λ item same. subst (IsAsked dialect heard (gots.Line, line)) (sym same) may) (λ turn is' fit. by_item turn (item_of turn) refl is' fit) to result is)
       where
-        by_item : (turn : Turn) (item : Item) → item_of turn ≡ item → IsAsked dialect heard (gots.Line, line) item → FitsReply dialect.text heard reply (said_of turn) → item ≡ Asks asked
+        by_item : (turn : Turn) (item : Item) → item_of turn ≡ item → IsAsked dialect heard (gots.Line, line) item → FitsReply dialect heard reply (said_of turn) → item ≡ Asks asked
         by_item turn (Asks other) same is' fit = ap Asks (only other (said_of turn) is' (answers turn other same) fit)
         by_item turn Overlong same is' fit = absurd is'

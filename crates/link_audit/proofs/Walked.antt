@@ -1,6 +1,6 @@
 -- A walk under way: what is ahead of a link is what is ahead behind the lines that were walked over.
-use Rattle.std.proofs.Common.{◌≡◌, ℕ, suc, List, [], ◌∷◌, Bool, true, false, refl, sym, ◌∙◌, subst, ◌+◌, ◌<◌, ◌≤◌, Option, None, Some, MatchOption, drop, is_some, length, slice_range}
-use Rattle.link_audit.specs.{SESSION_LINES, has_end, BeginsWithLine, LineGot, Dialect, Subject, IsAsked, FitsReply, IsOver, IsWide, IsTaken, IsStuck, IsLeaving, IsAhead, start, IsBehind, IsAheadAt, IsHeard, EndsByLeaving, replies_at}
+use Rattle.std.proofs.Common.{◌≡◌, ℕ, suc, List, [], ◌∷◌, Bool, true, false, refl, sym, ◌∙◌, subst, ◌+◌, Option, None, Some, is_some, slice_range}
+use Rattle.link_audit.specs.{SESSION_LINES, LineGot, Dialect, Subject, IsAsked, FitsReply, IsOver, IsWide, IsTaken, IsStuck, IsLeaving, IsAhead, start, IsBehind, IsAheadAt, IsHeard, EndsByLeaving, FindsEnd, replies_at}
 use Rattle.std.proofs.lemmas.List.{length-replicate}
 use Rattle.tac_io.specs.declared.line_got.LineGot.TheVariants as gots
 use Rattle.link_audit.specs.declared.places.Places.{Places}
@@ -26,16 +26,16 @@ module _ (dialect : Dialect) (s : Subject) (Before : Type 0) (from : Places) (wi
       behind : IsAhead dialect s from (line ∷ lines') (reply ∷ replies') (suc room') → IsAhead dialect s from lines replies room
       behind a = subst (λ (w : List (LineGot × List ℕ) × List (List ℕ) × ℕ). IsAhead dialect s from w.0 w.1 w.2) (λ i. (sym lines_are i, sym replies_are i, sym room_is i)) a
 
-      pub walked_on : (to : Places) → IsTaken (IsAsked dialect true line) (FitsReply dialect.text true reply) s from to → IsBehind Before (IsAhead dialect s to lines' replies' room')
+      pub walked_on : (to : Places) → IsTaken (IsAsked dialect true line) (FitsReply dialect true reply) s from to → IsBehind Before (IsAhead dialect s to lines' replies' room')
       walked_on to t = record {
         there = λ before. heard_on dialect s from wide line lines' room' to reply replies' t (front (b.there before));
         back = λ a. b.back (behind (heard_back dialect s from wide line lines' room' to reply replies' t a));
       }
 
-      pub walk_stuck : IsStuck (IsAsked dialect true line) (FitsReply dialect.text true reply) s from → Before → ⊥
+      pub walk_stuck : IsStuck (IsAsked dialect true line) (FitsReply dialect true reply) s from → Before → ⊥
       walk_stuck stuck before = heard_stuck dialect s from wide line lines' room' reply replies' stuck (front (b.there before))
 
-      module _ (t : IsLeaving (IsAsked dialect true line) (FitsReply dialect.text true reply) s from) where
+      module _ (t : IsLeaving (IsAsked dialect true line) (FitsReply dialect true reply) s from) where
         pub walk_left : Before → (replies' ≡ []) × IsOver s from
         walk_left before = left_on dialect s from wide line lines' room' reply replies' t (front (b.there before))
 
@@ -57,16 +57,16 @@ module _ (dialect : Dialect) (s : Subject) (Before : Type 0) (from : Places) (wi
       behind_unheard a = subst (λ (w : List (LineGot × List ℕ) × ℕ). IsAhead dialect s from w.0 [] w.1) (λ i. (sym lines_are i, sym room_is i)) a
 
       module _ (more : IsOver s from → ⊥) where
-        pub passed_on : (to : Places) → IsTaken (IsAsked dialect false line) (FitsReply dialect.text false []) s from to → IsBehind Before (IsAhead dialect s to lines' [] room')
+        pub passed_on : (to : Places) → IsTaken (IsAsked dialect false line) (FitsReply dialect false []) s from to → IsBehind Before (IsAhead dialect s to lines' [] room')
         passed_on to t = record {
           there = λ before. unheard_on dialect s from wide line lines' room' to t more (front_unheard (b.there before));
           back = λ a. b.back (behind_unheard (unheard_back dialect s from wide line lines' room' to t a));
         }
 
-        pub pass_stuck : IsStuck (IsAsked dialect false line) (FitsReply dialect.text false []) s from → Before → ⊥
+        pub pass_stuck : IsStuck (IsAsked dialect false line) (FitsReply dialect false []) s from → Before → ⊥
         pass_stuck stuck before = unheard_stuck dialect s from wide line lines' room' more stuck (front_unheard (b.there before))
 
-        pub pass_left : IsLeaving (IsAsked dialect false line) (FitsReply dialect.text false []) s from → Before → ⊥
+        pub pass_left : IsLeaving (IsAsked dialect false line) (FitsReply dialect false []) s from → Before → ⊥
         pass_left t before = unheard_left dialect s from wide line lines' room' more t (front_unheard (b.there before))
 
         pub pass_ended : line ≡ (gots.End, []) → Before → ⊥
@@ -88,8 +88,7 @@ module _ (dialect : Dialect) (s : Subject) (Before : Type 0) (from : Places) (wi
   pass_over lines room over b = b.back (over_ahead dialect s from lines room over)
 
 -- whether another line ends
-pub more_replies : (said : List ℕ) (told : ℕ) (found : Option ℕ) → MatchOption found (has_end (drop told said) ≡ false)
-    (λ end. (told ≤ end) × (end < length said) × BeginsWithLine (drop told said) (slice_range said told end) (drop (end + 1) said))
+pub more_replies : (said : List ℕ) (told : ℕ) (found : Option ℕ) → FindsEnd said told found
     → (is_some found ≡ false → replies_at said told ≡ []) × (replies_at said told ≡ [] → is_some found ≡ false)
 more_replies said told None none = ((λ is. replies_end said told none), (λ is. refl))
 more_replies said told (Some end) b = (
@@ -108,5 +107,5 @@ left_heard dialect s asked from replies replies' Over more (Not difference) is n
 
 -- the places behind a step are wide
 pub taken_wide : (dialect : Dialect) (heard : Bool) (line : LineGot × List ℕ) (reply : List ℕ) (s : Subject) (from to : Places) → IsWide from
-    → IsTaken (IsAsked dialect heard line) (FitsReply dialect.text heard reply) s from to → IsWide to
+    → IsTaken (IsAsked dialect heard line) (FitsReply dialect heard reply) s from to → IsWide to
 taken_wide dialect heard line reply s from to wide t = subst IsWide (sym t.to_is) (wide_after from t.turn wide)

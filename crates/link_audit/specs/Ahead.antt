@@ -1,5 +1,5 @@
 -- What a log still has of an agent from given places on, and the turns that this leaves possible.
-use Rattle.std.specs.Prelude.{⊤, ◌≡◌, ℕ, ◌+◌, ◌<◌, ◌≤◌, List, [], ◌∷◌, ◌++◌, All, Bool, Result, Ok, Err, Some, true, false, drop, length, map, replicate, slice_get, slice_index, slice_index_or, slice_set, take}
+use Rattle.std.specs.Prelude.{⊤, ◌≡◌, ℕ, ◌+◌, ◌<◌, ◌≤◌, List, [], ◌∷◌, ◌++◌, All, Bool, Option, MatchOption, Result, Ok, Err, Some, true, false, drop, length, map, replicate, slice_get, slice_index, slice_index_or, slice_set, take}
 use Rattle.std.specs.Global.{Vec}
 use Rattle.link_audit.specs.Prelude.{AGENT_CALLS, CASH_READINGS, GOODS, Board, Call, GameFile, Legal, setup_of, board_of, CashEntry, due_post, part_from, LineGot, Request, RequestFault, Said, LoggedGame, IsLogged, logged_history, HasDuePost, Dialect, Item, IsItem, AreItems, Turn, Called, CallDenied, CashRead, CashDenied, Quoted, Refused, Skipped, Left, asked_call, boards_shown, cash_made, is_leaving, item_of, made_at, reading, said_of}
 use Rattle.auction_rules.specs.History.{Entry}
@@ -33,6 +33,11 @@ rest_of caller_of caller from history = part_from caller_of caller from (drop fr
 -- from a position on, the caller's next entry is this one, at this position, and the rest of its part follows
 abbrev pub HasNext : {E : Type 0} → (E → ℕ) → ℕ → ℕ → List E → ℕ → E → Type 0
 HasNext caller_of caller from history position e = rest_of caller_of caller from history ≡ (position, e) ∷ rest_of caller_of caller (position + 1) history
+
+-- the result is the position of the caller's next entry from a position on, or none if it has no entry there
+abbrev pub FindsNext : {E : Type 0} → (E → ℕ) → ℕ → ℕ → List E → Option ℕ → Type 0
+FindsNext {E} caller_of caller from history result = MatchOption result (rest_of caller_of caller from history ≡ [])
+    (λ p. (e : E) × (slice_get history p ≡ Some e) × (caller_of e ≡ caller) × HasNext caller_of caller from history p e)
 
 -- the agent's part of a good's history, from given places on
 abbrev pub calls_left : Subject → Places → ℕ → List (ℕ × Entry)
@@ -124,6 +129,10 @@ pub record ArePosted (agent : ℕ) (cash : List CashEntry) (from : ℕ) (posts :
   pub at : ArePostedAt agent cash from posts posted
   pub to_is : to ≡ behind from posts posted
 
+-- the result is the place after the due posts, or none if they are not there
+abbrev pub FindsPosts : ℕ → List CashEntry → ℕ → List CashEntry → Option ℕ → Type 0
+FindsPosts agent cash from posts result = MatchOption result ((to : ℕ) → ArePosted agent cash from posts to → ⊥) (ArePosted agent cash from posts)
+
 -- the entries and boards of a turn are what the log has next
 abbrev pub IsNextInLog : Subject → Places → Turn → Type 0
 IsNextInLog s from (Called request good position entry posted) =
@@ -145,9 +154,16 @@ ReadsBy may_answer false = MayAsk may_answer
 abbrev pub IsAsked : Dialect → Bool → LineGot × List ℕ → Item → Type 0
 IsAsked dialect heard line item = IsItem (ReadsBy dialect.may_answer heard) line item
 
--- if the reply arrived, it is this text
-abbrev pub FitsReply : (Said → List ℕ) → Bool → List ℕ → Said → Type 0
-FitsReply text heard reply said = heard ≡ true → text said ≡ reply
+-- if the reply arrived, it is the text of this answer in this form of lines
+abbrev pub FitsReply : Dialect → Bool → List ℕ → Said → Type 0
+FitsReply dialect heard reply said = heard ≡ true → dialect.text said ≡ reply
+
+-- the result is the first count, from a count on, of a board whose quote fits, or none if there is no such board
+abbrev pub FindsShown : (Said → Type 0) → List Board → ℕ → Option ℕ → Type 0
+FindsShown Fits boards from result = MatchOption result
+    ((n : ℕ) (board : Board) → from ≤ n → slice_get boards n ≡ Some board → Fits (said.Quote board) → ⊥)
+    (λ n. (from ≤ n) × ((board : Board) × (slice_get boards n ≡ Some board) × Fits (said.Quote board))
+    × ((k : ℕ) (board : Board) → from ≤ k → k < n → slice_get boards k ≡ Some board → Fits (said.Quote board) → ⊥))
 
 -- a turn with such an item and such a reply is possible at these places
 pub record IsPossible (Asked : Item → Type 0) (Fits : Said → Type 0) (s : Subject) (from : Places) (turn : Turn) : Type 0 where
@@ -193,6 +209,11 @@ abbrev pub IsAnswerTo : Result Request RequestFault → Said → Type 0
 IsAnswerTo (Ok request) (said.Fault fault) = ⊥
 IsAnswerTo (Ok request) answer = ⊤
 IsAnswerTo (Err fault) answer = answer ≡ said.Fault fault
+
+-- the line asks only this: nothing else that it may be read as has an answer that fits the reply, if that arrived
+abbrev pub AsksOnly : Dialect → Bool → List ℕ → List ℕ → Result Request RequestFault → Type 0
+AsksOnly dialect heard line reply asked = (other : Result Request RequestFault) (answer : Said) → ReadsBy dialect.may_answer heard line other
+    → IsAnswerTo other answer → FitsReply dialect heard reply answer → other ≡ asked
 
 -- ---- what is left of a link
 

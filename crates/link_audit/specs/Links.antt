@@ -1,7 +1,7 @@
 -- When a log is right about one link, by the bytes that it gave and those that it was sent. This project defines the two relations.
 use Rattle.std.specs.Prelude.{◌≡◌, ◌≢◌, ℕ, ◌==◌, ◌≤◌, if◌then◌else◌, List, [], ◌∷◌, ◌++◌, Result, Err, Some, true, length, map, slice_get, take}
 use Rattle.std.specs.List.{list_any}
-use Rattle.link_audit.specs.Prelude.{LINK_BYTES, SESSION_LINES, GoesOn, GameFile, all_answers, LinkState, LineGot, Cause, Verdict, Seated, Request, RequestFault, Said, IsOneLine, ClosedGame, LoggedGame, auctions_in, gives_seat, Dialect, verdict_of, AreItems, IsTranscript, Turn, AreLawful, item_of, said_of, welcome_lines, welcome_text, free_seats, seats_given, HostedGame, IsSeated, PlayedGame}
+use Rattle.link_audit.specs.Prelude.{LINK_BYTES, SESSION_LINES, GoesOn, GameFile, all_answers, LinkState, LineGot, Cause, Verdict, Seated, Request, RequestFault, Said, IsOneLine, ClosedGame, LoggedGame, auctions_in, gives_seat, Dialect, verdict_of, AreItems, IsTranscript, Turn, AreLawful, item_of, said_of, welcome_lines, welcome_text, free_seats, seats_given, HostedGame, hosted_game, IsSeated, PlayedGame}
 use Rattle.tac_io.specs.declared.line_got.LineGot.TheVariants as gots
 use Rattle.line_protocol.specs.declared.asking.RequestFault.TheVariants.{Memory}
 use Rattle.line_protocol.specs.Heads.{Head, Play, Serve}
@@ -90,3 +90,8 @@ pub record IsVouched (game : GameFile) (dialect : Dialect) (log : LoggedGame) (a
   pub lawful : AreLawful (heard ++ unheard)
   pub replies : whole_lines said ≡ welcome_lines game agent ++ map (λ turn. dialect.text (said_of turn)) heard
   pub transcript : IsTranscript agent (closed_in game log) (heard ++ unheard)
+
+-- in this form of lines, if each reply is one line, every log is right about each of its links that was sent its whole welcome
+abbrev pub VouchesForLinks : Dialect → Type 0
+VouchesForLinks dialect = (game : GameFile) (port : ℕ) (log : LoggedGame) (agent : ℕ) (asked said : List ℕ) → HasLineReplies dialect
+    → IsLinkOfLog (hosted_game game dialect port) log agent asked said → HasWelcome game agent said → IsVouched game dialect log agent asked said

@@ -17,6 +17,10 @@ IsYes agent (Whole seat lines) = seat ≡ agent
 IsYes agent (Cut seat lines after) = seat ≡ agent
 IsYes agent (Not difference) = ⊥
 
+-- the link is vouched for as this agent's exactly if something holds, and as no other agent's
+abbrev pub IsYesExactlyIf : ℕ → Type 0 → Vouching → Type 0
+IsYesExactlyIf agent Holds vouching = (other : ℕ) → IsYes other vouching ↔ ((agent ≡ other) × Holds)
+
 -- ---- whole or cut
 
 -- the result is whole, as this agent's

@@ -1,7 +1,7 @@
 -- The walk over a link's lines; for private clauses.
-use Rattle.std.specs.Prelude.{⊤, ◌≡◌, ℕ, ◌+◌, ◌-◌, ◌≤◌, List, [], ◌∷◌, Bool, true, false, drop, length}
+use Rattle.std.specs.Prelude.{⊤, ◌≡◌, ℕ, ◌+◌, ◌-◌, ◌<◌, ◌≤◌, List, [], ◌∷◌, ◌++◌, Bool, true, false, Option, MatchOption, Result, Ok, Err, drop, length, slice_range}
 use Rattle.std.specs.List.{list_any}
-use Rattle.link_audit.specs.Prelude.{LINK_BYTES, SESSION_LINES, GameFile, all_answers, ended_line, LineGot, Seated, LoggedGame, gives_seat, Dialect, verdict_of, free_seats}
+use Rattle.link_audit.specs.Prelude.{LINK_BYTES, SESSION_LINES, GameFile, all_answers, ended_line, BeginsWithLine, has_end, LineGot, Seated, LoggedGame, gives_seat, Dialect, verdict_of, free_seats}
 use Rattle.tac_io.specs.declared.line_got.LineGot.TheVariants as gots
 use Rattle.link_audit.specs.declared.hearing.Heard.{Heard}
 use Rattle.link_audit.specs.declared.hearing.Heard.TheVariants.{Through, Gone, Not}
@@ -22,6 +22,16 @@ lines_at asked at = all_answers [] (LINK_BYTES - at) (drop at asked)
 -- the whole lines of bytes from a place on
 abbrev pub replies_at : List ℕ → ℕ → List (List ℕ)
 replies_at said told = whole_lines (drop told said)
+
+-- the result is where the line that begins at a place ends, or none if it has no end
+abbrev pub FindsEnd : List ℕ → ℕ → Option ℕ → Type 0
+FindsEnd bytes from result = MatchOption result (has_end (drop from bytes) ≡ false)
+    (λ end. (from ≤ end) × (end < length bytes) × BeginsWithLine (drop from bytes) (slice_range bytes from end) (drop (end + 1) bytes))
+
+-- the result is a place from which the whole lines are those behind these lines, if these are the next ones from a place on, and otherwise none
+abbrev pub FindsBehind : List (List ℕ) → List ℕ → ℕ → Option ℕ → Type 0
+FindsBehind lines said from result = MatchOption result ((others : List (List ℕ)) → replies_at said from ≡ lines ++ others → ⊥)
+    (λ to. (to ≤ length said) × (replies_at said from ≡ lines ++ replies_at said to))
 
 -- what is ahead of a link's lines from these places on
 abbrev pub IsAheadAt : Dialect → Subject → List ℕ → ℕ → List (List ℕ) → ℕ → Type 0
@@ -67,6 +77,17 @@ abbrev pub HasLeft : Subject → Places → ℕ → Bool → Heard → Type 0
 HasLeft s from lines more (Gone count) = (count ≡ lines + 1) × (more ≡ false) × IsOver s from
 HasLeft s from lines more (Not difference) = DiffersAfter s from lines difference more
 HasLeft s from lines more (Through places at count) = ⊥
+
+-- The end of a walk over lines without replies, after `used` others: `Ok` if the first of them, as many as the session has room for, have
+-- turns that are all that the log has of the agent, and `Err` if they have not.
+abbrev pub IsPassed : Dialect → Subject → Places → List (LineGot × List ℕ) → ℕ → Result ℕ Difference → Type 0
+IsPassed dialect s from lines used (Ok count) = IsAhead dialect s from lines [] (SESSION_LINES - used)
+IsPassed dialect s from lines used (Err left) = IsAhead dialect s from lines [] (SESSION_LINES - used) → ⊥
+
+-- the result of such a walk: how many of these turns left an entry, or the lowest entry that is left
+abbrev pub HasPassed : Dialect → Subject → Places → List (LineGot × List ℕ) → ℕ → Result ℕ Difference → Type 0
+HasPassed dialect s from lines used (Ok count) = (entries : ℕ) → FinishesLog dialect s from lines [] entries → entries ≡ count
+HasPassed dialect s from lines used (Err left) = IsStop dialect s from lines used left
 
 -- what is answered where the replies end, by whether the last byte that was said is a line end
 abbrev pub IsFinished : Dialect → Subject → List ℕ → Bool → Heard → Vouching → Type 0

@@ -1,6 +1,6 @@
 // Finds an agent's next entry in the cash history.
-ghost use Rattle.std.specs.Prelude.{◌≡◌, ◌≤◌, ◌↔◌, ℕ, ℤ, [], Some, length, slice_get, IsTrue, MatchOption};
-ghost use Rattle.link_audit.specs.{Nets, CASH_ENTRIES, CashEntry as SeenEntry, IsLoggedCashEntry, reading, HasNext, cash_caller, rest_of};
+ghost use Rattle.std.specs.Prelude.{◌≡◌, ◌≤◌, ◌↔◌, ℕ, ℤ, length, IsTrue, MatchOption};
+ghost use Rattle.link_audit.specs.{Nets, CASH_ENTRIES, IsLoggedCashEntry, reading, FindsNext, cash_caller};
 ghost use Rattle.trade_ledger.specs.declared.cash_calls.CashCall.TheVariants as cash_calls;
 
 use log_reader::Log;
@@ -9,8 +9,7 @@ use trade_ledger::{CashCall, CashEntry, CashReply};
 
 /// The position of the agent's next entry in the cash history, at or after a position.
 pub(crate) fn next_cash(log: &Log, from: u32, agent: Agent) -> Option<u32>
-    ensures next { MatchOption result (rest_of cash_caller agent from log.now.cash ≡ [])
-        (λ p. (e : SeenEntry) × (slice_get log.now.cash p ≡ Some e) × (e.caller ≡ agent) × HasNext cash_caller agent from log.now.cash p e) }
+    ensures next { FindsNext cash_caller agent from log.now.cash result }
     ensures few { length log.now.cash ≤ CASH_ENTRIES }
 {
     let cash = log.cash();

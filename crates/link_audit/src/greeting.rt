@@ -1,7 +1,7 @@
 // Compares the first line of a link, and the welcome that it was sent.
-ghost use Rattle.std.specs.Prelude.{◌≡◌, ◌≤◌, ◌↔◌, ◌++◌, ◌∷◌, ℕ, List, length, IsTrue, MatchOption};
+ghost use Rattle.std.specs.Prelude.{◌≡◌, ◌≤◌, ◌↔◌, ◌∷◌, [], ℕ, length, IsTrue, MatchOption};
 ghost use Rattle.std.specs.List.{list_any};
-ghost use Rattle.link_audit.specs.{gives_seat, welcome_lines, logged_verdicts, whole_lines, TakesSeat, replies_at};
+ghost use Rattle.link_audit.specs.{gives_seat, welcome_lines, logged_verdicts, TakesSeat, FindsBehind};
 
 use crate::lines::line_end;
 use agent_gate::Gate;
@@ -51,9 +51,7 @@ fn same_bytes(a: &[u8], b: &[u8]) -> bool
 /// Returns the place after this line, if it is the next line of the bytes.
 fn behind_line(said: &[u8], from: usize, line: &[u8]) -> Option<usize>
     requires { from ≤ length said.now }
-    ensures { MatchOption result
-        ((others : List (List ℕ)) → replies_at said.now from ≡ line.now ∷ others → ⊥)
-        (λ to. (to ≤ length said.now) × (replies_at said.now from ≡ line.now ∷ replies_at said.now to)) }
+    ensures { FindsBehind (line.now ∷ []) said.now from result }
 {
     let Some(end) = line_end(said, from) else {
         return None;
@@ -67,9 +65,7 @@ fn behind_line(said: &[u8], from: usize, line: &[u8]) -> Option<usize>
 
 /// Returns the place after the welcome of a seated link, if the bytes begin with it.
 pub(crate) fn behind_welcome(game: &Game, agent: Agent, said: &[u8]) -> Option<usize>
-    ensures { MatchOption result
-        ((others : List (List ℕ)) → whole_lines said.now ≡ welcome_lines game.now agent ++ others → ⊥)
-        (λ to. (to ≤ length said.now) × (whole_lines said.now ≡ welcome_lines game.now agent ++ replies_at said.now to)) }
+    ensures { FindsBehind (welcome_lines game.now agent) said.now 0 result }
 {
     let mut text = Text::new();
     text.push_bytes(b"welcome ");

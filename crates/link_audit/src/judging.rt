@@ -1,6 +1,6 @@
 // Judges a log by one link.
 ghost use Rattle.std.specs.Prelude.{◌≡◌, ◌<◌, ◌≤◌, ◌-◌, ◌↔◌, if◌then◌else◌, ℕ, [], IfOk, IsTrue, Some, length, slice_get};
-ghost use Rattle.link_audit.specs.{LINK_BYTES, SESSION_LINES, IsSound, HasTruePosts, IsAhead, IsTable, IsWide, subject_of, IsVouched, HasNumbers, IsDifferenceOf, IsJudged, IsWhole, IsWholeLink, IsYes, IsFinished, lines_at};
+ghost use Rattle.link_audit.specs.{LINK_BYTES, SESSION_LINES, IsSound, HasTruePosts, IsAhead, IsTable, IsWide, subject_of, IsVouched, HasNumbers, IsDifferenceOf, IsWhole, IsWholeLink, IsYes, IsYesExactlyIf, IsFinished, lines_at};
 ghost use Rattle.link_audit.specs.declared.hearing.Heard.TheVariants.{Through};
 
 use crate::greeting::{behind_welcome, seat_of};
@@ -60,8 +60,7 @@ fn finish<D: KnownDialect>(
     requires short { (at ≤ length asked.now) × (length asked.now < LINK_BYTES) }
     requires wide { IsWide places.now }
     requires few { lines ≤ SESSION_LINES }
-    ensures yes { IfOk result (λ vouching. (other : ℕ) → IsYes other vouching ↔ ((agent ≡ other)
-        × IsAhead (D.form dialect.now) (subject_of log.now boards.now agent) places.now (lines_at asked.now at) [] (SESSION_LINES - lines))) }
+    ensures yes { IfOk result (IsYesExactlyIf agent (IsAhead (D.form dialect.now) (subject_of log.now boards.now agent) places.now (lines_at asked.now at) [] (SESSION_LINES - lines))) }
     ensures how { IfOk result (IsFinished (D.form dialect.now) (subject_of log.now boards.now agent) asked.now ended (Through places.now at lines)) }
 {
     match pass(log, boards, agent, dialect, asked, at, places, lines)? {
@@ -74,44 +73,6 @@ fn finish<D: KnownDialect>(
             }),
         },
         Err(left) => Ok(Vouching::Not(left)),
-    }
-}
-
-/// Judges a sound log by a link.
-fn judge<D: KnownDialect>(
-    alloc: Global,
-    game: &Game,
-    log: &Log,
-    dialect: &D,
-    asked: &[u8],
-    said: &[u8],
-) -> Result<Vouching, Memory>
-    requires sound { IsSound game.now log.now }
-    requires short { length asked.now < LINK_BYTES }
-    ensures { IfOk result (IsJudged game.now (D.form dialect.now) log.now asked.now said.now) }
-{
-    // The log is in its ranges, and has no flaw.
-    let _head = log.head();
-    no_flaw();
-    let Some(end) = line_end(asked, 0) else {
-        return Ok(Vouching::Not(Difference::Seat));
-    };
-    let Some(agent) = seat_of(game, log, &asked[0..end]) else {
-        return Ok(Vouching::Not(Difference::Seat));
-    };
-    let Some(told) = behind_welcome(game, agent, said) else {
-        return Ok(Vouching::Not(Difference::Welcome));
-    };
-    let boards = table(alloc, game, log)?;
-    let ended = is_ended(said);
-    match hear(log, &boards, agent, dialect, asked, end + 1, said, told)? {
-        Heard::Through { places, at, lines } => {
-            finish(
-                log, &boards, agent, dialect, asked, at, &places, lines, ended,
-            )
-        }
-        Heard::Gone { lines } => Ok(vouched(agent, lines, 0, ended)),
-        Heard::Not(difference) => Ok(Vouching::Not(difference)),
     }
 }
 
@@ -137,5 +98,27 @@ pub fn vouch<D: KnownDialect>(
     // A difference that it reports is the first one.
     ensures difference { IfOk result (IsDifferenceOf game.now (D.form dialect.now) log.now asked.now said.now) }
 {
-    judge(alloc, game, log, dialect, asked, said)
+    // The log is in its ranges, and has no flaw.
+    let _head = log.head();
+    no_flaw();
+    let Some(end) = line_end(asked, 0) else {
+        return Ok(Vouching::Not(Difference::Seat));
+    };
+    let Some(agent) = seat_of(game, log, &asked[0..end]) else {
+        return Ok(Vouching::Not(Difference::Seat));
+    };
+    let Some(told) = behind_welcome(game, agent, said) else {
+        return Ok(Vouching::Not(Difference::Welcome));
+    };
+    let boards = table(alloc, game, log)?;
+    let ended = is_ended(said);
+    match hear(log, &boards, agent, dialect, asked, end + 1, said, told)? {
+        Heard::Through { places, at, lines } => {
+            finish(
+                log, &boards, agent, dialect, asked, at, &places, lines, ended,
+            )
+        }
+        Heard::Gone { lines } => Ok(vouched(agent, lines, 0, ended)),
+        Heard::Not(difference) => Ok(Vouching::Not(difference)),
+    }
 }

@@ -1,6 +1,6 @@
 // Forms of lines that show what each line requested.
-ghost use Rattle.std.specs.Prelude.{◌≡◌, ◌↔◌, Result, IfOk, IsTrue, codes};
-ghost use Rattle.link_audit.specs.{Request as SeenRequest, RequestFault as SeenFault, Said, FitsReply, IsAnswerTo, ReadsBy};
+ghost use Rattle.std.specs.Prelude.{◌≡◌, ◌↔◌, IfOk, IsTrue, codes};
+ghost use Rattle.link_audit.specs.{AsksOnly, ReadsBy};
 
 use agent_gate::{Dialect, LineDialect};
 use json_dialect::JsonDialect;
@@ -17,8 +17,7 @@ pub trait KnownDialect: Dialect {
         reply: &[u8],
     ) -> Result<Result<Request, RequestFault>, Memory>
         ensures may { IfOk result (λ asked. ReadsBy (Self.form self.now).may_answer heard line.now asked) }
-        ensures only { IfOk result (λ asked. (other : Result SeenRequest SeenFault) (said : Said) → ReadsBy (Self.form self.now).may_answer heard line.now other
-            → IsAnswerTo other said → FitsReply (Self.form self.now).text heard reply.now said → other ≡ asked) };
+        ensures only { IfOk result (AsksOnly (Self.form self.now) heard line.now reply.now) };
 }
 
 impl KnownDialect for LineDialect {

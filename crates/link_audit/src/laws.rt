@@ -1,15 +1,12 @@
 // Laws about links and what their far ends saw.
-ghost use Rattle.std.specs.Prelude.{ℕ, List};
-ghost use Rattle.link_audit.specs.{GameFile, Said, IsOneLine, said_text, json_text, LoggedGame, hosted_game, HasLineReplies, HasWelcome, IsLinkOfLog, IsVouched};
+ghost use Rattle.link_audit.specs.{Said, IsOneLine, said_text, json_text, VouchesForLinks};
 
 use agent_gate::Dialect;
 
 /// The law of far ends, as this call's contract: a link of a log is vouched for by the bytes that it had to give and those that it was
 /// sent, if its welcome was sent whole, in each form of lines whose replies are one line each.
 pub fn vouched_link<D: Dialect>()
-    ensures { (game : GameFile) (port : ℕ) (dialect : D) (log : LoggedGame) (agent : ℕ) (asked said : List ℕ) →
-        HasLineReplies (D.form dialect) → IsLinkOfLog (hosted_game game (D.form dialect) port) log agent asked said → HasWelcome game agent said →
-        IsVouched game (D.form dialect) log agent asked said }
+    ensures { (dialect : D) → VouchesForLinks (D.form dialect) }
 {}
 
 /// The law of replies, as this call's contract: each is one line, in words and in JSON.

@@ -1,7 +1,7 @@
 // Walks over the lines of a link whose replies did not arrive.
-ghost use Rattle.std.specs.Prelude.{◌≡◌, ◌+◌, ◌-◌, ◌<◌, ◌≤◌, ◌↔◌, ℕ, [], IfOk, IsTrue, MatchResult, length};
+ghost use Rattle.std.specs.Prelude.{◌≡◌, ◌+◌, ◌<◌, ◌≤◌, ◌↔◌, IfOk, IsTrue, length};
 ghost use Rattle.tac_base.specs.declared.limits.TheConstants.{LINK_BYTES};
-ghost use Rattle.link_audit.specs.{HasTruePosts, IsAhead, IsTable, IsWide, subject_of, FinishesLog, IsKept, IsStop, lines_at};
+ghost use Rattle.link_audit.specs.{HasTruePosts, IsTable, IsWide, subject_of, IsKept, HasPassed, IsPassed, lines_at};
 
 use crate::known::KnownDialect;
 use crate::leftovers::first_left;
@@ -52,12 +52,8 @@ pub(crate) fn pass<D: KnownDialect>(
     requires short { (from ≤ length asked.now) × (length asked.now < LINK_BYTES) }
     requires wide { IsWide reached.now }
     requires few { lines ≤ SESSION_LINES }
-    ensures ahead { IfOk result (λ passed. MatchResult passed
-        (λ count. IsAhead (D.form dialect.now) (subject_of log.now boards.now agent) reached.now (lines_at asked.now from) [] (SESSION_LINES - lines))
-        (λ left. IsAhead (D.form dialect.now) (subject_of log.now boards.now agent) reached.now (lines_at asked.now from) [] (SESSION_LINES - lines) → ⊥)) }
-    ensures turns { IfOk result (λ passed. MatchResult passed
-        (λ count. (entries : ℕ) → FinishesLog (D.form dialect.now) (subject_of log.now boards.now agent) reached.now (lines_at asked.now from) [] entries → entries ≡ count)
-        (λ left. IsStop (D.form dialect.now) (subject_of log.now boards.now agent) reached.now (lines_at asked.now from) lines left)) }
+    ensures ahead { IfOk result (IsPassed (D.form dialect.now) (subject_of log.now boards.now agent) reached.now (lines_at asked.now from) lines) }
+    ensures turns { IfOk result (HasPassed (D.form dialect.now) (subject_of log.now boards.now agent) reached.now (lines_at asked.now from) lines) }
 {
     let mut places = *reached;
     let mut at = from;

@@ -8,7 +8,7 @@ use tac_base::Text;
 
 /// Whether the line of a reply is this one, if the reply arrived.
 pub(crate) fn fits<D: Dialect>(dialect: &D, said: &Said, heard: bool, reply: &[u8]) -> bool
-    ensures { IsTrue result ↔ FitsReply (D.form dialect.now).text heard reply.now said.now }
+    ensures { IsTrue result ↔ FitsReply (D.form dialect.now) heard reply.now said.now }
 {
     if !heard {
         return true;

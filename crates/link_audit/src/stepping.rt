@@ -44,7 +44,7 @@ fn step_request<D: Dialect>(
 ) -> Step
     requires posts { HasTruePosts log.now }
     requires table { IsTable boards.now }
-    ensures { IsStep (λ item. item ≡ Asks (Ok request.now)) (FitsReply (D.form dialect.now).text heard reply.now) (subject_of log.now boards.now agent) places.old places.new result }
+    ensures { IsStep (λ item. item ≡ Asks (Ok request.now)) (FitsReply (D.form dialect.now) heard reply.now) (subject_of log.now boards.now agent) places.old places.new result }
 {
     match request {
         Request::Bid { good, .. } | Request::Withdraw { good } | Request::Own { good } => {
@@ -79,7 +79,7 @@ fn step_asked<D: Dialect>(
 ) -> Step
     requires posts { HasTruePosts log.now }
     requires table { IsTable boards.now }
-    ensures { IsStep (λ item. item ≡ Asks asked.now) (FitsReply (D.form dialect.now).text heard reply.now) (subject_of log.now boards.now agent) places.old places.new result }
+    ensures { IsStep (λ item. item ≡ Asks asked.now) (FitsReply (D.form dialect.now) heard reply.now) (subject_of log.now boards.now agent) places.old places.new result }
 {
     match asked {
         Ok(request) => step_request(log, boards, agent, places, dialect, request, heard, reply),
@@ -101,7 +101,7 @@ pub(crate) fn step_line<D: KnownDialect>(
     requires posts { HasTruePosts log.now }
     requires table { IsTable boards.now }
     ensures { IfOk result (IsStep (IsAsked (D.form dialect.now) heard (ended_line line.now))
-        (FitsReply (D.form dialect.now).text heard reply.now) (subject_of log.now boards.now agent) places.old places.new) }
+        (FitsReply (D.form dialect.now) heard reply.now) (subject_of log.now boards.now agent) places.old places.new) }
 {
     if line.len() > LINE_BYTES as usize {
         return Ok(step_if(fits(dialect, &Said::TooLong, heard, reply)));

@@ -1,6 +1,6 @@
 // Finds the turn of each line in order, by what the log has next.
-ghost use Rattle.std.specs.Prelude.{◌≡◌, ◌<◌, ◌≤◌, ℕ, Ok, Some, false, length, slice_get, IsTrue, MatchOption, option_map};
-ghost use Rattle.link_audit.specs.{IsShown, due_post, Board as SeenBoard, Quote, logged_history, Asks, asked_call, ArePosted, FitsReply, HasTruePosts, IsStuck, IsTable, IsTaken, IsWide, subject_of};
+ghost use Rattle.std.specs.Prelude.{◌≡◌, ◌≤◌, Ok, Some, false, length, slice_get, IsTrue, option_map};
+ghost use Rattle.link_audit.specs.{IsShown, due_post, logged_history, Asks, asked_call, FindsPosts, FindsShown, FitsReply, HasTruePosts, IsStuck, IsTable, IsTaken, IsWide, subject_of};
 ghost use Rattle.auction_rules.specs.History.{Entry as HistoryEntry};
 ghost use Rattle.line_protocol.specs.declared.asking.Request.TheVariants as requests;
 
@@ -26,9 +26,7 @@ fn post_next(
 ) -> Option<u32>
     requires posts { HasTruePosts log.now }
     requires shown { IsShown (logged_history log.now good) position (Some entry.now) }
-    ensures { MatchOption result
-        ((e : HistoryEntry) (to : ℕ) → slice_get (logged_history log.now good) position ≡ Some e → ArePosted agent log.now.cash cash (due_post good position e) to → ⊥)
-        (λ to. (e : HistoryEntry) → slice_get (logged_history log.now good) position ≡ Some e → ArePosted agent log.now.cash cash (due_post good position e) to) }
+    ensures { (e : HistoryEntry) → slice_get (logged_history log.now good) position ≡ Some e → FindsPosts agent log.now.cash cash (due_post good position e) result }
 {
     if entry.trades == 0 {
         return Some(cash);
@@ -55,8 +53,8 @@ pub(crate) fn take_call<D: Dialect>(
 ) -> bool
     requires posts { HasTruePosts log.now }
     requires asks { option_map (λ p. p.0) (asked_call request.now) ≡ Some good }
-    ensures yes { IsTrue result → IsTaken (λ item. item ≡ Asks (Ok request.now)) (FitsReply (D.form dialect.now).text heard reply.now) (subject_of log.now boards.now agent) places.old places.new }
-    ensures no { result ≡ false → IsStuck (λ item. item ≡ Asks (Ok request.now)) (FitsReply (D.form dialect.now).text heard reply.now) (subject_of log.now boards.now agent) places.old }
+    ensures yes { IsTrue result → IsTaken (λ item. item ≡ Asks (Ok request.now)) (FitsReply (D.form dialect.now) heard reply.now) (subject_of log.now boards.now agent) places.old places.new }
+    ensures no { result ≡ false → IsStuck (λ item. item ≡ Asks (Ok request.now)) (FitsReply (D.form dialect.now) heard reply.now) (subject_of log.now boards.now agent) places.old }
 {
     let row = usize::from(good.get());
     if places.made[row] == AGENT_CALLS {
@@ -102,8 +100,8 @@ pub(crate) fn take_reading<D: Dialect>(
     reply: &[u8],
 ) -> bool
     requires posts { HasTruePosts log.now }
-    ensures yes { IsTrue result → IsTaken (λ item. item ≡ Asks (Ok requests.Cash)) (FitsReply (D.form dialect.now).text heard reply.now) (subject_of log.now boards.now agent) places.old places.new }
-    ensures no { result ≡ false → IsStuck (λ item. item ≡ Asks (Ok requests.Cash)) (FitsReply (D.form dialect.now).text heard reply.now) (subject_of log.now boards.now agent) places.old }
+    ensures yes { IsTrue result → IsTaken (λ item. item ≡ Asks (Ok requests.Cash)) (FitsReply (D.form dialect.now) heard reply.now) (subject_of log.now boards.now agent) places.old places.new }
+    ensures no { result ≡ false → IsStuck (λ item. item ≡ Asks (Ok requests.Cash)) (FitsReply (D.form dialect.now) heard reply.now) (subject_of log.now boards.now agent) places.old }
 {
     if places.readings == CASH_READINGS {
         return fits(dialect, &Said::Spent, heard, reply);
@@ -141,10 +139,7 @@ fn first_shown<D: Dialect>(
     reply: &[u8],
 ) -> Option<u32>
     requires { length shown.now ≤ 8257 }
-    ensures { MatchOption result
-        ((n : ℕ) (board : SeenBoard) → from ≤ n → slice_get shown.now n ≡ Some board → FitsReply (D.form dialect.now).text heard reply.now (Quote board) → ⊥)
-        (λ n. (from ≤ n) × ((board : SeenBoard) × (slice_get shown.now n ≡ Some board) × FitsReply (D.form dialect.now).text heard reply.now (Quote board))
-        × ((k : ℕ) (board : SeenBoard) → from ≤ k → k < n → slice_get shown.now k ≡ Some board → FitsReply (D.form dialect.now).text heard reply.now (Quote board) → ⊥)) }
+    ensures { FindsShown (FitsReply (D.form dialect.now) heard reply.now) shown.now from result }
 {
     for count in from as usize..shown.len() {
         if fits(dialect, &Said::Quote(shown[count]), heard, reply) {
@@ -166,8 +161,8 @@ pub(crate) fn take_quote<D: Dialect>(
     reply: &[u8],
 ) -> bool
     requires table { IsTable boards.now }
-    ensures yes { IsTrue result → IsTaken (λ item. item ≡ Asks (Ok (requests.Quote good))) (FitsReply (D.form dialect.now).text heard reply.now) (subject_of log.now boards.now agent) places.old places.new }
-    ensures no { result ≡ false → IsStuck (λ item. item ≡ Asks (Ok (requests.Quote good))) (FitsReply (D.form dialect.now).text heard reply.now) (subject_of log.now boards.now agent) places.old }
+    ensures yes { IsTrue result → IsTaken (λ item. item ≡ Asks (Ok (requests.Quote good))) (FitsReply (D.form dialect.now) heard reply.now) (subject_of log.now boards.now agent) places.old places.new }
+    ensures no { result ≡ false → IsStuck (λ item. item ≡ Asks (Ok (requests.Quote good))) (FitsReply (D.form dialect.now) heard reply.now) (subject_of log.now boards.now agent) places.old }
 {
     let _goods = width(places);
     let row = usize::from(good.get());

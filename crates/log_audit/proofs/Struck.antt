@@ -1,10 +1,10 @@
 -- An entry that is struck again, compared with the one of the log.
-use Rattle.std.proofs.Common.{◌≡◌, ℕ, zero, suc, ◌+◌, ◌<◌, ◌≤◌, cond, List, [], ◌∷◌, ◌++◌, length, take, map, set, get_or, sym, ap, ◌∙◌, subst, arith, Option, Some, None, slice_get, MatchOption, ne_eqb, eq-eqb, reverse, ◌==◌, slice_index, slice_set, option_map, get_or-set_same, get_or-set_other}
+use Rattle.std.proofs.Common.{◌≡◌, ℕ, zero, suc, ◌+◌, ◌<◌, ◌≤◌, cond, List, [], ◌∷◌, ◌++◌, length, take, map, set, get_or, refl, sym, ap, ◌∙◌, subst, arith, Option, Some, None, slice_get, IfSome, IsSome, ◌↔◌, ne_eqb, eq-eqb, reverse, ◌==◌, slice_index, slice_set, option_map, get_or-set_same, get_or-set_other}
 use Rattle.std.proofs.lemmas.List.Sums.{sum_by_push}
 use Rattle.std.proofs.lemmas.Option.{slice_get-map}
 use mathlib.Core.Logic.{dite}
 use native.Mathlib.Decide.{ℕ_discrete}
-use Rattle.log_audit.specs.{Call, Reply, Nets, Trade, Setup, nets as nets_of, entry_of, reply_of, trades_of, entries_of, cap, Shows, IsFair, HasFairEntry, AreCounts, IsStruck, nets_by}
+use Rattle.log_audit.specs.{Call, Reply, Nets, Trade, Setup, nets as nets_of, entry_of, reply_of, trades_of, entries_of, cap, Shows, IsFair, AreCounts, IsRuled, IsStruckIfFair, nets_by}
 use Rattle.tac_base.specs.declared.calls.Entry.{Entry as StoredEntry}
 use Rattle.auction_rules.specs.History.{Entry}
 use Rattle.log_audit.proofs.Positions.{take_at, same_at}
@@ -41,39 +41,31 @@ module _ (setup : Setup) (history : List Entry) (position : ℕ) (e : Entry) (at
 
   module _ (after : List Entry) (counts : List ℕ) (trades : List Trade) where
     pub struck_as : (found : Option Nets) → trades ≡ e.trades → entries_of before e.caller < cap e.caller → after ≡ before ++ entry_of setup (reverse before) e.caller e.call ∷ [] → AreCounts (before ++ e ∷ []) counts
-        → MatchOption found (e.reply ≡ reply_of setup (reverse before) e.caller e.call → trades ≡ trades_of setup (reverse before) e.caller e.call → ⊥)
-        (λ nets. (e.reply ≡ reply_of setup (reverse before) e.caller e.call) × (trades ≡ trades_of setup (reverse before) e.caller e.call) × (nets.dollars ≡ nets_of trades))
-        → MatchOption found (HasFairEntry setup history position → ⊥) (λ nets. IsStruck setup history position after counts nets)
-    struck_as None own room made counted same = λ fair. same (fair e at).reply (own ∙ (fair e at).trades)
-    struck_as (Some nets) own room made counted same =
-        let traded : e.trades ≡ trades_of setup (reverse before) e.caller e.call = sym own ∙ same.1 in
+        → (IsSome found ↔ ((e.reply ≡ reply_of setup (reverse before) e.caller e.call) × (trades ≡ trades_of setup (reverse before) e.caller e.call)))
+        → IfSome found (λ nets. nets.dollars ≡ nets_of trades) → IsStruckIfFair setup history position after counts found
+    struck_as None own room made counted same given = λ fair. let never = same.1 ((fair e at).reply, own ∙ (fair e at).trades) in absurd cc
+    struck_as (Some nets) own room made counted same given =
+        let both = same.0 refl in let traded : e.trades ≡ trades_of setup (reverse before) e.caller e.call = sym own ∙ both.1 in
         let more : take (position + 1) history ≡ before ++ e ∷ [] = take_at history position e at in
-        let is : e ≡ entry_of setup (reverse before) e.caller e.call = ruled setup (reverse before) e same.0 traded in
-        let dollars : nets.dollars ≡ nets_of e.trades = same.2 ∙ ap nets_of own in
+        let is : e ≡ entry_of setup (reverse before) e.caller e.call = ruled setup (reverse before) e both.0 traded in
+        let dollars : nets.dollars ≡ nets_of e.trades = given ∙ ap nets_of own in
         record {
-          fair = λ x there. subst (IsFair setup before) (same_at history position e x at there) (record { reply = same.0; trades = traded; room = λ full. absurd (omega (arith, full, room)) });
+          fair = λ x there. subst (IsFair setup before) (same_at history position e x at there) (record { reply = both.0; trades = traded; room = λ full. absurd (omega (arith, full, room)) });
           after_is = made ∙ (ap (λ (x : Entry). before ++ x ∷ []) (sym is) ∙ sym more);
           counted = subst (λ (h : List Entry). AreCounts h counts) (sym more) counted;
           nets_are = slice_get-map nets_by history position ∙ (ap (option_map nets_by) at ∙ (λ i. Some (record { dollars = sym dollars i })));
         }
 
--- the result of a call, if the reply and the trades of its entry are those of the rules, and if they are not
-abbrev pub IsSameAs : Setup → Option Nets → List Entry → Entry → Type 0
-IsSameAs setup found past e =
-    MatchOption found (e.reply ≡ reply_of setup (reverse past) e.caller e.call → e.trades ≡ trades_of setup (reverse past) e.caller e.call → ⊥)
-    (λ nets. (e.reply ≡ reply_of setup (reverse past) e.caller e.call) × (e.trades ≡ trades_of setup (reverse past) e.caller e.call) × (nets.dollars ≡ nets_of e.trades))
-
 -- the entry after those of a past was struck, or is not fair
 pub struck_next : (setup : Setup) (history past : List Entry) (e : Entry) (shown : StoredEntry) (after : List Entry) (counts counts' : List ℕ) (trades : List Trade) (found : Option Nets)
     → past ≡ take (length past) history → slice_get history (length past) ≡ Some e → Shows history (length past) e shown → trades ≡ e.trades → shown.caller ≤ 8
     → entries_of past shown.caller < cap shown.caller → AreCounts past counts → length counts ≡ 9 → counts' ≡ slice_set counts shown.caller (slice_index counts shown.caller + 1)
-    → after ≡ past ++ entry_of setup (reverse past) shown.caller shown.call ∷ [] → IsSameAs setup found past (record { caller = shown.caller; call = shown.call; reply = shown.reply; trades = trades })
-    → MatchOption found (HasFairEntry setup history (length past) → ⊥) (λ nets. IsStruck setup history (length past) after counts' nets)
-struck_next setup history past e shown after counts counts' trades found before at shows own low room counted nine more made same =
+    → after ≡ past ++ entry_of setup (reverse past) shown.caller shown.call ∷ [] → (IsSome found ↔ IsRuled setup past shown trades) → IfSome found (λ nets. nets.dollars ≡ nets_of trades) → IsStruckIfFair setup history (length past) after counts' found
+struck_next setup history past e shown after counts counts' trades found before at shows own low room counted nine more made same given =
     let n = length past in
     struck_as setup history n e at after counts' trades found own
     (let P : List Entry × ℕ → Type 0 = λ q. entries_of q.0 q.1 < cap q.1 in subst P (λ i. (before i, shows.caller i)) room)
     (made ∙ (λ i. before i ++ entry_of setup (reverse (before i)) (shows.caller i) (shows.call i) ∷ []))
     (counted_more (take n history) e counts counts' (subst (λ (h : List Entry). AreCounts h counts) before counted) nine (subst (λ (k : ℕ). k ≤ 8) shows.caller low)
     (more ∙ ap (λ (k : ℕ). slice_set counts k (slice_index counts k + 1)) shows.caller))
-    (let P : List Entry × ℕ × Call × Reply → Type 0 = λ q. IsSameAs setup found q.0 (record { caller = q.1; call = q.2; reply = q.3; trades = trades }) in subst P (λ i. (before i, shows.caller i, shows.call i, shows.reply i)) same)
+    (let P : List Entry × ℕ × Call × Reply → Type 0 = λ q. IsSome found ↔ IsRuled setup q.0 (record shown { caller = q.1; call = q.2; reply = q.3 }) trades in subst P (λ i. (before i, shows.caller i, shows.call i, shows.reply i)) same) given

@@ -1,6 +1,7 @@
 -- What the parts of an audit say; for private clauses.
-use Rattle.std.specs.Prelude.{◌≡◌, ◌≢◌, ℕ, ◌+◌, ◌*◌, ◌<◌, ◌≤◌, ◌==◌, ◌⊎◌, Bool, true, false, ℤ, pos, List, [], take, map, filter, Option, Some, None, slice_get, slice_index, slice_index_or}
-use Rattle.log_audit.specs.Prelude.{Call, Nets, AUCTION_ENTRIES, GOODS, clock, Setup, nets as nets_of, entries_of, CashEntry, cash_total}
+use Rattle.std.specs.Prelude.{◌≡◌, ◌≢◌, ℕ, ◌+◌, ◌*◌, ◌<◌, ◌≤◌, ◌==◌, ◌⊎◌, Bool, true, false, ℤ, pos, List, [], take, reverse, map, filter, Option, Some, None, MatchOption, slice_get, slice_index, slice_index_or}
+use Rattle.log_audit.specs.Prelude.{Call, Nets, Trade, AUCTION_ENTRIES, GOODS, clock, Setup, nets as nets_of, entries_of, reply_of, trades_of, CashEntry, cash_total}
+use Rattle.tac_base.specs.declared.calls.Entry.{Entry as StoredEntry}
 use Rattle.auction_rules.specs.History.{Entry}
 use Rattle.log_audit.specs.Flaws.{HasFairEntry, IsLower, is_posted}
 
@@ -28,6 +29,10 @@ IsLowestPlace Holds (Some place) =
 abbrev pub AreCounts : List Entry → List ℕ → Type 0
 AreCounts history counts = (caller : ℕ) → caller ≤ clock → slice_index counts caller ≡ entries_of history caller
 
+-- after these entries, the reply and the trades that a log shows of a call are those that the rules give
+abbrev pub IsRuled : Setup → List Entry → StoredEntry → List Trade → Type 0
+IsRuled setup before shown trades = (shown.reply ≡ reply_of setup (reverse before) shown.caller shown.call) × (trades ≡ trades_of setup (reverse before) shown.caller shown.call)
+
 -- what the trades of an entry give each party
 abbrev pub nets_by : Entry → Nets
 nets_by e = record { dollars = nets_of e.trades }
@@ -38,6 +43,10 @@ pub record IsStruck (setup : Setup) (history : List Entry) (position : ℕ) (aft
   pub after_is : after ≡ take (position + 1) history
   pub counted : AreCounts (take (position + 1) history) counts
   pub nets_are : slice_get (map nets_by history) position ≡ Some nets
+
+-- the entry at a position was struck, with these nets, or is not fair
+abbrev pub IsStruckIfFair : Setup → List Entry → ℕ → List Entry → List ℕ → Option Nets → Type 0
+IsStruckIfFair setup history position after counts found = MatchOption found (HasFairEntry setup history position → ⊥) (IsStruck setup history position after counts)
 
 -- ---- the clock
 

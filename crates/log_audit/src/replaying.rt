@@ -1,7 +1,7 @@
 // Plays the histories of a log again by the rules, call by call.
-ghost use Rattle.std.specs.Prelude.{◌≡◌, ◌+◌, ◌<◌, ◌≤◌, ◌↔◌, ◌++◌, [], ◌∷◌, take, length, reverse, slice_index, slice_set, IfOk, IsTrue, MatchOption};
-ghost use Rattle.log_audit.specs.{HasFairEntry, AreCounts, IsStruck, IsReplay, AreReplays};
-ghost use Rattle.log_audit.specs.Prelude.{clock, entry_of, reply_of, trades_of, entries_of, cap, setup_of, IsLogged};
+ghost use Rattle.std.specs.Prelude.{◌≡◌, ◌+◌, ◌<◌, ◌≤◌, ◌↔◌, ◌++◌, [], ◌∷◌, take, length, reverse, slice_index, slice_set, IfOk, IfSome, IsSome, IsTrue};
+ghost use Rattle.log_audit.specs.{AreCounts, IsRuled, IsStruckIfFair, IsReplay, AreReplays};
+ghost use Rattle.log_audit.specs.Prelude.{clock, entry_of, entries_of, cap, setup_of, IsLogged};
 ghost use Rattle.auction_core.specs.Calls.{IsFit};
 ghost use Rattle.auction_rules.specs.Effects as effects;
 
@@ -73,12 +73,8 @@ fn strike(auction: &mut Auction, entry: &Entry, trades: &[Trade]) -> Option<Nets
     requires room { entries_of auction.old.history entry.now.caller < cap entry.now.caller }
     ensures setup { auction.new.setup ≡ auction.old.setup }
     ensures history { auction.new.history ≡ auction.old.history ++ entry_of auction.old.setup (reverse auction.old.history) entry.now.caller entry.now.call ∷ [] }
-    ensures same { MatchOption result
-        ((entry.now.reply ≡ reply_of auction.old.setup (reverse auction.old.history) entry.now.caller entry.now.call) →
-        (trades.now ≡ trades_of auction.old.setup (reverse auction.old.history) entry.now.caller entry.now.call) → ⊥)
-        (λ nets. (entry.now.reply ≡ reply_of auction.old.setup (reverse auction.old.history) entry.now.caller entry.now.call)
-        × (trades.now ≡ trades_of auction.old.setup (reverse auction.old.history) entry.now.caller entry.now.call)
-        × (nets.dollars ≡ effects.nets trades.now)) }
+    ensures same { IsSome result ↔ IsRuled auction.old.setup auction.old.history entry.now trades.now }
+    ensures nets { IfSome result (λ nets. nets.dollars ≡ effects.nets trades.now) }
 {
     let position = auction.len();
     let struck = auction.act(entry.caller, &entry.call);
@@ -96,8 +92,7 @@ fn strike_next(auction: &mut Auction, counts: &mut [u32; 9], history: &LogHistor
     requires inside { length auction.old.history < length history.now }
     requires counted { AreCounts auction.old.history counts.old }
     ensures setup { auction.new.setup ≡ auction.old.setup }
-    ensures struck { MatchOption result (HasFairEntry auction.old.setup history.now (length auction.old.history) → ⊥)
-        (λ nets. IsStruck auction.old.setup history.now (length auction.old.history) auction.new.history counts.new nets) }
+    ensures struck { IsStruckIfFair auction.old.setup history.now (length auction.old.history) auction.new.history counts.new result }
 {
     let position = auction.len();
     let entry = history.entry(position).unwrap();

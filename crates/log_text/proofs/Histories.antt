@@ -4,7 +4,7 @@ use Rattle.std.specs.Fmt.{signed_decimal}
 use Rattle.std.specs.List.{AllByRecursion, join_with_byte}
 use Rattle.std.proofs.lemmas.Fmt.{decimal_injective}
 use Rattle.std.proofs.lemmas.List.Concat.{flat_map-cons}
-use Rattle.log_text.specs.{CashCall, Post, Read, CashReply, Done, Cash, CashEntry, ClosedGame, Head, then_signed, cash_call_text, cash_reply_text, cash_entry_line, cash_line, cash_text, first_lines, play_part, IsNumber, IsSigned, AreCashNumbers, IsShownCashReply, FitsCall, IsCashEntry, IsHead, IsPlayed, HaveOneHistory}
+use Rattle.log_text.specs.{CashCall, Post, Read, CashReply, Done, Cash, CashEntry, ClosedGame, Head, then_signed, cash_call_text, cash_reply_text, cash_entry_line, cash_line, cash_text, first_lines, play_part, IsNumber, IsSigned, AreCashNumbers, IsShownCashReply, FitsCall, IsCashEntry, IsPlayed, HaveOwnPlayParts}
 use Rattle.log_text.proofs.InOrder.{kept_text, in_order}
 use Rattle.log_text.proofs.Cuts.{IsWord, row, row_same, number_word, signed_word, signed_same, pieces_cons}
 use Rattle.log_text.proofs.HeadsAgain.{head_same}
@@ -163,8 +163,8 @@ part_parts head game rest is =
     ∙ append_assoc (first_lines head) (flat_map kept_text game.auctions ++ cash_text game.cash) rest
     ∙ ap (λ (text : List ℕ). first_lines head ++ text) (append_assoc (flat_map kept_text game.auctions) (cash_text game.cash) rest)
 
-pub parts_same : (head other_head : Head) (game other : ClosedGame) (rest other_rest : List ℕ) → IsHead head → IsHead other_head → IsPlayed game → IsPlayed other → play_part head game ++ rest ≡ play_part other_head other ++ other_rest → (head ≡ other_head) × HaveOneHistory game other × (rest ≡ other_rest)
-parts_same head other_head game other rest other_rest m n h k same =
+pub parts_same : (head other_head : Head) (game other : ClosedGame) (rest other_rest : List ℕ) → HaveOwnPlayParts head other_head game other rest other_rest
+parts_same head other_head game other rest other_rest = λ m n h k same.
     let heads = head_same head other_head _ _ m n (sym (part_parts head game rest h) ∙ same ∙ part_parts other_head other other_rest k) in
     let goods = h.goods ∙ sym k.goods in
     let auctions = auctions_same game.auctions other.auctions (cash_text game.cash ++ rest) (cash_text other.cash ++ other_rest) h.auctions k.auctions goods refl refl heads.1 in

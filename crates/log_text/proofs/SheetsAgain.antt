@@ -2,7 +2,7 @@
 use Rattle.std.proofs.Common.{◌≡◌, ℕ, ◌+◌, ◌^◌, ◌<◌, ◌≤◌, List, [], ◌∷◌, ◌++◌, append_assoc, length, map, get_or, refl, sym, ap, ◌∙◌, arith, ℤ, pos, decimal, codes, unsigned_abs, slice_index, length-append}
 use Rattle.std.specs.Fmt.{signed_decimal}
 use Rattle.std.specs.List.{AllByRecursion, join_with_byte}
-use Rattle.log_text.specs.{text_of, lines_of_parts, one_line, Package, None, Trip, tree_lines, Tree, ClosedGame, Scored, Head, IsNumber, IsSigned, IsHead, IsPlayed, HaveOneHistory, IsShownPackage, IsKnownScore, IsShownScore, IsShownSheet, score_line, package_line, cert_line, agent_lines, sheet_part, log_text}
+use Rattle.log_text.specs.{text_of, lines_of_parts, one_line, Package, None, Trip, tree_lines, Tree, ClosedGame, Scored, Head, IsNumber, IsSigned, HaveOwnLogs, IsShownPackage, IsKnownScore, IsShownScore, IsShownSheet, score_line, package_line, cert_line, agent_lines, sheet_part}
 use Rattle.log_text.proofs.Cuts.{IsWord, row, row_same, number_word}
 use Rattle.log_text.proofs.Trades.{known_word}
 use Rattle.std.proofs.lemmas.List.{append_cancel_left, length-map}
@@ -159,9 +159,8 @@ sheet_same sheet other rest other_rest h k e =
     let same = agents_same 0 sheet other (ended (codes "end") ++ rest) (ended (codes "end") ++ other_rest) (omega (arith, h.count)) (h.count ∙ sym k.count) h.scores k.scores agents in
     (same.0, append_cancel_left (ended (codes "end")) rest other_rest same.1)
 
-pub log_same : (head other_head : Head) (game other : ClosedGame) (sheet other_sheet : List Scored) → IsHead head → IsHead other_head → IsPlayed game → IsPlayed other → IsShownSheet sheet → IsShownSheet other_sheet →
-    log_text head game sheet ≡ log_text other_head other other_sheet → (head ≡ other_head) × HaveOneHistory game other × (sheet ≡ other_sheet)
-log_same head other_head game other sheet other_sheet n o h k l m e =
+pub log_same : (head other_head : Head) (game other : ClosedGame) (sheet other_sheet : List Scored) → HaveOwnLogs head other_head game other sheet other_sheet
+log_same head other_head game other sheet other_sheet = λ n o h k l m e.
     let first = parts_same head other_head game other (sheet_part sheet) (sheet_part other_sheet) n o h k e in
     let second = sheet_same sheet other_sheet [] [] l m (ap (λ (text : List ℕ). text ++ []) first.2) in
     (first.0, first.1, second.0)

@@ -1,10 +1,11 @@
 -- Which games have different logs, and what a log shows of them.
-use Rattle.std.specs.Prelude.{◌≡◌, ℕ, ◌^◌, ◌<◌, ⊤, List, ℤ, None, unsigned_abs, length, map}
+use Rattle.std.specs.Prelude.{◌≡◌, ◌++◌, ℕ, ◌^◌, ◌<◌, ⊤, List, ℤ, None, unsigned_abs, length, map}
 use Rattle.std.specs.List.{AllByRecursion}
 use Rattle.log_text.specs.Prelude.{Call, Reply, Trade, fault_of, left_fault, Entry, CashCall, Post, Read, CashReply, Done, Cash, CashEntry, Verdict, Cause, AuctionHistory, ClosedGame, all_goods, Head, Play, Serve}
 use Rattle.tac_base.specs.declared.calls.Call.TheVariants as calls
 use Rattle.tac_base.specs.declared.calls.Reply.TheVariants as replies
 use Rattle.line_protocol.specs.declared.admission.Verdict.TheVariants as verdicts
+use Rattle.log_text.specs.LogText.{play_part}
 
 -- numbers of 64 bits, which all shown numbers are
 abbrev pub IsNumber : ℕ → Type 0
@@ -112,3 +113,8 @@ pub record HaveOneHistory (game other : ClosedGame) : Type 0 where
   pub goods : map (λ auction. auction.setup.good) game.auctions ≡ map (λ auction. auction.setup.good) other.auctions
   pub histories : map (λ auction. auction.history) game.auctions ≡ map (λ auction. auction.history) other.auctions
   pub cash : game.cash ≡ other.cash
+
+-- two games of which a text begins with both first parts of a log have the same head and histories, and the rests are the same
+abbrev pub HaveOwnPlayParts : Head → Head → ClosedGame → ClosedGame → List ℕ → List ℕ → Type 0
+HaveOwnPlayParts head other_head game other rest other_rest = IsHead head → IsHead other_head → IsPlayed game → IsPlayed other
+    → play_part head game ++ rest ≡ play_part other_head other ++ other_rest → (head ≡ other_head) × HaveOneHistory game other × (rest ≡ other_rest)

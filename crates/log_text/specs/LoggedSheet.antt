@@ -1,8 +1,9 @@
--- Which sheets have different texts.
+-- Which sheets have different texts, and so which whole logs.
 use Rattle.std.specs.Prelude.{◌≡◌, ℕ, ⊤, List, length, slice_index}
 use Rattle.std.specs.List.{AllByRecursion}
-use Rattle.log_text.specs.Prelude.{AGENTS, Package, None, Trip, tree_lines, IsCertificate, Scored}
-use Rattle.log_text.specs.Logged.{IsNumber, IsSigned}
+use Rattle.log_text.specs.Prelude.{AGENTS, Package, None, Trip, tree_lines, IsCertificate, Scored, ClosedGame, Head}
+use Rattle.log_text.specs.Logged.{IsNumber, IsSigned, IsHead, IsPlayed, HaveOneHistory}
+use Rattle.log_text.specs.SheetText.{log_text}
 
 -- a night for each of the three ticket types
 pub record AreTicketNights (nights : List ℕ) : Type 0 where
@@ -34,3 +35,8 @@ pub record IsShownScore (scored : Scored) : Type 0 where
 pub record IsShownSheet (sheet : List Scored) : Type 0 where
   pub count : length sheet ≡ AGENTS
   pub scores : AllByRecursion IsShownScore sheet
+
+-- two games with the same log have the same head, histories and sheet
+abbrev pub HaveOwnLogs : Head → Head → ClosedGame → ClosedGame → List Scored → List Scored → Type 0
+HaveOwnLogs head other_head game other sheet other_sheet = IsHead head → IsHead other_head → IsPlayed game → IsPlayed other → IsShownSheet sheet → IsShownSheet other_sheet
+    → log_text head game sheet ≡ log_text other_head other other_sheet → (head ≡ other_head) × HaveOneHistory game other × (sheet ≡ other_sheet)

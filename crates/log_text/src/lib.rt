@@ -3,12 +3,10 @@
 
 mod law;
 mod printing;
-mod whole_log;
 
-pub use law::one_game;
+pub use law::{one_game, one_log, one_sheet};
 pub use line_protocol::LogHead;
 pub use printing::{
     auction_line, cash_entry_line, cash_line, end_line, entry_line, link_line, missed_line,
     none_line, print_score, print_sheet, trade_line,
 };
-pub use whole_log::{one_log, one_sheet};

@@ -28,6 +28,11 @@ PlaysGameLine game lines written line run (Err TooLong) = ⊥
 PlaysGameLine game lines written line run (Err Failed) = ⊥
 PlaysGameLine game lines written line run (Err Memory) = ⊤
 
+-- whatever lines were played before, this one came next
+abbrev pub PlaysNextLine : GameRun → NumberedLine → GameRun → Result (Unit {0}) ScriptFault → Type 0
+PlaysNextLine before line after result =
+    (game : GameFile) (lines : List GameLine) (written : List ℕ) → HasRunGame game lines written before → PlaysGameLine game lines written line after result
+
 -- memory was not refused
 abbrev pub IsGranted : Result (Unit {0}) ScriptFault → Type 0
 IsGranted (Err Memory) = ⊥

@@ -37,7 +37,7 @@ pub use Rattle.script_run.specs.GameStates.{GameState, call_turn, called, cash_t
 pub use Rattle.script_run.specs.OneThreadRun.{auction_with, closed_of, count_in, played, replies, ticked_often, whole_game}
 pub use Rattle.script_run.specs.GameCounts.{AreGameCounts}
 pub use Rattle.script_run.specs.CallCounts.{count_at, no_calls_counted}
-pub use Rattle.script_run.specs.OpenGames.{SeenGame, all_setups, pasts_of, setups_of, state_of}
+pub use Rattle.script_run.specs.OpenGames.{BeginsTick, SeenGame, all_setups, pasts_of, setups_of, state_of}
 pub use Rattle.script_run.specs.Tables.{AreCounted, HasClockRoom, due, made}
 pub use Rattle.script_run.specs.GameRuns.{HasRunGame, IsGranted, PlaysGameLine, PlaysLines}
 pub use Rattle.script_run.specs.GameOuts.{IsGoodScript, closed_game, first_out, play_out}
@@ -49,6 +49,6 @@ pub use Rattle.script_run.specs.HeardScripts.{AtEnd, AtFault, BadAt, Before, Bro
 pub use Rattle.script_run.specs.HeardReads.{HasReadCause, IsPrompt, StopsThere}
 pub use Rattle.script_run.specs.SteppedGames.{StepsGame, Tells, TellsGame}
 pub use Rattle.script_run.specs.HeldLines.{IsHeld}
-pub use Rattle.script_run.specs.Stepping.{Answered, EndsScript, HasAnswered, HearsLines, IsStepping, StopsAtLine, TookMore, stopped_by}
+pub use Rattle.script_run.specs.Stepping.{Answered, AnswersPiece, EndsScript, HasAnswered, HearsBytes, HearsLines, IsStepping, StopsAtLine, TookMore, stopped_by}
 pub use Rattle.script_run.specs.Prelude.{AUCTION_ENTRIES, At, AuctionHistory, Bid, Call, CashCall, CashEntry, Close, ClosedGame, Done, Entry, FilesState, GameFile, HasCause, IsAtEnd, IsDueCall, IsFit, IsFor, IsLawful, IsLegalCash, IsSheetOf, IsShowable, Legal, Matched, Own, Play, Point, Post, Publish, REPLY_TEXT, Reply, Request, RequestFault, Rose, Said, Scored, Setup, SinkState, Spent, Struck, TEXT_BYTES, TookPart, TookWhole, Trade, Update, Withdraw, all_goods, all_trades, board, calls_until, cap, cash_cap, cash_reply_of, cash_total, clock, clock_calls, due_post, due_to, entries_of, entry_of, has_end, histories_of, is_post, judged, known_then, nets, part, parts_of, play_part, post_for, posts_of, setup_of, sheet_part, then_known, tick_calls_of}
 unfoldable pub use Rattle.script_run.specs.Prelude.{calls_at, points_of}

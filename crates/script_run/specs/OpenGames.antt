@@ -1,5 +1,5 @@
 -- What a contract sees of a game that is being played, and the invariant of every such game.
-use Rattle.std.specs.Prelude.{◌≡◌, ℕ, ◌≤◌, List, map, reverse}
+use Rattle.std.specs.Prelude.{◌≡◌, ℕ, ◌+◌, ◌<◌, ◌≤◌, List, map, reverse, Option, MatchOption}
 use Rattle.script_run.specs.Prelude.{TICKS, GameFile, CashEntry, Setup, Entry, setup_of, AuctionHistory, all_goods}
 use Rattle.script_run.specs.GameStates.{GameState}
 
@@ -27,3 +27,8 @@ state_of auctions cash ticks = record { pasts = pasts_of auctions; cash = cash; 
 pub record IsOpen (game : GameFile) (auctions : List AuctionHistory) (ticks : ℕ) : Type 0 where
   pub setups : setups_of auctions ≡ all_setups game
   pub few : ticks ≤ TICKS
+
+-- if a tick is left, it begins, and this is its number; otherwise the number of ticks stays
+abbrev pub BeginsTick : ℕ → ℕ → Option ℕ → Type 0
+BeginsTick ticks ticks' result =
+    MatchOption result ((TICKS ≤ ticks) × (ticks' ≡ ticks)) (λ tick. (ticks < TICKS) × (tick ≡ ticks + 1) × (ticks' ≡ tick))

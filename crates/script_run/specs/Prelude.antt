@@ -37,7 +37,7 @@ pub use Rattle.auction_core.specs.Setups.{setup_of}
 pub use Rattle.auction_core.specs.declared.entries.Struck.{Struck}
 pub use Rattle.score_sheet.specs.Sheets.{Scored}
 pub use Rattle.tac_io.specs.Counts.{HasCause, Rose}
-pub use Rattle.tac_io.specs.Known.{IsAtEnd, known_then, then_known}
+pub use Rattle.tac_io.specs.Known.{IsAtEnd, ReadsAtMost, known_then, then_known}
 pub use Rattle.tac_io.specs.LineText.{has_end}
 pub use Rattle.tac_io.specs.States.{FilesState, SinkState}
 pub use Rattle.tac_io.specs.Taken.{TookPart, TookWhole}

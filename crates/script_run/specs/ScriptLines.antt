@@ -1,5 +1,5 @@
 -- The lines of a script, whatever they request.
-use Rattle.std.specs.Prelude.{ℕ, ◌+◌, ◌==◌, if◌then◌else◌, List, [], ◌∷◌, length, Result, Ok, Err}
+use Rattle.std.specs.Prelude.{ℕ, ◌+◌, ◌==◌, if◌then◌else◌, ◌≡◌, List, [], ◌∷◌, length, Result, MatchResult, Ok, Err}
 use Rattle.text_forms.specs.Words.{parts_of}
 use Rattle.script_run.specs.declared.fault.ScriptReason.{ScriptReason}
 use Rattle.script_run.specs.declared.fault.ScriptReason.TheVariants.{Form, Points, Ended, NoLineEnd, TooMany, TooManyOfCaller}
@@ -34,3 +34,8 @@ module _ {Line : Type 0} where
   -- the lines of a script, the last line first, or the first bad line
   abbrev pub lines_of_text : (List Line → List ℕ → Result Line ScriptReason) → List ℕ → Result (List Line) BadLine
   lines_of_text judge text = script_lines_from judge [] (parts_of 10 text)
+
+  -- If the counts are those of some lines, a line after them is answered as `judge` says, and it is counted if it is good.
+  abbrev pub CountsLine : {A Counts : Type 0} → (List Line → Counts → Type 0) → (List Line → A → Result Line ScriptReason) → A → Counts → Counts → Result Line ScriptReason → Type 0
+  CountsLine AreCounts judge line before after result = (lines : List Line) → AreCounts lines before →
+      MatchResult result (λ asked. (judge lines line ≡ Ok asked) × AreCounts (asked ∷ lines) after) (λ reason. judge lines line ≡ Err reason)

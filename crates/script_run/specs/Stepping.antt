@@ -1,5 +1,5 @@
 -- What the inner calls of a game that is played line by line keep and return.
-use Rattle.std.specs.Prelude.{◌≡◌, ℕ, ◌+◌, false, List, [], ◌++◌, length, Result, Ok, Err}
+use Rattle.std.specs.Prelude.{◌≡◌, ℕ, ◌+◌, false, List, [], ◌++◌, length, Result, MatchResult, Ok, Err}
 use Rattle.script_run.specs.Prelude.{parts_of, has_end, FilesState, SinkState, known_then, GameFile, TookWhole, TookPart}
 use Rattle.script_run.specs.declared.game.lines.GameLine.{GameLine}
 use Rattle.script_run.specs.declared.game.run.GameRun.{GameRun}
@@ -32,6 +32,11 @@ StopsAtLine game given written stepper (scripts.Line line reason) =
     × (written ++ stepper.run.text.items ≡ replies game lines)
 StopsAtLine game given written stepper fault = ⊥
 
+-- whatever bytes were played before, these came next and were played, or a line in them is bad
+abbrev pub HearsBytes : Stepper → List ℕ → Stepper → Result (Unit {0}) ScriptFault → Type 0
+HearsBytes before bytes after result = (game : GameFile) (given written : List ℕ) → IsStepping game given written before →
+    MatchResult result (λ _. IsStepping game (given ++ bytes) written after) (StopsAtLine game (given ++ bytes) written after)
+
 -- the same fault of a line, and what the others would be
 abbrev pub stopped_by : ScriptFault → StepFault
 stopped_by (scripts.Line line reason) = Line line reason
@@ -53,6 +58,11 @@ Answered game given start stepper sink' (Err (Line line reason)) =
     (lines : List GameLine) × (heard_from [] (parts_of 10 given) ≡ (lines, Err (line, reason))) × TookWhole start sink' (replies game lines)
 Answered game given start stepper sink' (Err Unwritten) = TookPart start sink' (replies game (heard_from [] (parts_of 10 given)).0)
 Answered game given start stepper sink' (Err fault) = ⊥
+
+-- if all bytes before were played and answered, a piece came next
+abbrev pub AnswersPiece : Stepper → SinkState → List ℕ → Stepper → SinkState → Result (Unit {0}) StepFault → Type 0
+AnswersPiece before sink piece after sink' result = (game : GameFile) (given : List ℕ) (start : SinkState) →
+    HasAnswered game given start before sink → Answered game (given ++ piece) start after sink' result
 
 -- the sink took some bytes more, or none
 abbrev pub TookMore : SinkState → SinkState → Type 0

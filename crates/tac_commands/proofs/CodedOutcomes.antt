@@ -1,18 +1,13 @@
 -- The code of an outcome.
 use Rattle.std.proofs.Common.{◌≡◌, ℕ, Bool, true, false, refl, sym, ◌∙◌, inl, inr, ◌==◌, ◌⊎◌, MatchBool, eqb-true}
-use Rattle.tac_commands.specs.{Rose, SinkState, TookPart, Outcome, Done, Lapsed, Unsound, Stopped, Unwritten, Unread, Refused, code_of, refusal_end, IsCutShort, Reports, exit_text}
+use Rattle.tac_commands.specs.{Rose, SinkState, TookPart, Outcome, Unread, code_of, refusal_end, IsCutShort, Reports, exit_text}
 use Rattle.game_log.proofs.Writing.{then_some}
 use Rattle.tac_commands.specs.declared.refusals.Refusal.TheVariants.{ReadFault}
 
 -- only the first bytes of the text that is due were written, whatever the outcome
 pub cut_part : (outcome : Outcome) (sink sink' : SinkState) → IsCutShort outcome sink sink' → TookPart sink sink' (exit_text outcome)
-cut_part (Done text) sink sink' cut = cut
-cut_part (Lapsed text) sink sink' cut = cut
-cut_part (Unsound text) sink sink' cut = cut
-cut_part (Stopped text refusal) sink sink' cut = cut
-cut_part (Unwritten text) sink sink' cut = cut
 cut_part (Unread text) sink sink' cut = then_some text (refusal_end ReadFault).1 sink cut.0 sink' cut.1 cut.2
-cut_part (Refused refusal) sink sink' cut = cut
+cut_part outcome sink sink' cut = cut
 
 -- it is 4 if the count of the sink rose, or the outcome's
 abbrev pub IsCoded : SinkState → SinkState → ℕ → Outcome → Type 0

@@ -36,14 +36,13 @@ stopped_by true text line due sink sink' sink'' code first told = then_some text
 stopped_by false text line due sink sink' sink'' code first told = (told.0, then_whole text line sink sink' sink'' first told.1)
 
 reports_stopped : (text : List ℕ) (refusal : Refusal) (sink sink' sink'' : SinkState) (end : End) (code : ℕ) → Stops text refusal sink sink' end → Finishes end sink' sink'' code → Reports (Stopped text refusal) sink sink'' code
-reports_stopped text refusal sink sink' sink'' ends.Done code stops finished = absurd stops
-reports_stopped text refusal sink sink' sink'' ends.Unsound code stops finished = absurd stops
 reports_stopped text refusal sink sink' sink'' ends.WriteFault code stops finished =
     let both : TookPart sink sink' (text ++ (refusal_end refusal).1) = fails_both text text (refusal_end refusal).1 sink sink' refl stops in
     rw finished.0 (subst (λ (s : SinkState). TookPart sink s (text ++ (refusal_end refusal).1)) (sym finished.1) both)
 reports_stopped text refusal sink sink' sink'' (ends.Refused told) code stops finished =
     let same : Reports (Refused refusal) sink' sink'' code = subst (λ (r : Refusal). Reports (Refused r) sink' sink'' code) stops.0 finished in
     stopped_by (code == 4) text (refusal_end refusal).1 (refusal_end refusal).0 sink sink' sink'' code stops.1 same
+reports_stopped text refusal sink sink' sink'' end code stops finished = absurd stops
 
 -- the replies were written whole, and then the line of the failed read, or not all of it
 broken_by : (b : Bool) (replies line : List ℕ) (due : ℕ) (sink sink' sink'' : SinkState) (code : ℕ) → TookWhole sink sink' replies →

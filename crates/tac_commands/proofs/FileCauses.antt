@@ -3,7 +3,7 @@ use Rattle.std.proofs.Common.{◌≡◌, ◌≢◌, ℕ, List, refl, sym, ap, �
 use Rattle.tac_commands.specs.{Rose, FilesState, GameFault, GameLine as ScriptLine, Value, read_as, refusal_of, refused_code, Content, IsFileRead, IsNotRead, HasFault, Outcome, Unsound, Refused, refusal_end, code_of, IsQuiet, Holds, HasBad, HasRefused, AreGood, HasUnsound, EndsAt, EndsAtAudit, SelectsFiles}
 use Rattle.game_text.specs.declared.fault.GameFault.TheVariants.{Line, TooLong}
 use Rattle.tac_commands.specs.declared.file_kinds.FileKind.{FileKind}
-use Rattle.tac_commands.specs.declared.file_kinds.FileKind.TheVariants.{Game, HotelScript, GameScript, Account, Log, Bytes}
+use Rattle.tac_commands.specs.declared.file_kinds.FileKind.TheVariants.{Game, GameScript}
 use Rattle.tac_commands.specs.declared.refusals.Refusal.{Refusal}
 use Rattle.tac_commands.specs.declared.refusals.Refusal.TheVariants.{Memory}
 use Rattle.tac_commands.specs.Runs.{Runs, StopsAt, with_name}
@@ -17,25 +17,13 @@ use Rattle.tac_commands.proofs.OwnCodes.{EndsWithin, IsLastCode}
 -- a refused file's code is 2 or 8
 kind_code : (kind : FileKind) → (refused_code kind ≡ 2) ⊎ (refused_code kind ≡ 8)
 kind_code Game = inl refl
-kind_code HotelScript = inr refl
-kind_code GameScript = inr refl
-kind_code Account = inr refl
-kind_code Log = inr refl
-kind_code Bytes = inr refl
+kind_code kind = inr refl
 
 fault_code : (kind : FileKind) (fault : GameFault) → (refusal_end (refusal_of kind fault)).0 ≡ refused_code kind
 fault_code Game (Line line reason) = refl
 fault_code Game TooLong = refl
-fault_code HotelScript (Line line reason) = refl
-fault_code HotelScript TooLong = refl
-fault_code GameScript (Line line reason) = refl
-fault_code GameScript TooLong = refl
-fault_code Account (Line line reason) = refl
-fault_code Account TooLong = refl
-fault_code Log (Line line reason) = refl
-fault_code Log TooLong = refl
-fault_code Bytes (Line line reason) = refl
-fault_code Bytes TooLong = refl
+fault_code kind (Line line reason) = refl
+fault_code kind TooLong = refl
 
 stopped : (files files' : FilesState) (kind : FileKind) (name : List ℕ) (refusal : Refusal) (outcome : Outcome) → outcome ≡ Refused refusal → IsNotRead files files' kind name refusal →
     StopsSo files files' kind name (code_of outcome)

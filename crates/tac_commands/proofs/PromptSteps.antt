@@ -81,10 +81,8 @@ told_more false sink sink' text P told = (text, told.1.0)
 
 -- a command that is finished takes nothing back
 finished_more : (end : End) (sink sink' : SinkState) (code : ℕ) → Finishes end sink sink' code → TookMore sink sink'
-finished_more ends.Done sink sink' code finished = subst (λ (s : SinkState). TookMore sink s) (sym finished.1) (took_none sink)
-finished_more ends.Unsound sink sink' code finished = subst (λ (s : SinkState). TookMore sink s) (sym finished.1) (took_none sink)
-finished_more ends.WriteFault sink sink' code finished = subst (λ (s : SinkState). TookMore sink s) (sym finished.1) (took_none sink)
 finished_more (ends.Refused refusal) sink sink' code finished = told_more (code == 4) sink sink' _ _ finished
+finished_more end sink sink' code finished = subst (λ (s : SinkState). TookMore sink s) (sym finished.1) (took_none sink)
 
 module _ (files files' : FilesState) (sink sink' sink'' : SinkState) (more : TookMore sink' sink'') where
   heard_kept : (game : GameFile) (script : List ℕ) (content : Content) →

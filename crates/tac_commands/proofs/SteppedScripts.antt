@@ -77,32 +77,23 @@ module _ (game : GameFile) (law : (script : List ℕ) (lines : List GameLine) �
 
       whole_end : (result : Result (Unit {0}) StepFault) → TellsGame game given sink sink' result → IsEnd result
       whole_end (Ok done) reports = inl (reports.0, played_run reports.0 reports.1, reports.2)
-      whole_end (Err (Line line reason)) reports = absurd reports
-      whole_end (Err TooLong) reports = absurd reports
-      whole_end (Err Unread) reports = absurd reports
       whole_end (Err Unwritten) reports = unwritten reports.0 reports.1 reports.2
       whole_end (Err Memory) reports = inr (inl (reports.0, refusals.Memory, first_run reports.0 reports.1, (refl, reports.2)))
+      whole_end result reports = absurd reports
 
     -- ---- a script that was not
 
     fault_end : (fault : StepFault) (text : List ℕ) (result : Result (Unit {0}) StepFault) → Runs (step_steps game name) files files' (Stopped text (refusal_by fault)) → TellsFault text fault sink sink' result → IsEnd result
     fault_end fault text (Ok done) run reports = absurd reports
-    fault_end fault text (Err (Line line reason)) run reports = inr (inl (text, refusal_by fault, run, (ap refusal_by reports.0, reports.1)))
-    fault_end fault text (Err TooLong) run reports = inr (inl (text, refusal_by fault, run, (ap refusal_by reports.0, reports.1)))
-    fault_end fault text (Err Unread) run reports = inr (inl (text, refusal_by fault, run, (ap refusal_by reports.0, reports.1)))
     fault_end fault text (Err Unwritten) run reports = inr (inl (text, refusal_by fault, run, reports))
-    fault_end fault text (Err Memory) run reports = inr (inl (text, refusal_by fault, run, (ap refusal_by reports.0, reports.1)))
+    fault_end fault text result run reports = inr (inl (text, refusal_by fault, run, (ap refusal_by reports.0, reports.1)))
 
     unread_end : (text : List ℕ) (result : Result (Unit {0}) StepFault) → Runs (step_steps game name) files files' (outcomes.Unread text) → (result ≡ Err Unread) × TookWhole sink sink' text → IsEnd result
     unread_end text result run reports = rw reports.0 (inr (inr (text, run, refl, reports.1)))
 
     open_end : (text : List ℕ) (result : Result (Unit {0}) StepFault) → Runs (step_steps game name) files files' (outcomes.Unwritten text) → IsUnwritten text sink sink' result → IsEnd result
-    open_end text (Ok done) run reports = absurd reports
-    open_end text (Err (Line line reason)) run reports = absurd reports
-    open_end text (Err TooLong) run reports = absurd reports
-    open_end text (Err Unread) run reports = absurd reports
     open_end text (Err Unwritten) run reports = inl (text, inr (inr run), reports)
-    open_end text (Err Memory) run reports = absurd reports
+    open_end text result run reports = absurd reports
 
     by_standing : (stands : Standing) → script_standing given reading ≡ stands → (result : Result (Unit {0}) StepFault) → Tells game given stands sink sink' result → IsEnd result
     by_standing Whole is result reports = whole_end is result reports

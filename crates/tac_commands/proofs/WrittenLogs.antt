@@ -1,13 +1,13 @@
 -- Reading a written log again, and auditing it.
 use Rattle.std.proofs.Common.{◌≡◌, ℕ, ◌≤◌, List, ◌++◌, length, refl, sym, ap, ◌∙◌, subst, inl, inr, append_assoc, ◌⊎◌, codes, Ok}
 use Rattle.std.proofs.lemmas.List.{append_cancel_left}
-use Rattle.tac_commands.specs.{TEXT_BYTES, FilesState, GameFile, ClosedGame, first_lines, histories_text, play_part, sheet_part, IsHead, IsPlayed, HaveOneHistory, LoggedGame, logged_text, IsSound, WritesDue, IsFlawText, audit_steps, read_as, logged_or_fault, Outcome, Done, Lapsed, Unsound, Stopped, Unread, Unwritten, Refused, EndsInSoundLog}
+use Rattle.tac_commands.specs.{TEXT_BYTES, GameFile, ClosedGame, first_lines, histories_text, play_part, sheet_part, IsHead, IsPlayed, HaveOneHistory, LoggedGame, logged_text, IsSound, WritesDue, IsFlawText, IsSaidSound, read_as, logged_or_fault, Outcome, Done, Unsound, Refused, EndsInSoundLog, IsOnlyGameIn}
 use Rattle.auction_rules.specs.History.{Entry}
 use Rattle.line_protocol.specs.Heads.{Head}
 use Rattle.log_reader.proofs.LogTexts.{only_log}
 use Rattle.tac_commands.specs.declared.file_kinds.FileKind.TheVariants.{Log}
 use Rattle.tac_commands.specs.declared.refusals.Refusal.TheVariants.{Memory}
-use Rattle.tac_commands.specs.Runs.{StopsAt, Runs}
+use Rattle.tac_commands.specs.Runs.{StopsAt}
 use Rattle.tac_commands.proofs.LoggedNumbers.{head_is, game_in, game_is, same_histories}
 
 -- the text that follows is that of the log
@@ -27,9 +27,8 @@ begins game log =
 
 pub one_log : ((head other_head : Head) (closed other : ClosedGame) (rest other_rest : List ℕ) → IsHead head → IsHead other_head → IsPlayed closed → IsPlayed other →
     play_part head closed ++ rest ≡ play_part other_head other ++ other_rest → (head ≡ other_head) × HaveOneHistory closed other × (rest ≡ other_rest)) →
-    (game other_game : GameFile) (log other : LoggedGame) (before other_before text : List ℕ) → EndsInSoundLog game log before (before ++ text) → EndsInSoundLog other_game other other_before (other_before ++ text) →
-    (log.head ≡ other.head) × (log.histories ≡ other.histories) × (log.cash ≡ other.cash)
-one_log law game other_game log other before other_before text ends other_ends =
+    (game : GameFile) (log : LoggedGame) (before text : List ℕ) → EndsInSoundLog game log before (before ++ text) → IsOnlyGameIn text log
+one_log law game log before text ends = λ other_game other other_before other_ends.
     let one = law log.head other.head (game_in game log) (game_in other_game other) (sheet_part log.scores) (sheet_part other.scores)
     (head_is log.head ends.ranged.head) (head_is other.head other_ends.ranged.head) (game_is game log ends.ranged) (game_is other_game other other_ends.ranged)
     (sym (begins game log) ∙ (sym (text_of game log before text ends) ∙ (text_of other_game other other_before text other_ends ∙ begins other_game other))) in
@@ -42,25 +41,14 @@ SaysSound outcome = (outcome ≡ Done (codes "sound\n")) ⊎ (outcome ≡ Refuse
 
 written : (outcome : Outcome) → WritesDue (λ (text : List ℕ). text ≡ codes "sound\n") outcome → SaysSound outcome
 written (Done text) due = inl (ap Done due)
-written (Lapsed text) due = absurd due
-written (Unsound text) due = absurd due
-written (Stopped text refusal) due = absurd due
-written (Unwritten text) due = absurd due
-written (Unread text) due = absurd due
 written (Refused Memory) due = inr refl
-written (Refused refusal) due = absurd due
+written outcome due = absurd due
 
 stopped : (game : GameFile) (log : LoggedGame) (outcome : Outcome) → IsSound game log → StopsAt (IsSound game log) (IsFlawText game log) outcome → SaysSound outcome
-stopped game log (Done text) sound stops = absurd stops
-stopped game log (Lapsed text) sound stops = absurd stops
 stopped game log (Unsound text) sound stops = absurd (stops.0 sound)
-stopped game log (Stopped text refusal) sound stops = absurd stops
-stopped game log (Unwritten text) sound stops = absurd stops
-stopped game log (Unread text) sound stops = absurd stops
 stopped game log (Refused Memory) sound stops = inr refl
-stopped game log (Refused refusal) sound stops = absurd stops
+stopped game log outcome sound stops = absurd stops
 
-pub says_sound : (game : GameFile) (log : LoggedGame) (files files' : FilesState) (outcome : Outcome) → IsSound game log → Runs (audit_steps game log) files files' outcome →
-    (outcome ≡ Done (codes "sound\n")) ⊎ (outcome ≡ Refused Memory)
-says_sound game log files files' outcome sound (inl run) = written outcome run.1.0
-says_sound game log files files' outcome sound (inr run) = stopped game log outcome sound run.0
+pub says_sound : (game : GameFile) (log : LoggedGame) → IsSound game log → IsSaidSound game log
+says_sound game log sound files files' outcome (inl run) = written outcome run.1.0
+says_sound game log sound files files' outcome (inr run) = stopped game log outcome sound run.0

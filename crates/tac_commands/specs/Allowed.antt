@@ -1,5 +1,5 @@
 -- What each command does with its files and their values, and so which outcomes the words and the files allow.
-use Rattle.std.specs.Prelude.{◌≡◌, ℕ, ◌<◌, ⊤, codes, List, [], ◌∷◌, ◌++◌, length, Option, Some, None, ◌≤ℤ◌, ◌<ℤ◌, pos}
+use Rattle.std.specs.Prelude.{◌≡◌, ℕ, ◌<◌, ◌⊎◌, ⊤, codes, List, [], ◌∷◌, ◌++◌, length, Option, Some, None, ◌≤ℤ◌, ◌<ℤ◌, pos}
 use Rattle.tac_commands.specs.Prelude.{GOODS, FilesState, GameFile, canonical_text, upgraded, AccountFile, IsSolvedText, made_game, made_script, Scored, GameLine as ScriptLine, PlayCount, hotel_out, IsSheetOf, closed_game, first_out, play_out, replies, IsSummary, LoggedGame, IsSound, Flaw, IsFirstFlaw, Dialect, Difference, Vouching, IsFirstDifference, IsJudged, IsYes, IsPrinted}
 use Rattle.good_worth.specs.Worth.{IsUp, IsDown, held}
 use Rattle.good_worth.specs.Worths.{Valuation, AreWorths, up_at, down_at}
@@ -11,7 +11,7 @@ use Rattle.tac_commands.specs.declared.refusals.Refusal.TheVariants.{Usage, Link
 use Rattle.tac_commands.specs.Cash.{IsCashOfPosts}
 use Rattle.tac_commands.specs.Commands.{BatchCommand, Hotel, Show, Upgrade, Make, Solve, Worth, Play, Step, Trial, Audit, Vouch, Table, Command, Batch, Serve}
 use Rattle.tac_commands.specs.FlawTexts.{flaw_text, unsound_text}
-use Rattle.tac_commands.specs.Outcomes.{Outcome, Done, Lapsed, Unsound, Stopped, Unwritten, Unread, Refused}
+use Rattle.tac_commands.specs.Outcomes.{Outcome, Done, Lapsed, Stopped, Refused}
 use Rattle.tac_commands.specs.Runs.{AreUnasked, Runs}
 use Rattle.tac_commands.specs.Services.{dialect_in}
 use Rattle.tac_commands.specs.SoundTexts.{log_of_game, EndsInSoundLog}
@@ -87,6 +87,10 @@ step_steps game script = Hears script (replies game) (StepAllows game)
 abbrev pub audit_steps : GameFile → LoggedGame → Steps
 audit_steps game log = Judges (IsSound game log) (IsFlawText game log) (EndsWith (WritesDue (λ text. text ≡ codes "sound\n")))
 
+-- each audit of this log by this game says that it is sound, unless a memory allocation failed
+abbrev pub IsSaidSound : GameFile → LoggedGame → Type 0
+IsSaidSound game log = (files files' : FilesState) (outcome : Outcome) → Runs (audit_steps game log) files files' outcome → (outcome ≡ Done (codes "sound\n")) ⊎ (outcome ≡ Refused Memory)
+
 -- the text about a link that the log is right about, as that of one of its agents
 abbrev pub IsVouchedText : GameFile → Dialect → LoggedGame → List ℕ → List ℕ → List ℕ → Type 0
 IsVouchedText game dialect log asked said text =
@@ -149,13 +153,9 @@ abbrev pub IsServiceEnd : Outcome → Type 0
 IsServiceEnd (Done text) = ⊤
 IsServiceEnd (Lapsed text) = ⊤
 IsServiceEnd (Stopped text Memory) = ⊤
-IsServiceEnd (Stopped text refusal) = ⊥
-IsServiceEnd (Unwritten text) = ⊥
-IsServiceEnd (Unread text) = ⊥
 IsServiceEnd (Refused LinkFault) = ⊤
 IsServiceEnd (Refused Memory) = ⊤
-IsServiceEnd (Refused refusal) = ⊥
-IsServiceEnd (Unsound text) = ⊥
+IsServiceEnd outcome = ⊥
 
 -- what a command does
 abbrev pub steps_of : Command → Steps

@@ -1,5 +1,5 @@
 -- What the words of a command line request.
-use Rattle.std.specs.Prelude.{ℕ, ◌+◌, ◌%◌, ◌^◌, ◌==◌, ◌&&◌, nat_lt, nat_le, List, [], ◌∷◌, length, Option, Some, None, if◌then◌else◌, codes, option_map, bytes_eq}
+use Rattle.std.specs.Prelude.{◌≡◌, ℕ, ◌+◌, ◌%◌, ◌^◌, ◌==◌, ◌&&◌, nat_lt, nat_le, List, [], ◌∷◌, length, Option, Some, None, MatchOption, if◌then◌else◌, codes, option_map, bytes_eq}
 use Rattle.tac_commands.specs.Prelude.{FILE_NAMES, MADE_REQUESTS, below, numeral}
 use Rattle.tac_commands.specs.declared.services.Form.{Form}
 use Rattle.tac_commands.specs.declared.services.Form.TheVariants.{Lines, Json}
@@ -91,6 +91,10 @@ abbrev pub command_of : List (List ℕ) → Option Command
 command_of words = service_or_batch (service_of words) (batch_of words)
 
 -- ---- as the code has it
+
+-- the code found what the words request, as it is in memory; or they request nothing, and it found nothing
+abbrev pub IsRequested : {A B : Type 0} → Option B → (A → B) → Option A → Type 0
+IsRequested requested seen found = MatchOption found (requested ≡ None) (λ it. requested ≡ Some (seen it))
 
 -- the service, with its name as it is in memory
 abbrev pub seen_service : ServiceAsked → Service

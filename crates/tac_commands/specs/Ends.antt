@@ -24,10 +24,9 @@ Ends allows sink sink' (ends.Refused refusal) = allows (Refused refusal) × (sin
 
 -- a first part of a text was written, and this is to be written in place of the rest; or only the first bytes of that part were
 abbrev pub Stops : List ℕ → Refusal → SinkState → SinkState → End → Type 0
-Stops text refusal sink sink' ends.Done = ⊥
-Stops text refusal sink sink' ends.Unsound = ⊥
 Stops text refusal sink sink' ends.WriteFault = TookPart sink sink' text
 Stops text refusal sink sink' (ends.Refused told) = (told ≡ refusal) × TookWhole sink sink' text
+Stops text refusal sink sink' end = ⊥
 
 -- A command that allows these outcomes ended so, and left the sink so. It may have stopped after a first part of its text, or after the replies to the
 -- lines of a script that came before a failed read: these were written whole.

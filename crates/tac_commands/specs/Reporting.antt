@@ -15,3 +15,7 @@ abbrev pub Reports : Outcome → SinkState → SinkState → ℕ → Type 0
 Reports outcome sink sink' code = MatchBool (code == 4)
     (IsCutShort outcome sink sink')
     ((code ≡ (exit_of outcome).0) × TookWhole sink sink' (exit_of outcome).1)
+
+-- one of these outcomes came: its text was written and its code given, or a write failed and the code is 4
+abbrev pub ReportsOne : (Outcome → Type 0) → SinkState → SinkState → ℕ → Type 0
+ReportsOne allows sink sink' code = (outcome : Outcome) × allows outcome × Reports outcome sink sink' code

@@ -14,3 +14,8 @@ pub record EndsInSoundLog (game : GameFile) (log : LoggedGame) (before text : Li
   pub sound : IsSound game log
   pub ranged : IsRanged log
   pub logged : length (logged_text log) ≤ TEXT_BYTES → IsLogged log
+
+-- each sound log with this text, whatever comes before it, has the head, the histories and the cash history of this one
+abbrev pub IsOnlyGameIn : List ℕ → LoggedGame → Type 0
+IsOnlyGameIn text log = (game : GameFile) (other : LoggedGame) (before : List ℕ) → EndsInSoundLog game other before (before ++ text) →
+    (log.head ≡ other.head) × (log.histories ≡ other.histories) × (log.cash ≡ other.cash)

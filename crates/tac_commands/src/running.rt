@@ -1,7 +1,7 @@
 // Runs the words of a command that needs no links.
 ghost use Rattle.std.specs.Prelude.{◌≡◌, ◌≤◌, [], string_len, None, All, IfSome};
 ghost use Rattle.tac_base.specs.declared.limits.TheConstants.{NAME_BYTES};
-ghost use Rattle.tac_commands.specs.{bytes_of_words, Allows, code_number, batch_of, service_or_batch, Outcome, IsPromptCommand, Reports};
+ghost use Rattle.tac_commands.specs.{bytes_of_words, Allows, code_number, batch_of, service_or_batch, IsPromptCommand, ReportsOne};
 
 use crate::batch::run_batch;
 use crate::code::Code;
@@ -22,8 +22,8 @@ pub fn run_words<R: Threads + Sync, F: Files, K: Sink>(
 ) -> Code
     requires names { IfSome (F.state files.old).names (λ names. names ≡ []) }
     requires short { IfSome (F.state files.old).names (λ _. All (λ word. string_len word ≤ NAME_BYTES) words.now) }
-    ensures outcome { (outcome : Outcome) × Allows (service_or_batch None (batch_of (bytes_of_words words.now))) (F.state files.old) (F.state files.new) outcome
-        × Reports outcome (K.state out.old) (K.state out.new) (code_number result) }
+    ensures outcome { ReportsOne (Allows (service_or_batch None (batch_of (bytes_of_words words.now))) (F.state files.old) (F.state files.new))
+        (K.state out.old) (K.state out.new) (code_number result) }
     ensures prompt { IsPromptCommand (service_or_batch None (batch_of (bytes_of_words words.now))) (F.state files.old) (F.state files.new) (K.state out.old) (K.state out.new) }
 {
     match batch_asked(words) {

@@ -1,6 +1,6 @@
 // The game over links that the words of a command line request.
-ghost use Rattle.std.specs.Prelude.{◌≡◌, ◌≤◌, [], ◌∷◌, length, string_len, MatchOption, Some, None, All, IfSome};
-ghost use Rattle.tac_commands.specs.{seen_service, service_of};
+ghost use Rattle.std.specs.Prelude.{◌≡◌, ◌≤◌, [], ◌∷◌, length, string_len, All, IfSome};
+ghost use Rattle.tac_commands.specs.{seen_service, service_of, IsRequested};
 ghost use Rattle.tac_commands.specs.Prelude.{NAME_BYTES, numeral};
 ghost use Rattle.tac_commands.specs.Services.{bytes_of_words};
 ghost use Rattle.tac_commands.specs.Services as services;
@@ -43,8 +43,7 @@ fn service_with<'a>(
     pace: Option<u16>,
     form: Form,
 ) -> Option<Service<'a>>
-    ensures service { MatchOption result (services.service_with game.now port pace form ≡ None)
-        (λ service. services.service_with game.now port pace form ≡ Some (seen_service service)) }
+    ensures service { IsRequested (services.service_with game.now port pace form) seen_service result }
     ensures short { length game.now ≤ NAME_BYTES → IfSome result (λ service. length service.game.now ≤ NAME_BYTES) }
 {
     let Some(port) = port else {
@@ -63,8 +62,7 @@ fn service_with<'a>(
 
 /// Returns the service of a word and three more, in lines of words.
 fn service_in_lines<'a>(word: &str, game: &'a str, port: &str, pace: &str) -> Option<Service<'a>>
-    ensures service { MatchOption result (service_of (word.now ∷ game.now ∷ port.now ∷ pace.now ∷ []) ≡ None)
-        (λ service. service_of (word.now ∷ game.now ∷ port.now ∷ pace.now ∷ []) ≡ Some (seen_service service)) }
+    ensures service { IsRequested (service_of (word.now ∷ game.now ∷ port.now ∷ pace.now ∷ [])) seen_service result }
     ensures short { length game.now ≤ NAME_BYTES → IfSome result (λ service. length service.game.now ≤ NAME_BYTES) }
 {
     if word == "serve" {
@@ -87,8 +85,7 @@ fn service_in_json<'a>(
     pace: &str,
     form: &str,
 ) -> Option<Service<'a>>
-    ensures service { MatchOption result (service_of (word.now ∷ game.now ∷ port.now ∷ pace.now ∷ form.now ∷ []) ≡ None)
-        (λ service. service_of (word.now ∷ game.now ∷ port.now ∷ pace.now ∷ form.now ∷ []) ≡ Some (seen_service service)) }
+    ensures service { IsRequested (service_of (word.now ∷ game.now ∷ port.now ∷ pace.now ∷ form.now ∷ [])) seen_service result }
     ensures short { length game.now ≤ NAME_BYTES → IfSome result (λ service. length service.game.now ≤ NAME_BYTES) }
 {
     if word == "serve" && form == "json" {
@@ -105,8 +102,7 @@ fn service_in_json<'a>(
 
 /// Returns the service that the words request, if they request one.
 pub fn service_asked(words: &[String]) -> Option<Service<'_>>
-    ensures service { MatchOption result (service_of (bytes_of_words words.now) ≡ None)
-        (λ service. service_of (bytes_of_words words.now) ≡ Some (seen_service service)) }
+    ensures service { IsRequested (service_of (bytes_of_words words.now)) seen_service result }
     ensures short { All (λ word. string_len word ≤ NAME_BYTES) words.now → IfSome result (λ service. length service.game.now ≤ NAME_BYTES) }
 {
     match words {

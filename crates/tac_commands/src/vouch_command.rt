@@ -1,7 +1,8 @@
 // Judges the log of a game by the game, and then by one link.
 ghost use Rattle.std.specs.Prelude.{◌≡◌, ◌+◌, ◌<◌, ◌≤◌, [], ◌∷◌, length, IfSome};
-ghost use Rattle.tac_commands.specs.{FILE_NAMES, LINK_BYTES, NAME_BYTES, MaySelect, IsSound, dialect_in, link_file_steps, link_steps, vouch_steps, EndsBatch, EndsSteps, EndsUnasked, Reads, file};
+ghost use Rattle.tac_commands.specs.{FILE_NAMES, LINK_BYTES, NAME_BYTES, MaySelect, IsSound, dialect_in, link_file_steps, link_steps, vouch_steps, EndsBatch, EndsSteps, EndsUnasked, IsShortBatch, Reads, file};
 ghost use Rattle.tac_commands.specs.Commands as commands;
+ghost use Rattle.tac_commands.specs.declared.words.BatchCommand.TheVariants as batch;
 ghost use Rattle.tac_commands.specs.declared.file_kinds.FileKind.TheVariants.{Bytes, Log as LogKind};
 ghost use Rattle.tac_commands.specs.Ends.{Ends};
 ghost use Rattle.tac_commands.specs.VouchingTexts as texts;
@@ -129,7 +130,7 @@ fn judge_said<D: KnownDialect, F: Files, K: Sink>(
     requires sound { IsSound game.now log.now }
     requires short { length asked.now < LINK_BYTES }
     requires name { MaySelect (F.state files.old) said.now }
-    ensures { EndsSteps (Reads (file Bytes said.now) (λ said. link_steps game.now (D.form dialect.now) log.now asked.now said))
+    ensures { EndsSteps (Reads (file Bytes said.now) (link_steps game.now (D.form dialect.now) log.now asked.now))
         (F.state files.old) (F.state files.new) (K.state out.old) (K.state out.new) result }
 {
     match read_link(alloc, files, said) {
@@ -257,8 +258,7 @@ pub(crate) fn vouch_files<F: Files, K: Sink>(
     files: &mut F,
     out: &mut K,
 ) -> End
-    requires { IfSome (F.state files.old).names (λ names. (names ≡ []) × (length game.now ≤ NAME_BYTES) × (length log.now ≤ NAME_BYTES)
-        × (length asked.now ≤ NAME_BYTES) × (length said.now ≤ NAME_BYTES)) }
+    requires { IfSome (F.state files.old).names (λ names. (names ≡ []) × IsShortBatch (batch.Vouch game log asked said form)) }
     ensures { EndsBatch (commands.Vouch game.now log.now asked.now said.now form)
         (F.state files.old) (F.state files.new) (K.state out.old) (K.state out.new) result }
 {

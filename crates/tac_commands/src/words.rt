@@ -1,8 +1,8 @@
 // The words of a command that needs no links.
-ghost use Rattle.std.specs.Prelude.{◌≡◌, ◌+◌, ◌≤◌, ◌^◌, length, string_len, MatchOption, Some, None, All, IfSome};
+ghost use Rattle.std.specs.Prelude.{◌≡◌, ◌+◌, ◌≤◌, ◌^◌, length, string_len, All, IfSome};
 ghost use Rattle.tac_commands.specs.Prelude.{MADE_REQUESTS, NAME_BYTES, below, numeral};
 ghost use Rattle.tac_commands.specs.Commands as commands;
-ghost use Rattle.tac_commands.specs.{batch_of, seen_batch, IsShortBatch, IsWithinBatch};
+ghost use Rattle.tac_commands.specs.{batch_of, seen_batch, IsRequested, IsShortBatch, IsWithinBatch};
 ghost use Rattle.tac_commands.specs.Services.{bytes_of_words};
 
 use crate::services::Form;
@@ -72,8 +72,7 @@ pub(crate) enum BatchCommand<'a> {
 
 /// Returns the command of a word and one more.
 fn batch_with<'a>(word: &str, argument: &'a str) -> Option<BatchCommand<'a>>
-    ensures command { MatchOption result (commands.batch_with word.now argument.now ≡ None)
-        (λ asked. commands.batch_with word.now argument.now ≡ Some (seen_batch asked)) }
+    ensures command { IsRequested (commands.batch_with word.now argument.now) seen_batch result }
     ensures within { IfSome result IsWithinBatch }
     ensures short { length argument.now ≤ NAME_BYTES → IfSome result IsShortBatch }
 {
@@ -115,7 +114,7 @@ fn count_of(word: &str) -> Option<u32>
 /// Returns the trial of a seed and a count.
 fn trial_of<'a>(seed: Option<u64>, count: Option<u32>) -> Option<BatchCommand<'a>>
     requires { IfSome count (λ count. count ≤ MADE_REQUESTS) }
-    ensures command { MatchOption result (commands.trial_of seed count ≡ None) (λ asked. commands.trial_of seed count ≡ Some (seen_batch asked)) }
+    ensures command { IsRequested (commands.trial_of seed count) seen_batch result }
     ensures within { IfSome result IsWithinBatch }
     ensures short { IfSome result IsShortBatch }
 {
@@ -130,8 +129,7 @@ fn trial_of<'a>(seed: Option<u64>, count: Option<u32>) -> Option<BatchCommand<'a
 
 /// Returns the command of a word and two more.
 fn batch_with_two<'a>(word: &str, first: &'a str, second: &'a str) -> Option<BatchCommand<'a>>
-    ensures command { MatchOption result (commands.batch_with_two word.now first.now second.now ≡ None)
-        (λ asked. commands.batch_with_two word.now first.now second.now ≡ Some (seen_batch asked)) }
+    ensures command { IsRequested (commands.batch_with_two word.now first.now second.now) seen_batch result }
     ensures within { IfSome result IsWithinBatch }
     ensures short { (length first.now ≤ NAME_BYTES) × (length second.now ≤ NAME_BYTES) → IfSome result IsShortBatch }
 {
@@ -166,8 +164,7 @@ fn vouch_with<'a>(
     said: &'a str,
     form: Form,
 ) -> Option<BatchCommand<'a>>
-    ensures command { MatchOption result (commands.vouch_with word.now game.now log.now asked.now said.now form ≡ None)
-        (λ command. commands.vouch_with word.now game.now log.now asked.now said.now form ≡ Some (seen_batch command)) }
+    ensures command { IsRequested (commands.vouch_with word.now game.now log.now asked.now said.now form) seen_batch result }
     ensures within { IfSome result IsWithinBatch }
     ensures short { (length game.now ≤ NAME_BYTES) × (length log.now ≤ NAME_BYTES) × (length asked.now ≤ NAME_BYTES) × (length said.now ≤ NAME_BYTES)
         → IfSome result IsShortBatch }
@@ -187,8 +184,7 @@ fn vouch_with<'a>(
 
 /// Returns the table of the games and logs of these names, in turn.
 fn table_of(names: &[String]) -> Option<BatchCommand<'_>>
-    ensures command { MatchOption result (commands.table_of (bytes_of_words names.now) ≡ None)
-        (λ asked. commands.table_of (bytes_of_words names.now) ≡ Some (seen_batch asked)) }
+    ensures command { IsRequested (commands.table_of (bytes_of_words names.now)) seen_batch result }
     ensures within { IfSome result IsWithinBatch }
     ensures short { All (λ name. string_len name ≤ NAME_BYTES) names.now → IfSome result IsShortBatch }
 {
@@ -201,8 +197,7 @@ fn table_of(names: &[String]) -> Option<BatchCommand<'_>>
 
 /// Returns the command of a word and the words after it, by their number.
 fn batch_by_count<'a>(word: &str, others: &'a [String]) -> Option<BatchCommand<'a>>
-    ensures command { MatchOption result (commands.batch_by_count word.now (bytes_of_words others.now) ≡ None)
-        (λ asked. commands.batch_by_count word.now (bytes_of_words others.now) ≡ Some (seen_batch asked)) }
+    ensures command { IsRequested (commands.batch_by_count word.now (bytes_of_words others.now)) seen_batch result }
     ensures within { IfSome result IsWithinBatch }
     ensures short { All (λ other. string_len other ≤ NAME_BYTES) others.now → IfSome result IsShortBatch }
 {
@@ -237,8 +232,7 @@ fn batch_by_count<'a>(word: &str, others: &'a [String]) -> Option<BatchCommand<'
 
 /// Returns the command that the words request, if they request one that needs no links.
 pub(crate) fn batch_asked(words: &[String]) -> Option<BatchCommand<'_>>
-    ensures command { MatchOption result (batch_of (bytes_of_words words.now) ≡ None)
-        (λ asked. batch_of (bytes_of_words words.now) ≡ Some (seen_batch asked)) }
+    ensures command { IsRequested (batch_of (bytes_of_words words.now)) seen_batch result }
     ensures within { IfSome result IsWithinBatch }
     ensures short { All (λ word. string_len word ≤ NAME_BYTES) words.now → IfSome result IsShortBatch }
 {

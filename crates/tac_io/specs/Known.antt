@@ -1,5 +1,5 @@
 -- What is known of the content of an object of the outside. If the object does not show it, it is `None` before and after each call.
-use Rattle.std.specs.Prelude.{◌≡◌, ℕ, ◌<◌, ◌≤◌, List, [], ◌∷◌, ◌++◌, length, take, None, Some, IfSome, Result, MatchResult, option_map, Option}
+use Rattle.std.specs.Prelude.{◌≡◌, ℕ, ◌<◌, ◌≤◌, List, [], ◌∷◌, ◌++◌, length, take, None, Some, IfSome, MatchOption, Result, MatchResult, option_map, Option}
 
 -- what is known, with `more` at its end
 abbrev pub known_then : {A : Type 0} → Option (List A) → List A → Option (List A)
@@ -13,11 +13,21 @@ then_known more known = option_map (λ xs. more ++ xs) known
 abbrev pub IsAtEnd : {A : Type 0} → Option (List A) → Type 0
 IsAtEnd known = IfSome known (λ xs. xs ≡ [])
 
--- A read gave the next n bytes of what was left, and took them from its front. It gave none only if nothing was left.
+-- A read gave the next n bytes of what was left, at most `most`, and took them from its front. It gave none only if nothing was left.
 -- A failed read took nothing.
+abbrev pub ReadsAtMost : {E : Type 0} → ℕ → Option (List ℕ) → Option (List ℕ) → Result ℕ E → List ℕ → Type 0
+ReadsAtMost most before after result bytes = MatchResult result
+    (λ n. (n ≤ most) × (before ≡ then_known (take n bytes) after) × (n ≡ 0 → IsAtEnd before))
+    (λ _. after ≡ before)
+
+-- a read that gave at most as many bytes as it had room for
 abbrev pub Reads : {E : Type 0} → Option (List ℕ) → Option (List ℕ) → Result ℕ E → List ℕ → Type 0
-Reads before after result into = MatchResult result
-    (λ n. (n ≤ length into) × (before ≡ then_known (take n into) after) × (n ≡ 0 → IsAtEnd before))
+Reads before after result into = ReadsAtMost (length into) before after result into
+
+-- A call gave the first of the items that were left, or none if none was left. If it failed, the same are left.
+abbrev pub GivesNext : {A E : Type 0} → Option (List A) → Option (List A) → Result (Option A) E → Type 0
+GivesNext before after result = MatchResult result
+    (λ given. MatchOption given ((after ≡ before) × IsAtEnd before) (λ item. before ≡ then_known (item ∷ []) after))
     (λ _. after ≡ before)
 
 -- A write took the first n bytes of the piece, at least one. A failed write took none.

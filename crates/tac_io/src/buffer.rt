@@ -1,6 +1,6 @@
 // A buffer with the last line and the unread bytes: those in no line yet.
 ghost use Rattle.std.specs.Prelude.{◌≡◌, [], ◌+◌, ◌<◌, ◌≤◌, IfSome, IfNone, IfOk, length, take, drop, false, MatchResult};
-ghost use Rattle.tac_io.specs.{HasCause, Fills, has_end, BeginsWithLine, SendsNothing, known_then, then_known, IsAtEnd, NotesFailure};
+ghost use Rattle.tac_io.specs.{HasCause, Fills, has_end, BeginsWithLine, SendsNothing, known_then, NotesFailure, ReadsAtMost};
 
 use crate::{Failed, Link};
 use std::marker::Model;
@@ -46,15 +46,12 @@ fn read_at<L: Link>(link: &mut L, bytes: &mut [u8], at: usize, most: usize) -> R
     requires most { 0 < most }
     requires room { at < length bytes.old }
     ensures front { take at bytes.new ≡ take at bytes.old }
-    ensures count { IfOk result (λ n. (n ≤ most) × (at + n ≤ length bytes.old)) }
+    ensures count { IfOk result (λ n. at + n ≤ length bytes.old) }
     ensures len { length bytes.new ≡ length bytes.old }
     ensures taken { MatchResult result
         (λ n. (L.state link.new).taken ≡ known_then (L.state link.old).taken (take n (drop at bytes.new)))
         (λ _. (L.state link.new).taken ≡ (L.state link.old).taken) }
-    ensures left { MatchResult result
-        (λ n. ((L.state link.old).left ≡ then_known (take n (drop at bytes.new)) (L.state link.new).left)
-        × (n ≡ 0 → IsAtEnd (L.state link.old).left))
-        (λ _. (L.state link.new).left ≡ (L.state link.old).left) }
+    ensures left { ReadsAtMost most (L.state link.old).left (L.state link.new).left result (drop at bytes.new) }
     ensures cause { HasCause (L.state link.old).reads (L.state link.new).reads result }
     ensures noted { NotesFailure (L.state link.old).taken (L.state link.old).read_failures (L.state link.new).read_failures result }
     ensures sent { SendsNothing (L.state link.old) (L.state link.new) }

@@ -146,12 +146,7 @@ impl<L: Link> Lines<L> {
     pub fn into_link(self) -> L
         ensures { result ≡ link_of self }
     {
-        let Lines {
-            link,
-            buffer: _,
-            taken: _,
-            last: _,
-        } = self;
+        let Lines { link, .. } = self;
         link
     }
 }

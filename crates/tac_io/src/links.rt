@@ -1,6 +1,6 @@
 // The links of the outside.
-ghost use Rattle.std.specs.Prelude.{◌≡◌, ◌∷◌, [], IsTrue, IfSome, MatchOption, MatchResult};
-ghost use Rattle.tac_io.specs.{HasCause, LinksState, IsAtEnd, known_then, then_known};
+ghost use Rattle.std.specs.Prelude.{◌≡◌, ◌∷◌, [], IsTrue, IfSome, MatchResult};
+ghost use Rattle.tac_io.specs.{GivesNext, HasCause, LinksState, known_then};
 
 use crate::{Failed, Link};
 
@@ -28,10 +28,7 @@ pub trait Links {
     /// remaining links are the same.
     fn next(&mut self) -> Result<Option<Self::Link>, Failed>
         requires { IsTrue (state self.old).listens }
-        ensures given { MatchResult result (λ given. MatchOption given
-            (((state self.new).pending ≡ (state self.old).pending) × IsAtEnd (state self.old).pending)
-            (λ link. (state self.old).pending ≡ then_known (link ∷ []) (state self.new).pending))
-            (λ _. (state self.new).pending ≡ (state self.old).pending) }
+        ensures given { GivesNext (state self.old).pending (state self.new).pending result }
         ensures listens { IsTrue (state self.new).listens }
         ensures ports { (state self.new).ports ≡ (state self.old).ports }
         ensures cause { HasCause (state self.old).faults (state self.new).faults result };

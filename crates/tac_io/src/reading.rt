@@ -1,6 +1,6 @@
 // Whole files.
-ghost use Rattle.std.specs.Prelude.{◌≡◌, ◌<◌, ◌≤◌, ◌+◌, [], ◌∷◌, ℕ, length, take, drop, vec_len, IsTrue, IfSome, IfOk, OnOk, OnErr, IsErrOf, MatchResult};
-ghost use Rattle.tac_io.specs.{HasCause, MaySelect, IsAtEnd, known_then, then_known};
+ghost use Rattle.std.specs.Prelude.{◌≡◌, ◌<◌, ◌≤◌, ◌+◌, [], ◌∷◌, length, take, drop, vec_len, IsTrue, IfOk, OnOk, IsErrOf};
+ghost use Rattle.tac_io.specs.{HasCause, MaySelect, IsAtEnd, Reads, known_then};
 ghost use Rattle.tac_io.specs.Reading.{HasFileCause, IsFile, IsTooLong};
 
 use crate::{Failed, Files};
@@ -102,11 +102,8 @@ fn read_at<F: Files>(files: &mut F, bytes: &mut [u8], at: usize) -> Result<usize
     requires room { at < length bytes.old }
     requires selected { IsTrue (F.state files.old).selected }
     ensures front { take at bytes.new ≡ take at bytes.old }
-    ensures given { MatchResult result
-        (λ n. (at + n ≤ length bytes.new)
-        × ((F.state files.old).left ≡ then_known (take n (drop at bytes.new)) (F.state files.new).left)
-        × (n ≡ 0 → IsAtEnd (F.state files.old).left))
-        (λ _. (F.state files.new).left ≡ (F.state files.old).left) }
+    ensures within { IfOk result (λ n. at + n ≤ length bytes.new) }
+    ensures given { Reads (F.state files.old).left (F.state files.new).left result (drop at bytes.new) }
     ensures selected { IsTrue (F.state files.new).selected }
     ensures names { (F.state files.new).names ≡ (F.state files.old).names }
     ensures content { (F.state files.new).content ≡ (F.state files.old).content }

@@ -1,7 +1,7 @@
 -- The code of a game whose log was written.
 use Rattle.std.proofs.Common.{◌≡◌, ℕ, ◌<◌, Bool, true, false, List, zero, suc, refl, sym, subst, arith, ◌==◌, MatchBool, nat_lt}
 use Rattle.std.proofs.lemmas.Bool.Decides.{nat_tests}
-use Rattle.tacd.specs.{SinkState, TookWhole, TookPart, GameFile, head_of, Code, Success, code_number, Memory, Outcome, Done, Lapsed, Unsound, Stopped, Unread, Unwritten, Refused, Reports, missed_of, IsTextOfPlayed, LogAllows, WritesLog, lapsed_code}
+use Rattle.tacd.specs.{SinkState, TookWhole, TookPart, GameFile, head_of, Code, Success, code_number, Memory, Outcome, Done, Lapsed, Stopped, Reports, missed_of, IsTextOfPlayed, LogAllows, WritesLog, lapsed_code}
 use Rattle.tacd.specs.declared.answer.Played.{Played}
 
 abbrev missed : Played → ℕ
@@ -26,25 +26,15 @@ kept_by false game played text sink sink' code log none four told =
 kept : (game : GameFile) (played : Played) (sink sink' : SinkState) (code : ℕ) (outcome : Outcome) → LogAllows game played outcome → Reports outcome sink sink' code →
     (code ≡ 0 → missed played ≡ 0) → (o : Outcome) × WritesLog game played o × Reports o sink sink' code
 kept game played sink sink' code (Done text) log told none = kept_by (code == 4) game played text sink sink' code log none refl told
-kept game played sink sink' code (Lapsed text) log told none = absurd log
-kept game played sink sink' code (Unsound text) log told none = absurd log
 kept game played sink sink' code (Stopped text Memory) first told none = (Stopped text Memory, first, told)
-kept game played sink sink' code (Stopped text refusal) log told none = absurd log
-kept game played sink sink' code (Unwritten text) log told none = absurd log
-kept game played sink sink' code (Unread text) log told none = absurd log
-kept game played sink sink' code (Refused refusal) log told none = absurd log
+kept game played sink sink' code outcome log told none = absurd log
 
 -- code 6 replaces 0 if a tick lapsed
 lapsed : (game : GameFile) (played : Played) (sink sink' : SinkState) (outcome : Outcome) → LogAllows game played outcome → Reports outcome sink sink' 0 →
     0 < missed played → (o : Outcome) × WritesLog game played o × Reports o sink sink' 6
 lapsed game played sink sink' (Done text) log told some = (Lapsed text, (log, some), (refl, told.1))
-lapsed game played sink sink' (Lapsed text) log told some = absurd log
-lapsed game played sink sink' (Unsound text) log told some = absurd log
 lapsed game played sink sink' (Stopped text Memory) first told some = let is = told.0 in absurd (omega (arith, is))
-lapsed game played sink sink' (Stopped text refusal) log told some = absurd log
-lapsed game played sink sink' (Unwritten text) log told some = absurd log
-lapsed game played sink sink' (Unread text) log told some = absurd log
-lapsed game played sink sink' (Refused refusal) log told some = absurd log
+lapsed game played sink sink' outcome log told some = absurd log
 
 -- the code that is returned is 6 in place of 0 if a tick lapsed
 pub by_code : (game : GameFile) (played : Played) (sink sink' : SinkState) (count : ℕ) (code : Code) (outcome : Outcome) → LogAllows game played outcome →

@@ -1,6 +1,6 @@
 -- The links of a served game are links of its log, which is vouched for by them.
-use Rattle.std.proofs.Common.{◌≡◌, ℕ, ◌<◌, List, [], take, None, Some, refl, sym, ap, ◌∙◌, subst, arith, inl, inr, ◌⊎◌, ◌==◌, Bool, false, MatchBool, Option}
-use Rattle.tacd.specs.Prelude.{GameFile, AuctionHistory, Scored, FilesState, LinkState, LinksState, TookWhole, Seated, LoggedGame, Dialect, GameEnd, seats_given, HostedGame, IsSeated, IsGameEnd, PlayedGame, HasWelcome, IsLinkOfLog, IsVouched, fresh_link, Refusal, IsVouchedText, code_of, exit_text, Outcome, Done, Lapsed, Unsound, Stopped, Unread, Unwritten, Refused, refusal_end, Outside, IsCutShort, Reports, Runs, StopsAt, Service}
+use Rattle.std.proofs.Common.{◌≡◌, ℕ, ◌<◌, List, [], take, None, Some, refl, sym, ap, ◌∙◌, subst, arith, inl, inr, ◌==◌, Bool, false, MatchBool, Option}
+use Rattle.tacd.specs.Prelude.{GameFile, AuctionHistory, Scored, FilesState, LinkState, LinksState, TookWhole, Seated, LoggedGame, Dialect, GameEnd, seats_given, HostedGame, IsSeated, IsGameEnd, PlayedGame, HasWelcome, IsLinkOfLog, IsVouched, fresh_link, Refusal, IsVouchedText, code_of, exit_text, Outcome, Done, Lapsed, Unsound, Stopped, Refused, refusal_end, Outside, IsCutShort, Reports, Runs, StopsAt, Service}
 use Rattle.line_protocol.specs.declared.saying.Said.{Said}
 use Rattle.line_protocol.specs.Heads.{Head, Serve, head_of}
 use Rattle.link_audit.proofs.FarEnds.{vouched_from}
@@ -15,7 +15,7 @@ use Rattle.tac_commands.proofs.WrittenLogs.{read_again}
 use Rattle.tacd.specs.declared.answer.Answer.{Answer}
 use Rattle.tacd.specs.declared.answer.Played.{Played}
 use Rattle.tacd.specs.{IsGameFile, IsLogOf, Serves, at_pace, hosted_by}
-use Rattle.tacd.specs.ServedLinks.{IsSeatedWith, IsVouchedBy, IsVouchedService, SaysYes, links_of, played_log}
+use Rattle.tacd.specs.ServedLinks.{IsSeatedWith, IsVouchedBy, IsVouchedService, HasLog, SaysYes, links_of, played_log}
 use Rattle.tacd.proofs.ServiceCauses.{IsServedOr}
 
 -- ---- the links of the log
@@ -60,23 +60,13 @@ reply_lines Json reply = json_line reply
 module _ (game : GameFile) (dialect : Dialect) (log : LoggedGame) (agent : ℕ) (asked said : List ℕ) (v : IsVouched game dialect log agent asked said) where
   said_yes : (outcome : Outcome) → WritesDue (IsVouchedText game dialect log asked said) outcome → SaysYes agent outcome
   said_yes (Done text) due = inl (due.0, (due.2.yes agent).1 v, ap Done due.3)
-  said_yes (Lapsed text) due = absurd due
-  said_yes (Unsound text) due = absurd due
-  said_yes (Stopped text refusal) due = absurd due
-  said_yes (Unwritten text) due = absurd due
-  said_yes (Unread text) due = absurd due
   said_yes (Refused refusals.Memory) due = inr refl
-  said_yes (Refused refusal) due = absurd due
+  said_yes outcome due = absurd due
 
   not_no : (IsDue : List ℕ → Type 0) (outcome : Outcome) → StopsAt ((other : ℕ) × IsVouched game dialect log other asked said) IsDue outcome → SaysYes agent outcome
-  not_no IsDue (Done text) stops = absurd stops
-  not_no IsDue (Lapsed text) stops = absurd stops
   not_no IsDue (Unsound text) stops = absurd (stops.0 (agent, v))
-  not_no IsDue (Stopped text refusal) stops = absurd stops
-  not_no IsDue (Unwritten text) stops = absurd stops
-  not_no IsDue (Unread text) stops = absurd stops
   not_no IsDue (Refused refusals.Memory) stops = inr refl
-  not_no IsDue (Refused refusal) stops = absurd stops
+  not_no IsDue outcome stops = absurd stops
 
   says_yes : (files files' : FilesState) (outcome : Outcome) → Runs (link_steps game dialect log asked said) files files' outcome → SaysYes agent outcome
   says_yes files files' outcome (inl run) = said_yes outcome run.1.0
@@ -84,19 +74,15 @@ module _ (game : GameFile) (dialect : Dialect) (log : LoggedGame) (agent : ℕ) 
 
 -- ---- a service
 
--- only a log that was written whole has one of these codes
-abbrev IsWell : ℕ → Type 0
-IsWell code = (code ≡ 0) ⊎ (code ≡ 6)
-
-low_ill : (code : ℕ) → 0 < code → code < 6 → IsWell code → ⊥
+low_ill : (code : ℕ) → 0 < code → code < 6 → HasLog code → ⊥
 low_ill code some few (inl zero) = omega (arith, some, zero)
 low_ill code some few (inr six) = omega (arith, few, six)
 
-high_ill : (code : ℕ) → 6 < code → IsWell code → ⊥
+high_ill : (code : ℕ) → 6 < code → HasLog code → ⊥
 high_ill code many (inl zero) = omega (arith, many, zero)
 high_ill code many (inr six) = omega (arith, many, six)
 
-refused_ill : (refusal : Refusal) → IsWell (refusal_end refusal).0 → ⊥
+refused_ill : (refusal : Refusal) → HasLog (refusal_end refusal).0 → ⊥
 refused_ill refusals.Usage well = low_ill 1 (omega arith) (omega arith) well
 refused_ill (refusals.GameLine line reason) well = low_ill 2 (omega arith) (omega arith) well
 refused_ill refusals.GameTooLong well = low_ill 2 (omega arith) (omega arith) well
@@ -132,7 +118,7 @@ module _ {L : Type 0} (state : L → LinkState) (service : Service) (before afte
     }
 
   -- the text of a code was written
-  module _ (well : IsWell answer.code) where
+  module _ (well : HasLog answer.code) where
     not_four : (answer.code == 4) ≡ false
     not_four = elim well [ inl is ↦ ap (λ (n : ℕ). n == 4) is | inr is ↦ ap (λ (n : ℕ). n == 4) is ]
 
@@ -143,21 +129,17 @@ module _ {L : Type 0} (state : L → LinkState) (service : Service) (before afte
     by_played : (game : GameFile) → IsGameFile before.files service.game game → (kept : Option Played) → answer.played ≡ kept → (outcome : Outcome) →
         IsServedOr state (hosted_by service game) (at_pace service.pace before) after kept answer.ended outcome → (answer.code ≡ code_of outcome) × TookWhole before.out after.out (exit_text outcome) →
         IsVouchedService state service before after answer
-    by_played game file None is (Refused refusals.LinkFault) plays told = absurd (low_ill 5 (omega arith) (omega arith) (subst IsWell told.0 well))
-    by_played game file None is (Refused refusals.Memory) plays told = absurd (high_ill 7 (omega arith) (subst IsWell told.0 well))
+    by_played game file None is (Refused refusals.LinkFault) plays told = absurd (low_ill 5 (omega arith) (omega arith) (subst HasLog told.0 well))
+    by_played game file None is (Refused refusals.Memory) plays told = absurd (high_ill 7 (omega arith) (subst HasLog told.0 well))
     by_played game file None is outcome plays told = absurd plays
     by_played game file (Some played) is (Done text) plays told = vouched_service game file text told.1 played is plays.0 plays.2.0 (λ _. plays.2.1)
     by_played game file (Some played) is (Lapsed text) plays told =
         let six : answer.code ≡ 6 = told.0 in
         vouched_service game file text told.1 played is plays.0 plays.2.0 (λ zero. absurd (omega (arith, zero, six)))
-    by_played game file (Some played) is (Stopped text refusals.Memory) plays told = absurd (high_ill 7 (omega arith) (subst IsWell told.0 well))
-    by_played game file (Some played) is (Stopped text refusal) plays told = absurd plays.2
-    by_played game file (Some played) is (Unwritten text) plays told = absurd plays.2
-    by_played game file (Some played) is (Unread text) plays told = absurd plays.2
-    by_played game file (Some played) is (Unsound text) plays told = absurd plays.2
-    by_played game file (Some played) is (Refused refusal) plays told = absurd plays.2
+    by_played game file (Some played) is (Stopped text refusals.Memory) plays told = absurd (high_ill 7 (omega arith) (subst HasLog told.0 well))
+    by_played game file (Some played) is outcome plays told = absurd plays.2
 
     -- the log that a service wrote is vouched for by its links
     pub vouched_by_links : Serves state service before after answer → IsVouchedService state service before after answer
     vouched_by_links (outcome, inl serves, reports) = by_played serves.0 serves.1 answer.played refl outcome serves.2 (reported outcome reports)
-    vouched_by_links (outcome, inr refuses, reports) = absurd (refused_ill refuses.0 (subst IsWell ((reported outcome reports).0 ∙ ap code_of refuses.1) well))
+    vouched_by_links (outcome, inr refuses, reports) = absurd (refused_ill refuses.0 (subst HasLog ((reported outcome reports).0 ∙ ap code_of refuses.1) well))

@@ -1,7 +1,7 @@
 -- What the service of a game says of the codes.
 use Rattle.std.proofs.Common.{◌≡◌, ◌≢◌, ℕ, ◌<◌, [], ◌∷◌, refl, sym, ap, ◌∙◌, inl, inr, arith, Option, Some, None, ◌⊎◌, MatchOption}
 use Rattle.std.specs.Global.{Vec}
-use Rattle.tacd.specs.Prelude.{Rose, known_then, LinkState, SinkState, LinksState, TickerState, Game, LinkFault, Memory, Outcome, Done, Lapsed, Unsound, Stopped, Unread, Unwritten, Refused, code_of, Service, Allows, IsServiceEnd, LinkFaultExactly, ClockFaultExactly, Outside, WaitsForAll, HostedGame, IsGameEnd}
+use Rattle.tacd.specs.Prelude.{Rose, known_then, LinkState, SinkState, LinksState, TickerState, Game, LinkFault, Memory, Outcome, Done, Lapsed, Stopped, Refused, code_of, Service, Allows, IsServiceEnd, LinkFaultExactly, ClockFaultExactly, Outside, WaitsForAll, HostedGame, IsGameEnd}
 use Rattle.tacd.specs.declared.answer.Answer.{Answer}
 use Rattle.tacd.specs.declared.answer.Played.{Played}
 use Rattle.tac_commands.specs.Commands.{Serve}
@@ -67,31 +67,19 @@ module _ {L : Type 0} (state : L → LinkState) (hosted : HostedGame) (before af
     ended_played (Done text) plays = tt
     ended_played (Lapsed text) plays = tt
     ended_played (Stopped text Memory) plays = tt
-    ended_played (Stopped text refusal) plays = absurd plays.2
-    ended_played (Unwritten text) plays = absurd plays.2
-    ended_played (Unread text) plays = absurd plays.2
-    ended_played (Unsound text) plays = absurd plays.2
-    ended_played (Refused refusal) plays = absurd plays.2
+    ended_played outcome plays = absurd plays.2
 
     links_played : (outcome : Outcome) → IsServed outcome → IsExplained 5 before.links.faults after.links.faults (code_of outcome)
     links_played (Done text) plays = inr (omega arith, plays.0.no_fault)
     links_played (Lapsed text) plays = inr (omega arith, plays.0.no_fault)
     links_played (Stopped text Memory) plays = inr (omega arith, plays.0.no_fault)
-    links_played (Stopped text refusal) plays = absurd plays.2
-    links_played (Unwritten text) plays = absurd plays.2
-    links_played (Unread text) plays = absurd plays.2
-    links_played (Unsound text) plays = absurd plays.2
-    links_played (Refused refusal) plays = absurd plays.2
+    links_played outcome plays = absurd plays.2
 
     clock_played : (outcome : Outcome) → IsServed outcome → IsTimed before.ticker.faults after.ticker.faults (code_of outcome)
     clock_played (Done text) plays = inr (inl (omega arith, plays.1.same plays.2.1))
     clock_played (Lapsed text) plays = inl (refl, plays.1.rose plays.2.1)
     clock_played (Stopped text Memory) plays = inr (inr refl)
-    clock_played (Stopped text refusal) plays = absurd plays.2
-    clock_played (Unwritten text) plays = absurd plays.2
-    clock_played (Unread text) plays = absurd plays.2
-    clock_played (Unsound text) plays = absurd plays.2
-    clock_played (Refused refusal) plays = absurd plays.2
+    clock_played outcome plays = absurd plays.2
 
   -- no game was played
   module _ (ended : Vec L) where

@@ -10,7 +10,7 @@ use mathlib.Core.Logic.{dite}
 use native.Mathlib.Decide.{dec_le}
 use Rattle.tac_base.specs.declared.calls.Call.{Call}
 use Rattle.tac_base.specs.Goods.{agents, clock}
-use Rattle.tacd.specs.{GameFile, Entry, AuctionHistory, Scored, Verdict, logged_text, seatings, IsService, IsSoundHead, WaitsForAll, IsSheetOf, free_seats, seats_given, CameTo, IsSeated, LinkState, LinksState, TickWait, TickerState, HostedGame, IsPlayedOver, IsGameEnd, missed_of, PlayedGame, IsPlayedBy, GameEnd, Outcome, Done, Lapsed, Unsound, Stopped, Unread, Unwritten, Refused, Memory, IsTextOfPlayed, WritesLog, IsLogOf, PlayedAllows}
+use Rattle.tacd.specs.{GameFile, Entry, AuctionHistory, Scored, Verdict, logged_text, seatings, IsService, IsSoundHead, WaitsForAll, IsSheetOf, free_seats, seats_given, CameTo, IsSeated, LinkState, LinksState, TickWait, TickerState, HostedGame, IsPlayedOver, IsGameEnd, missed_of, PlayedGame, IsPlayedBy, GameEnd, Outcome, Done, Lapsed, Stopped, Memory, IsTextOfPlayed, WritesLog, IsLogOf, PlayedAllows}
 use Rattle.game_text.specs.Schedule.{clock_calls}
 use Rattle.auction_rules.specs.Setup.{Setup}
 use Rattle.auction_rules.specs.Legal.{Legal}
@@ -178,9 +178,5 @@ module _ {L : Type 0} (state : L → LinkState) (hosted : HostedGame) (links lin
     pub reports_soundly : (outcome : Outcome) → WritesLog hosted.game played outcome → PlayedAllows hosted.game played is.missed outcome
     reports_soundly (Done told) allows = (log_soundly told allows.0, sym (ap missed_of is.head) ∙ allows.1)
     reports_soundly (Lapsed told) allows = (log_soundly told allows.0, subst (λ (n : ℕ). 0 < n) (ap missed_of is.head) allows.1)
-    reports_soundly (Unsound told) allows = absurd allows
     reports_soundly (Stopped told Memory) allows = allows
-    reports_soundly (Stopped told refusal) allows = absurd allows
-    reports_soundly (Unwritten told) allows = absurd allows
-    reports_soundly (Unread told) allows = absurd allows
-    reports_soundly (Refused refusal) allows = absurd allows
+    reports_soundly outcome allows = absurd allows

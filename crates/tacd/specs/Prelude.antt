@@ -33,9 +33,9 @@ pub use Rattle.tac_commands.specs.Codes.{code_number, code_of, exit_text}
 pub use Rattle.tac_commands.specs.Commands.{command_of, seen_service}
 pub use Rattle.tac_commands.specs.Ends.{EndsOrStops}
 pub use Rattle.tac_commands.specs.FileKinds.{game_refusal, read_as}
-pub use Rattle.tac_commands.specs.Outcomes.{Done, Lapsed, Outcome, Refused, Stopped, Unread, Unsound, Unwritten, refusal_end}
+pub use Rattle.tac_commands.specs.Outcomes.{Done, Lapsed, Outcome, Refused, Stopped, Unsound, refusal_end}
 pub use Rattle.tac_commands.specs.Outsides.{Outside, outside_of}
-pub use Rattle.tac_commands.specs.Reporting.{IsCutShort, Reports}
+pub use Rattle.tac_commands.specs.Reporting.{IsCutShort, Reports, ReportsOne}
 pub use Rattle.tac_commands.specs.Runs.{Runs, StopsAt}
 pub use Rattle.tac_commands.specs.Services.{Service, bytes_of_words, service_of}
 pub use Rattle.tac_commands.specs.declared.code.Code.{Code}

@@ -1,6 +1,6 @@
 -- The links of a served game, and what its log says of them.
 use Rattle.std.specs.Prelude.{◌≡◌, ℕ, ◌≤◌, ◌⊎◌, List, Ok, Some, length, slice_get}
-use Rattle.tacd.specs.Prelude.{TEXT_BYTES, FilesState, LinkState, LinksState, TookWhole, GameFile, Scored, Verdict, Seated, head_of, LoggedGame, Dialect, GameEnd, HostedGame, IsGameEnd, HasBytes, HasWelcome, IsVouched, Log, Memory, read_as, Outcome, Done, Refused, Outside, Runs}
+use Rattle.tacd.specs.Prelude.{TEXT_BYTES, FilesState, LinkState, LinksState, TookWhole, GameFile, Scored, Verdict, Seated, head_of, LoggedGame, Dialect, GameEnd, HostedGame, IsGameEnd, HasBytes, HasWelcome, IsLinkOfLog, IsVouched, Log, Memory, read_as, Outcome, Done, Refused, Outside, Runs}
 use Rattle.link_audit.specs.declared.vouching.Vouching.{Vouching}
 use Rattle.link_audit.specs.Vouchings.{IsYes}
 use Rattle.tac_commands.specs.Allowed.{link_steps}
@@ -35,6 +35,11 @@ module _ {L : Type 0} (state : L → LinkState) where
   abbrev pub links_of : {hosted : HostedGame} {links links' : LinksState L} {end : GameEnd L} → IsGameEnd state hosted links links' end → GameLinks L
   links_of {hosted} {links} {links'} {end} is = record { given = is.played.taken.given; verdicts = is.verdicts; ended = end.links.items }
 
+  -- each link of that game that has a seat, and whose bytes are known, is a link of the game's log, with any sheet
+  abbrev pub AreLinksOfLog : {hosted : HostedGame} {links links' : LinksState L} {end : GameEnd L} → IsGameEnd state hosted links links' end → Type 0
+  AreLinksOfLog {hosted} {links} {links'} {end} is = (sheet : List Scored) (agent : ℕ) (asked said : List ℕ) →
+      IsSeatedWith (links_of is) agent asked said → IsLinkOfLog hosted (log_of_game (head_of end.head) end.closed sheet) agent asked said
+
 -- ---- what the log says of them
 
 -- a judgement by a link is a yes for the agent, or memory was refused
@@ -45,6 +50,10 @@ SaysYes agent outcome = ((vouching : Vouching) × IsYes agent vouching × (outco
 pub record IsVouchedBy (game : GameFile) (dialect : Dialect) (log : LoggedGame) (agent : ℕ) (asked said : List ℕ) : Type 0 where
   pub vouched : IsVouched game dialect log agent asked said
   pub judged : (files files' : FilesState) (outcome : Outcome) → Runs (link_steps game dialect log asked said) files files' outcome → SaysYes agent outcome
+
+-- the code of a service that wrote its log whole: 0, or 6 if ticks lapsed
+abbrev pub HasLog : ℕ → Type 0
+HasLog code = (code ≡ 0) ⊎ (code ≡ 6)
 
 -- the log of a game that was played, with this sheet
 abbrev pub played_log : Played → List Scored → LoggedGame

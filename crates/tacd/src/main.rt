@@ -4,37 +4,25 @@
 mod answer;
 #[cfg(test)]
 mod audit_tests;
-mod host_files;
 #[cfg(test)]
-mod hotel_tests;
+mod command_tests;
+mod host_files;
 mod laws;
 #[cfg(test)]
 mod play_tests;
-#[cfg(test)]
-mod refusal_tests;
 mod serve_command;
 #[cfg(test)]
 mod serve_tests;
-#[cfg(test)]
-mod show_tests;
 mod sleep_ticker;
-#[cfg(test)]
-mod solve_tests;
 mod std_sink;
 #[cfg(test)]
-mod step_tests;
-#[cfg(test)]
-mod table_tests;
+mod system_tests;
 mod tcp_links;
 #[cfg(test)]
 mod tests;
 mod top;
 #[cfg(test)]
-mod trial_tests;
-#[cfg(test)]
 mod vouch_tests;
-#[cfg(test)]
-mod write_tests;
 
 ghost use Rattle.std.specs.Prelude.{◌≡◌};
 ghost use Rattle.std.specs.Process.{exit_status};

@@ -1,6 +1,6 @@
 // Serves a game over links.
 ghost use Rattle.std.specs.Prelude.{◌≡◌, ◌∷◌, [], IfSome};
-ghost use Rattle.tacd.specs.{known_then, code_number, seen_service, EndsOrStops, Reports, Outcome, outside_of, hosted_game, missed_of, FilesState, MaySelect, head_of, at_pace, Serves, ServesGame};
+ghost use Rattle.tacd.specs.{known_then, code_number, seen_service, EndsOrStops, ReportsOne, outside_of, hosted_game, missed_of, FilesState, MaySelect, head_of, at_pace, Serves, ServesGame};
 ghost use Rattle.tacd.specs.Finishing as finishing;
 ghost use Rattle.tac_io.specs.Written.{WritesPiece};
 
@@ -73,7 +73,7 @@ fn finish_played<R: Threads + Sync, K: Sink>(
     played: &Played,
     out: &mut K,
 ) -> Code
-    ensures { (outcome : Outcome) × finishing.WritesLog game.now played.now outcome × Reports outcome (K.state out.old) (K.state out.new) (code_number result) }
+    ensures { ReportsOne (finishing.WritesLog game.now played.now) (K.state out.old) (K.state out.new) (code_number result) }
 {
     let end = write_log(rt, alloc, game, played, out);
     let code = finish(out, end);
@@ -100,11 +100,9 @@ fn serve_game<
 ) -> Answer<N::Link>
     requires ports { IfSome (N.state links.old).ports (λ ports. ports ≡ []) }
     requires ticks { IfSome (T.state ticker.old).waited (λ ticks. ticks ≡ []) }
-    ensures { (before after : FilesState) → (outcome : Outcome)
-        × ServesGame N.Link.state (hosted_game game.now (D.form dialect.now) port)
+    ensures { (before after : FilesState) → ReportsOne (ServesGame N.Link.state (hosted_game game.now (D.form dialect.now) port)
         (at_pace pace (outside_of before (K.state out.old) (N.state links.old) (T.state ticker.old)))
-        (outside_of after (K.state out.new) (N.state links.new) (T.state ticker.new)) result outcome
-        × Reports outcome (K.state out.old) (K.state out.new) result.code }
+        (outside_of after (K.state out.new) (N.state links.new) (T.state ticker.new)) result) (K.state out.old) (K.state out.new) result.code }
 {
     ticker.pace(pace);
     match run_game(rt, alloc, game, port, dialect, links, ticker) {

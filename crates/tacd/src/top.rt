@@ -1,6 +1,6 @@
 // The top call.
 ghost use Rattle.std.specs.Prelude.{◌≡◌, ◌≤◌, [], None, string_len, All, IfSome};
-ghost use Rattle.tacd.specs.{NAME_BYTES, ClockFaultExactly, GameRefusedExactly, IsComplete, LinkFaultExactly, ReadFaultExactly, TextRefusedExactly, UnsoundExactly, UsageExactly, WriteFaultExactly, IsCashOfPosts, command_of, bytes_of_words, service_of, Allows, Reports, Outcome, outside_of, Serves, WritesTrueLog};
+ghost use Rattle.tacd.specs.{NAME_BYTES, ClockFaultExactly, GameRefusedExactly, IsComplete, LinkFaultExactly, ReadFaultExactly, TextRefusedExactly, UnsoundExactly, UsageExactly, WriteFaultExactly, IsCashOfPosts, command_of, bytes_of_words, service_of, Allows, ReportsOne, outside_of, Serves, WritesTrueLog};
 ghost use Rattle.tac_commands.specs.Prompt.{IsPromptCommand};
 ghost use Rattle.tac_commands.specs.Selected.{Selects};
 
@@ -30,9 +30,7 @@ pub fn tac<R: Threads + Sync + Wait + Clock, F: Files, K: Sink, N: Links, T: Tic
     requires ports { IfSome (N.state links.old).ports (λ ports. ports ≡ []) }
     requires ticks { IfSome (T.state ticker.old).waited (λ ticks. ticks ≡ []) }
     // The outcome is one that the words and the files allow, and the selected files are those that it implies.
-    ensures outcome { (outcome : Outcome)
-        × Allows (command_of (bytes_of_words words.now)) (F.state files.old) (F.state files.new) outcome
-        × Reports outcome (K.state out.old) (K.state out.new) result.code }
+    ensures outcome { ReportsOne (Allows (command_of (bytes_of_words words.now)) (F.state files.old) (F.state files.new)) (K.state out.old) (K.state out.new) result.code }
     // The headline: the log that `serve` wrote if it ends with code 0.
     ensures headline { IfSome (service_of (bytes_of_words words.now)) (λ service. result.code ≡ 0 → WritesTrueLog N.Link.state service
         (outside_of (F.state files.old) (K.state out.old) (N.state links.old) (T.state ticker.old))

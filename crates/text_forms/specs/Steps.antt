@@ -1,5 +1,5 @@
 -- Reading a text line by line.
-use Rattle.std.specs.Prelude.{ℕ, zero, suc, ◌+◌, List, [], ◌∷◌, ◌++◌, Result, Ok, Err}
+use Rattle.std.specs.Prelude.{◌≡◌, ℕ, zero, suc, ◌+◌, List, [], ◌∷◌, ◌++◌, Result, MatchResult, Ok, Err}
 use Rattle.text_forms.specs.declared.lines.Reason.{Reason}
 use Rattle.text_forms.specs.declared.lines.BadLine.{BadLine}
 use Rattle.text_forms.specs.Lines.{Remaining, due_of, at_line}
@@ -24,6 +24,10 @@ repeat (suc count) from step left = do
   first ← step from left
   others ← repeat count (from + 1) step first.1
   Ok (first.0 ∷ others.0, others.1)
+
+-- the call wrote the values of these parts and returned the lines after them, or it returned the fault
+abbrev pub WritesParts : {A : Type 0} → Result (List A × Remaining) BadLine → List A → Result Remaining BadLine → Type 0
+WritesParts parts values result = MatchResult result (λ left. parts ≡ Ok (values, left)) (λ bad. parts ≡ Err bad)
 
 -- the lines of parts, which are numbered upwards from `from`
 abbrev pub lines_of_parts : {A : Type 0} → (ℕ → A → List (List ℕ)) → ℕ → List A → List (List ℕ)

@@ -1,5 +1,5 @@
 ghost use Rattle.std.specs.Prelude.{◌≡◌, ℕ, ◌+◌, ◌^◌, ◌<◌, ◌≤◌, ◌&&◌, length, true, false, Ok, Some, None, IfSome, MatchOption};
-ghost use Rattle.text_forms.specs.Blocks.{IsFirstKept, block_at};
+ghost use Rattle.text_forms.specs.Blocks.{BeginsWithBlock, IsFirstKept, block_at};
 ghost use Rattle.text_forms.specs.Lines as lines;
 ghost use Rattle.text_forms.specs.Steps.{◌>>=◌ as and_then};
 ghost use Rattle.text_forms.specs.Words.{parts_of};
@@ -169,17 +169,13 @@ impl<'a> TextLines<'a> {
         ensures { MatchOption result (lines.block_of count self.entry ≡ None) (λ found. lines.block_of count self.entry ≡ Some (found.0.now, found.1)) }
     {
         let (number, text) = past_comments(self.skips_comments, self.number, self.rest);
-        match take_lines(self.skips_comments, text, count) {
-            None => None,
-            Some((block, rest)) => Some((
-                block,
-                TextLines {
-                    skips_comments: self.skips_comments,
-                    number: number + count,
-                    rest,
-                },
-            )),
-        }
+        let (block, rest) = take_lines(self.skips_comments, text, count)?;
+        let left = TextLines {
+            skips_comments: self.skips_comments,
+            number: number + count,
+            rest,
+        };
+        Some((block, left))
     }
 
     /// Returns the next line and those after it. If no line is left, returns `TextEnd`.
@@ -235,7 +231,8 @@ fn past_comments(skips_comments: bool, number: u32, text: &[u8]) -> (u32, &[u8])
 /// Returns the bytes of the next `count` lines with line ends, and the text after them. It returns `None` if there are
 /// fewer whole lines, or if one of them is skipped.
 fn take_lines(skips_comments: bool, text: &[u8], count: u32) -> Option<(&[u8], &[u8])>
-    ensures lines { (number : ℕ) → MatchOption result (block_at skips_comments number count text.now ≡ None) (λ found. block_at skips_comments number count text.now ≡ Some (found.0.now, lines.lines_from skips_comments (number + count) (parts_of 10 found.1.now))) }
+    ensures lines { (number : ℕ) → MatchOption result (block_at skips_comments number count text.now ≡ None)
+        (λ found. BeginsWithBlock skips_comments number count text.now found.0.now found.1.now) }
     ensures small { IfSome result (λ found. count + length found.1.now ≤ length text.now) }
 {
     let mut rest = text;

@@ -60,10 +60,7 @@ fn number_of(column: &Column, word: &[u8]) -> Option<i64>
     if column.signed {
         read_signed(word, column.digits.most())
     } else {
-        match read_numeral(word, column.digits.most()) {
-            None => None,
-            Some(number) => Some(number as i64),
-        }
+        Some(read_numeral(word, column.digits.most())? as i64)
     }
 }
 
@@ -76,10 +73,7 @@ fn numbers_of<const N: usize>(columns: &[Column; N], mut words: Words<'_>) -> Op
         let Some(word) = words.next() else {
             return None;
         };
-        let Some(number) = number_of(column, word) else {
-            return None;
-        };
-        numbers[i] = number;
+        numbers[i] = number_of(column, word)?;
     }
     Some(numbers)
 }

@@ -1,4 +1,4 @@
-ghost use Rattle.std.specs.Prelude.{◌≡◌, ◌+◌, ◌≤◌, ◌<◌, length, Ok, Err, MatchResult};
+ghost use Rattle.std.specs.Prelude.{◌≡◌, ◌<◌, length};
 ghost use Rattle.text_forms.specs.Steps as steps;
 
 use crate::{BadLine, TextLines};
@@ -30,7 +30,7 @@ pub fn repeat<'a, P: Part>(
     lines: TextLines<'a>,
 ) -> Result<TextLines<'a>, BadLine>
     requires { length values.old < 256 }
-    ensures { MatchResult result (λ left. steps.repeat (length values.old) 0 (P.gives part.now) lines.entry ≡ Ok (values.new, left)) (λ bad. steps.repeat (length values.old) 0 (P.gives part.now) lines.entry ≡ Err bad) }
+    ensures { steps.WritesParts (steps.repeat (length values.old) 0 (P.gives part.now) lines.entry) values.new result }
 {
     let mut left = lines;
     for number in 0..values.len() {

@@ -1,8 +1,7 @@
 // Prints the standings.
 ghost use Rattle.std.specs.Prelude.{◌≡◌, ◌++◌, ◌∷◌, [], List, OnOk, OnErr, slice_index_or};
 ghost use Rattle.std.specs.Fmt.{signed_decimal};
-ghost use Rattle.tourney.specs.{text_of, GoesOn, GameFile, LoggedGame, IsPrinted, AreStandingsOf};
-ghost use Rattle.tourney.specs.Standings as standing;
+ghost use Rattle.tourney.specs.{text_of, GoesOn, GameFile, LoggedGame, IsPrinted, AreStandingsOf, team_lines, teams};
 ghost use Rattle.tourney.specs.StandingsTexts as texts;
 
 use crate::{Standings, TeamRow};
@@ -56,7 +55,7 @@ fn print_team(word: &[u8], row: &TeamRow, out: &mut Vec<u8>) -> Result<(), Alloc
 
 /// The word of the team at a place; it is empty past the last one.
 fn word_at(standings: &Standings, team: u16) -> &[u8]
-    ensures { (played : List (GameFile × LoggedGame)) → AreStandingsOf standings.now played → result.now ≡ slice_index_or (standing.teams played) team [] }
+    ensures { (played : List (GameFile × LoggedGame)) → AreStandingsOf standings.now played → result.now ≡ slice_index_or (teams played) team [] }
 {
     match standings.word(team) {
         Some(word) => word,
@@ -66,7 +65,7 @@ fn word_at(standings: &Standings, team: u16) -> &[u8]
 
 /// Appends the lines of the teams of these rows. After an error part of them may have been appended.
 fn print_teams(standings: &Standings, rows: &[TeamRow], out: &mut Vec<u8>) -> Result<(), AllocError>
-    ensures added { (played : List (GameFile × LoggedGame)) → AreStandingsOf standings.now played → OnOk result (out.new.items ≡ out.old.items ++ text_of (texts.team_lines (standing.teams played) rows.now)) }
+    ensures added { (played : List (GameFile × LoggedGame)) → AreStandingsOf standings.now played → OnOk result (out.new.items ≡ out.old.items ++ text_of (team_lines (teams played) rows.now)) }
     ensures part { GoesOn out.old.items out.new.items }
 {
     for row in rows {

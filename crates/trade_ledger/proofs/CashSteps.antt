@@ -1,14 +1,14 @@
 -- A cash history with one entry more.
-use Rattle.std.proofs.Common.{◌≡◌, ℕ, zero, suc, ◌+◌, ◌*◌, ◌<◌, ◌≤◌, List, [], ◌∷◌, ◌++◌, length, map, fold, take, sym, refl, ap, ◌∙◌, subst, arith, length-append, Some, None, ℤ, pos, ◌+ℤ◌, slice_index_or, slice_get, filter_map}
+use Rattle.std.proofs.Common.{◌≡◌, ℕ, zero, suc, ◌+◌, ◌*◌, ◌<◌, ◌≤◌, List, [], ◌∷◌, ◌++◌, length, map, fold, take, sym, refl, ap, ◌∙◌, subst, arith, length-append, take_all, Some, None, ℤ, pos, ◌+ℤ◌, slice_index_or, slice_get, filter_map}
 use Rattle.std.specs.List.{AllByRecursion}
 use Rattle.std.proofs.lemmas.Int.{ints}
+use Rattle.std.proofs.lemmas.List.{take-append-le}
 use Rattle.std.proofs.lemmas.List.Elements.{filter_map-append}
 use Rattle.std.proofs.lemmas.List.Sums.{fold-append}
 use mathlib.Core.Logic.{dite}
 use native.Mathlib.Decide.{ℕ_discrete}
 use Rattle.trade_ledger.specs.Prelude.{Nets, clock, part}
 use Rattle.turn_lock.proofs.Parts.{nine_parts, part_mine, part_other}
-use Rattle.turn_lock.proofs.Places.{take_all, take_before}
 use Rattle.trade_ledger.specs.declared.cash_calls.CashCall.{CashCall}
 use Rattle.trade_ledger.specs.declared.cash_calls.CashCall.TheVariants.{Post, Read}
 use Rattle.trade_ledger.specs.declared.cash_calls.CashEntry.{CashEntry}
@@ -49,8 +49,8 @@ pub legal_snoc : (history : List CashEntry) (e : CashEntry) → IsLegalCash hist
 legal_snoc history e legal fit reply position x =
     let is_due : List CashEntry → CashEntry → Type 0 = λ before y. IsFitCash y.caller y.call × (y.reply ≡ cash_reply_of before y.call) in
     get_snoc history e x position (λ k y. is_due (take k (history ++ e ∷ [])) y)
-    (λ k y at inside. subst (λ (before : List CashEntry). is_due before y) (sym (take_before k history (e ∷ []) (omega arith))) (legal k y at))
-    (subst (λ (before : List CashEntry). is_due before e) (sym (take_before (length history) history (e ∷ []) (omega arith) ∙ take_all history)) (fit, reply))
+    (λ k y at inside. subst (λ (before : List CashEntry). is_due before y) (sym (take-append-le k history (e ∷ []) (omega arith))) (legal k y at))
+    (subst (λ (before : List CashEntry). is_due before e) (sym (take-append-le (length history) history (e ∷ []) (omega arith) ∙ take_all (length history) history (omega arith))) (fit, reply))
 
 abbrev by : CashEntry → ℕ
 by e = e.caller

@@ -1,5 +1,5 @@
 -- Lists by place: sums after a change at one place, and the last place of a longer list.
-use Rattle.std.proofs.Common.{◌≡◌, ℕ, zero, suc, ◌+◌, ◌<◌, ◌≤◌, List, [], ◌∷◌, ◌++◌, length, take, set, sum_by, sym, refl, ap, ◌∙◌, subst, arith, ◌⊎◌, inl, inr, ⊎_elim}
+use Rattle.std.proofs.Common.{◌≡◌, ℕ, zero, suc, ◌+◌, ◌<◌, ◌≤◌, List, [], ◌∷◌, ◌++◌, length, set, sum_by, sym, refl, ap, ◌∙◌, subst, arith, ◌⊎◌, inl, inr, ⊎_elim}
 use Rattle.std.proofs.lemmas.List.Sums.{sum_by-cons}
 use mathlib.Core.Option.{some, some-injective, some-ne-none}
 use lib.ListN.{get_elem?}
@@ -46,12 +46,3 @@ module _ {A : Type 0} where
   only_of [] e = absurd (omega arith)
   only_of (x ∷ []) e = (x, refl)
   only_of (x ∷ y ∷ xs) e = absurd (omega arith)
-
-  pub take_all : (xs : List A) → take (length xs) xs ≡ xs
-  take_all [] = refl
-  take_all (x ∷ xs) = ap (λ (t : List A). x ∷ t) (take_all xs)
-
-  pub take_before : (n : ℕ) (xs ys : List A) → n ≤ length xs → take n (xs ++ ys) ≡ take n xs
-  take_before zero xs ys h = refl
-  take_before (suc n) [] ys h = absurd (omega arith)
-  take_before (suc n) (x ∷ xs) ys h = ap (λ (t : List A). x ∷ t) (take_before n xs ys (omega arith))

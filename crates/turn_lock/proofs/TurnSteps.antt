@@ -1,5 +1,6 @@
 -- Each step on the table of a lock keeps its invariant.
-use Rattle.std.proofs.Common.{◌≡◌, ◌≢◌, ℕ, ◌+◌, ◌%◌, ◌^◌, ◌<◌, ◌≤◌, List, [], ◌∷◌, ◌++◌, length, take, set, get_or, sum_by, sym, refl, ap, ◌∙◌, subst, arith, ◌⊎◌, inl, inr, ⊎_elim, length-set, length-append, Option, Some, None}
+use Rattle.std.proofs.Common.{◌≡◌, ◌≢◌, ℕ, ◌+◌, ◌%◌, ◌^◌, ◌<◌, ◌≤◌, List, [], ◌∷◌, ◌++◌, length, take, set, get_or, sum_by, sym, refl, ap, ◌∙◌, subst, arith, ◌⊎◌, inl, inr, ⊎_elim, length-set, length-append, take_all, Option, Some, None}
+use Rattle.std.proofs.lemmas.List.{take-append-le}
 use Rattle.std.proofs.lemmas.List.Sums.{sum_by_push}
 use mathlib.Core.Option.{Option as Option_, some, none, some-injective, some-ne-none}
 use mathlib.Core.Logic.{dite}
@@ -14,7 +15,7 @@ use Rattle.turn_lock.specs.declared.view.Returned.{Returned}
 use Rattle.turn_lock.specs.Part.{part}
 use Rattle.turn_lock.specs.BoardWord.{IsSmall, packed, unpacked}
 use Rattle.turn_lock.specs.{own_at_first, spent, AreKnown, Knows, IsReturned, IsShelved, Turning, ticketed, at_turn, turned, noted, with_pass, next_pass, returned_from, with_returned, drew, looked, PublishesBoard, peeked}
-use Rattle.turn_lock.proofs.Places.{sum_by-set, sum_by-le_length, le-sum_by, place_below, at_end, at_only, take_all, take_before}
+use Rattle.turn_lock.proofs.Places.{sum_by-set, sum_by-le_length, le-sum_by, place_below, at_end, at_only}
 use Rattle.turn_lock.proofs.Parts.{part_mine, part_other, part_below}
 use Rattle.turn_lock.proofs.Words.{packed_count, unpacked-packed}
 
@@ -252,7 +253,7 @@ module _ {S G E : Type 0} (setup : S → G) (history : S → List E) (legal : G 
       let long : length log' ≡ length r.log + 1 = ap length new ∙ length-append r.log (e ∷ []) in
       let w : V = turned caller_of v log' in
       let others : (c : ℕ) → c ≢ v.caller → part caller_of log' c ≡ part caller_of r.log c = λ c ne. ap (λ (q : List E). part caller_of q c) new ∙ part_other caller_of r.log e c (λ is. ne (sym is ∙ mine_is)) in
-      let prefix : (n : ℕ) → n ≤ length r.log → board the_setup (take n log') ≡ board the_setup (take n r.log) = λ n le. ap (board the_setup) (ap (take n) new ∙ take_before n r.log (e ∷ []) le) in
+      let prefix : (n : ℕ) → n ≤ length r.log → board the_setup (take n log') ≡ board the_setup (take n r.log) = λ n le. ap (board the_setup) (ap (take n) new ∙ take-append-le n r.log (e ∷ []) le) in
       let out : s.homes ≡ none ∷ [] = ⊎_elim (λ t. absurd (some_not_none (y, h) (sym held ∙ t.4 id v at))) (λ t. t.0) r.shelf in
       let own_apart : (b : Returned E) → IsReturned (board the_setup) caller_of r.log s.views b → b.caller ≢ v.caller = λ b g is. let gone = g.spent v (subst (λ (n : ℕ). get_elem? s.views n ≡ some v) (sym (ap (λ (n : ℕ). n + 1) is ∙ l.seat)) at) in absurd (omega arith) in (
         w,
@@ -358,7 +359,7 @@ module _ {S G E : Type 0} (setup : S → G) (history : S → List E) (legal : G 
                 seen = omega arith;
                 notes = λ i note e. ⊎_elim (λ (t : get_elem? v.notes i ≡ some note). let o = l.notes i note t in let le = o.0 in (omega arith, o.1))
                     (λ (t : (i ≡ length v.notes) × ((x % 16777216, unpacked x) ≡ note)). subst (λ (a : ℕ × Board). (a.0 ≤ x % 16777216) × (a.1 ≡ board the_setup (take a.0 r.log))) t.1
-                    (omega arith, q ∙ ap (board the_setup) (sym (ap (λ (c : ℕ). take c r.log) n ∙ take_all r.log)))) (at_end v.notes (x % 16777216, unpacked x) note i e);
+                    (omega arith, q ∙ ap (board the_setup) (sym (ap (λ (c : ℕ). take c r.log) n ∙ take_all (length r.log) r.log (omega arith))))) (at_end v.notes (x % 16777216, unpacked x) note i e);
                 turn = l.turn;
                 held = l.held;
               };
@@ -518,10 +519,10 @@ module _ {S G E : Type 0} (setup : S → G) (history : S → List E) (legal : G 
       }
 
   -- once all passes are back, the slot's value stands for the history, of which they left the parts
-  pub closes : (v : V) (ws : List ℕ) (xs : List S) (x : S) → length v.returned ≡ v.passes → Final (Seen Rule 0 v) ws xs → get_elem? xs 0 ≡ some x
+  pub closes : (id : ℕ) (v : V) (ws : List ℕ) (xs : List S) (x : S) → id ≡ 0 → length v.returned ≡ v.passes → Final (Seen Rule id v) ws xs → get_elem? xs 0 ≡ some x
       → (setup x ≡ the_setup) × legal (setup x) (history x) × AreKnown (board (setup x)) caller_of (history x) v.returned × ((c : ℕ) → v.passes ≤ c
       → part caller_of (history x) c ≡ [])
-  closes v ws xs x all fin here = let s = fin.0 in let r = fin.1.0 in let at = fin.1.1 in
+  closes id v ws xs x own all fin here = let s = fin.0 in let r = fin.1.0 in let at = subst (λ (k : ℕ). get_elem? s.views k ≡ some v) own fin.1.1 in
       let same : v ≡ r.own = same_view s.views 0 v r.own at r.first in let made : v.passes ≡ r.own.passes = ap (λ (y : V). y.passes) same in
       let back : v.returned ≡ r.own.returned = ap (λ (y : V). y.returned) same in
       let n : length v.returned ≡ length r.own.returned = ap length back in let lives = r.lives in let none_live : sum_by live s.views ≡ 0 = omega arith in
@@ -549,8 +550,3 @@ module _ {S G E : Type 0} (setup : S → G) (history : S → List E) (legal : G 
 
   pub joins_at : (id : ℕ) (v : V) (other : ℕ) (w : V) → id ≡ 0 → w.live ≡ 1 → w.waits ≡ 0 → w.held ≡ None → Joins Rule id v other w (with_returned v w) spent
   joins_at id v other w e up rests free = subst (λ (k : ℕ). Joins Rule k v other w (with_returned v w) spent) (sym e) (joins v other w up rests free)
-
-  pub closes_at : (id : ℕ) (v : V) (ws : List ℕ) (xs : List S) (x : S) → id ≡ 0 → length v.returned ≡ v.passes → Final (Seen Rule id v) ws xs → get_elem? xs 0 ≡ some x
-      → (setup x ≡ the_setup) × legal (setup x) (history x) × AreKnown (board (setup x)) caller_of (history x) v.returned × ((c : ℕ) → v.passes ≤ c
-      → part caller_of (history x) c ≡ [])
-  closes_at id v ws xs x e all fin here = closes v ws xs x all (subst (λ (k : ℕ). Final (Seen Rule k v) ws xs) e fin) here

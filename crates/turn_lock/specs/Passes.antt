@@ -1,9 +1,12 @@
 -- What clauses say of a pass and of a lock.
-use Rattle.std.specs.Prelude.{ℕ, List, Option, Some}
+use Rattle.std.specs.Prelude.{◌≡◌, ℕ, List, [], ◌∷◌, ◌++◌, Option, Some}
+use mathlib.Core.Option.{some}
+use lib.ListN.{get_elem?}
 use Rattle.atomic_table.specs.Seated.{TableId}
 use Rattle.tac_base.specs.declared.calls.Board.{Board}
 use Rattle.turn_lock.specs.declared.kept.Kept.{Ghosts}
 use Rattle.turn_lock.specs.declared.view.Returned.{Returned}
+use Rattle.turn_lock.specs.Turn.{ContinuesHistory}
 use Rattle.turn_lock.specs.TurnRule.{own_view}
 use Rattle.turn_lock.specs.declared.pass.Pass.{Pass}
 use Rattle.turn_lock.specs.declared.lock.TurnLock.{TurnLock}
@@ -40,6 +43,22 @@ module _ {S C R G E : Type 0} {K : Ghosts S C R G E} where
   -- the record that it leaves when it is taken back: its caller, its calls and its boards
   abbrev pub returned_by : Pass S C R G E K → Returned E
   returned_by p = record { caller = caller_of p; mine = made_by p; notes = noted_by p }
+
+  -- the pass is of this lock and this caller and has this many turns left; it made no call and saw no board
+  abbrev pub IsFreshPass : LockId S → ℕ → ℕ → Pass S C R G E K → Type 0
+  IsFreshPass lock caller left p =
+      (lock_of p ≡ lock) × (caller_of p ≡ caller) × (turns_left p ≡ left) × (made_by p ≡ []) × (noted_by p ≡ []) × (seen_by p ≡ 0)
+
+  -- the pass at i is fresh, is of this lock and of caller i, and has `left i` turns left
+  abbrev pub AreFreshPasses : LockId S → (ℕ → ℕ) → List (Pass S C R G E K) → Type 0
+  AreFreshPasses lock left passes = (i : ℕ) (p : Pass S C R G E K) → get_elem? passes i ≡ some p → IsFreshPass lock i (left i) p
+
+  -- The pass made the call in its turn at a lock that was made with the state `start`. The entry of the call comes after those that the
+  -- pass had made, and continues the history. The answer is the position of the entry, and the reply that it records.
+  abbrev pub GetsEntry : S → Pass S C R G E K → Pass S C R G E K → C → ℕ × R → Type 0
+  GetsEntry start before after call answer = (e : E) × (K.caller_of e ≡ caller_of before) × (K.call_of e ≡ call) × (K.answer e ≡ answer.1)
+      × (made_by after ≡ made_by before ++ (answer.0, e) ∷ [])
+      × ContinuesHistory K.legal K.caller_of (K.setup start) (caller_of before) (made_by before) answer.0 e
 
 module _ {S C R G E : Type 0} where
   -- the state that the lock was made with

@@ -2,6 +2,7 @@
 use Rattle.std.specs.Prelude.{◌≡◌, ◌≢◌, ℕ, ◌+◌, ◌%◌, ◌≤◌, List, [], ◌∷◌, ◌++◌, length, Option, Some, None}
 use Rattle.atomic_table.specs.Table.{Me, Step}
 use Rattle.tac_base.specs.declared.calls.Board.{Board}
+use Rattle.turn_lock.specs.declared.kept.Kept.{Ghosts}
 use Rattle.turn_lock.specs.declared.view.View.{View}
 use Rattle.turn_lock.specs.declared.view.Returned.{Returned}
 use Rattle.turn_lock.specs.Part.{part}
@@ -44,7 +45,6 @@ module _ {S G E : Type 0} where
   abbrev pub with_returned : View S G E → View S G E → View S G E
   with_returned v pass = record v { returned = v.returned ++ returned_from pass ∷ [] }
 
-module _ {S G E : Type 0} where
   -- a ticket was drawn: the number that was found
   abbrev pub drew : Step S → Me S (View S G E) → ℕ → Me S (View S G E) → Type 0
   drew step before found after = after ≡ (ticketed before.0 found, before.1)
@@ -72,3 +72,11 @@ module _ {S G E : Type 0} (setup : S → G) (history : S → List E) (caller_of 
   abbrev pub looked : Step S → Me S (View S G E) → ℕ → Me S (View S G E) → Type 0
   looked step before found after =
       (found % 16777216 ≡ before.0.ticket → Took before after) × (found % 16777216 ≢ before.0.ticket → after ≡ before)
+
+module _ {S C R G E : Type 0} (K : Ghosts S C R G E) where
+  -- the state that was held got one entry, which records the caller, the call and the reply, and was given back with a legal history;
+  -- the answer is the position of the entry, and the reply
+  abbrev pub AddsEntry : Me S (View S G E) → Me S (View S G E) → ℕ → C → ℕ × R → Type 0
+  AddsEntry before after caller call answer = (x : S) × (h : List E) × (e : E) × (before.1 ≡ (0, x) ∷ []) × (h ≡ K.history x ++ e ∷ [])
+      × (K.caller_of e ≡ caller) × (K.call_of e ≡ call) × (K.answer e ≡ answer.1) × (answer.0 ≡ length (K.history x))
+      × (after ≡ (turned K.caller_of before.0 h, [])) × K.legal (K.setup x) h

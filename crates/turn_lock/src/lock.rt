@@ -1,6 +1,6 @@
-ghost use Rattle.std.specs.Prelude.{◌≡◌, ℕ, ◌+◌, ◌<◌, ◌≤◌, List, [], ◌∷◌, ◌++◌, length, None, Some};
+ghost use Rattle.std.specs.Prelude.{◌≡◌, ℕ, ◌+◌, ◌<◌, ◌≤◌, [], ◌∷◌, ◌++◌, length, None, Some};
 ghost use Rattle.turn_lock.specs.Part.{part};
-ghost use Rattle.turn_lock.specs.{own_view, ticketed, at_turn, turned, with_pass, next_pass};
+ghost use Rattle.turn_lock.specs.{own_view, ticketed, with_pass, next_pass, AddsEntry, Took};
 
 use crate::board_word::{pack, unpack};
 use crate::kept::Kept;
@@ -8,7 +8,7 @@ use crate::own_seat::OwnSeat;
 use crate::pass::Pass;
 use crate::steps::{Draw, JoinPass, Peek, Publish, SplitOff, TryTurn};
 use crate::view::{TurnRule, View};
-use atomic_table::{Refused, Seat, Table};
+use atomic_table::{Seat, Table};
 use crossbeam_utils::Backoff;
 use std::alloc::Global;
 use std::snapshot::Snapshot;
@@ -52,9 +52,7 @@ impl<S: Kept> TurnLock<S> {
         requires waits { (seat.old.me.0.live ≡ 1) × (seat.old.me.0.waits ≡ 1) × (seat.old.me.0.ticket ≡ ticket)
             × (seat.old.me.0.held ≡ None) × (seat.old.me.1 ≡ []) }
         ensures own { (seat.new.table_id ≡ seat.old.table_id) × (seat.new.id ≡ seat.old.id) }
-        ensures took { (x : S) × (seat.new.me ≡ (at_turn seat.old.me.0 (S.setup x) (S.history x), (0, x) ∷ [])) × (length (S.history x) ≡ ticket)
-            × (part S.caller_of (S.history x) seat.old.me.0.caller ≡ seat.old.me.0.mine) × (seat.old.me.0.seen ≤ ticket)
-            × ((start : S) → seat.old.me.0.start ≡ Some start → S.setup x ≡ S.setup start) }
+        ensures took { Took S.setup S.history S.caller_of seat.old.me seat.new.me }
     {
         let backoff = Backoff::new();
         let mut looks = 0;
@@ -86,8 +84,7 @@ impl<S: Kept> TurnLock<S> {
         requires room { length seat.old.me.0.mine < S.cap caller }
         requires fit { S.fit caller call.now }
         ensures own { (seat.new.table_id ≡ seat.old.table_id) × (seat.new.id ≡ seat.old.id) }
-        ensures entry { (x : S) × (h : List S.Entry) × (e : S.Entry) × (seat.old.me.1 ≡ (0, x) ∷ []) × (h ≡ S.history x ++ e ∷ [])
-            × (S.caller_of e ≡ caller) × (S.call_of e ≡ call.now) × (S.answer e ≡ result.1) × (result.0 ≡ length (S.history x)) × (seat.new.me ≡ (turned S.caller_of seat.old.me.0 h, [])) × S.legal (S.setup x) h }
+        ensures entry { AddsEntry S.Kept seat.old.me seat.new.me caller call.now result }
     {
         let shared = &self.table.shared;
         let state = seat.slot_mut(shared, 0);
@@ -118,13 +115,9 @@ impl<S: Kept> TurnLock<S> {
 }
 
 impl<S: Kept> TurnLock<S> {
-    ghost use Rattle.std.specs.Prelude.{◌≡◌, ℕ, ◌+◌, ◌<◌, ◌≤◌, List, [], ◌∷◌, ◌++◌, length, IfOk, slice_index, vec_len};
-    ghost use mathlib.Core.Option.{some};
-    ghost use lib.ListN.{get_elem?};
-    ghost use Rattle.turn_lock.specs.Part.{part};
+    ghost use Rattle.std.specs.Prelude.{IfOk, slice_index, vec_len};
     ghost use Rattle.turn_lock.specs.TurnRule.{AreKnown};
-    ghost use Rattle.turn_lock.specs.Turn.{ContinuesHistory};
-    ghost use Rattle.turn_lock.specs.Passes.{lock_of, caller_of, turns_left, made_by, noted_by, seen_by, returned_by, lock_id, start_of, passes_of, returned_to};
+    ghost use Rattle.turn_lock.specs.Passes.{lock_of, caller_of, turns_left, made_by, noted_by, seen_by, returned_by, lock_id, start_of, passes_of, returned_to, AreFreshPasses, GetsEntry};
 
     /// Returns a lock for a state without history, and one pass for each of 1 to 9 limits. Pass `i` belongs to caller `i` and allows as
     /// many calls as limit `i`. If a memory allocation fails, it returns `Memory` and drops the state.
@@ -138,19 +131,16 @@ impl<S: Kept> TurnLock<S> {
         requires caps { (i : ℕ) → i < length limits.now → slice_index limits.now i ≤ S.cap i }
         ensures setup { IfOk result (λ r. start_of r.0 ≡ state) }
         ensures lock { IfOk result (λ r. (passes_of r.0 ≡ length limits.now) × (returned_to r.0 ≡ [])) }
-        ensures passes { IfOk result (λ r. (vec_len r.1 ≡ length limits.now) × ((i : ℕ) (p : _) → get_elem? r.1.items i ≡ some p →
-            (lock_of p ≡ lock_id r.0) × (caller_of p ≡ i) × (turns_left p ≡ slice_index limits.now i) × (made_by p ≡ []) × (noted_by p ≡ []) × (seen_by p ≡ 0))) }
+        ensures passes { IfOk result (λ r. (vec_len r.1 ≡ length limits.now) × AreFreshPasses (lock_id r.0) (slice_index limits.now) r.1.items) }
     {
         let mut passes = Vec::with_capacity(alloc, limits.len())?;
         let mut slots = Vec::with_capacity(alloc, 1)?;
         let key = Snapshot::of(&state);
         let word = pack(&state.board());
         slots.push_reserved(state);
-        let made = match Table::new(alloc, &[0, word], slots, &key) {
-            Ok(made) => made,
-            Err(Refused { slots: _ }) => return Err(Memory),
+        let Ok((table, own_seat)) = Table::new(alloc, &[0, word], slots, &key) else {
+            return Err(Memory);
         };
-        let (table, own_seat) = made;
         let mut lock = TurnLock {
             table,
             own: OwnSeat::put(own_seat),
@@ -176,9 +166,7 @@ impl<S: Kept> TurnLock<S> {
         requires fit { S.fit (caller_of pass.old) call.now }
         ensures own { (lock_of pass.new ≡ lock_of pass.old) × (caller_of pass.new ≡ caller_of pass.old)
             × (turns_left pass.new + 1 ≡ turns_left pass.old) × (noted_by pass.new ≡ noted_by pass.old) }
-        ensures entry { (e : S.Entry) × (S.caller_of e ≡ caller_of pass.old) × (S.call_of e ≡ call.now) × (S.answer e ≡ result.1)
-            × (made_by pass.new ≡ made_by pass.old ++ (result.0, e) ∷ [])
-            × ContinuesHistory S.legal S.caller_of (S.setup (start_of self.now)) (caller_of pass.old) (made_by pass.old) result.0 e }
+        ensures entry { GetsEntry (start_of self.now) pass.old pass.new call.now result }
         ensures seen { (seen_by pass.old ≤ result.0) × (seen_by pass.new ≡ result.0 + 1) }
     {
         let ticket = self.draw(&mut pass.seat);
@@ -206,11 +194,7 @@ impl<S: Kept> TurnLock<S> {
         ensures same { (lock_id self.new ≡ lock_id self.old) × (start_of self.new ≡ start_of self.old) × (passes_of self.new ≡ passes_of self.old) }
         ensures returned { returned_to self.new ≡ returned_to self.old ++ returned_by pass ∷ [] }
     {
-        let Pass {
-            seat,
-            caller: _,
-            left: _,
-        } = pass;
+        let Pass { seat, .. } = pass;
         let TurnLock { table, own } = self;
         let mut keeper = own.take();
         table.shared.join_seat::<JoinPass>(&mut keeper, seat);

@@ -1,5 +1,5 @@
 -- What lines ask, the lines of replies, as words and as JSON, and what is heard of a script that is read piece by piece.
-use Rattle.std.proofs.Common.{◌≡◌, false, List, [], ◌∷◌, pos, negsuc, Ok, Err, map, refl, codes, neg_ℤ, replicate}
+use Rattle.std.proofs.Common.{◌≡◌, true, false, List, [], ◌∷◌, pos, negsuc, Ok, Err, map, refl, codes, neg_ℤ, replicate}
 use Rattle.std.specs.Fmt.{digits}
 use Rattle.tac_base.specs.Numerals.{numeral, signed_numeral}
 use Rattle.tac_base.specs.declared.bids.BidFault.TheVariants as bid_faults
@@ -52,6 +52,14 @@ other_replies : map said_text of_lines
     ≡ codes "@31 cash -660" ∷ codes "@9 quote 70 0 open" ∷ codes "no spent" ∷ codes "no auction" ∷ codes "no bid 5" ∷ codes "no toolong" ∷ codes "bye" ∷ []
 unfolding digits
 other_replies = refl
+
+every_other_reply : (map (λ reply. said_text (At 3 reply)) (replies.Closed ∷ replies.WrongCall ∷ replies.NoBid ∷ replies.Sell ∷ [])
+    ≡ codes "@3 no closed" ∷ codes "@3 no wrongcall" ∷ codes "@3 no nobid" ∷ codes "@3 no sell" ∷ [])
+    × (map (λ fault. said_text (Fault (faults.Bid fault))) (bid_faults.Syntax ∷ bid_faults.TooManyPoints ∷ bid_faults.TooManyUnits ∷ bid_faults.Price ∷ [])
+    ≡ codes "no bid 1" ∷ codes "no bid 2" ∷ codes "no bid 3" ∷ codes "no bid 4" ∷ [])
+    × (map said_text (Quote (record { count = 9; bid = 0; ask = 70; closed = true }) ∷ Fault faults.Syntax ∷ []) ≡ codes "@9 quote 0 70 closed" ∷ codes "no syntax" ∷ [])
+unfolding digits
+every_other_reply = (refl, refl, refl)
 
 replies_in_json : (map json_text of_calls
     ≡ codes "{\"at\":7,\"taken\":[1,0]}" ∷ codes "{\"at\":8,\"own\":-1,\"points\":[[-1,60]]}" ∷ codes "{\"at\":0,\"own\":1,\"points\":[]}" ∷ codes "{\"at\":9,\"done\":true}"

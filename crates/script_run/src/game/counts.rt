@@ -1,6 +1,7 @@
 // Counts the lines of a game script.
-ghost use Rattle.std.specs.Prelude.{◌≡◌, ◌≤◌, [], ◌∷◌, List, MatchResult, Ok, Err};
+ghost use Rattle.std.specs.Prelude.{◌≡◌, ◌≤◌, []};
 ghost use Rattle.script_run.specs.GameScripts as scripts;
+ghost use Rattle.script_run.specs.ScriptLines.{CountsLine};
 ghost use Rattle.script_run.specs.declared.game.lines.GameLine.{GameLine};
 
 use crate::ScriptReason;
@@ -39,10 +40,7 @@ impl GameCounts {
 
     /// Counts a line and returns what it requests, or returns the first reason why it is bad.
     pub(crate) fn judge(&mut self, line: &[u8]) -> Result<GameLine, ScriptReason>
-        ensures { (lines : List GameLine) → AreGameCounts lines self.old →
-            MatchResult result
-            (λ asked. (scripts.judge_game_line lines line.now ≡ Ok asked) × AreGameCounts (asked ∷ lines) self.new)
-            (λ reason. scripts.judge_game_line lines line.now ≡ Err reason) }
+        ensures { CountsLine AreGameCounts scripts.judge_game_line line.now self.old self.new result }
     {
         match line_of(line) {
             Ok(line) => self.admit(line),
@@ -52,54 +50,32 @@ impl GameCounts {
 
     /// Counts a line if it is allowed here, or returns the reason why it is not.
     fn admit(&mut self, line: GameLine) -> Result<GameLine, ScriptReason>
-        ensures { (lines : List GameLine) → AreGameCounts lines self.old →
-            MatchResult result
-            (λ admitted. (scripts.limited_game_line lines line ≡ Ok admitted) × AreGameCounts (admitted ∷ lines) self.new)
-            (λ reason. scripts.limited_game_line lines line ≡ Err reason) }
-    {
-        match self.count(&line) {
-            Ok(()) => Ok(line),
-            Err(reason) => Err(reason),
-        }
-    }
-
-    /// Counts a line if it is allowed here, or returns the reason why it is not.
-    fn count(&mut self, line: &GameLine) -> Result<(), ScriptReason>
-        ensures { (lines : List GameLine) → AreGameCounts lines self.old →
-            MatchResult result
-            (λ _. (scripts.limited_game_line lines line.now ≡ Ok line.now) × AreGameCounts (line.now ∷ lines) self.new)
-            (λ reason. scripts.limited_game_line lines line.now ≡ Err reason) }
+        ensures { CountsLine AreGameCounts scripts.limited_game_line line self.old self.new result }
     {
         match line {
             GameLine::Tick => self.count_tick(),
-            GameLine::Asks { agent, asked } => self.count_line(*agent, asked),
+            GameLine::Asks { agent, asked } => self.count_line(agent, asked),
         }
     }
 
     /// Counts a tick, if one is left.
-    fn count_tick(&mut self) -> Result<(), ScriptReason>
-        ensures { (lines : List GameLine) → AreGameCounts lines self.old →
-            MatchResult result
-            (λ _. (scripts.limited_game_line lines GameLine.Tick ≡ Ok GameLine.Tick) × AreGameCounts (GameLine.Tick ∷ lines) self.new)
-            (λ reason. scripts.limited_game_line lines GameLine.Tick ≡ Err reason) }
+    fn count_tick(&mut self) -> Result<GameLine, ScriptReason>
+        ensures { CountsLine AreGameCounts scripts.limited_game_line GameLine.Tick self.old self.new result }
     {
         if self.ticks >= TICKS {
             return Err(ScriptReason::TooMany);
         }
         self.ticks += 1;
-        Ok(())
+        Ok(GameLine::Tick)
     }
 
     /// Counts a line of an agent, if the agent has lines left and has not ended its session.
     fn count_line(
         &mut self,
         agent: Agent,
-        asked: &Result<Request, RequestFault>,
-    ) -> Result<(), ScriptReason>
-        ensures { (lines : List GameLine) → AreGameCounts lines self.old →
-            MatchResult result
-            (λ _. (scripts.limited_game_line lines (GameLine.Asks agent asked.now) ≡ Ok (GameLine.Asks agent asked.now)) × AreGameCounts (GameLine.Asks agent asked.now ∷ lines) self.new)
-            (λ reason. scripts.limited_game_line lines (GameLine.Asks agent asked.now) ≡ Err reason) }
+        asked: Result<Request, RequestFault>,
+    ) -> Result<GameLine, ScriptReason>
+        ensures { CountsLine AreGameCounts scripts.limited_game_line (GameLine.Asks agent asked) self.old self.new result }
     {
         let place = usize::from(agent.get());
         if self.has_quit[place] {
@@ -110,7 +86,7 @@ impl GameCounts {
             return Err(ScriptReason::TooMany);
         }
         self.of_agent[place] = count + 1;
-        self.has_quit[place] = is_quit(asked);
-        Ok(())
+        self.has_quit[place] = is_quit(&asked);
+        Ok(GameLine::Asks { agent, asked })
     }
 }

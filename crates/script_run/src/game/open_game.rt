@@ -1,6 +1,6 @@
 // A game in progress.
-ghost use Rattle.std.specs.Prelude.{◌≡◌, ℕ, ◌+◌, ◌<◌, ◌≤◌, [], ◌∷◌, ◌++◌, List, length, map, IfOk, IfSome, MatchOption};
-ghost use Rattle.script_run.specs.{board, Entry, cap, entries_of, part, cash_cap, cash_total, due_post, IsFit, all_goods, setup_of, opening, past_at, entry_at, called, reading_of, closed_of};
+ghost use Rattle.std.specs.Prelude.{◌≡◌, ℕ, ◌<◌, ◌≤◌, [], ◌∷◌, ◌++◌, List, length, map, IfOk, IfSome};
+ghost use Rattle.script_run.specs.{board, Entry, cap, entries_of, part, cash_cap, cash_total, due_post, IsFit, all_goods, setup_of, opening, past_at, entry_at, called, reading_of, closed_of, BeginsTick};
 ghost use Rattle.auction_core.specs.Struck.{struck_of};
 
 use auction_core::{Auction, Closed, Struck};
@@ -144,9 +144,7 @@ impl<'a> OpenGame<'a> {
         ensures game { self.new.game ≡ self.old.game }
         ensures pasts { self.new.state.pasts ≡ self.old.state.pasts }
         ensures cash { self.new.state.cash ≡ self.old.state.cash }
-        ensures tick { MatchOption result
-            ((TICKS ≤ self.old.state.ticks) × (self.new.state.ticks ≡ self.old.state.ticks))
-            (λ tick. (self.old.state.ticks < TICKS) × (tick ≡ self.old.state.ticks + 1) × (self.new.state.ticks ≡ tick)) }
+        ensures tick { BeginsTick self.old.state.ticks self.new.state.ticks result }
     {
         if self.ticks >= TICKS {
             return None;

@@ -57,7 +57,7 @@ fn play_line(table: &mut Table, text: &mut Vec<u8>, line: &GameLine) -> Result<(
 }
 
 impl<'a> GameRun<'a> {
-    ghost use Rattle.script_run.specs.GameRuns.{HasRunGame, IsGranted, PlaysGameLine};
+    ghost use Rattle.script_run.specs.GameRuns.{HasRunGame, IsGranted, PlaysNextLine};
     ghost use Rattle.script_run.specs.OneThreadRun.{replies};
 
     /// Begins the game, before the first line, with room for this many bytes of text.
@@ -77,7 +77,7 @@ impl<'a> GameRun<'a> {
 
     /// Plays the line of this number. If there is room for `REPLY_TEXT` bytes of text, it requests no memory. After an error no further line may follow.
     pub(crate) fn step(&mut self, number: u32, line: &[u8]) -> Result<(), ScriptFault>
-        ensures steps { (game : GameFile) (lines : List GameLine) (written : List ℕ) → HasRunGame game lines written self.old → PlaysGameLine game lines written (record { number = number; bytes = line.now }) self.new result }
+        ensures steps { PlaysNextLine self.old (record { number = number; bytes = line.now }) self.new result }
         ensures len { vec_len self.new.text ≤ vec_len self.old.text + REPLY_TEXT }
         ensures capacity { vec_capacity self.old.text ≤ vec_capacity self.new.text }
         ensures room { vec_len self.old.text + REPLY_TEXT ≤ vec_capacity self.old.text → IsGranted result }

@@ -1,8 +1,7 @@
 // Plays a game line by line, while it reads the script.
-ghost use Rattle.std.specs.Prelude.{◌≡◌, ◌+◌, ◌*◌, ◌-◌, ◌^◌, ◌<◌, ◌≤◌, ◌++◌, ◌∷◌, ℕ, [], List, length, take, IsTrue, IfOk, MatchResult, vec_capacity, vec_len};
-ghost use Rattle.script_run.specs.{StepsGame, Answered, HasAnswered, HearsLines, IsStepping, TookMore, stopped_by};
-ghost use Rattle.script_run.specs.Prelude.{REPLY_TEXT, TEXT_BYTES, HasCause, SinkState, IsAtEnd, then_known, GameFile};
-ghost use Rattle.script_run.specs.Stepping.{EndsScript, StopsAtLine};
+ghost use Rattle.std.specs.Prelude.{◌≡◌, ◌+◌, ◌*◌, ◌-◌, ◌^◌, ◌<◌, ◌≤◌, ◌++◌, ◌∷◌, ℕ, [], List, length, take, IsTrue, IfOk, vec_capacity, vec_len};
+ghost use Rattle.script_run.specs.{StepsGame, AnswersPiece, EndsScript, HearsBytes, HearsLines, IsStepping, TookMore, stopped_by};
+ghost use Rattle.script_run.specs.Prelude.{REPLY_TEXT, TEXT_BYTES, HasCause, ReadsAtMost, GameFile};
 ghost use Rattle.tac_io.specs.Written.{WritesPiece};
 
 use crate::fault::{ScriptFault, ScriptReason, StepFault};
@@ -63,8 +62,7 @@ impl<'a> Stepper<'a> {
     fn end_line(&mut self) -> Result<(), ScriptFault>
         requires number { self.old.number < 2 ^ 32 - 1 }
         requires room { vec_len self.old.run.text + REPLY_TEXT ≤ vec_capacity self.old.run.text }
-        ensures line { (game : GameFile) (given written : List ℕ) → IsStepping game given written self.old →
-            MatchResult result (λ _. IsStepping game (given ++ 10 ∷ []) written self.new) (StopsAtLine game (given ++ 10 ∷ []) written self.new) }
+        ensures line { HearsBytes self.old (10 ∷ []) self.new result }
         ensures number { IfOk result (λ _. self.new.number ≡ self.old.number + 1) }
         ensures len { vec_len self.new.run.text ≤ vec_len self.old.run.text + REPLY_TEXT }
         ensures capacity { vec_capacity self.old.run.text ≤ vec_capacity self.new.run.text }
@@ -89,8 +87,7 @@ impl<'a> Stepper<'a> {
     fn hear(&mut self, piece: &[u8]) -> Result<(), ScriptFault>
         requires number { self.old.number + length piece.now < 2 ^ 32 }
         requires room { vec_len self.old.run.text + length piece.now * REPLY_TEXT ≤ vec_capacity self.old.run.text }
-        ensures lines { (game : GameFile) (given written : List ℕ) → IsStepping game given written self.old →
-            MatchResult result (λ _. IsStepping game (given ++ piece.now) written self.new) (StopsAtLine game (given ++ piece.now) written self.new) }
+        ensures lines { HearsBytes self.old piece.now self.new result }
         ensures number { IfOk result (λ _. self.new.number ≤ self.old.number + length piece.now) }
         ensures capacity { vec_capacity self.old.run.text ≤ vec_capacity self.new.run.text }
     {
@@ -123,8 +120,7 @@ impl<'a> Stepper<'a> {
         requires number { self.old.number + length piece.now < 2 ^ 32 }
         requires len { vec_len self.old.run.text ≡ 0 }
         requires room { length piece.now * REPLY_TEXT ≤ vec_capacity self.old.run.text }
-        ensures answered { (game : GameFile) (given : List ℕ) (start : SinkState) → HasAnswered game given start self.old (K.state out.old) →
-            Answered game (given ++ piece.now) start self.new (K.state out.new) result }
+        ensures answered { AnswersPiece self.old (K.state out.old) piece.now self.new (K.state out.new) result }
         ensures more { TookMore (K.state out.old) (K.state out.new) }
         ensures number { IfOk result (λ _. self.new.number ≤ self.old.number + length piece.now) }
         ensures len { vec_len self.new.run.text ≡ 0 }
@@ -174,9 +170,7 @@ fn read_piece<F: Files>(files: &mut F, piece: &mut [u8], most: usize) -> Result<
     requires selected { IsTrue (F.state files.old).selected }
     ensures len { length piece.new ≡ length piece.old }
     ensures size { IfOk result (λ n. length (take n piece.new) ≡ n) }
-    ensures given { MatchResult result
-        (λ n. (n ≤ most) × ((F.state files.old).left ≡ then_known (take n piece.new) (F.state files.new).left) × (n ≡ 0 → IsAtEnd (F.state files.old).left))
-        (λ _. (F.state files.new).left ≡ (F.state files.old).left) }
+    ensures given { ReadsAtMost most (F.state files.old).left (F.state files.new).left result piece.new }
     ensures selected { IsTrue (F.state files.new).selected }
     ensures names { (F.state files.new).names ≡ (F.state files.old).names }
     ensures content { (F.state files.new).content ≡ (F.state files.old).content }

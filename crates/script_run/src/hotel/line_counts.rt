@@ -1,8 +1,8 @@
 // Counts the lines of a hotel script.
-ghost use Rattle.std.specs.Prelude.{◌≡◌, ◌≤◌, ◌<◌, [], ◌∷◌, List, length, MatchResult, Ok, Err};
-ghost use Rattle.script_run.specs.HotelScripts.{judge_hotel_line};
+ghost use Rattle.std.specs.Prelude.{◌≡◌, ◌≤◌, ◌<◌, [], List, length};
+ghost use Rattle.script_run.specs.HotelScripts.{judge_hotel_line, limited_hotel_line};
 ghost use Rattle.script_run.specs.Prelude.{cap, AUCTION_ENTRIES};
-ghost use Rattle.script_run.specs.HotelScripts.{limited_hotel_line};
+ghost use Rattle.script_run.specs.ScriptLines.{CountsLine};
 
 use crate::ScriptReason;
 use crate::hotel::lines::{HotelLine, line_of};
@@ -50,10 +50,7 @@ impl LineCounts {
 
     /// Counts a line and returns what it requests, or returns the first reason why it is bad.
     pub(crate) fn judge(&mut self, line: &[u8]) -> Result<HotelLine, ScriptReason>
-        ensures { (lines : List HotelLine) → AreLineCounts lines self.old →
-            MatchResult result
-            (λ asked. (judge_hotel_line lines line.now ≡ Ok asked) × AreLineCounts (asked ∷ lines) self.new)
-            (λ reason. judge_hotel_line lines line.now ≡ Err reason) }
+        ensures { CountsLine AreLineCounts judge_hotel_line line.now self.old self.new result }
     {
         match line_of(line) {
             Ok(line) => self.admit(line),
@@ -63,10 +60,7 @@ impl LineCounts {
 
     /// Counts a line if it is not one too many, or returns the reason.
     fn admit(&mut self, line: HotelLine) -> Result<HotelLine, ScriptReason>
-        ensures { (lines : List HotelLine) → AreLineCounts lines self.old →
-            MatchResult result
-            (λ admitted. (limited_hotel_line lines line ≡ Ok admitted) × AreLineCounts (admitted ∷ lines) self.new)
-            (λ reason. limited_hotel_line lines line ≡ Err reason) }
+        ensures { CountsLine AreLineCounts limited_hotel_line line self.old self.new result }
     {
         if self.all >= AUCTION_ENTRIES {
             return Err(ScriptReason::TooMany);

@@ -36,9 +36,10 @@ impl<L> MemLinks<L> {
 }
 
 impl<L: Link + Send + Drop> Links for MemLinks<L> {
-    ghost use Rattle.std.specs.Prelude.{◌≡◌, ◌↔◌, ◌++◌, ◌∷◌, [], Some, IsErr, IsTrue, MatchOption, MatchResult};
+    ghost use Rattle.std.specs.Prelude.{◌≡◌, ◌↔◌, ◌++◌, ◌∷◌, [], Some, IsErr, IsTrue, MatchResult};
     ghost use Rattle.tac_io.specs.Calls.{IsNextToFail, after_call};
     ghost use Rattle.tac_io.specs.Counts.{HasCause};
+    ghost use Rattle.tac_io.specs.Known.{GivesNext};
     ghost use Rattle.tac_io.specs.MemLinks.{links_calls, links_listens, links_pending, links_ports};
 
     type Link = L;
@@ -72,10 +73,7 @@ impl<L: Link + Send + Drop> Links for MemLinks<L> {
     fn next(&mut self) -> Result<Option<L>, Failed>
         requires { IsTrue (links_listens self.old) }
         ensures fails { IsErr result ↔ IsNextToFail (links_calls self.old) }
-        ensures given { MatchResult result (λ given. MatchOption given
-            ((links_pending self.new ≡ links_pending self.old) × (links_pending self.old ≡ []))
-            (λ link. links_pending self.old ≡ link ∷ links_pending self.new))
-            (λ _. links_pending self.new ≡ links_pending self.old) }
+        ensures given { GivesNext (Some (links_pending self.old)) (Some (links_pending self.new)) result }
         ensures listens { IsTrue (links_listens self.new) }
         ensures ports { links_ports self.new ≡ links_ports self.old }
         ensures calls { links_calls self.new ≡ after_call (links_calls self.old) result }

@@ -13,7 +13,7 @@ returns-then-is_enough c = λ h. elim c.if-are_left.branch [
       let left = chosen c.args.choice.now in
       let ranges = subst IsAccount c.account.view_is c.account.invariant in
       let feasible : IsFeasible account ps = record { eight = c.requires.eight; lawful = c.requires.lawful; enough = w.is_enough.ensures.enough (sym w.value-is ∙ c.if-is_enough.true) } in
-      let within = subst (λ total. is_within (leaf_bound account left prices) total ≡ true) c.allocation_worth.ensures.value (c.holds.ensures.bounds account left ranges c.requires.stock c.requires.ceiling h) in
+      let within = subst (λ total. is_within (leaf_bound account left prices) total ≡ true) c.allocation_worth.ensures.value (c.holds.ensures.bounds h account left ranges c.requires.stock c.requires.ceiling) in
       reached_settled account ranges left prices ps feasible (c.are_left.ensures w.if-are_left.true) within
   | else-are_left w ↦ cc (sym w.value-is ∙ c.if-is_enough.true)
 ]

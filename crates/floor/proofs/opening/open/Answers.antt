@@ -11,7 +11,7 @@ returns-clause-dealt c ids fresh =
     let passes = c.in_ok-lock.passes in let lock = c.in_ok-lock.lock in let begun = c.in_ok-lock.ensures.passes in
     subst (λ l. AreFresh (ids ++ lock_id lock ∷ []) cap l) (sym c.in_ok-deal.ensures)
     (fresh_dealt ids (lock_id lock) cap (map (λ hand. hand.items) c.args.hands.now.items) passes.items fresh (omega (arith, length-map c.args.hands.now.items (λ hand. hand.items), c.requires, begun.0, passes.ok.0))
-    (λ i p at. let b = begun.1 i p at in record { lock = b.0; caller_is = b.1; left_is = b.2 ∙ calls_are i (omega (arith, place_below passes.items i p at, begun.0, passes.ok.0)); made = b.3; noted = b.4; seen = b.5 }))
+    (λ i p at. let b = begun.1 i p at in (b.0, b.1, b.2 ∙ calls_are i (omega (arith, place_below passes.items i p at, begun.0, passes.ok.0)), b.3, b.4, b.5)))
 
 pub returns-clause-nine : goal.returns-clause-nine
 returns-clause-nine c =

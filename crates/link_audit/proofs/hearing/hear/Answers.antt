@@ -75,8 +75,8 @@ returns-in-Leaves g c =
     let line = slice_range asked at end in
     let lines_are : lines_at asked at ≡ ended_line line ∷ lines_at asked (end + 1) =
     lines_here asked at c.requires.short.1 v.within end c.in-Some-line_end.ensures.0 c.in-Some-line_end.ensures.1 c.in-Some-line_end.ensures.2 in
-    let leaves : IsStep (IsAsked dialect true (ended_line line)) (FitsReply dialect.text true reply) s places c.step_line.new.places Leaves =
-    subst (IsStep (IsAsked dialect true (ended_line line)) (FitsReply dialect.text true reply) s places c.step_line.new.places) c.in-Leaves.is c.in_ok-step_line.ensures in
+    let leaves : IsStep (IsAsked dialect true (ended_line line)) (FitsReply dialect true reply) s places c.step_line.new.places Leaves =
+    subst (IsStep (IsAsked dialect true (ended_line line)) (FitsReply dialect true reply) s places c.step_line.new.places) c.in-Leaves.is c.in_ok-step_line.ensures in
     let more = more_replies said (reply_end + 1) c.line_end-in-Leaves.result c.line_end-in-Leaves.ensures in
     let over = subst (λ (p : Places). EndsByLeaving (IsOver s p) c.is_some-more.result c.leave.result) leaves.1 (c.leave.ensures.left c.args.boards.now) in
     let left = subst (λ (p : Places). HasLeft s p lines c.is_some-more.result c.leave.result) leaves.1 (c.leave.ensures.how c.args.boards.now) in
@@ -107,8 +107,8 @@ returns-in-Stuck g c =
     let line = slice_range asked at end in
     let lines_are : lines_at asked at ≡ ended_line line ∷ lines_at asked (end + 1) =
     lines_here asked at c.requires.short.1 v.within end c.in-Some-line_end.ensures.0 c.in-Some-line_end.ensures.1 c.in-Some-line_end.ensures.2 in
-    let stuck : IsStep (IsAsked dialect true (ended_line line)) (FitsReply dialect.text true reply) s places c.step_line.new.places Stuck =
-    subst (IsStep (IsAsked dialect true (ended_line line)) (FitsReply dialect.text true reply) s places c.step_line.new.places) c.in-Stuck.is c.in_ok-step_line.ensures in
+    let stuck : IsStep (IsAsked dialect true (ended_line line)) (FitsReply dialect true reply) s places c.step_line.new.places Stuck =
+    subst (IsStep (IsAsked dialect true (ended_line line)) (FitsReply dialect true reply) s places c.step_line.new.places) c.in-Stuck.is c.in_ok-step_line.ensures in
     record {
       ahead = walk_stuck dialect s Before places v.wide (lines_at asked at) (lines_at asked (end + 1)) (ended_line line) lines_are (SESSION_LINES - lines) (SESSION_LINES - (lines + 1)) room_is (replies_at said place) (replies_at said (reply_end + 1)) reply replies_are v.behind stuck;
       turns = first_line_here dialect s places all replies lines (lines_at asked at) reply (replies_at said (reply_end + 1)) (replies_at said place) v.courses replies_are v.told_so low
@@ -133,8 +133,8 @@ loop-lines-preserved g c =
     let line = slice_range asked at end in
     let lines_are : lines_at asked at ≡ ended_line line ∷ lines_at asked (end + 1) =
     lines_here asked at c.requires.short.1 v.within end c.in-Some-line_end.ensures.0 c.in-Some-line_end.ensures.1 c.in-Some-line_end.ensures.2 in
-    let taken : IsStep (IsAsked dialect true (ended_line line)) (FitsReply dialect.text true reply) s places c.step_line.new.places Taken =
-    subst (IsStep (IsAsked dialect true (ended_line line)) (FitsReply dialect.text true reply) s places c.step_line.new.places) c.in-Taken.is c.in_ok-step_line.ensures in
+    let taken : IsStep (IsAsked dialect true (ended_line line)) (FitsReply dialect true reply) s places c.step_line.new.places Taken =
+    subst (IsStep (IsAsked dialect true (ended_line line)) (FitsReply dialect true reply) s places c.step_line.new.places) c.in-Taken.is c.in_ok-step_line.ensures in
     record {
       behind = walked_on dialect s Before places v.wide (lines_at asked at) (lines_at asked (end + 1)) (ended_line line) lines_are (SESSION_LINES - lines) (SESSION_LINES - (lines + 1)) room_is (replies_at said place) (replies_at said (reply_end + 1)) reply replies_are v.behind c.step_line.new.places taken;
       courses = λ course. heard_course dialect s places v.wide (ended_line line) (lines_at asked (end + 1)) (lines_at asked at) lines_are reply (replies_at said (reply_end + 1)) (replies_at said place) replies_are

@@ -1,9 +1,5 @@
-use Rattle.std.proofs.Common.{List, Bool, refl, sym, subst}
-use Rattle.std.specs.Global.{Vec}
-use Rattle.tac_base.specs.declared.calls.Board.{Board}
-use Rattle.link_audit.specs.declared.vouching.Difference.{Difference}
-use Rattle.link_audit.specs.{subject_of, IsLowestLeft, DiffersAfter}
-use Rattle.link_audit.proofs.CourseWalks.{some_is}
+use Rattle.std.proofs.Common.{Bool, refl, sym, subst}
+use Rattle.link_audit.specs.{subject_of, DiffersAfter}
 use Rattle.link_audit.proofs.hearing.leave.Goals as goal
 
 pub returns-in-None-clause-left : goal.returns-in-None-clause-left
@@ -18,4 +14,4 @@ returns-in-Some-clause-left c = λ boards more over. let none = (c.first_left.en
 pub returns-in-Some-clause-how : goal.returns-in-Some-clause-how
 returns-in-Some-clause-how c = λ boards.
     subst (λ (b : Bool). DiffersAfter (subject_of c.args.log.now boards c.args.agent) c.args.places.now c.args.lines c.in-Some.left b) (sym c.if-more.false)
-    (some_is (λ (d : Difference). (others : List (Vec Board)) → IsLowestLeft (subject_of c.args.log.now others c.args.agent) c.args.places.now d) c.first_left.result c.in-Some.left c.in-Some.is c.first_left.ensures.lowest boards)
+    (c.in-Some.ensures.lowest boards)

@@ -1,6 +1,5 @@
-use Rattle.std.proofs.Common.{◌≡◌, ◌+◌, ◌-◌, ℕ, List, [], refl, sym, ◌∙◌, subst, Result, MatchResult, slice_range}
-use Rattle.link_audit.specs.{SESSION_LINES, Dialect, Subject, IsAhead, subject_of, FinishesLog, IsStop, lines_at}
-use Rattle.link_audit.specs.declared.vouching.Difference.{Difference}
+use Rattle.std.proofs.Common.{◌+◌, ℕ, List, refl, sym, ◌∙◌, subst, slice_range}
+use Rattle.link_audit.specs.{Dialect, Subject, subject_of, HasPassed, IsPassed, lines_at}
 use Rattle.link_audit.proofs.Cuts.{lines_here, lines_end}
 use Rattle.link_audit.proofs.Judged.{finished_so, no_end, yes_so}
 use Rattle.link_audit.proofs.judging.finish.Goals as goal
@@ -10,10 +9,8 @@ returns-in-None g c =
     let dialect : Dialect = g.D.Dialect.form c.args.dialect.now in
     let s : Subject = subject_of c.args.log.now c.args.boards.now c.args.agent in
     let asked : List ℕ = c.args.asked.now in let at = c.args.at in let lines = lines_at asked at in
-    let Ahead : Type 0 = IsAhead dialect s c.args.places.now lines [] (SESSION_LINES - c.args.lines) in
-    let ahead : Ahead = subst (λ (r : Result ℕ Difference). MatchResult r (λ _. Ahead) (λ _. Ahead → ⊥)) c.in-Ok.is c.in_ok-after.ensures.ahead in
-    let numbers : (entries : ℕ) → FinishesLog dialect s c.args.places.now lines [] entries → entries ≡ c.in-Ok.after =
-    subst (λ (r : Result ℕ Difference). MatchResult r (λ count. (entries : ℕ) → FinishesLog dialect s c.args.places.now lines [] entries → entries ≡ count) (λ left. IsStop dialect s c.args.places.now lines c.args.lines left)) c.in-Ok.is c.in_ok-after.ensures.turns in
+    let ahead = subst (IsPassed dialect s c.args.places.now lines c.args.lines) c.in-Ok.is c.in_ok-after.ensures.ahead in
+    let numbers = subst (HasPassed dialect s c.args.places.now lines c.args.lines) c.in-Ok.is c.in_ok-after.ensures.turns in
     record {
       yes = λ other. (let so = yes_so c.args.agent c.args.lines c.in-Ok.after c.args.ended c.vouched.result c.vouched.ensures other in ((λ did. (so.0 did, ahead)), (λ both. so.1 both.0)));
       how = finished_so dialect s asked c.args.places.now at c.args.lines c.args.agent c.in-Ok.after c.args.ended c.vouched.result c.vouched.ensures
@@ -25,10 +22,8 @@ returns-in-Some g c =
     let dialect : Dialect = g.D.Dialect.form c.args.dialect.now in
     let s : Subject = subject_of c.args.log.now c.args.boards.now c.args.agent in
     let asked : List ℕ = c.args.asked.now in let at = c.args.at in let lines = lines_at asked at in
-    let Ahead : Type 0 = IsAhead dialect s c.args.places.now lines [] (SESSION_LINES - c.args.lines) in
-    let ahead : Ahead = subst (λ (r : Result ℕ Difference). MatchResult r (λ _. Ahead) (λ _. Ahead → ⊥)) c.in-Ok.is c.in_ok-after.ensures.ahead in
-    let numbers : (entries : ℕ) → FinishesLog dialect s c.args.places.now lines [] entries → entries ≡ c.in-Ok.after =
-    subst (λ (r : Result ℕ Difference). MatchResult r (λ count. (entries : ℕ) → FinishesLog dialect s c.args.places.now lines [] entries → entries ≡ count) (λ left. IsStop dialect s c.args.places.now lines c.args.lines left)) c.in-Ok.is c.in_ok-after.ensures.turns in
+    let ahead = subst (IsPassed dialect s c.args.places.now lines c.args.lines) c.in-Ok.is c.in_ok-after.ensures.ahead in
+    let numbers = subst (HasPassed dialect s c.args.places.now lines c.args.lines) c.in-Ok.is c.in_ok-after.ensures.turns in
     let end = c.in-Some.field-0 in
     let here = lines_here asked at c.requires.short.1 c.requires.short.0 end c.in-Some.ensures.0 c.in-Some.ensures.1 c.in-Some.ensures.2 in
     record {
@@ -41,9 +36,8 @@ returns-in-Err g c =
     let dialect : Dialect = g.D.Dialect.form c.args.dialect.now in
     let s : Subject = subject_of c.args.log.now c.args.boards.now c.args.agent in
     let asked : List ℕ = c.args.asked.now in let at = c.args.at in let lines = lines_at asked at in
-    let Ahead : Type 0 = IsAhead dialect s c.args.places.now lines [] (SESSION_LINES - c.args.lines) in
-    let never : Ahead → ⊥ = subst (λ (r : Result ℕ Difference). MatchResult r (λ _. Ahead) (λ _. Ahead → ⊥)) c.in-Err.is c.in_ok-after.ensures.ahead in
+    let never = subst (IsPassed dialect s c.args.places.now lines c.args.lines) c.in-Err.is c.in_ok-after.ensures.ahead in
     record {
       yes = λ other. ((λ did. absurd did), (λ both. never both.1));
-      how = subst (λ (r : Result ℕ Difference). MatchResult r (λ count. (entries : ℕ) → FinishesLog dialect s c.args.places.now lines [] entries → entries ≡ count) (λ left. IsStop dialect s c.args.places.now lines c.args.lines left)) c.in-Err.is c.in_ok-after.ensures.turns;
+      how = subst (HasPassed dialect s c.args.places.now lines c.args.lines) c.in-Err.is c.in_ok-after.ensures.turns;
     }

@@ -10,16 +10,16 @@ loop-number-preserved c = λ boards good lt.
     let log = c.args.log.now in let n = c.loop-number.number in let found : List Entry = c.history.result.now in
     let there : slice_get log.histories n ≡ Some found = subst (λ (k : ℕ). slice_get log.histories k ≡ Some found) c.good_of-good.ensures c.history.ensures.value in
     below_more (λ (k : ℕ). calls_left (subject_of log boards c.args.agent) c.args.places.now k ≡ []) n (c.loop-number.invariant boards)
-    (none_found log c.args.places.now.next c.args.agent n c.from.result found c.from.ensures there c.in_default.ensures) good lt
+    (none_found log c.args.places.now.next c.args.agent n c.from.result found c.from.ensures there c.in_default.ensures.next) good lt
 
 pub returns-in-Some-clause-lowest : goal.returns-in-Some-clause-lowest
 returns-in-Some-clause-lowest c = λ boards.
     let log = c.args.log.now in let n = c.loop-number.number in let found : List Entry = c.history.result.now in let position = c.in-Some.position in
     let there : slice_get log.histories n ≡ Some found = subst (λ (k : ℕ). slice_get log.histories k ≡ Some found) c.good_of-good.ensures c.history.ensures.value in
     let low = c.loop-number-test.true in
-    let own = left_at log c.args.places.now.next c.args.agent n c.from.result found c.from.ensures there position c.in-Some.ensures.1 c.in-Some.ensures.4 in
+    let own = left_at log c.args.places.now.next c.args.agent n c.from.result found c.from.ensures there position c.in-Some.ensures.next.0 c.in-Some.ensures.next.3 in
     subst (λ (k : ℕ). IsLowestLeft (subject_of log boards c.args.agent) c.args.places.now (differences.Entry k position)) (sym c.good_of-good.ensures)
-    (low, (λ g below. c.loop-number.invariant boards g below), (c.in-Some.ensures.1, own))
+    (low, (λ g below. c.loop-number.invariant boards g below), (c.in-Some.ensures.next.0, own))
 
 pub returns-in-Some-next_cash-clause-lowest : goal.returns-in-Some-next_cash-clause-lowest
 returns-in-Some-next_cash-clause-lowest c = λ boards. (

@@ -11,7 +11,7 @@ returns-then-eq c =
     let same : shown.caller ≡ c.caller.result = eqb-true shown.caller c.caller.result (sym c.eq.ensures ∙ c.if-eq.true) in
     let own : is.0.caller ≡ c.args.agent = sym is.2.caller ∙ (same ∙ c.caller.ensures) in
     let inside : n < AUCTION_ENTRIES = (let few = c.len-position-end.ensures.few in omega (arith, few, c.len-position-end.ensures.value, c.loop-position-test.true)) in
-    (inside, is.0, is.1, own, c.loop-position.invariant ∙ rest_here entry_caller c.args.agent history n is.0 is.1 own)
+    record { next = (is.0, is.1, own, c.loop-position.invariant ∙ rest_here entry_caller c.args.agent history n is.0 is.1 own); few = inside }
 
 pub loop-position-preserved : goal.loop-position-preserved
 loop-position-preserved c =

@@ -1,14 +1,12 @@
 use Rattle.std.proofs.Common.{◌≡◌, ◌+◌, ◌-◌, ℕ, suc, List, [], ◌∷◌, false, refl, subst, arith, slice_range}
-use Rattle.std.specs.Global.{Vec}
-use Rattle.link_audit.specs.{Board, SESSION_LINES, ended_line, LineGot, Dialect, Subject, IsAsked, FitsReply, IsAhead, IsOver, IsStep, subject_of, HasCourse, IsLowestLeft, has_entry, lines_at}
+use Rattle.link_audit.specs.{SESSION_LINES, ended_line, LineGot, Dialect, Subject, IsAsked, FitsReply, IsAhead, IsOver, IsStep, subject_of, HasCourse, has_entry, lines_at}
 use Rattle.tac_io.specs.declared.line_got.LineGot.TheVariants as gots
 use Rattle.link_audit.specs.declared.places.Places.{Places}
-use Rattle.link_audit.specs.declared.vouching.Difference.{Difference}
 use Rattle.link_audit.specs.declared.stepping.Step.TheVariants.{Taken, Leaves, Stuck}
 use Rattle.link_audit.proofs.Cuts.{lines_here, lines_end}
 use Rattle.link_audit.proofs.Walked.{passed_on, pass_stuck, pass_left, pass_ended, pass_full, pass_over, taken_wide}
 use Rattle.link_audit.proofs.Courses.{end_course, finish_over, pass_course_stuck}
-use Rattle.link_audit.proofs.CourseWalks.{counted_by, most_one, passed_course, passed_finish, some_is, stop_here, stop_left}
+use Rattle.link_audit.proofs.CourseWalks.{counted_by, most_one, passed_course, passed_finish, stop_here, stop_left}
 use Rattle.link_audit.proofs.passing.pass.Goals as goal
 
 pub returns-in_default : goal.returns-in_default
@@ -37,7 +35,7 @@ returns-in_default-line_end g c =
     let room_is : SESSION_LINES - lines ≡ suc (SESSION_LINES - (lines + 1)) = omega (arith, low) in
     let more : IsOver s places → ⊥ = λ over. (let none = (c.first_left.ensures.none c.args.boards.now).1 over in let some = c.in-Some.is in absurd cc) in
     let since = v.since in
-    let lowest = some_is (λ (d : Difference). (boards : List (Vec Board)) → IsLowestLeft (subject_of c.args.log.now boards c.args.agent) places d) c.first_left.result c.in-Some.left c.in-Some.is c.first_left.ensures.lowest c.args.boards.now in
+    let lowest = c.in-Some.ensures.lowest c.args.boards.now in
     let none = lines_end asked at c.requires.short.1 v.within c.in_default-line_end.ensures in
     record {
       ahead = pass_ended dialect s Before places v.wide (lines_at asked at) [] (gots.End, []) none (SESSION_LINES - lines) (SESSION_LINES - (lines + 1)) room_is v.behind more refl;
@@ -57,13 +55,13 @@ returns-in-Leaves g c =
     let room_is : SESSION_LINES - lines ≡ suc (SESSION_LINES - (lines + 1)) = omega (arith, low) in
     let more : IsOver s places → ⊥ = λ over. (let none = (c.first_left.ensures.none c.args.boards.now).1 over in let some = c.in-Some.is in absurd cc) in
     let since = v.since in
-    let lowest = some_is (λ (d : Difference). (boards : List (Vec Board)) → IsLowestLeft (subject_of c.args.log.now boards c.args.agent) places d) c.first_left.result c.in-Some.left c.in-Some.is c.first_left.ensures.lowest c.args.boards.now in
+    let lowest = c.in-Some.ensures.lowest c.args.boards.now in
     let end = c.in-Some-line_end.end in
     let line = slice_range asked at end in
     let lines_are : lines_at asked at ≡ ended_line line ∷ lines_at asked (end + 1) =
     lines_here asked at c.requires.short.1 v.within end c.in-Some-line_end.ensures.0 c.in-Some-line_end.ensures.1 c.in-Some-line_end.ensures.2 in
-    let leaves : IsStep (IsAsked dialect false (ended_line line)) (FitsReply dialect.text false []) s places c.step_line.new.places Leaves =
-    subst (IsStep (IsAsked dialect false (ended_line line)) (FitsReply dialect.text false []) s places c.step_line.new.places) c.in-Leaves.is c.in_ok-step_line.ensures in
+    let leaves : IsStep (IsAsked dialect false (ended_line line)) (FitsReply dialect false []) s places c.step_line.new.places Leaves =
+    subst (IsStep (IsAsked dialect false (ended_line line)) (FitsReply dialect false []) s places c.step_line.new.places) c.in-Leaves.is c.in_ok-step_line.ensures in
     record {
       ahead = pass_left dialect s Before places v.wide (lines_at asked at) (lines_at asked (end + 1)) (ended_line line) lines_are (SESSION_LINES - lines) (SESSION_LINES - (lines + 1)) room_is v.behind more leaves.0;
       turns = stop_left dialect s places c.args.reached.now (lines_at asked c.args.from) (lines_at asked at) (lines - c.args.lines) c.args.lines v.courses c.in-Some.left lowest v.wide (ended_line line) (lines_at asked (end + 1)) lines_are leaves.0 (omega (arith, low, since));
@@ -81,13 +79,13 @@ returns-in-Stuck g c =
     let room_is : SESSION_LINES - lines ≡ suc (SESSION_LINES - (lines + 1)) = omega (arith, low) in
     let more : IsOver s places → ⊥ = λ over. (let none = (c.first_left.ensures.none c.args.boards.now).1 over in let some = c.in-Some.is in absurd cc) in
     let since = v.since in
-    let lowest = some_is (λ (d : Difference). (boards : List (Vec Board)) → IsLowestLeft (subject_of c.args.log.now boards c.args.agent) places d) c.first_left.result c.in-Some.left c.in-Some.is c.first_left.ensures.lowest c.args.boards.now in
+    let lowest = c.in-Some.ensures.lowest c.args.boards.now in
     let end = c.in-Some-line_end.end in
     let line = slice_range asked at end in
     let lines_are : lines_at asked at ≡ ended_line line ∷ lines_at asked (end + 1) =
     lines_here asked at c.requires.short.1 v.within end c.in-Some-line_end.ensures.0 c.in-Some-line_end.ensures.1 c.in-Some-line_end.ensures.2 in
-    let stuck : IsStep (IsAsked dialect false (ended_line line)) (FitsReply dialect.text false []) s places c.step_line.new.places Stuck =
-    subst (IsStep (IsAsked dialect false (ended_line line)) (FitsReply dialect.text false []) s places c.step_line.new.places) c.in-Stuck.is c.in_ok-step_line.ensures in
+    let stuck : IsStep (IsAsked dialect false (ended_line line)) (FitsReply dialect false []) s places c.step_line.new.places Stuck =
+    subst (IsStep (IsAsked dialect false (ended_line line)) (FitsReply dialect false []) s places c.step_line.new.places) c.in-Stuck.is c.in_ok-step_line.ensures in
     record {
       ahead = pass_stuck dialect s Before places v.wide (lines_at asked at) (lines_at asked (end + 1)) (ended_line line) lines_are (SESSION_LINES - lines) (SESSION_LINES - (lines + 1)) room_is v.behind more stuck;
       turns = stop_here dialect s places c.args.reached.now (lines_at asked c.args.from) (lines_at asked at) (lines - c.args.lines) c.args.lines v.courses c.in-Some.left lowest (omega (arith, low, since))
@@ -110,20 +108,20 @@ loop-line-preserved g c =
     let line = slice_range asked at end in
     let lines_are : lines_at asked at ≡ ended_line line ∷ lines_at asked (end + 1) =
     lines_here asked at c.requires.short.1 v.within end c.in-Some-line_end.ensures.0 c.in-Some-line_end.ensures.1 c.in-Some-line_end.ensures.2 in
-    let taken : IsStep (IsAsked dialect false (ended_line line)) (FitsReply dialect.text false []) s places c.step_line.new.places Taken =
-    subst (IsStep (IsAsked dialect false (ended_line line)) (FitsReply dialect.text false []) s places c.step_line.new.places) c.in-Taken.is c.in_ok-step_line.ensures in
+    let taken : IsStep (IsAsked dialect false (ended_line line)) (FitsReply dialect false []) s places c.step_line.new.places Taken =
+    subst (IsStep (IsAsked dialect false (ended_line line)) (FitsReply dialect false []) s places c.step_line.new.places) c.in-Taken.is c.in_ok-step_line.ensures in
     record {
       behind = passed_on dialect s Before places v.wide (lines_at asked at) (lines_at asked (end + 1)) (ended_line line) lines_are (SESSION_LINES - lines) (SESSION_LINES - (lines + 1)) room_is v.behind more c.step_line.new.places taken;
       courses = passed_course dialect s places v.wide (ended_line line) (lines_at asked (end + 1)) (lines_at asked at) lines_are c.args.reached.now (lines_at asked c.args.from)
           (lines - c.args.lines) ((lines + 1) - c.args.lines) (let since = v.since in omega (arith, since)) v.courses c.step_line.new.places taken;
       finishes = passed_finish dialect s places v.wide (ended_line line) (lines_at asked (end + 1)) (lines_at asked at) lines_are c.args.reached.now (lines_at asked c.args.from)
           c.loop-line.count c.count_if_moved-count.result c.step_line.new.places taken
-          (counted_by (IsAsked dialect false (ended_line line)) (FitsReply dialect.text false []) s places c.step_line.new.places v.wide taken c.loop-line.count c.count_if_moved-count.result
+          (counted_by (IsAsked dialect false (ended_line line)) (FitsReply dialect false []) s places c.step_line.new.places v.wide taken c.loop-line.count c.count_if_moved-count.result
           c.count_if_moved-count.ensures.kept c.count_if_moved-count.ensures.moved) more v.finishes;
       since = (let since = v.since in omega (arith, since));
       wide = taken_wide dialect false (ended_line line) [] s places c.step_line.new.places v.wide taken;
       within = (let inside = c.in-Some-line_end.ensures.1 in omega (arith, inside));
-      few = (let few = v.few in let counted = most_one (has_entry taken.turn) c.loop-line.count c.count_if_moved-count.result (counted_by (IsAsked dialect false (ended_line line)) (FitsReply dialect.text false []) s places c.step_line.new.places v.wide taken c.loop-line.count c.count_if_moved-count.result
+      few = (let few = v.few in let counted = most_one (has_entry taken.turn) c.loop-line.count c.count_if_moved-count.result (counted_by (IsAsked dialect false (ended_line line)) (FitsReply dialect false []) s places c.step_line.new.places v.wide taken c.loop-line.count c.count_if_moved-count.result
           c.count_if_moved-count.ensures.kept c.count_if_moved-count.ensures.moved) in omega (arith, few, counted));
     }
 
@@ -151,7 +149,7 @@ returns-in-Some-first_left g c =
     let v = c.loop-line.invariant in
     let past = c.loop-line-test.false in let most = c.loop-line.auto.line-end in
     let since = v.since in
-    let lowest = some_is (λ (d : Difference). (boards : List (Vec Board)) → IsLowestLeft (subject_of c.args.log.now boards c.args.agent) places d) c.first_left-2.result c.in-Some-first_left.left c.in-Some-first_left.is c.first_left-2.ensures.lowest c.args.boards.now in
+    let lowest = c.in-Some-first_left.ensures.lowest c.args.boards.now in
     record {
       ahead = λ before. (let over = pass_full dialect s Before places v.wide (lines_at asked at) (SESSION_LINES - lines) (omega (arith, past)) v.behind before in
           let none = (c.first_left-2.ensures.none c.args.boards.now).1 over in let some = c.in-Some-first_left.is in absurd cc);

@@ -27,7 +27,7 @@ returns-then-is_post c = λ e at.
     posted_next c.args.agent log c.requires.posts c.args.good c.args.position e at c.args.cash some place next.0 next.1 next.3 post.0 (sym (ap (λ (x : CashEntry). x.call) same) ∙ post.1)
 
 pub returns-else-is_post : goal.returns-else-is_post
-returns-else-is_post c = λ e to at is.
+returns-else-is_post c = λ e at to is.
     let log = c.args.log.now in let place = c.in_ok-place.place in let found : List CashEntry = c.cash.result.now in let entry : CashEntry = c.index-cash-place.result in
     let next = c.in_ok-place.ensures.next in
     let here : slice_get found place ≡ Some next.0 = subst (λ (l : List CashEntry). slice_get l place ≡ Some next.0) (sym c.cash.ensures.value) next.1 in

@@ -10,7 +10,7 @@ use Rattle.link_audit.proofs.taking.take_reading.Goals as goal
 
 pub returns-then-places-eq-CASH_READINGS-clause-yes : goal.returns-then-places-eq-CASH_READINGS-clause-yes
 returns-then-places-eq-CASH_READINGS-clause-yes g c = λ t.
-    read_spent_taken (subject_of c.args.log.now c.args.boards.now c.args.agent) (FitsReply (g.D.Dialect.form c.args.dialect.now).text c.args.heard c.args.reply.now) c.args.places.now c.if-places-eq-CASH_READINGS.true (c.fits.ensures.0 t)
+    read_spent_taken (subject_of c.args.log.now c.args.boards.now c.args.agent) (FitsReply (g.D.Dialect.form c.args.dialect.now) c.args.heard c.args.reply.now) c.args.places.now c.if-places-eq-CASH_READINGS.true (c.fits.ensures.0 t)
 
 pub bounds-cash-place : goal.bounds-cash-place
 bounds-cash-place g c =
@@ -31,7 +31,7 @@ returns-in_default-amount_read-clause-no g c =
     let next = c.in-Some.ensures.next in
     let here : slice_get found place ≡ Some next.0 = subst (λ (l : List CashEntry). slice_get l place ≡ Some next.0) (sym c.cash.ensures.value) next.1 in
     let same : entry ≡ next.0 = c.index-cash-place.is ∙ get_or_from_slice_get found place next.0 entry here in
-    λ never. read_post_stuck (subject_of c.args.log.now c.args.boards.now c.args.agent) (FitsReply (g.D.Dialect.form c.args.dialect.now).text c.args.heard c.args.reply.now) c.args.places.now c.if-places-eq-CASH_READINGS.false place next.0 next.3
+    λ never. read_post_stuck (subject_of c.args.log.now c.args.boards.now c.args.agent) (FitsReply (g.D.Dialect.form c.args.dialect.now) c.args.heard c.args.reply.now) c.args.places.now c.if-places-eq-CASH_READINGS.false place next.0 next.3
     (λ dollars is. c.in_default-amount_read.ensures c.args.agent dollars (is ∙ sym same))
 
 pub returns-then-not-fits-clause-no : goal.returns-then-not-fits-clause-no
@@ -44,8 +44,8 @@ returns-then-not-fits-clause-no g c =
     let is : reading c.args.agent amount ≡ next.0 = ap (λ (n : ℕ). reading n amount) (sym own) ∙ (c.in-Some-amount_read.ensures ∙ same) in
     let wide : SFits w64 amount = search rules in
     let kept = to_z-of_z w64 amount wide in
-    λ never. read_unfit_stuck (subject_of c.args.log.now c.args.boards.now c.args.agent) (FitsReply (g.D.Dialect.form c.args.dialect.now).text c.args.heard c.args.reply.now) c.args.places.now c.if-places-eq-CASH_READINGS.false place next.0 next.3 amount is
-    (λ fit. (let yes = c.fits-2.ensures.1 (subst (λ (z : ℤ). FitsReply (g.D.Dialect.form c.args.dialect.now).text c.args.heard c.args.reply.now (Cash place z)) (sym kept) fit) in let no = c.if-not-fits.true in absurd cc))
+    λ never. read_unfit_stuck (subject_of c.args.log.now c.args.boards.now c.args.agent) (FitsReply (g.D.Dialect.form c.args.dialect.now) c.args.heard c.args.reply.now) c.args.places.now c.if-places-eq-CASH_READINGS.false place next.0 next.3 amount is
+    (λ fit. (let yes = c.fits-2.ensures.1 (subst (λ (z : ℤ). FitsReply (g.D.Dialect.form c.args.dialect.now) c.args.heard c.args.reply.now (Cash place z)) (sym kept) fit) in let no = c.if-not-fits.true in absurd cc))
 
 pub overflow_add-places : goal.overflow_add-places
 overflow_add-places g c =
@@ -63,5 +63,5 @@ returns-clause-yes g c =
     let wide : SFits w64 amount = search rules in
     let kept = to_z-of_z w64 amount wide in
     let few : c.args.places.now.readings < CASH_READINGS = (let some = c.if-places-eq-CASH_READINGS.false in let most = c.if-places-gt-CASH_READINGS.false in omega (arith, some, most)) in
-    λ t. read_taken (subject_of c.args.log.now c.args.boards.now c.args.agent) (FitsReply (g.D.Dialect.form c.args.dialect.now).text c.args.heard c.args.reply.now) c.args.places.now c.if-places-eq-CASH_READINGS.false place next.0 next.3 amount is few
-    (subst (λ (z : ℤ). FitsReply (g.D.Dialect.form c.args.dialect.now).text c.args.heard c.args.reply.now (Cash place z)) kept (c.fits-2.ensures.0 c.if-not-fits.false))
+    λ t. read_taken (subject_of c.args.log.now c.args.boards.now c.args.agent) (FitsReply (g.D.Dialect.form c.args.dialect.now) c.args.heard c.args.reply.now) c.args.places.now c.if-places-eq-CASH_READINGS.false place next.0 next.3 amount is few
+    (subst (λ (z : ℤ). FitsReply (g.D.Dialect.form c.args.dialect.now) c.args.heard c.args.reply.now (Cash place z)) kept (c.fits-2.ensures.0 c.if-not-fits.false))

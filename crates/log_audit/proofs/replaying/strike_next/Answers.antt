@@ -20,4 +20,4 @@ returns-clause-struck c =
     let nine : length counts ≡ 9 = sym (length-set counts shown.caller _) ∙ (ap (λ (l : List ℕ). length l) (sym c.count.ensures) ∙ c.count.array_long) in
     let room : entries_of past shown.caller < cap shown.caller = omega (arith, c.has_room.ensures.room.0 c.if-not-has_room.false, c.requires.counted shown.caller c.has_room.ensures.known) in
     struck_next c.args.auction.now.setup history past e shown c.strike.new.auction.history counts c.count.new.counts c.trades_of.result.now c.strike.result
-    c.requires.before there.1 there.2 own' c.has_room.ensures.known room c.requires.counted nine c.count.ensures c.strike.ensures.history c.strike.ensures.same
+    c.requires.before there.1 there.2 own' c.has_room.ensures.known room c.requires.counted nine c.count.ensures c.strike.ensures.history c.strike.ensures.same c.strike.ensures.nets

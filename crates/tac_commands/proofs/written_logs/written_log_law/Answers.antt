@@ -5,7 +5,7 @@ pub returns-clause-read : goal.returns-clause-read
 returns-clause-read c = read_again
 
 pub returns-clause-audited : goal.returns-clause-audited
-returns-clause-audited c = λ game log before text files files' outcome ends audited. says_sound game log files files' outcome ends.sound audited
+returns-clause-audited c = λ game log before text ends. says_sound game log ends.sound
 
 pub returns-clause-one : goal.returns-clause-one
 returns-clause-one c = one_log c.one_game.ensures

@@ -5,7 +5,7 @@ use Rattle.tac_io.proofs.reading.read_file.Goals as goal
 
 pub loop-bytes-preserved : goal.loop-bytes-preserved
 loop-bytes-preserved g c = record {
-  within = omega (arith, c.in_ok-count.ensures.given.0);
+  within = omega (arith, c.in_ok-count.ensures.within);
   limited = omega (arith, c.in_ok-grow_to_read.ensures.room.1);
   going = omega arith;
   reading = rw (with_items_is c.grow_to_read.new.bytes c.read_at.new.bytes (search (rules, places)))

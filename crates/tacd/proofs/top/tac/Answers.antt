@@ -1,5 +1,5 @@
 use Rattle.std.proofs.Common.{ℕ, ◌≡◌, ◌<◌, ◌≤◌, List, [], Option, Some, None, length, arith, IfSome}
-use Rattle.tac_commands.specs.{FilesState, SinkState, Command, Outcome, outside_of, Allows, Reports, Selects, UsageExactly, ReadFaultExactly, GameRefusedExactly, TextRefusedExactly, UnsoundExactly}
+use Rattle.tac_commands.specs.{FilesState, SinkState, Command, Outcome, outside_of, Allows, Reports, ReportsOne, Selects, UsageExactly, ReadFaultExactly, GameRefusedExactly, TextRefusedExactly, UnsoundExactly}
 use Rattle.tac_commands.proofs.CommandCauses as causes
 use Rattle.tac_commands.proofs.CodedOutcomes.{coded}
 use Rattle.tacd.proofs.Headline.{writes_true_log}
@@ -10,7 +10,7 @@ use Rattle.tacd.proofs.top.tac.Goals as goal
 -- what follows from the outcome, by the lemma that says it of each
 by_outcome : {command : Option Command} {files files' : FilesState} {code : ℕ} (sink sink' : SinkState) (P : Option Command → FilesState → FilesState → ℕ → Type 0)
     → ((files files' : FilesState) (outcome : Outcome) (sink sink' : SinkState) (code : ℕ) → Reports outcome sink sink' code → (command : Option Command) → Allows command files files' outcome → P command files files' code)
-    → (outcome : Outcome) × Allows command files files' outcome × Reports outcome sink sink' code → P command files files' code
+    → ReportsOne (Allows command files files') sink sink' code → P command files files' code
 by_outcome sink sink' P follows told = follows _ _ told.0 _ _ _ told.2 _ told.1
 
 -- ---- the service of a game

@@ -43,11 +43,10 @@ seat-requires-clause-lengths c = c.loop-number.invariant.nine ∙ sym c.in_ok-ca
 
 pub seat-requires-clause-fit : goal.seat-requires-clause-fit
 seat-requires-clause-fit c i hand pass at_hand at_pass =
-    let v = c.loop-number.invariant in let locks = c.loop-number.auctions.items in let b = c.in_ok-cash.ensures.passes.1 i pass at_pass in
+    let v = c.loop-number.invariant in let locks = c.loop-number.auctions.items in
     let long : length (map (λ l. lock_id l) locks) ≡ 28 =
     length-map locks (λ l. lock_id l) ∙ (sym (length-map locks (λ l. passes_of l)) ∙ (ap length v.passes ∙ (length-replicate c.loop-number.number 9 ∙ omega (arith, v.bound, c.loop-number-test.false)))) in
-    make_desk (map (λ l. lock_id l) locks) (lock_id c.in_ok-cash.cash) i hand.items pass long (v.fresh i hand.items (at_map (λ h. h.items) c.loop-number.hands.items i hand at_hand))
-    (record { lock = b.0; caller_is = b.1; left_is = b.2; made = b.3; noted = b.4; seen = b.5 })
+    make_desk (map (λ l. lock_id l) locks) (lock_id c.in_ok-cash.cash) i hand.items pass long (v.fresh i hand.items (at_map (λ h. h.items) c.loop-number.hands.items i hand at_hand)) (c.in_ok-cash.ensures.passes.1 i pass at_pass)
 
 pub invariant_of-floor : goal.invariant_of-floor
 invariant_of-floor c =
@@ -72,10 +71,9 @@ returns-clause-new_desks c =
     let long : length (map (λ l. lock_id l) locks) ≡ 28 =
     length-map locks (λ l. lock_id l) ∙ (sym (length-map locks (λ l. passes_of l)) ∙ (ap length v.passes ∙ (length-replicate c.loop-number.number 9 ∙ omega (arith, v.bound, c.loop-number-test.false)))) in
     λ i d at.
-    let b = c.in_ok-cash.ensures.passes.1 i d.cash (ap (λ l. get_elem? l i) (sym seated.passes) ∙ at_map (λ (x : Desk). x.cash) desks i d at) in
+    let one = c.in_ok-cash.ensures.passes.1 i d.cash (ap (λ l. get_elem? l i) (sym seated.passes) ∙ at_map (λ (x : Desk). x.cash) desks i d at) in
     let at_hand = ap (λ l. get_elem? l i) (sym seated.hands) ∙ at_map (λ (x : Desk). x.passes) desks i d at in
-    new_desk d i (map (λ l. lock_id l) locks) (lock_id c.in_ok-cash.cash) long (v.fresh i d.passes.items (at_map (λ h. h.items) c.loop-number.hands.items i d.passes at_hand))
-    (record { lock = b.0; caller_is = b.1; left_is = b.2; made = b.3; noted = b.4; seen = b.5 })
+    new_desk d i (map (λ l. lock_id l) locks) (lock_id c.in_ok-cash.cash) long (v.fresh i d.passes.items (at_map (λ h. h.items) c.loop-number.hands.items i d.passes at_hand)) one
     (subst (λ (x : Desk). desk_steps x ≡ []) (get_or_place desks i d d at) (seated.steps i d (place_below desks i d at)))
 
 pub returns-clause-desks : goal.returns-clause-desks

@@ -1,5 +1,5 @@
 use Rattle.log_text.proofs.SheetsAgain.{sheet_same}
-use Rattle.log_text.proofs.whole_log.one_sheet.Goals as goal
+use Rattle.log_text.proofs.law.one_sheet.Goals as goal
 
 pub returns : goal.returns
 returns c = sheet_same
