@@ -79,7 +79,6 @@ from reading_words import (
     TRUTHS,
     UNPRINTED,
     UNUSUAL,
-    UNUSUAL_WORDS,
 )
 
 PAGE = os.path.join(ROOT, "docs", "READING.md")
@@ -311,7 +310,7 @@ def outside_tables() -> List[str]:
                 f" `{made.group(1)}` | {links} |"
             )
     memory = (
-        "The objects in memory report every field, so the premises can be met; the tests use them."
+        "The objects in memory report every field, so the premises can be met."
         " You need not read them to believe the headline. The system's own objects (`HostFiles`,"
         " `StdSink`, `TcpLinks`, `TcpLink` and `SleepTicker` in `crates/tacd/src`) report only"
         " their counts of faults, whether a file is selected, and whether the port is open; their"
@@ -513,7 +512,8 @@ def page(definitions: Definitions) -> Tuple[str, List[str], str]:
         text += ["", f"## Beside: {heading[0].lower() + heading[1:]}", ""]
         text += [filled(f"This part has {lines} lines. {about}"), ""]
         text += table(definitions, part, in_order(definitions, part), heading)
-        text += worked(definitions, rows_first_at(part), faults)
+        told = [row for _, row in places]
+        text += worked(definitions, [row for row in rows_first_at(part) if row not in told], faults)
     steps, wrong_steps = sentences_table(
         definitions, all_rows, "the promise of `step`", STEP_SENTENCES
     )
@@ -721,14 +721,13 @@ def headline_clause() -> str:
 def top_of_print(
     definitions: Definitions, found: Iterable[Target], shown: Print, about: str
 ) -> List[str]:
-    """The paragraphs at the beginning of the print: what it is, signs and words, names that stand
-    for others, and the limits that these definitions name."""
-    words = "; ".join(f"`{word}`: {LIBRARY[word]}" for word in UNUSUAL_WORDS)
+    """The paragraphs at the beginning of the print: what it is, signs, names that stand for others,
+    and the limits that these definitions name."""
     limits = "; ".join(f"{name} {value}" for name, value, _ in limits_of(found))
     signs = [f"{sign}: {meaning}." for sign, meaning in NOTATION[:UNUSUAL]]
     names = renamed_names(definitions, shown.chapters, ENTRIES)
     renamed = f"Names for those of a type or a module: {names}."
-    return [about, KEY, *signs, f"{words}.", renamed, f"Limits: {limits}."]
+    return [about, KEY, *signs, renamed, f"Limits: {limits}."]
 
 
 def print_of(

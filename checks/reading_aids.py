@@ -12,16 +12,16 @@ from reading_guides import (
     FRONT,
     GOING_BACK,
     GUIDES,
+    NOTES,
     PROSE_RATE,
     ROW_RATE,
     RULE_RATE,
     SPELLED,
     SPELLED_RATE,
     STATED,
-    TEXTS,
 )
 from reading_rows import ROWS, Lemmas
-from reading_text import DEFINITION, ROW, TYPE, Piece, Rows, anchor_of, target_of
+from reading_text import DEFINITION, ROW, TYPE, Piece, Rows, anchor_of, target_of, wrapped
 from reading_words import SENTENCES, STATEMENT
 
 
@@ -51,11 +51,9 @@ def times_table(parts: Dict[str, Tuple[int, float]], front_words: int) -> List[s
     text = ["| part | lines | minutes |", "|---|---|---|", f"| {FRONT} | | {front:.0f} |"]
     for heading, (lines, minutes) in parts.items():
         text.append(f"| [{heading}](#{anchor_of(heading)}) | {lines} | {minutes:.0f} |")
-    for what, left_out in (("**All**", ()), ("**All but the chapters on texts**", TEXTS)):
-        kept = [part for heading, part in parts.items() if heading not in left_out]
-        total = round(front + sum(minutes for _, minutes in kept))
-        lines = sum(lines for lines, _ in kept)
-        text.append(f"| {what} | {lines:,} | {total}, which is {total // 60} h {total % 60:02} |")
+    total = round(front + sum(minutes for _, minutes in parts.values()))
+    lines = sum(lines for lines, _ in parts.values())
+    text.append(f"| **All** | {lines:,} | {total}, which is {total // 60} h {total % 60:02} |")
     return text
 
 
@@ -80,6 +78,12 @@ def rule_of(target: Target) -> str:
     if key_of(target) not in STATED:
         return ""
     place, *pieces = STATED[key_of(target)]
+    return quoted(place, pieces)
+
+
+def quoted(place: str, pieces: Iterable[str]) -> str:
+    """Pieces of the text below a heading of a page, PAGE/HEADING, each by its first and its last
+    words. Raises a ValueError if the page does not have these words."""
     text = section_of(place)
     shown = []
     for piece in pieces:
@@ -92,20 +96,42 @@ def rule_of(target: Target) -> str:
     return f"({place.replace('/', ', ')})" + ("\n" if "\n" in told else " ") + told
 
 
+def noted(lines: Iterable[str], notes: Dict[str, str]) -> List[str]:
+    """The lines of a definition, each with its note above it; a note in brackets stands in place of
+    its line. Raises a ValueError if a note is of no line."""
+    left, shown = dict(notes), []
+    for line in lines:
+        words = next((words for words in left if line.lstrip().startswith(words)), "")
+        note = left.pop(words, "")
+        if note.startswith("RULE "):
+            place, piece = note[5:].split(" | ", 1)
+            note = "RULE " + quoted(place, [piece]).partition(") ")[2]
+        indent = line[: len(line) - len(line.lstrip())] + "-- "
+        shown += wrapped(note.strip("[]"), indent, indent)
+        shown += [] if note.startswith("[") else [line]
+    if left:
+        raise ValueError(f"no line of a definition begins with {', '.join(left)}")
+    return shown
+
+
 def phrases_above(lines: Iterable[str]) -> List[str]:
-    """The lines of the statement, with the phrases of the headline above the fields that say them.
-    A phrase that names no field goes with the one before it."""
+    """The lines of the statement, with the phrases of the headline above the fields that say them,
+    each with the definitions that state it. A phrase that names no field goes with the one before
+    it."""
     above: Dict[str, List[str]] = {}
     field = ""
     for phrase, names in SENTENCES:
         field = next((name for name in names if "/" not in name), field)
-        above.setdefault(field, []).append(phrase)
+        said = ", ".join(name.split(".")[-1] for name in names if "/" in name and name != STATEMENT)
+        above.setdefault(field, []).append(f"{phrase} [{said}]" if said else phrase)
     shown: List[str] = []
     for line in lines:
         named = re.match(r" +pub (\w+) :", line)
         phrases = above.pop(named.group(1) if named else "", [])
         indent = line[: len(line) - len(line.lstrip())]
-        shown += [f"{indent}-- {phrase}" for phrase in phrases] + [line]
+        for phrase in phrases:
+            shown += wrapped(phrase, f"{indent}-- ", f"{indent}--   ")
+        shown.append(line)
     return shown
 
 
@@ -133,7 +159,7 @@ def wrong_guides(rows: Rows, chapters: Iterable[str]) -> List[str]:
     here |= {path.replace(".specs.", "/") for path in rows}
     return [
         f"a guide, a rule or a comment is told of {name}, which is not on the page"
-        for name in [*GUIDES, *STATED, *COMMENTED, *ABOUT]
+        for name in [*GUIDES, *NOTES, *STATED, *COMMENTED, *ABOUT]
         if name not in here
     ]
 

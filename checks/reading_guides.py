@@ -5,32 +5,28 @@ from typing import Dict, List, Tuple
 
 TIMES = """\
 No person was timed. The minutes are computed at reading rates from all that is printed: 95 symbols
-of definitions a minute (150 in chapters of texts and records, and for the types of the code), 150
-words of rows, and 220 words of the rest, with a seventh more for going back. To check a definition
-against its rule takes longer than to read the two. Two language models that read
-an earlier edition as inspectors do (4 to 5 lines of rules a minute) estimated five hours for a
-person, and two others 4 h 20 and 4 h 30 for this one.
+of definitions a minute (150 in chapters of records, and for the types of the code), 150 words of
+rows, and 220 words of the rest, with a seventh more for going back. To check a definition against
+its rule takes longer than to read the two. Eleven language models read this page and its print as
+sceptics, most of them a somewhat longer edition. They found all 33 errors that had been planted for
+them. For a person they estimated 2 h 45 to 3 h 56, with a median of 3 h 15.
 
 The headline takes {lines} lines of definitions, not counting comments and imports. With the parts
 "Beside" it takes {all}."""
 
 # Below the table of the minutes.
 LEFT_OUT = """\
-Readers who care only about the play can leave out packages and scores. Readers who trust the rows
-of requests, replies and the log can leave out these two chapters, and may miss an error in a form
-that no row tries."""
+Readers who care only about the play can leave out packages and scores."""
 
 FRONT = "This page up to here, and the beginning of the print"
 
-# Chapters that spell texts or list fields, and are read faster.
+# Chapters that list fields, and are read faster.
 SPELLED = {
     "The game file",
     "Requests and replies as lines",
     "The log",
     "The outside before and after",
 }
-# Chapters of texts.
-TEXTS = {"Requests and replies as lines", "The log"}
 # Symbols or words a minute, and what comes on top for going back.
 RULE_RATE, SPELLED_RATE, ROW_RATE, PROSE_RATE, GOING_BACK = 95, 150, 150, 220, 8 / 7
 
@@ -48,12 +44,17 @@ STATED: Dict[str, List[str]] = {
     "auction_rules/FlightRule.is_sale":
         ["GAME/Flights", "At every admitted bid .. the order of its points."],
     "auction_rules/TicketMatch.arriving":
-        ["GAME/Tickets", "An admitted bid first replaces .. becomes a standing unit."],
+        ["GAME/Tickets", "An admitted bid first replaces .. the order of their indices."],
+    "auction_rules/TicketMatch.better":
+        ["GAME/Tickets", "A buying unit is matched .. is at most the buyer's.",
+         "A selling unit is matched, .. is at least the seller's."],
+    "auction_rules/TicketMatch.pair_trade":
+        ["GAME/Tickets", "The trade is at the price .. becomes a standing unit."],
     "auction_rules/Standing.left_standing":
         ["GAME/Bids and units", "The untraded units of a bid stand. .. nothing stands."],
     "auction_rules/Ask.ask": ["GAME/Hotels", "**The ask** .. the ask is 0."],
     "auction_rules/Ask.published":
-        ["GAME/Hotels", "**The published price** .. 0 before the first.",
+        ["GAME/Hotels", "**The published price** .. stood until then (ours).",
          "If quotes are live, .. the agent's old one."],
     "auction_rules/Precedence.precedes":
         ["GAME/Hotels", "One unit precedes another .. with the lower index comes first"],
@@ -65,7 +66,6 @@ STATED: Dict[str, List[str]] = {
     "auction_rules/Refusals.bid_refusal": ["GAME/Refusals", "sell: a bid .. the quote"],
     "auction_rules/Refusals.refusal":
         ["GAME/Refusals", "Each call is tested .. is the reply.", "closed: .. not `Own`;"],
-    "auction_rules/Board.board": ["GAME/Boards", "A board shows .. 0 where there is none."],
     "auction_rules/Legal.admitted_reply":
         ["GAME/Refusals", "The reply to a bid says .. an acknowledgement."],
     "auction_rules/Legal.cap":
@@ -89,23 +89,13 @@ STATED: Dict[str, List[str]] = {
     "packages/BestTotal.IsBest":
         ["GAME/Scores", "The best total is .. a feasible allocation."],
     "settlement/Score.score_of": ["GAME/Scores", "An agent's score is .. does not have"],
-    "tac_base/Bids.point_fault":
-        ["PROTOCOL/Refusals", "the reply gives whichever of .. more than 16 units in all"],
     "line_protocol/Requests.request_of":
         ["FORMATS/Requests and replies", "`bid G POINTS`: .. at most 5 digits.",
          "1, `no syntax`: .. with fault K;"],
-    "line_protocol/Replies.said_words":
+    "line_protocol/Replies.said_text":
         ["FORMATS/Requests and replies", "P is the position .. in the cash book."],
-    "agent_gate/Gates.greeting_of":
+    "agent_gate/Gates.verdict_of":
         ["PROTOCOL/Admission", "The first line of a link .. `0` to `9`."],
-    "agent_gate/Served.EndsBy":
-        ["PROOFS/The headline: a game over links", "cause: what the link's bytes .. after 65,536 "
-         "turns, anything | the welcome and a line for each turn | none"],
-    "log_text/LogText.auction_text":
-        ["FORMATS/The histories", "`auction G N`: .. the house is 8;"],
-    "log_text/LogText.cash_text": ["FORMATS/The histories", "`cash N`: .. V dollars (signed);"],
-    "log_text/SheetText.score_line":
-        ["FORMATS/The sheet", "`score A BEST CASH SHORT SCORE`: .. its score (signed);"],
 }
 
 # Guides: of a chapter, or of a definition as CRATE/MODULE.NAME, what makes it easier to read.
@@ -118,21 +108,10 @@ entries before it. A past has its newest entry first: in `e ∷ past`, `e` has t
 An agent never trades with itself: the house sells seats and rooms, and `faces` pairs tickets of
 different agents.""",
     "auction_rules/History.bid_units": """\
-Five steps make these units: each agent's last bid (`last_bid`, `last_bids`), its units
-(`units_of_last`), all in one list (`units_of_bids`). Nothing is dropped on the way.""",
-    "auction_rules/FlightRule.looked_at": """\
-A call looks at the standing units, for the caller of a bid at its new ones instead; those at or
-above the price are sold. It is said of units (`looked_at`, `gone_by`) for what stands afterwards,
-and of points (`points_looked_at`, `is_sold`, `flight_trades`) for the trades. Both sell the same,
-since all units of a point have its price (proved: `by_units`,
-crates/flight_auction/proofs/UnitTrades.antt).""",
-    "auction_rules/Standing.gone_by": """\
-For a flight this says of units what `points_looked_at`, `is_sold` and `flight_trades` say of
-points: of `looked_at`, those at or above the price after the call are sold.""",
-    "auction_rules/FlightSales.standing_points": """\
-These are the units of `stand`, put together again as points: of each point as many as stand.""",
+These are the units of each agent's last bid, in one list. Nothing is dropped on the way.""",
     "auction_rules/TicketMatch.if_crossing": """\
-From here to `pairs`: `partner` is the best unit that faces the arriving one, if the prices cross;
+Among the standing units are the old ones of the arriving agent: `faces` leaves them out. From here
+to `pairs`: `partner` is the best unit that faces the arriving one, if the prices cross;
 `pair_with` makes a pair of the two; `pairs` does so for each arriving unit in turn, without the
 units that are taken.""",
     "auction_rules/Standing.gone": """\
@@ -142,66 +121,147 @@ This goes through the past from the oldest entry. For each admitted call it adds
 The price paid: at a flight the price after the call, in a hotel the ask, for tickets the price of
 the standing unit. `stand` is that of the past, without the new bid.""",
     "trade_ledger/CashHistory.IsFitCash": """\
-By this chapter alone the caller of a reading could be no agent. Such a reading would change no
-post, no total and no agent's part.""",
+By this chapter alone the clock could read cash, and anybody could post anything.
+`IsClockTranscript` and `Matched` say that they do not.""",
+    "auction_rules/FlightRule.next_price": """\
+An example: with bound 30 at tick 27, x(27) = 10 + 27 * 20 / 54 = 20, so the change lies between -10
+and 20. With draw 30 it is -10 + 30 mod 31 = 20.""",
     "trade_ledger/Posts.HoldSame": """\
 The weight that is 1 for one entry and 0 for all others counts that entry.""",
     "game_text/Schedule.schedule": """\
-The default 0 of `get_or` is never used: a text that is read as a game has 53 draws for each flight,
-and 8 nights in its order.""",
+There are 53 * 8 updates, 8 closings and 7 + 6 + .. + 0 = 28 publications of hotels, and 20 closings
+at the end: 480 calls. The default 0 of `get_or` is never used: a text that is read as a game has 53
+draws for each flight, and 8 nights in its order.""",
     "packages/Packages.utility_of": """\
 The `-` never stops at 0: each of the two days is off by at most 3.""",
-    "bound_cert/Solutions.IsSolution": """\
-A score needs only the field `best`. The fields `certificate` and `holds` say that `tree` is the
-search's own proof of the bound, and that it holds; the headline does not rest on it, since `IsBest`
-is a field of its own.""",
     "settlement/Sheets.IsScored": """\
 No number of a score is free: each is fixed by the account and the cash of the same agent.""",
     "Requests and replies as lines": """\
-Read the rows, and look at the definitions to see that each case has its own line. Equations are
-tried from the top. Bytes: 32 is a space, 40 and 41 are `(` and `)`, 45 is `-`, 48 is `0`, 64 is
-`@`, and 10 ends a line.""",
+The rows show each form. The definitions that spell them are in the part beside.""",
     "tac_io/AllAnswers.all_answers": """\
 The bytes are cut at each 10. The list ends with `Budget` if `room` is used up, which is tested
 first, or with `End`; it never has `Failed`, since it depends on the bytes alone.""",
-    "tac_io/Known.known_then": """\
-`None` means that the content is not known, and stays `None`.""",
+    "The bytes of a link": """\
+Read this chapter as if everything were known. What the system's links do not tell is `None` before
+a call and after it.""",
     "The session of a link": """\
 A session is a list of turns. Each has a line that was read, its reply, and the entries that it
 made. `AreItems` maps the lines to the turns, one to one. `IsTranscript` says that the entries of
 the turns are the agent's part of each history: whole lists, so no call is missing, invented or made
 twice. `EndsBy` says that the replies were sent.""",
+    "agent_gate/Served.EndsBy": """\
+The rules are those of PROOFS, "The headline: a game over links". Each has three parts: what the
+link's bytes hold after the lines of the turns | what the link was sent | the faults. After a failed
+read, `ComesTo gots.End` is about the bytes that were taken.""",
     "agent_gate/Turns.IsNotBehind": """\
 This says "everything that the agent had seen": an entry at position p shows the length p + 1.""",
-    "agent_gate/Served.EndsBy": """\
-A session with a read fault also has `ComesTo gots.End`, since the lines depend on the bytes alone.
-That a read failed is said by `LastReadFails`. Look for `SendsAll` in four equations: the rows need
-it only for `End`.""",
-    "game_run/LinkRuns.IsSeated": """\
-`all_answers` cuts the bytes into a first line and `answers`. The first line has the word of the
-seat. `IsServed` splits `answers` into the lines of the turns and the `rest`.""",
-    "log_text/SheetText.agent_lines": """\
-`cert_line` and `tree_lines` print the certificate, on which no score depends.""",
     "The log": """\
-Read the rows, and look at numbers and counts. Two games with different heads or histories never
-have the same text; this is proved apart (`written_log_law`).""",
+It is proved apart that two played games with different heads, histories or scores never have the
+same text (`one_log`). The page has the lines of a log.""",
     "The outside before and after": """\
 The headline uses three of these: what the files hold, what the output took, and which links were
 still to come.""",
     "tacd/Headline.WritesTrueLog": """\
 All fields are about one `game` and one `played`. `ended` is what became of the links, in the order
-of the log's verdicts. Left to `service`: that the ticks were waited for.""",
+of the log's verdicts.""",
+}
+
+# Types of the code whose fields and variants need no words, as CRATE.TYPE.
+PLAIN_TYPES = {
+    "auction_rules.StandingPoint", "line_protocol.Cause", "line_protocol.Request",
+    "line_protocol.Verdict", "tac_base.Kind", "tac_base.Nets", "tac_base.Trade",
+    "tac_commands.Form", "trade_ledger.CashCall", "trade_ledger.CashEntry",
+}
+
+# Notes: of a definition as CRATE/MODULE.NAME, what some of its fields or equations say, each by
+# the words with which it begins. They stand in place of the definition's own comment. A note in
+# brackets stands in place of the field or the equation too.
+NOTES: Dict[str, Dict[str, str]] = {
+    "bound_cert/Solutions.IsSolution": {
+        "pub certificate": "[The fields `certificate` and `holds` are about `tree`, the search's "
+                           "own proof of the bound, on which no score depends.]",
+        "pub holds": "[]",
+    },
+    "agent_gate/Turns.IsLawfulTurn": {
+        "IsLawfulTurn past (Called":
+            "A call. It is the call that the line asks for, the agent has calls left at the good, "
+            "and its position is not below what was shown. (`part` says that its caller is the "
+            "agent.)",
+        "IsLawfulTurn past (CallDenied": "A call that is denied. The agent has no calls left.",
+        "IsLawfulTurn past (CashRead":
+            "A reading of cash. The agent has readings left. `IsTranscript` says their order.",
+        "IsLawfulTurn past CashDenied": "A reading that is denied. The agent has none left.",
+        "IsLawfulTurn past (Quoted": "A quote. Its count is not below what was shown.",
+    },
+    "agent_gate/Served.EndsBy": {
+        f"EndsBy causes.{cause}":
+            f"RULE PROOFS/The headline: a game over links | `{cause.lower()}`: .. {end}"
+        for cause, end in (("Quit", "none"), ("End", "none"), ("ReadFault", "a failed read"),
+                           ("WriteFault", "a failed write"), ("Budget", "none"))
+    },
+    "agent_gate/Served.IsServed": {
+        "pub read":
+            "`read` are the lines that were read: as many as turns, each with its turn's item.",
+        "pub end": "why the session ended, and what was sent",
+    },
+    "agent_gate/Transcript.IsTranscript": {
+        "pub calls":
+            "At each good, the agent's part of the history is the entries of its turns. The "
+            "positions of a part rise.",
+        "pub cash":
+            "Its part of the cash history is their posts and readings, in the order of the turns.",
+        "pub boards":
+            "[The field `boards` says that each board shown is that of as many entries as it "
+            "states. A quote makes no entry, so you can leave it out.]",
+    },
+    "game_run/LinkRuns.IsSeated": {
+        "pub cause": "The head of the log has the cause of the session's end.",
+        "pub bytes": "`bytes` are all that the link gave.",
+        "pub line": "They are cut into a first line and `answers`. That line has the seat's word.",
+        "pub turns":
+            "`IsServed` splits `answers` into the lines of the turns and the `rest`. No read "
+            "failed but the last one, if that ended the session, and likewise for writes.",
+        "pub transcript": "The turns are the agent's part of the histories.",
+    },
+    "game_run/PlayedGame.IsLegalGame": {
+        "pub setups": "There are 28 auctions, with the setups of the game.",
+        "pub matched": "There is one post for each entry with trades.",
+    },
+    "game_run/PlayedGame.IsClockTranscript": {
+        "pub asked": "In order, the clock's turns make the calls of the schedule.",
+        "pub calls": "At each good, the clock's part of the history is the entries of its turns.",
+        "pub cash": "Its part of the cash history is their posts, in the order of the turns.",
+    },
+    "game_run/PlayedGame.IsPlayedBy": {
+        "pub each_end": "Each agent with a seat has one end, in rising order.",
+        "pub absent": "An agent without a seat took no turn.",
+    },
+    "game_run/Admission.TakesLinks": {
+        "pub given": "`given` are the links that it took: the first of those to come, in order.",
+        "pub came": "Each has a verdict, and `ended` is what became of them.",
+        "pub each": "What happened to the n-th link is what its verdict says, by the seats that "
+            "the first n verdicts left.",
+        "pub ports": "It asked to listen at the port.",
+    },
+    "tacd/Headline.WritesTrueLog": {
+        "pub written": "(The 0: no tick was missed.)",
+        "pub over":
+            "(`taken` leads to `IsSeated` of each link with a seat, and from there to "
+            "`IsLawfulTurn`, `IsTranscript` and `EndsBy`; `lawful` leads to `Legal`, "
+            "`IsLegalCash`, `Matched` and the clock.)",
+        "pub callers": "(Nobody but the agents and the clock calls the cash book.)",
+    },
 }
 
 # Modules above which the print has their sentence, as CRATE/MODULE: it says more than a rule does.
-ABOUT = {"auction_rules/Standing", "tac_io/Known"}
+ABOUT = {"auction_rules/Standing"}
 # What computes something, and has a comment that says more than its name and its equations.
 COMMENTED = set(
     """
-    block point_units last_bid dollars holding price_after looked_at pairs left_points left
-    by_position standing_of standing_points points_looked_at quote_to_beat hotel_refusal entry_of
+    block point_units last_bid dollars holding price_after looked_at pairs left
+    standing_points points_looked_at quote_to_beat hotel_refusal entry_of
     cash_total due_posts open_after closed_last at_least_none short_of all_answers known_then
-    then_known dialect_in made_at cash_by shown_length part_from histories_text
+    then_known dialect_in made_at cash_by shown_length part_from
     """.split()
 )
 

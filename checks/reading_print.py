@@ -5,12 +5,28 @@ import textwrap
 from typing import Container, Dict, Iterable, Iterator, List, NamedTuple, Optional, Set, Tuple
 
 from definitions import Definition, Definitions, Module, Target
-from reading_aids import cases_without_row, comment_of, guide_of, phrases_above, rule_of
-from reading_guides import ABOUT, COMMENTED
+from reading_aids import (
+    cases_without_row,
+    comment_of,
+    guide_of,
+    key_of,
+    noted,
+    phrases_above,
+    rule_of,
+)
+from reading_guides import ABOUT, COMMENTED, NOTES, PLAIN_TYPES
 from reading_order import Chapters, chapters_of, order_of, row_places, rows_elsewhere
 from reading_rows import Helper, Lemmas, Row
 from reading_text import DEFINITION, PROSE, ROW, TYPE, Piece, Rows, target_of, wrapped
-from reading_words import PREAMBLE, PREAMBLE_FILE, PREAMBLE_WORDS, STATEMENT
+from reading_words import (
+    LIBRARY,
+    PREAMBLE,
+    PREAMBLE_FILE,
+    PREAMBLE_WORDS,
+    SHOWN,
+    STATEMENT,
+    UNUSUAL_WORDS,
+)
 
 RULE = "=" * 80
 
@@ -25,7 +41,8 @@ class CodeType(NamedTuple):
 
 
 def type_lines(one: CodeType) -> List[str]:
-    """A type: its comment and its fields or variants, without attributes."""
+    """A type: its comment and its fields or variants, without attributes. One whose fields and
+    variants have no words is a line."""
     with open(one.file, encoding="utf-8") as source:
         lines = source.read().split("\n")
     end = next(
@@ -40,12 +57,26 @@ def type_lines(one: CodeType) -> List[str]:
     shown, told = [], ""
     for each in lines[one.line - 1 : end + 1]:
         if each.lstrip().startswith("///"):
-            told += f"  // {each.strip()[4:]}"
+            plain_type = f"{one.crate}.{one.name}" in PLAIN_TYPES
+            told += "" if plain_type else f"  // {each.strip()[4:]}"
         elif not each.lstrip().startswith("#["):
             shown, told = shown + [each + told], ""
     if not any("  // " in each for each in shown):
         shown = [" ".join(" ".join(shown).split())]
-    return about + shown
+    return about + [re.sub(r"\bpub ", "", each) for each in shown]
+
+
+def plain(line: str) -> str:
+    """A line of a definition without the words that say nothing of what it means."""
+    line = re.sub(r"^( *)(?:(?:abbrev|unfoldable|pub) )+", r"\1", line)
+    return re.sub(r"^( *(?:record|data) .*?)(?: :)? Type 0 where$", r"\1 where", line)
+
+
+def together(lines: List[str]) -> List[str]:
+    """The lines of a definition, with short equations in one line."""
+    joined = "   ".join(lines[1:])
+    short = len(lines) > 2 and len(joined) <= 100 and all(" = " in line for line in lines[1:])
+    return [lines[0], joined] if short else lines
 
 
 def types_by_module(
@@ -192,7 +223,8 @@ class Print:
         self.told: Set[Helper] = {(PREAMBLE_FILE, name) for name in PREAMBLE_WORDS}
         self.chapters = chapters_of(definitions, rows)
         self.order = order_of(definitions, self.chapters)
-        self.places = row_places(definitions, self.order, beside, set(self.told), lemmas)
+        rowless = set(beside) - set(map(target_of, SHOWN))
+        self.places = row_places(definitions, self.order, rowless, set(self.told), lemmas)
         self.printed = [one for one in self.places if with_lemmas or not one[1].more]
         self.types = types_by_module(definitions, self.chapters, types)
         self.elsewhere = rows_elsewhere(definitions, self.order, self.printed, lemmas)
@@ -203,6 +235,8 @@ class Print:
     def pieces(self, heading: str) -> Iterator[Piece]:
         """What is printed of a chapter, below its heading."""
         yield Piece(PROSE, told_lines("", guide_of(heading)))
+        words = "; ".join(f"`{word}`: {LIBRARY[word]}" for word in self.new_words(heading))
+        yield Piece(PROSE, told_lines("", f"New words. {words}." if words else ""))
         for path, names in self.chapters[heading].items():
             module = self.definitions.modules[path]
             for one in self.types[heading, path]:
@@ -211,6 +245,24 @@ class Print:
             about = f"{place}: {module.about}" if place in ABOUT else place
             yield Piece(PROSE, ["", *wrapped(about, "-- ", "--   "), ""])
             yield from self.definition_pieces(module, names)
+
+    def new_words(self, heading: str) -> List[str]:
+        """The words of the library that this chapter uses first, of those that need words."""
+        used: Set[str] = set()
+        for one, chapter in self.chapters.items():
+            here = {
+                word
+                for path, names in chapter.items()
+                for name in names
+                for line in self.definitions.modules[path].definitions[name].lines[
+                    : 1 if (path, name) in self.beside else None
+                ]
+                for word in re.findall(r"[\w?]+", line)
+            }
+            if one == heading:
+                return [word for word in UNUSUAL_WORDS if word in here - used]
+            used |= here
+        raise KeyError(heading)
 
     def definition_pieces(self, module: Module, names: Iterable[str]) -> Iterator[Piece]:
         """These definitions of a module, each with what stands above it and its rows."""
@@ -225,10 +277,9 @@ class Print:
                 yield Piece(DEFINITION, ["mutual"])
             yield Piece(PROSE, self.lines_above(module, one))
             lines = one.lines[: 1 if target in self.beside else None]
-            if self.elsewhere.get(target) and target not in self.beside:
-                lines = [f"{lines[0]}   -- (row: {self.elsewhere[target]})", *lines[1:]]
             shown = phrases_above(lines) if target == target_of(STATEMENT) else lines
-            yield Piece(DEFINITION, [*shown, ""])
+            shown = noted(shown, NOTES.get(key_of(target), {}))
+            yield Piece(DEFINITION, [*together([*map(plain, shown)]), ""])
             for place, row in self.printed:
                 if place == target:
                     told = self.told if self.with_lemmas else None
@@ -247,6 +298,7 @@ class Print:
         if target in self.cases:
             lines.append(f"-- (no row for {', '.join(self.cases[target])})")
         says_more = target in self.beside or one.name[0].isupper() or one.name in COMMENTED
+        says_more = says_more and key_of(target) not in NOTES
         return lines + (comment_of(module.file, one) if says_more and not rule_of(target) else [])
 
 

@@ -237,9 +237,9 @@ ROWS = [
          "`own 0`, `quote 27`, `cash` and `quit` are the requests that they name")),
     Row(["worked_rows/Lines:faults_of_lines_goods_and_points"],
         ["line_protocol/Requests.request_of", "bid_strings/BidForm.judged"],
-        ("Syntax faults: `cash` with a space after it, `own  1`, `own 01`, `bid 24`. No auction: "
-         "`own 28`, `bid 28 x`. The points of `bid 5` and a space have no form; `((1 10001))` has "
-         "a bad price")),
+        ("Syntax faults: `cash` with a space after it, `own` with two spaces before its 1, "
+         "`own 01`, `bid 24`. No auction: `own 28`, `bid 28 x`. The points of `bid 5` and a space "
+         "have no form; `((1 10001))` has a bad price")),
     Row(["worked_rows/Lines:replies_to_calls"],
         ["line_protocol/Replies.said_text", "bid_strings/Spelling.spelling"],
         ("Replies to calls are printed as `@7 taken 1 0`, `@8 own -1 ((-1 60))`, `@0 own 1 ()`, "
@@ -247,6 +247,10 @@ ROWS = [
     Row(["worked_rows/Lines:other_replies"], ["line_protocol/Replies.said_text"],
         ("Other replies are printed as `@31 cash -660`, `@9 quote 70 0 open`, `no spent`, `no "
          "auction`, `no bid 5` for 0 units, `no toolong` and `bye`")),
+    Row(["worked_rows/Lines:every_other_reply"], ["line_protocol/Replies.said_text"],
+        ("The other replies are `@3 no closed`, `@3 no wrongcall`, `@3 no nobid`, `@3 no sell`, "
+         "`@9 quote 0 70 closed`, `no syntax`, and `no bid 1` to `no bid 4` for points without a "
+         "form, too many points, too many units and a price out of range")),
     # The outside
     Row(["worked_rows/Links:lines_have_ends_and_fit_the_budget"], ["tac_io/AllAnswers.all_answers"],
         ("A link gives `own 1`, two line ends, and `qui`. This makes the line `own 1`, an empty "
@@ -305,7 +309,7 @@ ROWS = [
         ["agent_gate/Served.EndsBy", "agent_gate/Served.SendsAll"],
         ("The welcome is `hi`, and all bytes were sent. With the turn `quit` and its reply "
          "`bye`, the cause is `Quit`, whatever bytes the link has left. Without that turn it is "
-         "not"), more=True),
+         "not")),
     Row(["worked_rows/Ends:end_with_all_taken", "worked_rows/Ends:no_end_with_bytes_left",
          "worked_rows/Ends:read_fault_with_bytes_left"],
         ["agent_gate/Served.EndsBy", "agent_gate/Served.ComesTo"],

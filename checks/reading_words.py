@@ -11,9 +11,9 @@ over all feasible allocations, less costs and penalties."""
 
 # What stands beside the headline, here and in README.md.
 CAVEATS: List[str] = [
-    """**Some bytes.** The system's sockets and files do not say what they carry. So the headline
-    says only that it holds for *some* bytes and for a game described by *some* text
-    (`docs/PROOFS.md`, "Premises").""",
+    """**Some bytes.** The system's sockets and files do not say what they carry. So all that is
+    claimed is that there are *some* bytes, and a game described by *some* text, for which the
+    headline holds (`docs/PROOFS.md`, "Premises").""",
     """**29 orders.** Each auction has its own history, and so has the cash book. Nothing says which
     of two calls came first if they are in different auctions and have different callers. So
     "everything that the agent had seen" is about one auction at a time.""",
@@ -28,8 +28,9 @@ CAVEATS: List[str] = [
 
 LEAD = """\
 The clause `headline` of the top call `tac` (`crates/tacd/src/top.rt`) says this. The code is proved
-to meet it. Whether it says what is meant, only a reader can judge. This page and its print have
-every definition on which the clause depends."""
+to meet it. Whether it says what is meant, only a reader can judge. The print of this page has the
+definitions on which the clause depends. A few that you can leave out are in the parts "Beside",
+which say why."""
 
 LEFT_TO_SERVICE = """\
 **What the clause `headline` leaves to the clause `service`:** that the ticks were waited for, and
@@ -63,9 +64,9 @@ entries of the goods' histories --- Matched, due_post ---> entries of the cash h
   |                   v                                          |
   |                 score                                        |
   |                   |                                          |
-  | auction_text      | score_line                               | cash_text
+  | log_text          | log_text                                 | log_text
   v                   v                                          v
-lines of the log: log_text"""
+lines of the log"""
 
 EXAMPLE_ABOUT = """\
 Agent 2 buys two flight seats, reads its cash and quits. The game is {quiet}, where flights always
@@ -132,25 +133,22 @@ have to trust."""
 
 # The beginning of the print.
 PRINTED = """\
-What must be believed: the clause `headline`, and the definitions on which it depends, each below
-those that it uses. A RULE is in the words of the page that it names. Comments are left out below a
-RULE, and where the name and the equations say the same. A row is a small case, which the toolchain
-checks as a lemma. Of its words the script checks that the lemma exists, leads to the definition,
-and has their numbers. A row that says that a statement holds would still hold if the statement had
-fewer parts. docs/READING.md links to the lemmas, and `--lemmas` prints them, with more
-rows. The next row below leads to a definition, unless it has the mark "(no row)", or "(row: X)" for
-a row that stands below X. Of a definition with the mark "(beside: ..)" only the first line is
-printed; that part of READING has the rest."""
+The clause `headline`, and the definitions on which it depends, each below those that it uses. A
+RULE is in the words of the page that it names. A row is a small case that the toolchain checks as a
+lemma; docs/READING.md links to it, and `--lemmas` prints it. A row that says that a statement holds
+would still hold if the statement had fewer parts. A definition to which no row leads has the mark
+"(no row)". Of one with the mark "(beside: ..)" only the first line is printed; that part of READING
+has the rest. The words `pub`, `abbrev` and `unfoldable` are left out, and so is `Type 0` at the
+beginning of a record."""
 PRINTED_WITH_LEMMAS = """\
 What must be believed, with the lemmas: see `checks/reading.py --print`. Each row is told in words.
 Below it stands the lemma that the toolchain checks, with its file. Of the words, the script checks
 that the lemma exists, leads to the definition, and has their numbers."""
 KEY = """\
-Signs that may be new. Equations are tried from the top. On ℕ, `-` stops at 0. A type of the code
-stands for the value that contracts see: a number of ℕ or ℤ, a text as its bytes, a record or
-variants of these; `Points` and `Left` as `List Point`. `x.old` and `x.new` are the values before
-and after the call. Several types have constructors of one name, such as `Own` of `Call` and of
-`Reply`: the type of the place says which is meant."""
+On ℕ, `-` stops at 0. A type of the code stands for the value that contracts see: a number of ℕ or
+ℤ, a text as its bytes, a record or variants of these; `Points` and `Left` as `List Point`. Several
+types have constructors of one name, such as `Own` of `Call` and of `Reply`: the type of the place
+says which is meant."""
 
 # The end of the page.
 MADE_BY = """\
@@ -241,8 +239,10 @@ ROW_WORDS: Dict[str, str] = {
          "sent the bytes `said`"),
     "game_run/Hosted.hosted_game":
         "the `HostedGame` made of a game, a dialect and a port",
-    "log_text/SheetText.cert_line":
-        "`cert A L`: the line above the certificate of agent A, which has L lines",
+    "auction_rules/Board.board":
+        "what an auction shows after a past: its length, a bid, an ask, and whether it is closed",
+    "game_run/Admission.first_verdict":
+        "the verdict on a link whose first line this is",
     "log_text/LoggedGames.LoggedGame":
         "the content of a log: its head, the goods' histories, the cash history and the scores",
 }
@@ -309,14 +309,15 @@ NOTATION: List[Tuple[str, str]] = [
 # How many of these stand at the beginning of the print, and the words of the library that do.
 UNUSUAL = 3
 UNUSUAL_WORDS = [
-    "codes", "pos", "negsuc", "slice_get", "slice_index_or", "enumerate_from", "AllZip", "IfSome",
-    "count_by", "sum_by",
+    "codes", "pos", "negsuc", "Contains", "slice_get", "slice_index_or", "slice_index", "slice_set",
+    "get_or", "find", "fold", "enumerate_from", "AllZip", "IfSome", "count_by", "sum_by",
 ]
 
 LIBRARY: Dict[str, str] = {
     "Vec": "Rust's vector; `.items` is its list",
     "Global": "the allocator; `String Global` is Rust's `String`",
     "codes": "the bytes of a text",
+    "Contains": "the item is somewhere in the list",
     "pos": "a whole number from 0 on",
     "negsuc": "`negsuc n` is -(n + 1)",
     "suc": "one more",
@@ -381,7 +382,7 @@ LIBRARY: Dict[str, str] = {
 # Words of the library that their names explain.
 PLAIN = set(
     """
-    abs_diff as_array as_number as_object as_str Bool bytes_eq concat Contains drop Err false
+    abs_diff as_array as_number as_object as_str Bool bytes_eq concat drop Err false
     filter fst int_le int_lt int_max int_min item length List map max member min nat_le nat_lt
     no_items no_members None not Ok Option option_map range_with_len replicate Result reverse snd
     Some String string_bytes string_len swap take true zero zip
@@ -491,9 +492,9 @@ CHAPTERS = [
             ["auction_rules.Standing", "auction_rules.Ask", "auction_rules.Precedence",
              "auction_rules.WinningNumber", "auction_rules.BeatQuote",
              "auction_rules.HotelClosing"]),
-    Chapter("Refusals, boards and legal histories",
-            ("This chapter defines which calls are refused, what a board shows, and which entry "
-             "comes next in a history."),
+    Chapter("Refusals and legal histories",
+            ("This chapter defines which calls are refused, and which entry comes next in a "
+             "history."),
             ["auction_rules.Refusals", "auction_rules.Board", "auction_rules"]),
     Chapter("The cash book",
             "This chapter defines the posts and the readings of cash, and which posts are due.",
@@ -587,11 +588,16 @@ PREAMBLE_WORDS: Dict[str, str] = {
     "one_ticket": "a trade: the buyer buys one ticket 24 from the seller at this price",
 }
 
+# What a part beside has, with rows that the print shows.
+SHOWN = ["line_protocol/Requests.request_of", "line_protocol/Replies.said_text",
+         "auction_rules/FlightSales.flight_trades"]
+
 # Of these parts, what neither the print nor a chapter has: a guide says why it is not needed.
 UNPRINTED = [
     "bound_cert/Trees.Tree", "bound_cert/Trees.IsCertificate", "bound_cert/Certificate.holds",
     "bound_cert/Certificate.all_left", "bound_cert/Texts.tree_lines",
-    "log_text/SheetText.cert_line"]
+    "log_text/SheetText.cert_line", "agent_gate/Turns.boards_shown", "turn_lock/Notes.AreNotes",
+    "floor/ClosedBoards.board_of"]
 
 # Parts of the promise that a reader may leave out at first: a heading, why, and the names behind
 # which they begin, as CRATE/MODULE.NAME. What these names say is not needed to read the chapters.
@@ -611,9 +617,49 @@ BESIDE: List[Tuple[str, str, List[str]]] = [
     ("Lines of JSON",
      "Only `serve .. json` needs it.",
      ["json_dialect/JsonRequests.asks_json", "json_dialect/JsonReplies.json_text"]),
+    ("The words of a first line",
+     "A first line is `hello WORD`. The rows of `verdict_of` show it.",
+     ["agent_gate/Gates.greeting_of"]),
     ("The welcome",
      "A link with a seat is sent these ten lines before its first reply.",
      ["agent_gate/Welcome.welcome_text"]),
+    ("The words of requests and replies",
+     ("The rows of the print show each form of a request, and each form of a reply to an agent. "
+      "It is proved in `crates/line_protocol` that a line of none of these forms is a syntax fault "
+      "(`one_request`), and that no two replies in range have the same line (`read_reply`)."),
+     ["line_protocol/Requests.request_of", "line_protocol/Replies.said_text"]),
+    ("The text of the log",
+     ("It is proved that two played games with different histories, heads or scores never have the "
+      "same log (`one_log` of `crates/log_text`). So the log holds them, however it spells them."),
+     ["log_text/SheetText.log_text"]),
+    ("Links without a seat, and when no more links are taken",
+     ("The headline is about the links with a seat. The other links give a first line that gets "
+      "no seat, and are sent at most one line; or they are lost, and are sent nothing."),
+     ["game_run/Admission.IsLost", "game_run/Admission.HasFirstLine",
+      "game_run/Admission.IsSentOrCut", "game_run/Admission.refusal_line",
+      "game_run/Admission.AreAllTaken"]),
+    ("The trades of a flight, by points",
+     ("A flight sells the units that `gone_by` returns. For each bid, in the order of positions, "
+      "and each point of it that has such units, there is one trade of that many units at the "
+      "price. It is proved that these definitions say the same after every past (`by_units` in "
+      "`crates/flight_auction/proofs/UnitTrades.antt`)."),
+     ["auction_rules/FlightSales.flight_trades", "auction_rules/FlightSales.points_looked_at",
+      "auction_rules/FlightSales.standing_points"]),
+    ("Faults of a link",
+     ("These four are in words above their first lines. They say that a fault that ends a session "
+      "was counted, and that there was no other. The headline is about what was requested and "
+      "sent."),
+     ["tac_io/LinkCalls.NoReadFails", "tac_io/LinkCalls.LastReadFails",
+      "tac_io/LinkCalls.NoWriteFails", "tac_io/LinkCalls.LastWriteFails"]),
+    ("The standing points of an agent",
+     ("Only the reply to `own` uses them: the agent's standing units, joined into points in the "
+      "order of its bid."),
+     ["auction_rules/Standing.left"]),
+    ("What a quote shows",
+     ("The headline is about calls. A quote makes no entry in a history. That its count is not "
+      "behind what the agent had seen is in `IsLawfulTurn`."),
+     ["auction_rules/Board.board", "agent_gate/Turns.boards_shown", "turn_lock/Notes.AreNotes",
+      "floor/ClosedBoards.board_of"]),
     ("The head of the log",
      ("The headline is about the histories and the sheet. The head says which link got which seat, "
       "and why each session ended."),
@@ -680,18 +726,18 @@ SENTENCES: List[Tuple[str, List[str]]] = [
     ("the log that it wrote ..",
      ["written", "tac_io/Taken.TookWhole", "log_text/SheetText.log_text"]),
     ("holds 29 legal one-thread histories.",
-     ["callers", "game_run/PlayedGame.IsPlayedBy", "game_run/PlayedGame.IsLegalGame",
+     ["over", "callers", "game_run/PlayedGame.IsPlayedBy", "game_run/PlayedGame.IsLegalGame",
       "auction_rules/Legal.Legal", "auction_rules/Legal.trades_by",
       "auction_rules/Refusals.refusal", "trade_ledger/CashHistory.IsLegalCash"]),
     ("In each of them, every agent's calls are those that its link asked for.",
      ["over", "game_run/Outcomes.IsPlayedOver", "game_run/Admission.TakesLinks",
-      "game_run/Admission.AreAllTaken", "game_run/LinkRuns.IsSeated", "agent_gate/Gates.verdict_of",
+      "game_run/LinkRuns.IsSeated", "agent_gate/Gates.verdict_of",
       "agent_gate/Transcript.IsTranscript", "agent_gate/Served.IsServed",
       "agent_gate/Items.AreItems", "line_protocol/Requests.request_of"]),
     ("Each call occurs once,",
      ["agent_gate/Transcript.IsTranscript", "turn_lock/Part.part", "agent_gate/Turns.made_at"]),
     ("comes after everything that the agent had seen,",
-     ["agent_gate/Turns.AreLawful", "agent_gate/Turns.IsNotBehind", "turn_lock/Notes.AreNotes"]),
+     ["agent_gate/Turns.AreLawful", "agent_gate/Turns.IsNotBehind"]),
     ("and has the reply that the agent got.",
      ["agent_gate/Served.EndsBy", "agent_gate/Served.pieces_of", "agent_gate/Served.SendsAll",
       "agent_gate/Served.IsCutOff", "line_protocol/Replies.said_text"]),
