@@ -29,8 +29,8 @@ CAVEATS: List[str] = [
 LEAD = """\
 The clause `headline` of the top call `tac` (`crates/tacd/src/top.rt`) says this. The code is proved
 to meet it. Whether it says what is meant, only a reader can judge. The print of this page has the
-definitions on which the clause depends. A few that you can leave out are in the parts "Beside",
-which say why."""
+definitions that you have to read. The clause also depends on others, in the parts "Beside". Each of
+these parts says why you can leave it out."""
 
 LEFT_TO_SERVICE = """\
 **What the clause `headline` leaves to the clause `service`:** that the ticks were waited for, and
