@@ -9,9 +9,10 @@ IsCeiling account left table =
     (k n : ℕ) (client : Preferences) (p : Package) → slice_get account.clients k ≡ Some client → slice_get packages n ≡ Some p → left k p ≡ true
     → pos (utility_of client p) ≤ℤ dollars_at table k n
 
--- whatever the table is a ceiling of, with a stock that costs so much, is bounded by a claim at the prices
-abbrev pub HasAtMost : List ℕ → ℕ → List ℤ → ℕ → Type 0
-HasAtMost prices stock table claim =
+-- A claim bounds, at the prices, what can be reached: for each account whose stock costs so much and each narrowing that the table is
+-- a ceiling of, the leaf's bound is within the claim.
+abbrev pub BoundsWorths : List ℕ → ℕ → List ℤ → ℕ → Type 0
+BoundsWorths prices stock table claim =
     (account : AccountFile) (left : Narrowing) → IsAccount account → stock ≡ stock_value account.holdings prices → IsCeiling account left table → is_within (leaf_bound account left prices) claim ≡ true
 
 -- a table has for each package what it costs at the prices

@@ -1,6 +1,6 @@
 // Prices with the bounds that they give for all packages.
 ghost use Rattle.std.specs.Prelude.{◌≡◌, ℕ, ◌+◌, ◌*◌, ◌<◌, ◌≤◌, ◌^◌, ◌⊎◌, pos, negsuc, ◌+ℤ◌, ◌-ℤ◌, ◌≤ℤ◌, true, false, slice_index};
-ghost use Rattle.dual_bound.specs.{GOODS, dollars_at, AreCosts, HasAtMost, HasMore};
+ghost use Rattle.dual_bound.specs.{GOODS, dollars_at, AreCosts, BoundsWorths, HasMore};
 ghost use Rattle.packages.specs.Bounds as bounds;
 
 use game_text::Account;
@@ -33,7 +33,7 @@ impl Quote {
 
     /// Returns whether the prices bound the worth of what is left by a claim in dollars, given a table of upper bounds of the worths.
     pub fn holds(&self, left: &WorthTable, claim: u32) -> bool
-        ensures bounds { result ≡ true → HasAtMost self.now.prices self.now.stock_value left.now.dollars claim }
+        ensures bounds { result ≡ true → BoundsWorths self.now.prices self.now.stock_value left.now.dollars claim }
         ensures more { result ≡ false → HasMore self.now.prices self.now.stock_value left.now.dollars claim }
     {
         let mut bound = self.stock_value as i64;

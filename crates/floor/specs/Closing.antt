@@ -18,7 +18,7 @@ pub record IsGivenBack (start : AuctionHistory) (passes : ℕ) (returned : List 
   pub nobody_else : (c : ℕ) → passes ≤ c → part (λ e. e.caller) auction.history c ≡ []
 
 module _ {C R G : Type 0} where
-  -- each of the locks, in order, gave back an auction
+  -- at each place that both lists have, the lock gave back the auction
   abbrev pub AreGivenBack : List (TurnLock AuctionHistory C R G Entry) → List AuctionHistory → Type 0
   AreGivenBack locks auctions = (good : ℕ) (lock : _) (auction : _) → get_elem? locks good ≡ some lock → get_elem? auctions good ≡ some auction
       → IsGivenBack (start_of lock) (passes_of lock) (returned_to lock) auction

@@ -19,7 +19,7 @@ module _ {S C R G E : Type 0} {K : Ghosts S C R G E} where
   abbrev pub AreFresh : List (LockId S) → (ℕ → ℕ) → List (List (Pass S C R G E K)) → Type 0
   AreFresh ids left hands = (caller : ℕ) (passes : List (Pass S C R G E K)) → get_elem? hands caller ≡ some passes → IsFresh ids caller (left caller) passes
 
-  -- each caller has one more pass, of this lock, and it is fresh if those before it are
+  -- if each caller's passes were fresh, each has one more pass, of this lock, and all are fresh
   abbrev pub AreDealt : LockId S → (ℕ → ℕ) → List (List (Pass S C R G E K)) → List (List (Pass S C R G E K)) → Type 0
   AreDealt id left before after = (ids : List (LockId S)) → AreFresh ids left before → AreFresh (ids ++ id ∷ []) left after
 

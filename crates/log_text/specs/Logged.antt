@@ -114,7 +114,8 @@ pub record HaveOneHistory (game other : ClosedGame) : Type 0 where
   pub histories : map (λ auction. auction.history) game.auctions ≡ map (λ auction. auction.history) other.auctions
   pub cash : game.cash ≡ other.cash
 
--- two games of which a text begins with both first parts of a log have the same head and histories, and the rests are the same
+-- If the heads and the games have only what a log can show, and one text begins with the first parts of both their logs, then the heads,
+-- the histories and the rests are the same.
 abbrev pub HaveOwnPlayParts : Head → Head → ClosedGame → ClosedGame → List ℕ → List ℕ → Type 0
 HaveOwnPlayParts head other_head game other rest other_rest = IsHead head → IsHead other_head → IsPlayed game → IsPlayed other
     → play_part head game ++ rest ≡ play_part other_head other ++ other_rest → (head ≡ other_head) × HaveOneHistory game other × (rest ≡ other_rest)

@@ -1,4 +1,4 @@
--- Which sheets have different texts, and so which whole logs.
+-- Which sheets a log can show, and that such sheets have different texts, and so the logs.
 use Rattle.std.specs.Prelude.{◌≡◌, ℕ, ⊤, List, length, slice_index}
 use Rattle.std.specs.List.{AllByRecursion}
 use Rattle.log_text.specs.Prelude.{AGENTS, Package, None, Trip, tree_lines, IsCertificate, Scored, ClosedGame, Head}
@@ -36,7 +36,7 @@ pub record IsShownSheet (sheet : List Scored) : Type 0 where
   pub count : length sheet ≡ AGENTS
   pub scores : AllByRecursion IsShownScore sheet
 
--- two games with the same log have the same head, histories and sheet
+-- if the heads, games and sheets have only what a log can show, and the logs are the same, then so are the heads, histories and sheets
 abbrev pub HaveOwnLogs : Head → Head → ClosedGame → ClosedGame → List Scored → List Scored → Type 0
 HaveOwnLogs head other_head game other sheet other_sheet = IsHead head → IsHead other_head → IsPlayed game → IsPlayed other → IsShownSheet sheet → IsShownSheet other_sheet
     → log_text head game sheet ≡ log_text other_head other other_sheet → (head ≡ other_head) × HaveOneHistory game other × (sheet ≡ other_sheet)

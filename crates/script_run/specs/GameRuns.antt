@@ -28,7 +28,7 @@ PlaysGameLine game lines written line run (Err TooLong) = ⊥
 PlaysGameLine game lines written line run (Err Failed) = ⊥
 PlaysGameLine game lines written line run (Err Memory) = ⊤
 
--- whatever lines were played before, this one came next
+-- whatever lines had been played before, this one came next: it was played after them, or was refused for the reason told
 abbrev pub PlaysNextLine : GameRun → NumberedLine → GameRun → Result (Unit {0}) ScriptFault → Type 0
 PlaysNextLine before line after result =
     (game : GameFile) (lines : List GameLine) (written : List ℕ) → HasRunGame game lines written before → PlaysGameLine game lines written line after result

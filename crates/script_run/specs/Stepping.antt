@@ -59,7 +59,7 @@ Answered game given start stepper sink' (Err (Line line reason)) =
 Answered game given start stepper sink' (Err Unwritten) = TookPart start sink' (replies game (heard_from [] (parts_of 10 given)).0)
 Answered game given start stepper sink' (Err fault) = ⊥
 
--- if all bytes before were played and answered, a piece came next
+-- if all bytes before had been played and answered, then so were those of the piece, or the fault says what was not
 abbrev pub AnswersPiece : Stepper → SinkState → List ℕ → Stepper → SinkState → Result (Unit {0}) StepFault → Type 0
 AnswersPiece before sink piece after sink' result = (game : GameFile) (given : List ℕ) (start : SinkState) →
     HasAnswered game given start before sink → Answered game (given ++ piece) start after sink' result

@@ -13,14 +13,14 @@ then_known more known = option_map (λ xs. more ++ xs) known
 abbrev pub IsAtEnd : {A : Type 0} → Option (List A) → Type 0
 IsAtEnd known = IfSome known (λ xs. xs ≡ [])
 
--- A read gave the next n bytes of what was left, at most `most`, and took them from its front. It gave none only if nothing was left.
--- A failed read took nothing.
+-- A read gave n bytes, at most `most`: those with which `bytes` begins. It took them from the front of what was left. It gave none only
+-- if nothing was left. A failed read took nothing. That `bytes` has as many as n is said elsewhere.
 abbrev pub ReadsAtMost : {E : Type 0} → ℕ → Option (List ℕ) → Option (List ℕ) → Result ℕ E → List ℕ → Type 0
 ReadsAtMost most before after result bytes = MatchResult result
     (λ n. (n ≤ most) × (before ≡ then_known (take n bytes) after) × (n ≡ 0 → IsAtEnd before))
     (λ _. after ≡ before)
 
--- a read that gave at most as many bytes as it had room for
+-- the same of a read into `into`, which gave at most as many bytes as that has room for
 abbrev pub Reads : {E : Type 0} → Option (List ℕ) → Option (List ℕ) → Result ℕ E → List ℕ → Type 0
 Reads before after result into = ReadsAtMost (length into) before after result into
 

@@ -13,6 +13,6 @@ IsFirstKept skips (line ∷ next ∷ parts) = false ≡ (skips && is_comment lin
 abbrev pub block_at : Bool → ℕ → ℕ → List ℕ → Option (List ℕ × Remaining)
 block_at skips number count text = block_in number count (lines_from skips number (parts_of 10 text)) (lines_from skips number (parts_of 10 text)).lines
 
--- the text, whose first line has this number, begins with a block of `count` lines, and this rest follows
+-- The text, whose first line has this number, begins with a block of `count` lines. The lines that follow are those of the rest.
 abbrev pub BeginsWithBlock : Bool → ℕ → ℕ → List ℕ → List ℕ → List ℕ → Type 0
 BeginsWithBlock skips number count text block rest = block_at skips number count text ≡ Some (block, lines_from skips (number + count) (parts_of 10 rest))

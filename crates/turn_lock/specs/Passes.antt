@@ -44,7 +44,7 @@ module _ {S C R G E : Type 0} {K : Ghosts S C R G E} where
   abbrev pub returned_by : Pass S C R G E K → Returned E
   returned_by p = record { caller = caller_of p; mine = made_by p; notes = noted_by p }
 
-  -- the pass is of this lock and this caller and has this many turns left; it made no call and saw no board
+  -- the pass is of this lock and this caller and has this many turns left; it made no call, and saw no board and no entry
   abbrev pub IsFreshPass : LockId S → ℕ → ℕ → Pass S C R G E K → Type 0
   IsFreshPass lock caller left p =
       (lock_of p ≡ lock) × (caller_of p ≡ caller) × (turns_left p ≡ left) × (made_by p ≡ []) × (noted_by p ≡ []) × (seen_by p ≡ 0)
@@ -53,8 +53,9 @@ module _ {S C R G E : Type 0} {K : Ghosts S C R G E} where
   abbrev pub AreFreshPasses : LockId S → (ℕ → ℕ) → List (Pass S C R G E K) → Type 0
   AreFreshPasses lock left passes = (i : ℕ) (p : Pass S C R G E K) → get_elem? passes i ≡ some p → IsFreshPass lock i (left i) p
 
-  -- The pass made the call in its turn at a lock that was made with the state `start`. The entry of the call comes after those that the
-  -- pass had made, and continues the history. The answer is the position of the entry, and the reply that it records.
+  -- The pass made the call in its turn at a lock that was made with the state `start`. The entry records the pass's caller, the call and
+  -- the reply. It comes after those that the pass had made, and continues a history of as many entries as its position says. The answer
+  -- is the position of the entry, and the reply.
   abbrev pub GetsEntry : S → Pass S C R G E K → Pass S C R G E K → C → ℕ × R → Type 0
   GetsEntry start before after call answer = (e : E) × (K.caller_of e ≡ caller_of before) × (K.call_of e ≡ call) × (K.answer e ≡ answer.1)
       × (made_by after ≡ made_by before ++ (answer.0, e) ∷ [])

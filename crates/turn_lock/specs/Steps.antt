@@ -58,8 +58,8 @@ module _ {S G E : Type 0} where
   PublishesBoard history caller_of step before found after = (x : S) → before.1 ≡ (0, x) ∷ [] → after ≡ (turned caller_of before.0 (history x), [])
 
 module _ {S G E : Type 0} (setup : S → G) (history : S → List E) (caller_of : E → ℕ) where
-  -- the state was taken. It has the setup of the lock's first state, as many entries as the ticket says, and of the seat's caller
-  -- those that it made
+  -- The state was taken. It has the setup of the lock's first state, and as many entries as the ticket says, which are no fewer than
+  -- the seat had seen. Those of the seat's caller are the ones that the seat made.
   pub record Took (before after : Me S (View S G E)) : Type 0 where
     pub state : S
     pub is : after ≡ (at_turn before.0 (setup state) (history state), (0, state) ∷ [])
