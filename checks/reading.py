@@ -8,8 +8,8 @@
 From the clauses of `tac` (crates/tacd/src/top.rt) it follows every name through the modules of
 `specs/`. It fails if a definition is used before its row stands, if a word of the library has no
 explanation, if a listed module imports one that is not listed, since a reader would then open a
-file that says nothing of what is promised, if a worked row is not what its words say, or if a rule
-is not in the words of its page.
+file that says nothing of what is promised, if a worked row is not what its words say, if a rule is
+not in the words of its page, or if the short form of a definition says something else.
 """
 
 import argparse
@@ -29,7 +29,7 @@ from reading_aids import (
 )
 from reading_guides import FIELDS, LEFT_OUT, OUTSIDE, TIMES
 from reading_order import backward, in_order
-from reading_print import RULE, CodeType, Print, print_preamble, renamed_names
+from reading_print import RULE, CodeType, Print, print_preamble
 from reading_rows import ROWS, Lemmas, Row, numbers_of
 from reading_text import (
     Rows,
@@ -63,6 +63,8 @@ from reading_words import (
     LIBRARY,
     MADE_BY,
     NOTATION,
+    OUTLINE,
+    OUTLINE_ABOUT,
     PICTURE,
     PICTURE_ABOUT,
     PLAIN,
@@ -72,6 +74,8 @@ from reading_words import (
     ROWLESS,
     ROW_WORDS,
     SENTENCES,
+    SHORT,
+    SHORT_ABOUT,
     STATEMENT,
     STEP_SENTENCES,
     PRINTED_WITH_LEMMAS,
@@ -418,16 +422,17 @@ def page(definitions: Definitions) -> Tuple[str, List[str], str]:
     headline = definitions.reached(clauses["headline"], ENTRIES)
     everything = definitions.reached([name for names in clauses.values() for name in names])
     all_rows = rows_of(definitions, everything)
-    rows, shown = print_of(definitions, headline, False)
+    rows, shown = print_of(definitions, headline, False, False)
     chapters, order, places = shown.chapters, shown.order, shown.places
     beside, others = parts_beside(definitions, rows, all_rows)
     core = line_count(definitions, rows, rows, ENTRIES)
     own = without(rows, ENTRIES)
     in_all = line_count(definitions, own, own)
     in_all += sum(line_count(definitions, part, part) for _, _, part in beside)
+    printed = sum(map(shown.line_count, chapters))
     sentences, faults = sentences_table(definitions, rows, "the headline", SENTENCES)
     faults += texts_that_differ(definitions, rows)
-    faults += wrong_guides(rows, chapters)
+    faults += wrong_guides(rows, chapters) + shown.faults()
     faults += backward(definitions, order, ENTRIES) + inner_imports(definitions, all_rows)
     text = [
         "# What must be believed",
@@ -469,15 +474,17 @@ def page(definitions: Definitions) -> Tuple[str, List[str], str]:
         "",
         "## How long it takes",
         "",
-        filled_blocks(TIMES.format(lines=f"{core:,}", all=f"{in_all:,}")),
+        filled_blocks(TIMES.format(lines=f"{printed:,}", source=f"{core:,}", all=f"{in_all:,}")),
         "",
     ]
-    top = top_of_print(definitions, headline, shown, PRINTED)
-    front = re.sub(r"\]\([^)]*\)", "", "\n".join([*text, *top, headline_clause()]))
+    top = top_of_print(headline, PRINTED)
+    shown_first = [*text, *top, SHORT_ABOUT, *short_lines(), OUTLINE_ABOUT, OUTLINE]
+    shown_first.append(headline_clause())
+    front = re.sub(r"\]\([^)]*\)", "", "\n".join(shown_first))
     text += times_table(
         {
             heading: (
-                line_count(definitions, chapter, chapter, ENTRIES),
+                shown.line_count(heading),
                 minutes_of(heading, shown.pieces(heading)),
             )
             for heading, chapter in chapters.items()
@@ -499,7 +506,7 @@ def page(definitions: Definitions) -> Tuple[str, List[str], str]:
     for heading, about, _ in CHAPTERS:
         chapter = chapters[heading]
         if chapter:
-            lines = line_count(definitions, chapter, chapter, ENTRIES)
+            lines = shown.line_count(heading)
             text += ["", f"## {heading}", "", filled(f"{about} It has {lines} lines."), ""]
             text += table(definitions, chapter, chapter)
             text += worked(
@@ -572,7 +579,11 @@ def without(rows: Rows, left_out: Container[Target]) -> Rows:
 
 def texts_that_differ(definitions: Definitions, rows: Rows) -> List[str]:
     """What texts of the page say that the sources, or other pages, do not."""
-    faults = [f"{name} of the picture is not on the page" for name in names_of_picture(rows)]
+    faults = [
+        f"{name} of the {what} is not on the page"
+        for what, text in (("picture", PICTURE), ("outline", OUTLINE))
+        for name in names_without_definition(text, rows)
+    ]
     faults += without_headline()
     if " ".join(half for half, _ in SENTENCES).replace(" ..", "") != " ".join(HEADLINE.split()):
         faults.append("the phrases do not make up the headline")
@@ -672,10 +683,10 @@ def rows_of_lemma(lemma: str) -> Row:
     return next(row for row in ROWS if lemma in row.lemmas)
 
 
-def names_of_picture(rows: Rows) -> List[str]:
-    """The names of the picture that are no definitions of the page."""
+def names_without_definition(text: str, rows: Rows) -> List[str]:
+    """The names of a picture that are no definitions of the page."""
     listed = {name for names in rows.values() for name in names}
-    words = re.findall(r"\b(?:[a-z]+_[a-z_]+|(?:Is|Are|Ends|Legal|Matched)\w*)\b", PICTURE)
+    words = re.findall(r"\b(?:[a-z]+_[a-z_]+|(?:Is|Are|Ends|Legal|Matched|T\w+L)\w*)\b", text)
     return sorted(set(words) - listed)
 
 
@@ -715,23 +726,26 @@ def headline_clause() -> str:
         head,
         flags=re.S,
     )
-    return f"{shown}\n    // Clauses that are no part of the headline: {', '.join(others)}."
+    told = f"Clauses that are not part of the headline: {', '.join(others)}."
+    return "\n".join([shown, *wrapped(told, "    // ", "    // ")])
 
 
-def top_of_print(
-    definitions: Definitions, found: Iterable[Target], shown: Print, about: str
-) -> List[str]:
-    """The paragraphs at the beginning of the print: what it is, signs, names that stand for others,
-    and the limits that these definitions name."""
+def top_of_print(found: Iterable[Target], about: str) -> List[str]:
+    """The paragraphs at the beginning of the print: what it is, signs, and the limits that these
+    definitions name."""
     limits = "; ".join(f"{name} {value}" for name, value, _ in limits_of(found))
     signs = [f"{sign}: {meaning}." for sign, meaning in NOTATION[:UNUSUAL]]
-    names = renamed_names(definitions, shown.chapters, ENTRIES)
-    renamed = f"Names for those of a type or a module: {names}."
-    return [about, KEY, *signs, renamed, f"Limits: {limits}."]
+    return [about, KEY, *signs, f"Limits: {limits}."]
+
+
+def short_lines() -> List[str]:
+    """The short notation of the print, sign by sign."""
+    wide = max(len(sign) for sign, _ in SHORT) + 2
+    return [sign.ljust(wide) + meaning for sign, meaning in SHORT]
 
 
 def print_of(
-    definitions: Definitions, found: Iterable[Target], with_lemmas: bool
+    definitions: Definitions, found: Iterable[Target], with_lemmas: bool, as_written: bool
 ) -> Tuple[Rows, Print]:
     """The definitions that are printed of these, and their print with the types that they name."""
     rows = without(rows_of(definitions, found), set(map(target_of, UNPRINTED)))
@@ -740,17 +754,20 @@ def print_of(
         for (crate, name), (file, line) in types_of(found)[0].items()
         if not value_of(open_text(file), name)
     ]
-    return rows, Print(definitions, rows, types, ENTRIES, with_lemmas, LEMMAS)
+    return rows, Print(definitions, rows, types, ENTRIES, with_lemmas, as_written, LEMMAS)
 
 
-def print_all(definitions: Definitions, with_lemmas: bool) -> None:
+def print_all(definitions: Definitions, with_lemmas: bool, as_written: bool) -> None:
     """Prints the clause of the headline, and the definitions on which it depends with the types of
     the code, and rows in words or, with their lemmas, all rows."""
     found = definitions.reached(clauses_of(TOP, "tac")["headline"], ENTRIES)
-    rows, shown = print_of(definitions, found, with_lemmas)
+    rows, shown = print_of(definitions, found, with_lemmas, as_written)
     about = PRINTED_WITH_LEMMAS if with_lemmas else PRINTED
-    for one in top_of_print(definitions, found, shown, about):
+    for one in top_of_print(found, about):
         print("\n".join(wrapped(one, "-- ", "--   ")))
+    for about, lines in ((SHORT_ABOUT, short_lines()), (OUTLINE_ABOUT, OUTLINE.split("\n"))):
+        if not (as_written and about == SHORT_ABOUT):
+            print("\n".join([f"-- {about}", *(f"--   {line}" for line in lines)]))
     print("\n" + headline_clause())
     if with_lemmas:
         print_preamble(
@@ -793,10 +810,15 @@ def main() -> int:
     parser.add_argument(
         "--lemmas", action="store_true", help="print the lemmas of the rows too, and more rows"
     )
+    parser.add_argument(
+        "--as-written",
+        action="store_true",
+        help="print the definitions as they stand in specs/, and not in the short notation",
+    )
     options = parser.parse_args()
     if options.print:
         try:
-            print_all(Definitions(), options.lemmas)
+            print_all(Definitions(), options.lemmas, options.as_written)
             sys.stdout.flush()
         except BrokenPipeError:  # the reader has seen enough
             os.dup2(os.open(os.devnull, os.O_WRONLY), sys.stdout.fileno())

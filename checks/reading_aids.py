@@ -3,11 +3,12 @@ states in the words of its page, its guide, and what has no worked row."""
 
 import os
 import re
+import textwrap
+from itertools import takewhile
 from typing import Dict, Iterable, List, Tuple, Union
 
 from definitions import ROOT, Definition, Definitions, Target
 from reading_guides import (
-    ABOUT,
     COMMENTED,
     FRONT,
     GOING_BACK,
@@ -19,6 +20,7 @@ from reading_guides import (
     SPELLED,
     SPELLED_RATE,
     STATED,
+    TABLES,
 )
 from reading_rows import ROWS, Lemmas
 from reading_text import DEFINITION, ROW, TYPE, Piece, Rows, anchor_of, target_of, wrapped
@@ -53,7 +55,7 @@ def times_table(parts: Dict[str, Tuple[int, float]], front_words: int) -> List[s
         text.append(f"| [{heading}](#{anchor_of(heading)}) | {lines} | {minutes:.0f} |")
     total = round(front + sum(minutes for _, minutes in parts.values()))
     lines = sum(lines for lines, _ in parts.values())
-    text.append(f"| **All** | {lines:,} | {total}, which is {total // 60} h {total % 60:02} |")
+    text.append(f"| **All** | {lines:,} | {total} ({total // 60} h {total % 60:02} min) |")
     return text
 
 
@@ -78,7 +80,44 @@ def rule_of(target: Target) -> str:
     if key_of(target) not in STATED:
         return ""
     place, *pieces = STATED[key_of(target)]
-    return quoted(place, pieces)
+    return "" if pieces[0].startswith("TABLE ") else quoted(place, pieces)
+
+
+def table_of(target: Target) -> List[str]:
+    """The lines of a table that stands above a definition: one that is told as it stands, or that
+    of the page that has its rule. Raises a ValueError if the page does not have it."""
+    place, *pieces = STATED.get(key_of(target), ["", ""])
+    if not pieces[0].startswith("TABLE "):
+        return [f"-- {line}" for line in TABLES.get(key_of(target), [])]
+    document, heading = place.split("/", 1)
+    text = section_lines(document, heading)
+    first = next((at for at, line in enumerate(text) if f"| {pieces[0][6:]} |" in line), None)
+    if first is None:
+        raise ValueError(f"docs/{document}.md, {heading}, has no table of {pieces[0][6:]}")
+    rows = [
+        [re.sub("^`([^`]*)`$", r"\1", one.strip()) for one in line.strip().strip("|").split("|")]
+        for line in takewhile(lambda one: one.strip().startswith("|"), text[first:])
+        if not line.strip().startswith("|-")
+    ]
+    return [f"-- RULE ({document}, {heading})", *(f"--   {line}" for line in in_columns(rows))]
+
+
+def in_columns(rows: List[List[str]]) -> List[str]:
+    """Rows of a table in columns, each cell in as many lines as it needs."""
+    columns = [[row[at] for row in rows] for at in range(len(rows[0]))]
+    longest = [max(map(len, column)) for column in columns]
+    narrow = [much for much in longest if much <= 16]
+    room = 95 - 2 * len(columns) - sum(narrow)
+    shared = sum(longest) - sum(narrow)
+    wide = [much if much <= 16 else min(much, room * much // shared) for much in longest]
+    lines = []
+    for row in rows:
+        cells = [textwrap.wrap(cell, width) for cell, width in zip(row, wide)]
+        for at in range(max(map(len, cells))):
+            parts = [cell[at] if at < len(cell) else "" for cell in cells]
+            line = "  ".join(part.ljust(width) for part, width in zip(parts, wide))
+            lines.append(line.rstrip())
+    return lines
 
 
 def quoted(place: str, pieces: Iterable[str]) -> str:
@@ -139,17 +178,21 @@ def section_of(place: str) -> str:
     """The text below a heading of a page, PAGE/HEADING: a line for each paragraph, for each item of
     a list without its sign, and for each row of a table, as its cells with a colon behind the
     first. Raises a ValueError if the page has no such heading."""
-    document, heading = place.split("/", 1)
+    text = re.sub(r"\n *\|-.*", "", "\n".join(section_lines(*place.split("/", 1))))
+    text = re.sub(r"^ *\| (.*?) \| (.*) \|$", r"- \1: \2;", text, flags=re.M)
+    blocks = re.split(r"\n\n(?:- )?|\n *- ", text)
+    return "\n".join(" ".join(block.split()) for block in blocks)
+
+
+def section_lines(document: str, heading: str) -> List[str]:
+    """The lines below a heading of a page. Raises a ValueError if the page has no such heading."""
     with open(os.path.join(ROOT, "docs", document + ".md"), encoding="utf-8") as page:
         found = re.search(
             r"^(#+) %s\n(.*?)(?=^##|\Z)" % re.escape(heading), page.read(), re.M | re.S
         )
     if not found:
         raise ValueError(f"docs/{document}.md has no heading {heading}")
-    text = re.sub(r"\n *\|-.*", "", found.group(2))
-    text = re.sub(r"^ *\| (.*?) \| (.*) \|$", r"- \1: \2;", text, flags=re.M)
-    blocks = re.split(r"\n\n(?:- )?|\n *- ", text)
-    return "\n".join(" ".join(block.split()) for block in blocks)
+    return found.group(2).split("\n")
 
 
 def wrong_guides(rows: Rows, chapters: Iterable[str]) -> List[str]:
@@ -159,7 +202,7 @@ def wrong_guides(rows: Rows, chapters: Iterable[str]) -> List[str]:
     here |= {path.replace(".specs.", "/") for path in rows}
     return [
         f"a guide, a rule or a comment is told of {name}, which is not on the page"
-        for name in [*GUIDES, *NOTES, *STATED, *COMMENTED, *ABOUT]
+        for name in [*GUIDES, *NOTES, *STATED, *TABLES, *COMMENTED]
         if name not in here
     ]
 

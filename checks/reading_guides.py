@@ -4,15 +4,17 @@ computed, the rules in words, guides to chapters and definitions, and the outsid
 from typing import Dict, List, Tuple
 
 TIMES = """\
-No person was timed. The minutes are computed at reading rates from all that is printed: 95 symbols
-of definitions a minute (150 in chapters of records, and for the types of the code), 150 words of
-rows, and 220 words of the rest, with a seventh more for going back. To check a definition against
-its rule takes longer than to read the two. Eleven language models read this page and its print as
-sceptics, most of them a somewhat longer edition. They found all 33 errors that had been planted for
-them. For a person they estimated 2 h 45 to 3 h 56, with a median of 3 h 15.
+Nobody was timed; these are estimates for a reader who knows a typed functional language, such as
+Haskell or OCaml. They are computed from everything printed, at these rates per minute: 95 symbols
+of definitions (150 in chapters that only list fields, and for Rust types), 150 words of rows, and
+220 words of other text; plus one seventh for going back. Pauses at hard definitions take extra
+time. Twenty-one language models, told to be sceptical, read editions of this page and its print.
+Each found all three errors that had been planted for it. The four that read this edition estimated
+149 to 160 minutes for such a reader; the six that read the editions right before it, 153 to 191.
 
-The headline takes {lines} lines of definitions, not counting comments and imports. With the parts
-"Beside" it takes {all}."""
+The headline takes {lines} lines of definitions as they are printed, and {source} as they stand in
+`specs/`, not counting comments and imports. With the parts "Beside", it takes {all} lines in
+`specs/`."""
 
 # Below the table of the minutes.
 LEFT_OUT = """\
@@ -46,8 +48,11 @@ STATED: Dict[str, List[str]] = {
     "auction_rules/TicketMatch.arriving":
         ["GAME/Tickets", "An admitted bid first replaces .. the order of their indices."],
     "auction_rules/TicketMatch.better":
-        ["GAME/Tickets", "A buying unit is matched .. is at most the buyer's.",
-         "A selling unit is matched, .. is at least the seller's."],
+        ["GAME/Tickets", "A buying unit is matched .. index comes first.",
+         "A selling unit is matched, .. the highest price."],
+    "auction_rules/TicketMatch.crosses":
+        ["GAME/Tickets", "The two units trade if the seller's .. the buyer's.",
+         "The two units trade if the buyer's .. the seller's."],
     "auction_rules/TicketMatch.pair_trade":
         ["GAME/Tickets", "The trade is at the price .. becomes a standing unit."],
     "auction_rules/Standing.left_standing":
@@ -71,6 +76,9 @@ STATED: Dict[str, List[str]] = {
     "auction_rules/Legal.cap":
         ["GAME/Limits", "an agent's calls in one auction .. 1024;",
          "the clock's calls in one auction: 64;"],
+    "agent_gate/Turns.IsLawfulTurn":
+        ["GAME/Limits", "an agent's calls in one auction .. 1024;",
+         "an agent's readings of its cash: 1024;"],
     "trade_ledger/CashHistory.cash_reply_of":
         ["GAME/Cash", "When an agent reads its cash, .. before the reading."],
     "trade_ledger/Posts.due_post":
@@ -94,6 +102,7 @@ STATED: Dict[str, List[str]] = {
          "1, `no syntax`: .. with fault K;"],
     "line_protocol/Replies.said_text":
         ["FORMATS/Requests and replies", "P is the position .. in the cash book."],
+    "agent_gate/Served.EndsBy": ["PROOFS/The headline: a game over links", "TABLE cause"],
     "agent_gate/Gates.verdict_of":
         ["PROTOCOL/Admission", "The first line of a link .. `0` to `9`."],
 }
@@ -108,21 +117,47 @@ entries before it. A past has its newest entry first: in `e ∷ past`, `e` has t
 An agent never trades with itself: the house sells seats and rooms, and `faces` pairs tickets of
 different agents.""",
     "auction_rules/History.bid_units": """\
-These are the units of each agent's last bid, in one list. Nothing is dropped on the way.""",
+These are the units of each agent's last bid, in one list. No unit is left out.""",
     "auction_rules/TicketMatch.if_crossing": """\
-Among the standing units are the old ones of the arriving agent: `faces` leaves them out. From here
+The standing units include the arriving agent's old ones: `faces` leaves them out. From here
 to `pairs`: `partner` is the best unit that faces the arriving one, if the prices cross;
 `pair_with` makes a pair of the two; `pairs` does so for each arriving unit in turn, without the
 units that are taken.""",
     "auction_rules/Standing.gone": """\
 This goes through the past from the oldest entry. For each admitted call it adds the units that
 `gone_by` returns, given those that stood before the call.""",
+    "tac_base/Goods.house": """\
+The number 8 is the clock among callers and the house among parties.""",
+    "auction_rules/Standing.left_standing": """\
+So what stands are the units of the last bids, less all that ever traded. No two units of a history
+have the same position and index, so one that traded never stands again.""",
+    "packages/Packages.used": """\
+Night 0 of a ticket type means that there is none; `thing_of` gives no night 0.""",
+    "auction_rules/Units.block": """\
+The next three definitions number the units of a bid: those of its first point are 0, 1 .., and
+those of the next point follow.""",
+    "auction_rules/Units.same_unit": """\
+The position and the index already tell two units apart; the other fields are compared too.""",
+    "auction_rules/TicketMatch.better": """\
+`faces` keeps only units of one side.""",
+    "auction_rules/Precedence.precedes": """\
+For buying units, this is `goes_before`.""",
+    "auction_core/Setups.endow_by": """\
+An agent's twelve ticket counts are for goods 16 to 27, in order.""",
+    "auction_rules/FlightSales.flight_trades": """\
+It is proved that `flight_trades` sells the units of `gone_by` (below).""",
+    "auction_rules/Ask.published": """\
+`stand` of `past` lacks the new bid; `stand` of `e ∷ past` includes it.""",
+    "game_text/Schedule.update_of": """\
+`flight.draws` has the draws of ticks 1 to 53, in order.""",
+    "game_run/Admission.CameTo": """\
+`Sits` is `IsSeated` of the game that was played.""",
     "auction_rules/Legal.trades_by": """\
 The price paid: at a flight the price after the call, in a hotel the ask, for tickets the price of
-the standing unit. `stand` is that of the past, without the new bid.""",
+the standing unit. `stand` takes the past, without the new bid.""",
     "trade_ledger/CashHistory.IsFitCash": """\
-By this chapter alone the clock could read cash, and anybody could post anything.
-`IsClockTranscript` and `Matched` say that they do not.""",
+This chapter alone lets the clock read cash, and lets anybody post anything. `IsClockTranscript` and
+`Matched` rule this out.""",
     "auction_rules/FlightRule.next_price": """\
 An example: with bound 30 at tick 27, x(27) = 10 + 27 * 20 / 54 = 20, so the change lies between -10
 and 20. With draw 30 it is -10 + 30 mod 31 = 20.""",
@@ -130,34 +165,34 @@ and 20. With draw 30 it is -10 + 30 mod 31 = 20.""",
 The weight that is 1 for one entry and 0 for all others counts that entry.""",
     "game_text/Schedule.schedule": """\
 There are 53 * 8 updates, 8 closings and 7 + 6 + .. + 0 = 28 publications of hotels, and 20 closings
-at the end: 480 calls. The default 0 of `get_or` is never used: a text that is read as a game has 53
-draws for each flight, and 8 nights in its order.""",
+at the end: 480 calls. The default 0 (`else 0`) is never used: a text that is read as a game has 53
+draws for each flight, and 8 nights in its `order`.""",
     "packages/Packages.utility_of": """\
-The `-` never stops at 0: each of the two days is off by at most 3.""",
+The `∸` never cuts off at 0: each of the two days is off by at most 3.""",
     "settlement/Sheets.IsScored": """\
 No number of a score is free: each is fixed by the account and the cash of the same agent.""",
     "Requests and replies as lines": """\
-The rows show each form. The definitions that spell them are in the part beside.""",
+How each is spelled, with rows, is in the parts named below.""",
     "tac_io/AllAnswers.all_answers": """\
-The bytes are cut at each 10. The list ends with `Budget` if `room` is used up, which is tested
+The bytes are cut at each byte 10. The list ends with `Budget` if `room` is used up, which is tested
 first, or with `End`; it never has `Failed`, since it depends on the bytes alone.""",
     "The bytes of a link": """\
-Read this chapter as if everything were known. What the system's links do not tell is `None` before
-a call and after it.""",
+Read this chapter as if everything were known. For the system's links, what is not known is `None`,
+before and after.""",
     "The session of a link": """\
-A session is a list of turns. Each has a line that was read, its reply, and the entries that it
-made. `AreItems` maps the lines to the turns, one to one. `IsTranscript` says that the entries of
-the turns are the agent's part of each history: whole lists, so no call is missing, invented or made
-twice. `EndsBy` says that the replies were sent.""",
+A session is a list of turns. A turn is a line that was read, its reply, and the entries made.
+`AreItems` maps the lines to the turns, one to one. `IsTranscript` says that the entries of the
+turns are all of the agent's part of each history, so no call is missing, invented or made twice.
+`EndsBy` says that the replies were sent.""",
     "agent_gate/Served.EndsBy": """\
-The rules are those of PROOFS, "The headline: a game over links". Each has three parts: what the
-link's bytes hold after the lines of the turns | what the link was sent | the faults. After a failed
-read, `ComesTo gots.End` is about the bytes that were taken.""",
+The pieces are the welcome and a line for each turn. The equations follow the columns of the table;
+`SendsAll` also says that no write failed. After a failed read, `ComesTo End` is about the bytes
+that were taken.""",
     "agent_gate/Turns.IsNotBehind": """\
 This says "everything that the agent had seen": an entry at position p shows the length p + 1.""",
     "The log": """\
-It is proved apart that two played games with different heads, histories or scores never have the
-same text (`one_log`). The page has the lines of a log.""",
+A separate proof shows that two played games with different heads, histories or scores never have
+the same text (`one_log`). READING shows the lines of a log.""",
     "The outside before and after": """\
 The headline uses three of these: what the files hold, what the output took, and which links were
 still to come.""",
@@ -178,8 +213,8 @@ PLAIN_TYPES = {
 # brackets stands in place of the field or the equation too.
 NOTES: Dict[str, Dict[str, str]] = {
     "bound_cert/Solutions.IsSolution": {
-        "pub certificate": "[The fields `certificate` and `holds` are about `tree`, the search's "
-                           "own proof of the bound, on which no score depends.]",
+        "pub certificate": "[The unprinted fields `certificate` and `holds` are about `tree`, the "
+                           "search's own proof of the bound. No score uses `tree`.]",
         "pub holds": "[]",
     },
     "agent_gate/Turns.IsLawfulTurn": {
@@ -189,19 +224,14 @@ NOTES: Dict[str, Dict[str, str]] = {
             "agent.)",
         "IsLawfulTurn past (CallDenied": "A call that is denied. The agent has no calls left.",
         "IsLawfulTurn past (CashRead":
-            "A reading of cash. The agent has readings left. `IsTranscript` says their order.",
+            "A reading of cash. The agent has readings left. `IsTranscript` fixes their order.",
         "IsLawfulTurn past CashDenied": "A reading that is denied. The agent has none left.",
         "IsLawfulTurn past (Quoted": "A quote. Its count is not below what was shown.",
     },
-    "agent_gate/Served.EndsBy": {
-        f"EndsBy causes.{cause}":
-            f"RULE PROOFS/The headline: a game over links | `{cause.lower()}`: .. {end}"
-        for cause, end in (("Quit", "none"), ("End", "none"), ("ReadFault", "a failed read"),
-                           ("WriteFault", "a failed write"), ("Budget", "none"))
-    },
     "agent_gate/Served.IsServed": {
         "pub read":
-            "`read` are the lines that were read: as many as turns, each with its turn's item.",
+            "`read` has the lines that were read, one for each turn, each with its turn's item. "
+            "`answers` is `read` and then `rest`, with nothing else.",
         "pub end": "why the session ended, and what was sent",
     },
     "agent_gate/Transcript.IsTranscript": {
@@ -209,10 +239,10 @@ NOTES: Dict[str, Dict[str, str]] = {
             "At each good, the agent's part of the history is the entries of its turns. The "
             "positions of a part rise.",
         "pub cash":
-            "Its part of the cash history is their posts and readings, in the order of the turns.",
+            "The agent's part of the cash history is its turns' posts and readings, in order.",
         "pub boards":
-            "[The field `boards` says that each board shown is that of as many entries as it "
-            "states. A quote makes no entry, so you can leave it out.]",
+            "[The unprinted field `boards` says that a board that states n entries is that of the "
+            "first n. Skip the field: a quote makes no entry.]",
     },
     "game_run/LinkRuns.IsSeated": {
         "pub cause": "The head of the log has the cause of the session's end.",
@@ -220,7 +250,7 @@ NOTES: Dict[str, Dict[str, str]] = {
         "pub line": "They are cut into a first line and `answers`. That line has the seat's word.",
         "pub turns":
             "`IsServed` splits `answers` into the lines of the turns and the `rest`. No read "
-            "failed but the last one, if that ended the session, and likewise for writes.",
+            "failed, except the last if that ended the session; likewise for writes.",
         "pub transcript": "The turns are the agent's part of the histories.",
     },
     "game_run/PlayedGame.IsLegalGame": {
@@ -230,35 +260,66 @@ NOTES: Dict[str, Dict[str, str]] = {
     "game_run/PlayedGame.IsClockTranscript": {
         "pub asked": "In order, the clock's turns make the calls of the schedule.",
         "pub calls": "At each good, the clock's part of the history is the entries of its turns.",
-        "pub cash": "Its part of the cash history is their posts, in the order of the turns.",
+        "pub cash": "The clock's part of the cash history is its turns' posts, in order.",
     },
     "game_run/PlayedGame.IsPlayedBy": {
-        "pub each_end": "Each agent with a seat has one end, in rising order.",
+        "pub each_end": "`ends` lists each agent with a seat once, in rising order.",
         "pub absent": "An agent without a seat took no turn.",
     },
     "game_run/Admission.TakesLinks": {
-        "pub given": "`given` are the links that it took: the first of those to come, in order.",
+        "pub given": "`given` are the links that were taken: the first to come, in order.",
         "pub came": "Each has a verdict, and `ended` is what became of them.",
-        "pub each": "What happened to the n-th link is what its verdict says, by the seats that "
-            "the first n verdicts left.",
-        "pub ports": "It asked to listen at the port.",
+        "pub each": "What happened to link n, counted from 0, fits its verdict, given the seats "
+            "after the first n verdicts.",
+        "pub ports": "The server asked to listen on the port.",
     },
     "tacd/Headline.WritesTrueLog": {
         "pub written": "(The 0: no tick was missed.)",
-        "pub over":
-            "(`taken` leads to `IsSeated` of each link with a seat, and from there to "
-            "`IsLawfulTurn`, `IsTranscript` and `EndsBy`; `lawful` leads to `Legal`, "
-            "`IsLegalCash`, `Matched` and the clock.)",
         "pub callers": "(Nobody but the agents and the clock calls the cash book.)",
     },
 }
 
-# Modules above which the print has their sentence, as CRATE/MODULE: it says more than a rule does.
-ABOUT = {"auction_rules/Standing"}
+# Tables: of a definition as CRATE/MODULE.NAME, lines that stand above it as they are.
+TABLES: Dict[str, List[str]] = {
+    "auction_rules/Standing.left_standing": [
+        "An example, at a flight whose price is 300. A unit is (position of its bid, index).",
+        "  position  call                             bid_units          gone         stand",
+        "  0         agent 2: 1 at 310 and 2 at 200   (0,0) (0,1) (0,2)  (0,0)        (0,1) (0,2)",
+        "  1         agent 2: 1 at 250                (1,0)              (0,0)        (1,0)",
+        "  2         the clock: the price is now 250  (1,0)              (0,0) (1,0)  none",
+    ],
+    "agent_gate/Turns.Turn": [
+        "What the definitions of this chapter say of each kind of turn:",
+        "  turn        the line asks  reply       entry at a good  cash entry     lawful if",
+        "  Called      for a call     @P ..       at position P    the due post,  calls are left,",
+        "                                                          if any         and not behind",
+        "  CallDenied  for a call     no spent    -                -              no call is left",
+        "  CashRead    for cash       @P cash D   -                the reading    one is left",
+        "  CashDenied  for cash       no spent    -                -              none is left",
+        "  Quoted      for a quote    quote ..    -                -              not behind",
+        "  Refused     (a fault)      its fault   -                -              always",
+        "  Skipped     (too long)     no toolong  -                -              always",
+        "  Left        to quit        bye         -                -              always",
+    ],
+}
+# Definitions that the print has in the place where they are used, as CRATE/MODULE.NAME.
+IN_PLACE: List[str] = [
+    "auction_rules/Units.point_units", "auction_rules/Units.among",
+    "auction_rules/History.last_bids", "auction_rules/History.units_of_bids",
+    "auction_rules/Effects.net_units", "auction_rules/TicketMatch.ticket_trades",
+    "auction_rules/TicketMatch.units_of_pairs", "auction_rules/TicketMatch.ticket_gone",
+    "auction_rules/BeatQuote.quote_to_beat", "auction_rules/Refusals.has_standing",
+    "auction_rules/Legal.entries_of", "trade_ledger/Posts.posts_of",
+    "trade_ledger/Posts.due_to", "game_text/Schedule.closed_last", "game_text/Schedule.ticks",
+    "packages/Packages.IsPackage", "packages/Stocks.stock_of", "packages/BestTotal.used_by",
+    "settlement/Sheets.IsDueScore", "game_log/ScoredGames.IsSheetOf",
+    "tac_io/LinkCalls.GaveBytes", "game_run/Admission.free_seats", "agent_gate/Turns.item_of",
+    "agent_gate/Turns.said_of", "agent_gate/Turns.reading", "turn_lock/Part.part_from",
+]
 # What computes something, and has a comment that says more than its name and its equations.
 COMMENTED = set(
     """
-    block point_units last_bid dollars holding price_after looked_at pairs left
+    block point_units last_bid dollars entries_of holding price_after looked_at pairs left
     standing_points points_looked_at quote_to_beat hotel_refusal entry_of
     cash_total due_posts open_after closed_last at_least_none short_of all_answers known_then
     then_known dialect_in made_at cash_by shown_length part_from

@@ -24,8 +24,9 @@ def chapters_of(definitions: Definitions, rows: Rows) -> Chapters:
             return
         placed.add(path)
         names = [name for name in rows[path] if (path, name) not in moved]
-        for used in definitions.used_modules(path, names):
-            place(used, chapter)
+        for target in (one for name in names for one in targets_of(definitions, path, name)):
+            if target[0] != path and target not in moved:
+                place(target[0], chapter)
         if names:
             chapter[path] = names
 
@@ -64,7 +65,10 @@ def moved_to(rows: Rows) -> Dict[Target, str]:
 
 def inserted(definitions: Definitions, chapter: Rows, path: str, names: List[str]) -> Rows:
     """The definitions of a chapter, with some of a module before the first module that uses them,
-    or else behind the last one that they use, or else at its beginning."""
+    or else behind the last one that they use, or else at its beginning. Raises a ValueError if the
+    chapter has others of the module."""
+    if path in chapter:
+        raise ValueError(f"{path} stands twice in a chapter")
     items = list(chapter.items())
     here = {(path, name) for name in names}
     users = [

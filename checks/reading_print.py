@@ -2,7 +2,7 @@
 
 import re
 import textwrap
-from typing import Container, Dict, Iterable, Iterator, List, NamedTuple, Optional, Set, Tuple
+from typing import Dict, Iterable, Iterator, List, NamedTuple, Optional, Set, Tuple
 
 from definitions import Definition, Definitions, Module, Target
 from reading_aids import (
@@ -13,8 +13,12 @@ from reading_aids import (
     noted,
     phrases_above,
     rule_of,
+    table_of,
 )
-from reading_guides import ABOUT, COMMENTED, NOTES, PLAIN_TYPES
+from reading_guides import COMMENTED, IN_PLACE, NOTES, PLAIN_TYPES
+from reading_inlined import helpers_of, in_place
+from reading_meaning import differs
+from reading_notation import WIDTH, definition, typed
 from reading_order import Chapters, chapters_of, order_of, row_places, rows_elsewhere
 from reading_rows import Helper, Lemmas, Row
 from reading_text import DEFINITION, PROSE, ROW, TYPE, Piece, Rows, target_of, wrapped
@@ -72,11 +76,34 @@ def plain(line: str) -> str:
     return re.sub(r"^( *(?:record|data) .*?)(?: :)? Type 0 where$", r"\1 where", line)
 
 
+def is_plain(one: Definition) -> bool:
+    """Whether it is a record or a type that states nothing: its fields are values."""
+    states = re.compile("≡|≤|<|→|: (?:All|Legal|Matched|Contains|Takes|Took|Is[A-Z]|Are[A-Z])")
+    is_type = re.match(r" *(?:pub )?(?:record|data)\b", one.lines[0])
+    return bool(is_type) and not any(states.search(line) for line in one.lines[1:])
+
+
+def typed_name(head: str) -> str:
+    """The first line of a definition that is not printed whole: of a record without its words."""
+    found = re.match(r"( *)pub record (.*?)(?: :)? Type 0 where$", head)
+    return f"{found.group(1)}{found.group(2)} : Type" if found else head
+
+
 def together(lines: List[str]) -> List[str]:
-    """The lines of a definition, with short equations in one line."""
-    joined = "   ".join(lines[1:])
-    short = len(lines) > 2 and len(joined) <= 100 and all(" = " in line for line in lines[1:])
-    return [lines[0], joined] if short else lines
+    """The lines of a definition: a record of fields without notes, and short equations with the
+    type or without, in one line if there is room."""
+    if any(line.lstrip().startswith("--") for line in lines) or len(lines) < 2:
+        return lines
+    parts = [line.strip() for line in lines[1:]]
+    if re.match(r" *(record|data)\b", lines[0]):
+        joined = f"{lines[0]} {'; '.join(parts)}"
+        return [joined] if len(joined) <= WIDTH else lines
+    if not all(" = " in part for part in parts):
+        return lines
+    whole, joined = "   ".join([lines[0], *parts]), "   ".join(parts)
+    if len(whole) <= WIDTH:
+        return [whole]
+    return [lines[0], joined] if len(parts) > 1 and len(joined) <= WIDTH else lines
 
 
 def types_by_module(
@@ -107,49 +134,27 @@ def types_by_module(
     return by_module
 
 
-def renamed_names(
-    definitions: Definitions, chapters: Chapters, beside: Container[Target]
-) -> str:
-    """What these definitions name otherwise than where it is defined, by the type or the module
-    that has it: imports under another name, and types and modules under one of their own. Raises a
-    ValueError if a name stands for two things."""
-    told: Dict[str, Tuple[str, str]] = {}
-    for path, names in (part for chapter in chapters.values() for part in chapter.items()):
-        module = definitions.modules[path]
-        text = "\n".join(
-            line
-            for name in names
-            for line in module.definitions[name].lines[: 1 if (path, name) in beside else None]
-        )
-        said = {
-            word: (f"`{word}` (= `{found}`)", owner_of(definitions, place, found))
+def own_names(module: Module) -> Dict[str, str]:
+    """The own names of the constructors that a module imports under others, each by that; and
+    nothing for the name of a type as a module, with its point."""
+    of_types = {alias for alias, place in module.aliases.items() if place.endswith(".TheVariants")}
+    return {
+        **{f"{alias}.": "" for alias in of_types},
+        **{
+            word: found
             for word, (place, found) in module.imports.items()
-            if word != found
-        }
-        for alias, place in module.aliases.items():
-            said[f"{alias}."] = (f"`{alias}.NAME`", owner_of(definitions, place, ""))
-        for word, meaning in said.items():
-            if re.search(r"(?<![\w.'])%s(?:(?<=\.)|(?![\w']))" % re.escape(word), text):
-                if told.setdefault(word, meaning) != meaning:
-                    raise ValueError(f"{word} is {told[word]}, and in {path} it is {meaning}")
-    return "; ".join(
-        f"of `{owner}`: {', '.join(shown for shown, of in told.values() if of == owner)}"
-        for owner in dict.fromkeys(of for _, of in told.values())
-    )
+            if word != found and place.endswith(".TheVariants")
+        },
+    }
 
 
-def owner_of(definitions: Definitions, path: str, name: str) -> str:
-    """The type of which a name of a module is a constructor, or the module."""
-    if path.endswith(".TheVariants"):
-        return path.split(".")[-2]
-    module = definitions.modules.get(definitions.given.get(path, path))
-    if module:
-        row = re.compile(r"\s+%s :" % re.escape(name))
-        for one in module.definitions.values():
-            if re.search(r"\bdata ", one.lines[0]) and any(map(row.match, one.lines[1:])):
-                return one.name
-        return f"{module.crate}/{module.name}"
-    return "Option" if name in ("None", "Some") else path.split(".")[-1]
+def with_own_names(module: Module, lines: Iterable[str]) -> List[str]:
+    """Lines of a module with each constructor by its own name."""
+    text = "\n".join(lines)
+    for word, found in own_names(module).items():
+        end = "(?=[A-Z])" if word.endswith(".") else r"(?![\w'])"
+        text = re.sub(rf"(?<![\w.']){re.escape(word)}{end}", found, text)
+    return text.split("\n")
 
 
 class Names:
@@ -216,10 +221,11 @@ class Print:
         types: List[CodeType],
         beside: Dict[Target, str],
         with_lemmas: bool,
+        as_written: bool,
         lemmas: Lemmas,
     ) -> None:
         self.definitions, self.lemmas = definitions, lemmas
-        self.beside, self.with_lemmas = beside, with_lemmas
+        self.beside, self.with_lemmas, self.as_written = beside, with_lemmas, as_written
         self.told: Set[Helper] = {(PREAMBLE_FILE, name) for name in PREAMBLE_WORDS}
         self.chapters = chapters_of(definitions, rows)
         self.order = order_of(definitions, self.chapters)
@@ -230,6 +236,11 @@ class Print:
         self.elsewhere = rows_elsewhere(definitions, self.order, self.printed, lemmas)
         self.cases = cases_without_row(definitions, rows, lemmas)
         taken = {name for names in rows.values() for name in names} | {"read", "ticket"}
+        in_places = set() if as_written else set(map(target_of, IN_PLACE))
+        self.in_places = [target for target in self.order if target in in_places]
+        self.helpers = helpers_of(
+            [(name, self.own_lines((path, name))) for path, name in self.in_places]
+        )
         self.names = Names(lemmas, [row for _, row in self.places], taken)
 
     def pieces(self, heading: str) -> Iterator[Piece]:
@@ -241,10 +252,57 @@ class Print:
             module = self.definitions.modules[path]
             for one in self.types[heading, path]:
                 yield Piece(TYPE, ["", *type_lines(one)])
-            place = f"{module.crate}/{module.name}"
-            about = f"{place}: {module.about}" if place in ABOUT else place
-            yield Piece(PROSE, ["", *wrapped(about, "-- ", "--   "), ""])
+            if any((path, name) not in self.in_places for name in names):
+                yield Piece(PROSE, ["", f"-- {module.crate}/{module.name}", ""])
             yield from self.definition_pieces(module, names)
+
+    def own_lines(self, target: Target) -> List[str]:
+        """The lines of a definition, without the words that say nothing, and with the own names of
+        constructors."""
+        module = self.definitions.modules[target[0]]
+        return with_own_names(module, map(plain, module.definitions[target[1]].lines))
+
+    def faults(self) -> List[str]:
+        """The definitions whose short form says something else, each with what it is."""
+        modules = self.definitions.modules
+        helpers = {
+            name: ([*map(plain, modules[path].definitions[name].lines)], own_names(modules[path]))
+            for path, name in self.in_places
+        }
+        found = []
+        for path, name in self.order:
+            if (path, name) not in self.in_places:
+                one = modules[path].definitions[name]
+                written = self.told_lines(path, one, one.lines), own_names(modules[path])
+                wrong = differs(written, self.shown_lines(path, one), helpers)
+                found += [f"the print of {name}: {wrong}"] if wrong else []
+        return found
+
+    def shown_lines(self, path: str, one: Definition) -> List[str]:
+        """A definition as it is printed."""
+        if self.as_written:
+            return together(self.told_lines(path, one, one.lines))
+        module = self.definitions.modules[path]
+        lines = in_place(with_own_names(module, one.lines), self.helpers)
+        return together(definition(self.told_lines(path, one, lines)))
+
+    def told_lines(self, path: str, one: Definition, lines: List[str]) -> List[str]:
+        """The lines of a definition with what is noted there, and without the words that say
+        nothing; of one that a part beside has, the first line."""
+        target = (path, one.name)
+        lines = [typed_name(lines[0])] if target in self.beside else lines
+        lines = phrases_above(lines) if target == target_of(STATEMENT) else lines
+        return [*map(plain, noted(lines, NOTES.get(key_of(target), {})))]
+
+    def line_count(self, heading: str) -> int:
+        """The number of lines of the definitions of a chapter, as they are printed."""
+        lines = [
+            line
+            for piece in self.pieces(heading)
+            for line in piece.lines
+            if piece.kind == DEFINITION and line and not line.lstrip().startswith("-- ")
+        ]
+        return len(lines)
 
     def new_words(self, heading: str) -> List[str]:
         """The words of the library that this chapter uses first, of those that need words."""
@@ -269,17 +327,16 @@ class Print:
         header, block = None, None
         for one in sorted((module.definitions[name] for name in names), key=lambda each: each.line):
             target = (module.path, one.name)
+            if target in self.in_places:
+                continue
             if module.parameters.get(one.name) not in (None, header):
                 header = module.parameters[one.name]
-                yield Piece(DEFINITION, header)
+                yield Piece(DEFINITION, header if self.as_written else [*map(typed, header)])
             if module.mutual.get(one.name) not in (None, block) and target not in self.beside:
                 block = module.mutual[one.name]
                 yield Piece(DEFINITION, ["mutual"])
             yield Piece(PROSE, self.lines_above(module, one))
-            lines = one.lines[: 1 if target in self.beside else None]
-            shown = phrases_above(lines) if target == target_of(STATEMENT) else lines
-            shown = noted(shown, NOTES.get(key_of(target), {}))
-            yield Piece(DEFINITION, [*together([*map(plain, shown)]), ""])
+            yield Piece(DEFINITION, [*self.shown_lines(module.path, one), ""])
             for place, row in self.printed:
                 if place == target:
                     told = self.told if self.with_lemmas else None
@@ -290,16 +347,21 @@ class Print:
         comment, if it has no rule and the comment says more than the definition."""
         target = (module.path, one.name)
         rule = "" if target == target_of(STATEMENT) else rule_of(target)
-        lines = told_lines("RULE ", rule) + told_lines("", guide_of(target))
+        table = table_of(target)
+        lines, guide = told_lines("RULE ", rule) + table, told_lines("", guide_of(target))
+        about = " ".join(line.strip("- ") for line in comment_of(module.file, one))
         if target in self.beside:
-            lines.append(f"-- (beside: {self.beside[target]})")
-        elif self.elsewhere.get(target) == "":
+            about = "" if rule or key_of(target) in NOTES else about
+            about = f"(beside: {self.beside[target]}) {about}"
+            return lines + told_lines("", about) + guide
+        if self.elsewhere.get(target) == "" and not is_plain(one):
             lines.append("-- (no row)")
         if target in self.cases:
             lines.append(f"-- (no row for {', '.join(self.cases[target])})")
-        says_more = target in self.beside or one.name[0].isupper() or one.name in COMMENTED
+        says_more = one.name[0].isupper() or one.name in COMMENTED
         says_more = says_more and key_of(target) not in NOTES
-        return lines + (comment_of(module.file, one) if says_more and not rule_of(target) else [])
+        says_more = says_more and not rule and not table
+        return lines + (told_lines("", about) if says_more and about else []) + guide
 
 
 def told_lines(sign: str, text: str) -> List[str]:

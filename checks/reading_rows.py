@@ -141,7 +141,7 @@ ROWS = [
         ("Agent 0 offers 1 at 60, and then agent 1 bids for 2 at 70: 1 is traded at 60, the "
          "standing price. The board shows the bid 70 and no ask")),
     Row(["worked_rows/Auctions:new_bid_does_not_meet_the_old_one"],
-        ["auction_rules/TicketMatch.faces"],
+        ["auction_rules/TicketMatch.pairs", "auction_rules/TicketMatch.faces"],
         ("Agent 0 offers 1 at 60, and then bids to buy 1 at 70. No unit trades, and only the "
          "later bid stands")),
     # .. trades, holdings, dollars

@@ -11,34 +11,34 @@ over all feasible allocations, less costs and penalties."""
 
 # What stands beside the headline, here and in README.md.
 CAVEATS: List[str] = [
-    """**Some bytes.** The system's sockets and files do not say what they carry. So all that is
-    claimed is that there are *some* bytes, and a game described by *some* text, for which the
-    headline holds (`docs/PROOFS.md`, "Premises").""",
+    """**Some bytes.** The proof cannot see what the system's sockets and files carry. So it claims
+    only that the headline holds for *some* bytes, and for a game that *some* text describes
+    (`docs/PROOFS.md`, "Premises").""",
     """**29 orders.** Each auction has its own history, and so has the cash book. Nothing says which
     of two calls came first if they are in different auctions and have different callers. So
     "everything that the agent had seen" is about one auction at a time.""",
     """**Fewer than eight agents.** A game begins once eight agents have a seat, 64 links have been
     accepted, or no link is left. An empty seat makes no calls but has a score.""",
-    """**No memory.** In a game in JSON, the reply to any line may be `{"no":"memory"}`. Such a line
+    """**No memory.** In a game in JSON, any line may get the reply `{"no":"memory"}`, and then it
     requests nothing.""",
-    """**Costs are subtracted once.** They have already been taken out of the agent's cash, and the
-    score includes that cash: it is the greatest utility, plus cash, less 200 dollars for each
-    ticket that the agent is short.""",
+    """**Costs are subtracted once.** They have already been taken out of the agent's cash. The
+    score is the greatest utility, plus that cash, less 200 dollars for each ticket that the agent
+    is short.""",
 ]
 
 LEAD = """\
-The clause `headline` of the top call `tac` (`crates/tacd/src/top.rt`) says this. The code is proved
-to meet it. Whether it says what is meant, only a reader can judge. The print of this page has the
-definitions that you have to read. The clause also depends on others, in the parts "Beside". Each of
-these parts says why you can leave it out."""
+The clause `headline` of the function `tac` (`crates/tacd/src/top.rt`) says this. The code is proved
+to meet it. Only a reader can judge whether it says what is meant. The definitions that you have to
+read for that are printed by a script ("How to read"). The clause also depends on other definitions,
+in the parts called "Beside". Each of these parts says why you can leave it out."""
 
 LEFT_TO_SERVICE = """\
 **What the clause `headline` leaves to the clause `service`:** that the ticks were waited for, and
 what holds with codes other than 0. See the part "Beside: what `service` says besides"."""
 
 PICTURE_ABOUT = """\
-The bytes of one link become lines, turns, entries in two histories, lines of the log and a score.
-At each arrow stand the definitions that state that step. The clock's turns take the same path."""
+The bytes of one link become lines, turns, entries in the histories, lines of the log and a score.
+Each arrow shows the definitions that state its step. The clock's turns take the same path."""
 
 PICTURE = """\
 bytes that the link gave                               bytes that the link was sent
@@ -121,34 +121,71 @@ short, the score is 0 - 600 - 200 * 0 = -600. A run of `tac play` with the reque
 turns wrote the same lines from `auction 0 55` on."""
 
 HOW_TO_READ = """\
-1. Read this page as far as the times. The rest is for reference.
+1. Read this page up to and including "How long it takes". The rest is for reference.
 2. Run `python3 checks/reading.py --print | less`, and read it from top to bottom. Each definition
 comes after those that it uses, and below the rule that it states.
-3. Compare the two, and look at the row below them: a small case in words. Read slowly where the
-print says "(no row)".
+3. Compare each definition with its rule. The row below it is a small worked case: skip it if the
+definition is clear. Read slowly where the print says "(no row)".
 4. The last definition, `WritesTrueLog`, has the phrases of the headline above its fields.
 
-You need no other definition and no proof, and not the parts "Beside". The README says what else you
-have to trust."""
+You need no other definition, no proof, and none of the parts "Beside". The README says what else
+you have to trust."""
 
 # The beginning of the print.
 PRINTED = """\
 The clause `headline`, and the definitions on which it depends, each below those that it uses. A
-RULE is in the words of the page that it names. A row is a small case that the toolchain checks as a
-lemma; docs/READING.md links to it, and `--lemmas` prints it. A row that says that a statement holds
-would still hold if the statement had fewer parts. A definition to which no row leads has the mark
-"(no row)". Of one with the mark "(beside: ..)" only the first line is printed; that part of READING
-has the rest. The words `pub`, `abbrev` and `unfoldable` are left out, and so is `Type 0` at the
-beginning of a record."""
+RULE quotes the page that it names. A row is a small case that the toolchain checks as a lemma: it
+helps where a definition is hard. `--lemmas` prints the lemmas. In a rule, "(ours)" marks what this
+project decides itself. Some helpers are inlined, with their arguments filled in. A definition that
+no row reaches is marked "(no row)". For a definition marked "(beside: ..)", only the type is
+printed; the part of READING with that name covers the rest."""
 PRINTED_WITH_LEMMAS = """\
 What must be believed, with the lemmas: see `checks/reading.py --print`. Each row is told in words.
 Below it stands the lemma that the toolchain checks, with its file. Of the words, the script checks
 that the lemma exists, leads to the definition, and has their numbers."""
+# The short notation of the print, sign by sign.
+SHORT_ABOUT = "Definitions are in a short notation (`--as-written`: as they stand in specs/):"
+SHORT: List[Tuple[str, str]] = [
+    ("f (x y : A) : B = ..", "f of x and y is defined as .."),
+    ("f (P | Q) = ..", "the same equation for P and for Q"),
+    ("f A = ..   f B = ..", "equations of one definition, on one line"),
+    ("a == b, a ≠ b", "computed"),
+    ("a < b, a ≤ b", "computed where a Bool is expected; otherwise a statement"),
+    ("a ∸ b", "a - b on ℕ, and 0 if that is below 0; it binds as `-` does"),
+    ("a - b", "on ℤ, so it may be below 0; `(+)` is + on ℤ as a function"),
+    ("n of ℕ where ℤ is expected", "the same number"),
+    ("any p xs, all p xs", "computed; `All P xs` is a statement"),
+    ("xs[k else d]", "the item at place k, counted from 0, or d past the end"),
+    ("xs[k] ≡ x", "there is an item at place k, and it is x"),
+    ("f xs[k else d], f [a]", "f of that item; f of a list"),
+    ("[a, b]", "the list of a and b"),
+    ("{ a; b = c }", "a record whose field a is the variable a, and whose field b is c"),
+    ("record r { a = b }", "r with b as its field a"),
+    (".f", "the function `λ x. x.f`"),
+    ("P × Q, P ⊎ Q, ⊤, ⊥", "both; at least one; always true; never true"),
+    ("Type", "the type of types and of statements"),
+]
 KEY = """\
-On ℕ, `-` stops at 0. A type of the code stands for the value that contracts see: a number of ℕ or
-ℤ, a text as its bytes, a record or variants of these; `Points` and `Left` as `List Point`. Several
-types have constructors of one name, such as `Own` of `Call` and of `Reply`: the type of the place
-says which is meant."""
+Contracts see Rust types as plain values: an integer as one of ℕ or ℤ, a text as its bytes, a struct
+or enum as a record or variants of such values, and `Points` and `Left` as `List Point`. Several
+types share a constructor name, such as `Own` in `Call` and `Reply`: the expected type says which is
+meant. Other signs are in the Key of docs/READING.md."""
+
+# How the definitions lead to each other.
+OUTLINE_ABOUT = "From the headline down to what the chapters define:"
+OUTLINE = """\
+WritesTrueLog
+  file     IsGameFile: the game is that of the file
+  over     IsPlayedOver: the game was played over the links
+    taken    TakesLinks: each link has a verdict, and IsSeated holds for each seated link
+             IsSeated: its bytes are cut into lines (all_answers), and each request gets a turn
+               IsServed: each line matches its turn (AreItems), each turn is lawful
+                 (IsLawfulTurn), and the replies were sent (EndsBy)
+               IsTranscript: the turns make up the agent's part of each history
+    lawful   IsPlayedBy: IsLegalGame (Legal, IsLegalCash, Matched), IsClockTranscript
+  scores   IsSheet, IsScored, IsSolution, IsBest
+  cash     IsCashOfPosts
+  written  TookWhole, log_text"""
 
 # The end of the page.
 MADE_BY = """\
@@ -216,7 +253,7 @@ TRUTHS = """\
   clauses are about a game as which some text is read. Such a game has eight flights with 53 draws
   each, eight nights in its order, and rooms for each night. It has twelve tickets and eight clients
   for each agent. So where the chapters read such a list with a default (`get_or`,
-  `slice_index_or`), the default is never used."""
+  `slice_index_or`; in the print `xs[k else d]`), the default is never used."""
 
 # What rows name and no chapter defines, as CRATE/MODULE.NAME, in words.
 ROW_WORDS: Dict[str, str] = {
@@ -249,12 +286,12 @@ ROW_WORDS: Dict[str, str] = {
 
 NOTATION: List[Tuple[str, str]] = [
     ("`(x : A) → P x`, `(x : A) × P x`",
-     "for every x P holds, and there is an x for which P holds"),
+     "for every x, P x holds; for some x, P x holds"),
+    ("`(a, b)`, `p.0`, `p.1`, `p.2`",
+     "a pair and its parts; `p.2` is the part after the first two of a longer product"),
     ("`(k : ℕ) (n : A) → get_elem? xs k ≡ some n → P n`",
      ("P holds for each item n of xs, at any place k, counted from 0. `slice_get xs k ≡ Some n` "
       "says the same; `some` is the library's other spelling of `Some`")),
-    ("`(a, b)`, `p.0`, `p.1`, `p.2`",
-     "a pair and its parts; `p.2` is the part after the first two of a longer product"),
     ("`A × B`, `A ⊎ B`, `⊤`, `⊥`",
      ("both hold (or a pair), at least one holds, the statement that always holds, the statement "
       "that never holds")),
@@ -292,8 +329,8 @@ NOTATION: List[Tuple[str, str]] = [
     ("`let x = a in b`, `m >>= λ x. b`, `do` with `x ← m`",
      "b with a for x; b with the value of m for x or, if m is an error, that error"),
     ("`causes.Quit`, `OwnCall`",
-     ("a name in a module or a type that was imported as `causes`; a name that was imported under "
-      "another name. `--print` explains these names at its beginning")),
+     ("a constructor of a type that the file imports as the module `causes`; a constructor that it "
+      "imports under another name. Its `use` lines say which; the print has the own name")),
     ("a re-export",
      ("a crate can re-export a module of another crate (`pub use` in its `specs/Lib.antt`). So "
       "imports name `game_log.specs.LogText` and `game_log.specs.SheetText`, while this page names "
@@ -307,10 +344,10 @@ NOTATION: List[Tuple[str, str]] = [
       "value that is returned")),
 ]
 # How many of these stand at the beginning of the print, and the words of the library that do.
-UNUSUAL = 3
+UNUSUAL = 2
 UNUSUAL_WORDS = [
-    "codes", "pos", "negsuc", "Contains", "slice_get", "slice_index_or", "slice_index", "slice_set",
-    "get_or", "find", "fold", "enumerate_from", "AllZip", "IfSome", "count_by", "sum_by",
+    "codes", "pos", "negsuc", "Contains", "slice_set", "find", "fold", "enumerate_from", "AllZip",
+    "IfSome", "count_by", "sum_by", "position",
 ]
 
 LIBRARY: Dict[str, str] = {
@@ -526,7 +563,7 @@ CHAPTERS = [
             ["agent_gate"]),
     Chapter("A game over links",
             ("This chapter defines which game was played, and what a link with a seat did in it."),
-            ["clock_events", "game_run"]),
+            ["clock_events", "game_run.PlayedGame", "game_run.LinkRuns", "game_run"]),
     Chapter("The log",
             "This chapter defines the text that is written.",
             ["log_text", "game_log"]),
@@ -544,7 +581,8 @@ CHAPTERS = [
 LATER: Dict[str, List[str]] = {
     "What stands, and hotels": [
         "auction_rules/FlightSales.placed_bids", "auction_rules/FlightSales.by_position",
-        "auction_rules/FlightSales.standing_of", "auction_rules/FlightSales.standing_points"],
+        "auction_rules/FlightSales.standing_of", "auction_rules/FlightSales.standing_points",
+        "auction_rules/FlightRule.is_sale", "auction_rules/FlightRule.looked_at"],
     "The game file": ["tac_base/Clients"],
     "Packages and the best total": [
         "tac_base/Goods.outbound_flight", "tac_base/Goods.hotel_night",
@@ -554,6 +592,7 @@ LATER: Dict[str, List[str]] = {
         "tac_base/Numerals", "text_forms/Words", "text_forms/Steps.◌>>=◌"],
     "The session of a link": [
         "tac_commands/Services.dialect_in", "game_text/SeatWords", "game_run/Admission.free_seats",
+        "game_run/Admission.seats_given",
         "turn_lock/Part", "turn_lock/Notes", "floor/ClosedBoards"],
     "A game over links": ["tac_io/States.LinksState"],
     "The log": [
@@ -589,8 +628,7 @@ PREAMBLE_WORDS: Dict[str, str] = {
 }
 
 # What a part beside has, with rows that the print shows.
-SHOWN = ["line_protocol/Requests.request_of", "line_protocol/Replies.said_text",
-         "auction_rules/FlightSales.flight_trades"]
+SHOWN = ["auction_rules/FlightSales.flight_trades"]
 
 # Of these parts, what neither the print nor a chapter has: a guide says why it is not needed.
 UNPRINTED = [
@@ -624,7 +662,7 @@ BESIDE: List[Tuple[str, str, List[str]]] = [
      "A link with a seat is sent these ten lines before its first reply.",
      ["agent_gate/Welcome.welcome_text"]),
     ("The words of requests and replies",
-     ("The rows of the print show each form of a request, and each form of a reply to an agent. "
+     ("The rows of this part show each form of a request, and each form of a reply to an agent. "
       "It is proved in `crates/line_protocol` that a line of none of these forms is a syntax fault "
       "(`one_request`), and that no two replies in range have the same line (`read_reply`)."),
      ["line_protocol/Requests.request_of", "line_protocol/Replies.said_text"]),

@@ -4,13 +4,23 @@ import sys
 import tempfile
 import unittest
 from pathlib import Path
+from typing import List, Tuple
 
 sys.path.insert(0, str(Path(__file__).resolve().parents[2] / "checks"))
 
 from definitions import Definitions, Module, Target  # noqa: E402
 from reading_aids import cases_without_row, minutes_of  # noqa: E402
+from reading_inlined import helpers_of, in_place  # noqa: E402
+from reading_meaning import differs  # noqa: E402
+from reading_notation import definition  # noqa: E402
 from reading_order import backward, chapters_of, row_places, rows_elsewhere  # noqa: E402
-from reading_print import CodeType, Names, renamed_names, row_lines, types_by_module  # noqa: E402
+from reading_print import (  # noqa: E402
+    CodeType,
+    Names,
+    row_lines,
+    types_by_module,
+    with_own_names,
+)
 from reading_rows import ROWS, Lemmas, Row, numbers_of  # noqa: E402
 from reading_text import DEFINITION, PROSE, Piece  # noqa: E402
 
@@ -183,13 +193,13 @@ class Printed(unittest.TestCase):
             ['f = record { bid = 0; codes "bid" ∷ Sessions.bid ∷ [] }'],
         )
 
-    def test_names_that_stand_for_others(self) -> None:
-        history, served = "auction_rules.specs.History", self.SERVED
-        chapters = {"One": {history: ["is_own", "is_close"]}, "Two": {served: ["EndsBy"]}}
-        own = "of `Call`: `OwnCall` (= `Own`)"
-        told = f"{own}; of `LineGot`: `gots.NAME`; of `Cause`: `causes.NAME`"
-        self.assertEqual(renamed_names(self.definitions, chapters, []), told)
-        self.assertEqual(renamed_names(self.definitions, chapters, [(served, "EndsBy")]), own)
+    def test_constructors_have_their_own_names(self) -> None:
+        modules = self.definitions.modules
+        for path, line, shown in (
+            ("auction_rules.specs.History", "is_own OwnCall = true", "is_own Own = true"),
+            (self.SERVED, "EndsBy causes.Quit text s = f causes", "EndsBy Quit text s = f causes"),
+        ):
+            self.assertEqual(with_own_names(modules[path], [line]), [shown])
 
     def test_types_stand_above_the_first_module_that_names_them(self) -> None:
         folder = tempfile.TemporaryDirectory()
@@ -236,6 +246,50 @@ class Printed(unittest.TestCase):
             cases_without_row(self.definitions, rows, lemmas),
             {(self.SERVED, "EndsBy"): ["Elsewhere"]},
         )
+
+
+class Short(unittest.TestCase):
+    """The short notation of definitions, and the reader that compares it with them."""
+
+    CASES: List[Tuple[List[str], List[str]]] = [
+        (["all : List ℕ", "all = 0 ∷ 1 ∷ []"], ["all : List ℕ = [0, 1]"]),
+        (["f : ℕ → ℕ → Bool", "f x y = nat_lt x (y + 1) && not (x == y)"],
+         ["f (x y : ℕ) : Bool = x < y + 1 && x ≠ y"]),
+        (["g : List ℤ → ℕ → ℤ", "g xs k = pos 2 *ℤ slice_index_or xs (k - 1) (pos 0)"],
+         ["g (xs : List ℤ) (k : ℕ) : ℤ = 2 * xs[k ∸ 1 else 0]"]),
+        (["h : Call → Bool", "h Publish = true", "h (Bid points) = true", "h call = false"],
+         ["h : Call → Bool", "h (Publish | Bid points) = true", "h call = false"]),
+        (["P : List E → Type 0",
+          "P es = (k : ℕ) (e : E) → slice_get es k ≡ Some e → All (λ x. x.units ≡ 0) (g e)"],
+         ["P (es : List E) : Type = "
+          "(k : ℕ) (e : E) → es[k] ≡ e → All (λ x. x.units ≡ 0) (g e)"]),
+        (["m : ℕ → Trade", "m good = record { good = good; units = sum_by (λ t. t.units) ts }"],
+         ["m (good : ℕ) : Trade = { good; units = sum_by .units ts }"]),
+    ]
+
+    def test_definitions_in_short_notation(self) -> None:
+        for lines, shown in self.CASES:
+            self.assertEqual(definition(lines), shown)
+
+    def test_the_second_reader_sees_a_slip(self) -> None:
+        for lines, shown in self.CASES[1:]:
+            self.assertEqual(differs((lines, {}), shown, {}), "")
+        lines, (shown,) = self.CASES[1]
+        slips = [("<", "≤"), ("≠", "=="), ("(x y", "(y x"), ("&& x ≠ y", ""), ("+ 1", "+ 2")]
+        for right, wrong in slips:
+            self.assertNotEqual(differs((lines, {}), [shown.replace(right, wrong)], {}), "")
+
+    def test_a_helper_in_its_place(self) -> None:
+        of = ["of : List Trade → ℕ → List Trade", "of ts p = filter (λ t. t.buyer == p) ts"]
+        lines = ["got : Game → ℕ", "got game = length (of game.trades house)"]
+        put = in_place(lines, helpers_of([("of", of)]))
+        shown = ["got (game : Game) : ℕ = length (filter (λ t. t.buyer == house) game.trades)"]
+        self.assertEqual(definition(put), shown)
+        self.assertEqual(differs((lines, {}), shown, {"of": (of, {})}), "")
+        wrong = [shown[0].replace("house", "clock")]
+        self.assertIn("house", differs((lines, {}), wrong, {"of": (of, {})}))
+        with self.assertRaises(ValueError):  # `t` would be bound
+            in_place(["x : ℕ", "x = f (λ t. of ts t)"], helpers_of([("of", of)]))
 
 
 if __name__ == "__main__":
