@@ -8,9 +8,9 @@ Nobody was timed; these are estimates for a reader who knows a typed functional 
 Haskell or OCaml. They are computed from everything printed, at these rates per minute: 95 symbols
 of definitions (150 in chapters that only list fields, and for Rust types), 150 words of rows, and
 220 words of other text; plus one seventh for going back. Pauses at hard definitions take extra
-time. Twenty-one language models, told to be sceptical, read editions of this page and its print.
-Each found all three errors that had been planted for it. The four that read this edition estimated
-149 to 160 minutes for such a reader; the six that read the editions right before it, 153 to 191.
+time. Twenty-three language models, told to be sceptical, read editions of this page and its print.
+Each found all three errors that had been planted for it. The last six estimated 149 to 179 minutes
+for such a reader; the six before them, 153 to 191.
 
 The headline takes {lines} lines of definitions as they are printed, and {source} as they stand in
 `specs/`, not counting comments and imports. With the parts "Beside", it takes {all} lines in

@@ -87,6 +87,12 @@ ROWS = [
         ["auction_rules/Standing.gone", "auction_rules/Standing.gone_by"],
         ("Agent 0 buys 1 seat at 300 by a bid. After that, and after an update too, no unit of the "
          "bid stands")),
+    Row(["worked_rows/Auctions:refused_bid_takes_nothing"], ["auction_rules/Standing.stand"],
+        ("Agent 0 offers a ticket at 60. Agent 1's bid to buy at 70 and to sell at 65 is refused: "
+         "nothing trades, and agent 0's unit still stands")),
+    Row(["worked_rows/Auctions:refused_calls_count"], ["auction_rules/Legal.entries_of"],
+        ("At a flight, agent 0 withdraws and bids, and the clock, 8, publishes. Two of these calls "
+         "are refused, and all count: 2 of agent 0 and 1 of the clock"), more=True),
     Row(["worked_rows/Auctions:draws_raise_and_lower_the_price"],
         ["auction_rules/FlightRule.next_price", "auction_rules/FlightRule.drift"],
         ("With price 300, bound 30, tick 27 and draw 30, the next price is 320. With price 300, "
@@ -174,6 +180,9 @@ ROWS = [
         ("The post of good 1 comes before that of good 0. The book still has one post for each "
          "entry with a trade, and no other")),
     # The game file
+    Row(["worked_rows/Ticks:each_tick_has_its_own_draw"], ["game_text/Schedule.update_of"],
+        ("The draws of a flight are 101, 102, .., 153. The updates at ticks 1, 2 and 53 use 101, "
+         "102 and 153")),
     Row(["worked_rows/Ticks:flights_alone_are_updated_first"], ["game_text/Schedule.calls_at"],
         ("At tick 1 flight 0 is updated first, by its draw 10, and no call comes after the "
          "eighth"), more=True),
@@ -193,6 +202,10 @@ ROWS = [
     Row(["worked_rows/Links:auctions_have_their_rules"], ["auction_core/Setups.setup_of"],
         ("In `quiet_game` good 0 is a flight with first price 300 and bound 10, good 15 has 16 "
          "rooms and no live quotes, and good 27 is a ticket that no agent has")),
+    Row(["worked_rows/Links:tickets_are_those_of_their_goods"],
+        ["auction_core/Setups.setup_of", "auction_core/Setups.endow_by"],
+        ("The ticket counts of two agents are 1 to 12 and 21 to 32. Of good 16 they have 1 and 21, "
+         "and of good 27 they have 12 and 32")),
     # Packages and the best total
     Row(["worked_rows/Packages:goods_are_seats_rooms_and_tickets"], ["packages/Goods.thing_of"],
         ("Goods 0 and 7 are the seats in on day 1 and out on day 5. Good 8 is the first night of "
@@ -230,6 +243,9 @@ ROWS = [
     Row(["worked_rows/Logs:ticket_short_costs_200"], ["settlement/Score.score_of"],
         ("With best total 1150, -360 dollars and 2 tickets short, the score is 1150 - 360 - 2 * "
          "200 = 390")),
+    Row(["worked_rows/Logs:account_is_the_agents_own"], ["settlement/Sheets.agents_account"],
+        ("Agent 0 has a client that prefers day 1, and 3 units of good 0; agent 1 has one that "
+         "prefers day 2, and 4 units. Agent 1's account has its own client and its 4 units")),
     # Requests and replies as lines
     Row(["worked_rows/Lines:lines_of_three_two_and_one_words"],
         ["line_protocol/Requests.request_of", "bid_strings/BidForm.points_of"],
@@ -270,6 +286,10 @@ ROWS = [
         ["agent_gate/Gates.verdict_of", "agent_gate/Gates.seats_after"],
         ("The seat of agent 2 is taken. `hello seat7` gets seat 7, `hello seat2` is `taken`, and "
          "`hello seat8` has a wrong word. `Hello seat7` and `hello` have a syntax fault")),
+    Row(["worked_rows/Links:seat_is_taken_for_the_next_link"],
+        ["game_run/Admission.seats_given", "agent_gate/Gates.verdict_of"],
+        ("Two links send `hello seat2`. The first gets the seat of agent 2; for the next one the "
+         "seat is taken"), more=True),
     Row(["worked_rows/Links:ten_lines_are_sent_first"],
         ["agent_gate/Welcome.welcome_lines", "game_text/OneAgent.lines_of_agent"],
         ("A link with seat 3 is sent 10 lines: `welcome 3`, `endow 3 0 0 ..`, `client 3 0 1 2 "
@@ -292,11 +312,12 @@ ROWS = [
          "1023. After 1024 calls, no further call may be made")),
     Row(["worked_rows/Sessions:reading_is_denied_after_1024"],
         ["agent_gate/Turns.IsLawfulTurn", "agent_gate/Turns.is_reading"],
-        ("The same holds for cash: after 1024 readings the next one may be denied, and may not "
-         "be made"), more=True),
-    Row(["worked_rows/Sessions:board_is_not_shorter"], ["agent_gate/Turns.IsNotBehind"],
-        ("After a call at position 3 of good 8, no board of only 3 entries may be shown, since "
-         "it would be behind that call")),
+        ("Cash may be denied (`CashDenied`) after 1024 readings, but not after 1023. After 1024 "
+         "readings, no further one may be made"), more=True),
+    Row(["worked_rows/Sessions:board_is_not_shorter",
+         "worked_rows/Sessions:call_is_not_before_a_board"], ["agent_gate/Turns.IsNotBehind"],
+        ("After a call at position 3 of good 8, no board of only 3 entries may be shown. After a "
+         "board of 5 entries, no call may have position 4")),
     Row(["worked_rows/Sessions:turns_make_the_agents_part"],
         ["turn_lock/Part.part", "agent_gate/Turns.made_at", "agent_gate/Turns.cash_made"],
         ("Agent 1 bids, agent 0 bids, the clock publishes, agent 0 requests `own`. Agent 0's part "
@@ -311,10 +332,12 @@ ROWS = [
          "`bye`, the cause is `Quit`, whatever bytes the link has left. Without that turn it is "
          "not")),
     Row(["worked_rows/Ends:end_with_all_taken", "worked_rows/Ends:no_end_with_bytes_left",
-         "worked_rows/Ends:read_fault_with_bytes_left"],
+         "worked_rows/Ends:read_fault_with_bytes_left",
+         "worked_rows/Ends:no_read_fault_with_a_line_left"],
         ["agent_gate/Served.EndsBy", "agent_gate/Served.ComesTo"],
-        ("Reads alone, with all sent: no further line comes. If no byte is left, the cause is "
-         "`End`; if an `x` is left, it is not. If the last read failed, it is `ReadFault`")),
+        ("All was sent, and no further line comes. If no byte is left, the cause is `End`; if an "
+         "`x` is left, it is not. If the last read failed, it is `ReadFault`, but not if a line "
+         "has no answer")),
     Row(["worked_rows/Ends:no_end_with_a_reply_unsent",
          "worked_rows/Ends:write_fault_cuts_the_last_line"],
         ["agent_gate/Served.EndsBy", "agent_gate/Served.IsCutOff"],

@@ -20,7 +20,7 @@ use Rattle.auction_rules.specs.FlightRule.{next_price}
 use Rattle.auction_rules.specs.Standing.{stand}
 use Rattle.auction_rules.specs.Ask.{ask}
 use Rattle.auction_rules.specs.WinningNumber.{winning}
-use Rattle.auction_rules.specs.Legal.{past_of, IsLawful, cap}
+use Rattle.auction_rules.specs.Legal.{past_of, IsLawful, entries_of, cap}
 use Rattle.auction_rules.specs.Board.{board}
 use Rattle.auction_rules.specs.Part.{callers_part}
 
@@ -104,6 +104,14 @@ closed_comes_first = refl
 
 equal_prices_cross_themselves : run tickets ((0, Bid (point (pos 1) 70 ∷ point (neg_ℤ (pos 1)) 70 ∷ [])) ∷ (0, Bid (point (pos 1) 69 ∷ point (neg_ℤ (pos 1)) 70 ∷ [])) ∷ []) ≡ (SelfCross ∷ Taken 0 0 ∷ [], [])
 equal_prices_cross_themselves = refl
+
+-- agent 1 bids to buy at 70 and to sell at 65
+refused_bid_takes_nothing : (run tickets ((0, sell 1 60) ∷ (1, Bid (point (pos 1) 70 ∷ point (neg_ℤ (pos 1)) 65 ∷ [])) ∷ []) ≡ (Taken 0 0 ∷ SelfCross ∷ [], []))
+    × (map (λ u. u.agent) (stand TicketRules (played tickets ((0, sell 1 60) ∷ (1, Bid (point (pos 1) 70 ∷ point (neg_ℤ (pos 1)) 65 ∷ [])) ∷ []))) ≡ 0 ∷ [])
+refused_bid_takes_nothing = (refl, refl)
+
+refused_calls_count : map (entries_of (reverse (played (flight 300) ((0, Withdraw) ∷ (0, buy 1 200) ∷ (8, Publish) ∷ [])))) (0 ∷ 1 ∷ 8 ∷ []) ≡ 2 ∷ 0 ∷ 1 ∷ []
+refused_calls_count = refl
 
 withdrawn_bid_is_gone : run (flight 300) ((0, buy 2 200) ∷ (0, Withdraw) ∷ (0, Withdraw) ∷ (0, OwnCall) ∷ []) ≡ (Taken 0 0 ∷ Done ∷ NoBid ∷ Own (pos 0) [] ∷ [], [])
 withdrawn_bid_is_gone = refl

@@ -66,6 +66,10 @@ no_end_with_bytes_left ends = let e : ◌≡◌ {A = List ℕ} (120 ∷ []) [] =
 read_fault_with_bytes_left : EndsBy causes.ReadFault said_text (ended (Skipped ∷ []) (link (codes "hi\nno toolong\n") (codes "x") (three ++ 0 ∷ []) three))
 read_fault_with_bytes_left = ((refl, one_line, refl), (refl, (refl, refl)), (counts_rise_or_stay.1, refl))
 
+-- a whole line is left without an answer, and then a read failed
+no_read_fault_with_a_line_left : EndsBy causes.ReadFault said_text (record (ended (Skipped ∷ []) (link (codes "hi\nno toolong\n") (codes "x") (three ++ 0 ∷ []) three)) { rest = (gots.Line, codes "cash") ∷ (gots.End, []) ∷ [] }) → ⊥
+no_read_fault_with_a_line_left ends = let e : ◌≡◌ {A = List LineGot} (gots.Line ∷ gots.End ∷ []) (gots.End ∷ []) = ap answered ends.0.2 in cc
+
 end_counts_no_fault : EndsBy causes.End said_text (ended (Skipped ∷ []) (link (codes "hi\nno toolong\n") [] (three ++ 0 ∷ []) three)) → ⊥
 end_counts_no_fault ends = let e : ◌≡◌ {A = ℕ} 4 3 = ends.3.0 in omega (arith, e)
 

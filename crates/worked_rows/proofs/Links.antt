@@ -2,12 +2,14 @@
 -- first lines, and what became of those without a seat.
 use Rattle.std.proofs.Common.{◌≡◌, ℕ, ◌<◌, true, false, List, [], ◌∷◌, pos, Option, Some, None, ap, map, take, length, refl, arith, inl, inr, ◌++◌, ◌-◌, ◌^◌, codes, replicate}
 use Rattle.std.specs.Fmt.{digits}
+use Rattle.std.specs.List.{range_with_len}
 use Rattle.auction_rules.specs.declared.rules.Rules.TheVariants.{Hotel as HotelRules, Flight as FlightRules, Tickets as TicketRules}
 use Rattle.tac_io.specs.declared.line_got.LineGot.TheVariants.{Line, TooLong, End, Budget}
 use Rattle.tac_io.specs.AllAnswers.{all_answers}
 use Rattle.tac_io.specs.Known.{known_then, then_known, TakesSome}
 use Rattle.tac_io.specs.Counts.{Rose}
 use Rattle.tac_io.specs.States.{LinkState}
+use Rattle.game_text.specs.Games.{GameFile}
 use Rattle.game_text.specs.QuietGames.{quiet_game}
 use Rattle.line_protocol.specs.declared.admission.Verdict.{Verdict}
 use Rattle.line_protocol.specs.declared.admission.Verdict.TheVariants.{Seated, Syntax, WrongWord, Taken, Lost}
@@ -51,6 +53,18 @@ auctions_have_their_rules : (setup_of 0 quiet_game ≡ record { good = 0; rules 
     × (setup_of 27 quiet_game ≡ record { good = 27; rules = TicketRules; endow = replicate 8 (pos 0) })
 unfolding quiet_game
 auctions_have_their_rules = (refl, refl, refl)
+
+-- the tickets of two agents, of which all numbers differ
+abbrev endowed : GameFile
+endowed = record quiet_game { endow = range_with_len 1 12 ∷ range_with_len 21 12 ∷ [] }
+
+tickets_are_those_of_their_goods : map (λ good. (setup_of good endowed).endow) (16 ∷ 17 ∷ 27 ∷ []) ≡ (pos 1 ∷ pos 21 ∷ []) ∷ (pos 2 ∷ pos 22 ∷ []) ∷ (pos 12 ∷ pos 32 ∷ []) ∷ []
+tickets_are_those_of_their_goods = refl
+
+-- two links with the same first line, one after the other
+seat_is_taken_for_the_next_link : map (λ verdicts. verdict_of (seats_given quiet_game verdicts) (codes "hello seat2")) ([] ∷ (Seated 2 ∷ []) ∷ []) ≡ Seated 2 ∷ Taken ∷ []
+unfolding quiet_game
+seat_is_taken_for_the_next_link = refl
 
 ten_lines_are_sent_first : (length (welcome_lines quiet_game 3) ≡ 10)
     × (take 3 (welcome_lines quiet_game 3) ≡ codes "welcome 3" ∷ codes "endow 3 0 0 0 0 0 0 0 0 0 0 0 0" ∷ codes "client 3 0 1 2 100 0 0 100" ∷ [])

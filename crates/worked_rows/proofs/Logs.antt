@@ -1,6 +1,7 @@
 -- What a log has: the posts of the cash book, what two auctions leave to three agents, scores, and the lines of all that.
-use Rattle.std.proofs.Common.{◌≡◌, ℕ, List, [], ◌∷◌, ℤ, pos, refl, map, take, arith, ◌++◌, codes, neg_ℤ, replicate, reverse, false}
+use Rattle.std.proofs.Common.{◌≡◌, ℕ, List, [], ◌∷◌, ℤ, pos, Some, slice_get, refl, map, take, arith, ◌++◌, codes, neg_ℤ, replicate, reverse, false}
 use Rattle.std.specs.Fmt.{digits}
+use Rattle.tac_base.specs.Clients.{Preferences}
 use Rattle.tac_base.specs.declared.calls.Call.{Call}
 use Rattle.tac_base.specs.declared.calls.Call.TheVariants.{Bid, Publish, Close}
 use Rattle.tac_base.specs.declared.calls.Reply.TheVariants.{Taken}
@@ -8,6 +9,8 @@ use Rattle.auction_rules.specs.Setup.{Setup}
 use Rattle.auction_rules.specs.declared.rules.Rules.TheVariants.{Hotel as HotelRules, Flight as FlightRules, Tickets as TicketRules}
 use Rattle.auction_rules.specs.History.{Entry}
 use Rattle.auction_rules.specs.Legal.{past_of}
+use Rattle.game_text.specs.Games.{GameFile}
+use Rattle.game_text.specs.QuietGames.{quiet_game}
 use Rattle.auction_core.specs.Auctions.{AuctionHistory}
 use Rattle.trade_ledger.specs.declared.cash_calls.CashCall.TheVariants.{Post, Read}
 use Rattle.trade_ledger.specs.declared.cash_calls.CashReply.TheVariants.{Done, Cash}
@@ -17,7 +20,8 @@ use Rattle.trade_ledger.specs.Posts.{due_post, Matched}
 use Rattle.packages.specs.declared.travel_packages.Package.TheVariants.{None, Trip}
 use Rattle.bound_cert.specs.Trees.{leaf}
 use Rattle.settlement.specs.Score.{short_of, score_of}
-use Rattle.settlement.specs.Settlement.{settlement_of}
+use Rattle.settlement.specs.Settlement.{Settlement, settlement_of}
+use Rattle.settlement.specs.Sheets.{Scored, agents_account, IsSheet}
 use Rattle.line_protocol.specs.declared.admission.Verdict.TheVariants.{Seated, WrongWord, Lost}
 use Rattle.line_protocol.specs.declared.admission.Cause.TheVariants.{Quit, ReadFault}
 use Rattle.line_protocol.specs.Heads.{Play, Serve}
@@ -82,6 +86,22 @@ tickets = after (record { good = 24; rules = TicketRules; endow = pos 0 ∷ pos 
 goods_and_cash_that_are_left : (take 3 (settlement_of (flight ∷ tickets ∷ [])).holdings ≡ (pos 2 ∷ pos 1 ∷ []) ∷ (pos 0 ∷ neg_ℤ (pos 2) ∷ []) ∷ (pos 0 ∷ pos 2 ∷ []) ∷ [])
     × (take 3 (settlement_of (flight ∷ tickets ∷ [])).cash ≡ neg_ℤ (pos 660) ∷ pos 180 ∷ neg_ℤ (pos 120) ∷ [])
 goods_and_cash_that_are_left = (refl, refl)
+
+-- clients and holdings of two agents, and their cash
+abbrev client : ℕ → Preferences
+client day = record { arrive = day; depart = 5; premium = 100; values = 0 ∷ 0 ∷ 100 ∷ [] }
+
+abbrev game : GameFile
+game = record quiet_game { clients = (client 1 ∷ []) ∷ (client 2 ∷ []) ∷ [] }
+
+abbrev left_over : Settlement
+left_over = record { holdings = (pos 3 ∷ []) ∷ (pos 4 ∷ []) ∷ []; cash = pos 10 ∷ pos 20 ∷ [] }
+
+account_is_the_agents_own : agents_account game left_over 1 ≡ record { clients = client 2 ∷ []; holdings = pos 4 ∷ [] }
+account_is_the_agents_own = refl
+
+cash_is_the_agents_own : (sheet : List Scored) (scored : Scored) → IsSheet game left_over sheet → slice_get sheet 1 ≡ Some scored → scored.cash ≡ pos 20
+cash_is_the_agents_own sheet scored is_sheet at = (is_sheet.due 1 scored at).cash
 
 -- two seats and a room below 0 count nothing; of the tickets two of one night and one of another are missing, and four too many of a third
 -- make up for none

@@ -116,8 +116,18 @@ call_is_denied_after_1024 = (
   λ made. let below : 1024 < 1024 = made.2 in omega (arith, below),
 )
 
-reading_is_denied_after_1024 : IsLawfulTurn (replicate 1024 (CashRead 5 (pos 0))) CashDenied × (IsLawfulTurn (replicate 1024 (CashRead 5 (pos 0))) (CashRead 6 (pos 0)) → ⊥)
-reading_is_denied_after_1024 = (refl, λ made. let below : 1024 < 1024 = made in omega (arith, below))
+reading_is_denied_after_1024 : IsLawfulTurn (replicate 1024 (CashRead 5 (pos 0))) CashDenied
+    × (IsLawfulTurn (replicate 1023 (CashRead 5 (pos 0))) CashDenied → ⊥)
+    × (IsLawfulTurn (replicate 1024 (CashRead 5 (pos 0))) (CashRead 6 (pos 0)) → ⊥)
+reading_is_denied_after_1024 = (
+  refl,
+  (λ denied. let e : ◌≡◌ {A = ℕ} 1023 1024 = denied in omega (arith, e)),
+  λ made. let below : 1024 < 1024 = made in omega (arith, below),
+)
 
 board_is_not_shorter : IsLawfulTurn (look_at 3 ∷ []) (Quoted 8 (board 3 0)) → ⊥
 board_is_not_shorter shown = let le : 4 ≤ 3 = (recursion_from_All (λ (turn : Turn). shown_length 8 turn ≤ 3) (look_at 3 ∷ []) shown.1).0 in omega (arith, le)
+
+-- a board of five entries was shown
+call_is_not_before_a_board : IsLawfulTurn (Quoted 8 (board 5 0) ∷ []) (look_at 4) → ⊥
+call_is_not_before_a_board made = let le : 5 ≤ 4 = (recursion_from_All (λ (turn : Turn). shown_length 8 turn ≤ 4) (Quoted 8 (board 5 0) ∷ []) made.3).0 in omega (arith, le)

@@ -1,11 +1,20 @@
 -- The calls of the quiet game.
-use Rattle.std.proofs.Common.{◌≡◌, ℕ, false, [], ◌∷◌, length, map, slice_get, Some, None, refl}
+use Rattle.std.proofs.Common.{◌≡◌, ℕ, false, [], ◌∷◌, length, map, slice_get, Some, None, pos, refl}
+use Rattle.std.specs.List.{range_with_len}
 use Rattle.tac_base.specs.declared.calls.Call.TheVariants.{Update, Publish, Close}
 use Rattle.game_text.specs.QuietGames.{quiet_game}
-use Rattle.game_text.specs.Schedule.{calls_at, clock_calls, open_after, schedule}
+use Rattle.game_text.specs.Flights.{FlightTerms}
+use Rattle.game_text.specs.Schedule.{calls_at, clock_calls, open_after, schedule, update_of}
 use Rattle.floor.specs.Steps.{CallMade, DueTaken, WaitsNoted}
 use Rattle.tac_io.specs.States.{TickWait}
 use Rattle.clock_events.specs.Steps.{steps_at, steps_over}
+
+-- each draw is one more than the draw before it
+abbrev rising : FlightTerms
+rising = record { first = 300; bound = pos 10; draws = range_with_len 101 53 }
+
+each_tick_has_its_own_draw : map (λ tick. update_of tick (3, rising)) (1 ∷ 2 ∷ 53 ∷ []) ≡ (3, Update 1 101) ∷ (3, Update 2 102) ∷ (3, Update 53 153) ∷ []
+each_tick_has_its_own_draw = refl
 
 flights_alone_are_updated_first : map (slice_get (calls_at quiet_game 1)) (0 ∷ 8 ∷ []) ≡ Some (0, Update 1 10) ∷ None ∷ []
 unfolding quiet_game calls_at
