@@ -249,11 +249,11 @@ def cases_without_row(
 def cases_sentence(cases: Dict[Target, List[str]]) -> str:
     """Which cases of statements that have rows have none themselves."""
     told = "; ".join(
-        f"`{name}`: {', '.join(f'`{word}`' for word in words)}"
+        f"`{name}`, but not its cases {' and '.join(f'`{word}`' for word in words)}"
         for (_, name), words in sorted(cases.items())
     )
     return (
-        f"Rows try these statements, but not all of their cases. The cases without a row: {told}."
+        f"Rows test {told}."
         if cases
         else "If rows try a statement by cases, each case that the statement names has a row."
     )

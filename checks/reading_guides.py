@@ -4,21 +4,21 @@ computed, the rules in words, guides to chapters and definitions, and the outsid
 from typing import Dict, List, Tuple
 
 TIMES = """\
-Nobody was timed; these are estimates for a reader who knows a typed functional language, such as
+The times below are unmeasured estimates for a reader who knows a typed functional language, such as
 Haskell or OCaml. They are computed from everything printed, at these rates per minute: 95 symbols
 of definitions (150 in chapters that only list fields, and for Rust types), 150 words of rows, and
 220 words of other text; plus one seventh for going back. Pauses at hard definitions take extra
-time. Twenty-three language models, told to be sceptical, read editions of this page and its print.
-Each found all three errors that had been planted for it. The last six estimated 149 to 179 minutes
-for such a reader; the six before them, 153 to 191.
+time. Twenty-three language models, told to be sceptical, read editions of this page and its
+printout. Each found all three errors that had been planted for it. The last six estimated 149 to
+179 minutes for such a reader; the six before them, 153 to 191.
 
 The headline takes {lines} lines of definitions as they are printed, and {source} as they stand in
-`specs/`, not counting comments and imports. With the parts "Beside", it takes {all} lines in
+`specs/`, not counting comments and imports. With the "Beside" parts, it takes {all} lines in
 `specs/`."""
 
 # Below the table of the minutes.
 LEFT_OUT = """\
-Readers who care only about the play can leave out packages and scores."""
+Readers who care only about play can leave out packages and scores."""
 
 FRONT = "This page up to here, and the beginning of the print"
 

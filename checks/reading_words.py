@@ -6,7 +6,7 @@ HEADLINE = """\
 When `serve` ends with code 0, the log that it wrote holds 29 legal one-thread histories. In each of
 them, every agent's calls are those that its link asked for. Each call occurs once, comes after
 everything that the agent had seen, and has the reply that the agent got. The clock's calls are
-those of the game file. Goods and cash equal the recorded trades. Each score is the greatest utility
+those of the game file. Goods and cash match the recorded trades. Each score is the greatest utility
 over all feasible allocations, less costs and penalties."""
 
 # What stands beside the headline, here and in README.md.
@@ -19,7 +19,7 @@ CAVEATS: List[str] = [
     "everything that the agent had seen" is about one auction at a time.""",
     """**Fewer than eight agents.** A game begins once eight agents have a seat, 64 links have been
     accepted, or no link is left. An empty seat makes no calls but has a score.""",
-    """**No memory.** In a game in JSON, any line may get the reply `{"no":"memory"}`, and then it
+    """**No memory.** In a JSON game, any line may get the reply `{"no":"memory"}`. Such a line
     requests nothing.""",
     """**Costs are subtracted once.** They have already been taken out of the agent's cash. The
     score is the greatest utility, plus that cash, less 200 dollars for each ticket that the agent
@@ -34,7 +34,7 @@ in the parts called "Beside". Each of these parts says why you can leave it out.
 
 LEFT_TO_SERVICE = """\
 **What the clause `headline` leaves to the clause `service`:** that the ticks were waited for, and
-what holds with codes other than 0. See the part "Beside: what `service` says besides"."""
+what holds with codes other than 0. See the part "Beside: what else `service` says"."""
 
 PICTURE_ABOUT = """\
 The bytes of one link become lines, turns, entries in the histories, lines of the log and a score.
@@ -116,7 +116,7 @@ EXAMPLE_TEXTS = [
 ]
 
 EXAMPLE_END = """\
-Two inbound seats do not make a trip, so the greatest utility is 0. With -600 dollars and no ticket
+Two inbound seats do not make a trip, so the greatest utility is 0. With -600 dollars and no tickets
 short, the score is 0 - 600 - 200 * 0 = -600. A run of `tac play` with the requests of these three
 turns wrote the same lines from `auction 0 55` on."""
 
@@ -125,10 +125,10 @@ HOW_TO_READ = """\
 2. Run `python3 checks/reading.py --print | less`, and read it from top to bottom. Each definition
 comes after those that it uses, and below the rule that it states.
 3. Compare each definition with its rule. The row below it is a small worked case: skip it if the
-definition is clear. Read slowly where the print says "(no row)".
+definition is clear. Read slowly where the output says "(no row)".
 4. The last definition, `WritesTrueLog`, has the phrases of the headline above its fields.
 
-You need no other definition, no proof, and none of the parts "Beside". The README says what else
+You need no other definition, no proof, and none of the "Beside" parts. The README says what else
 you have to trust."""
 
 # The beginning of the print.
@@ -204,7 +204,7 @@ ALIKE = """\
   of points.
 - **Gone, sold.** `gone` gives the units that all calls traded away, and `gone_by` those of one
   call. `sold` counts the units that a party sells, and `sold_units` the rooms that a closing sells.
-  `is_sold` is about a point at a flight, and `sale` is the trade of such a point.
+  `is_sold` is about a point for a flight, and `sale` is the trade of such a point.
 - **Ask, published.** `ask` is computed from units, `published` is the ask that was shown last, and
   `quote_to_beat` is one dollar more than `published`.
 - **Winning.** `wins` is about a unit. `winning` counts an agent's winning units among given ones.
@@ -226,33 +226,33 @@ In a definition, the type of the place says which is meant."""
 
 ROWLESS = """\
 No row of the print leads to these definitions, so read them slowly. Most of them are about whole
-games, or about any number of turns, and compute nothing. Its rows reach {tried} of the {lines}
+games, or about any number of turns, and compute nothing. The rows reach {tried} of the {lines}
 lines. A line that a row reaches is not thereby tested: the row shows one case, which may not depend
 on that line."""
 
 TRUTHS = """\
 - **Reading ahead, or answering late.** No clause forbids it in words, but a server that did so
-  would violate the clauses. A failed write cuts the turns at its line, and after a failed read
+  would violate the clauses. The turns end at the line whose reply failed, and after a failed read
   every whole line must have been answered. Any read or write may fail, so each reply is sent before
   the next read.
 - **Stale quotes.** The board in the reply to a quote may be stale: it may lack the newest entries
-  of other callers. It only has to be the board of a prefix of the history that includes everything
+  of other callers. It need only be the board of some prefix of the history, one that includes all
   that the agent had seen of it.
-- **When the clock makes its calls.** The clause `headline` says that the clock's calls at each good
-  are those of the schedule, and that their posts are in the order of the schedule. The clause
+- **When the clock makes its calls.** The clause `headline` says that the clock's calls for each
+  good are those of the schedule, and that their posts are in the order of the schedule. The clause
   `service` says that the ticks were waited for. Two more facts are clauses of `run_clock`
   (`crates/clock_events`), and not of `tac`. One is the order of all calls across the goods. The
   other is that a tick's calls come after the wait for it and, if the ticker reports its waits,
   before the next wait.
-- **How late a post may come.** The desk's clause bounds this, and the clauses of `tac` do not:
-  every desk has posted what is due before its call returns. A server that appended the clock's
+- **How late a post may come.** The clauses of `tac` do not bound this, but the desk's clause does:
+  before a desk's call returns, the desk has posted what is due. A server that appended the clock's
   posts at the end, in the order of the schedule, would meet the clauses of `tac`.
 - **Well-formed game files.** No chapter says that each agent has eight clients, that the seat words
   differ, or that the closing order has each hotel night once. This follows from the way in which a
   text is read (`game_in`, in the part "Beside: how the text of a game file is read"), since the
-  clauses are about a game as which some text is read. Such a game has eight flights with 53 draws
-  each, eight nights in its order, and rooms for each night. It has twelve tickets and eight clients
-  for each agent. So where the chapters read such a list with a default (`get_or`,
+  clauses are about a game that is read from some text. Such a game has eight flights with 53 draws
+  each, eight nights in closing order, and rooms for each night. It has twelve ticket counts and
+  eight clients for each agent. So where the chapters read such a list with a default (`get_or`,
   `slice_index_or`; in the print `xs[k else d]`), the default is never used."""
 
 # What rows name and no chapter defines, as CRATE/MODULE.NAME, in words.
@@ -710,7 +710,7 @@ BESIDE: List[Tuple[str, str, List[str]]] = [
      ("It defines a sound log, as `audit` judges it. The clause `service` says that the log is "
       "sound."),
      ["tacd/SoundLogs.IsSoundLog"]),
-    ("What `service` says besides",
+    ("What else `service` says",
      ("The clause `service` says what `serve` leaves with every code, and with code 0 more than "
       "the headline: what became of the links without a seat, when no more links were taken, the "
       "waits for ticks, and that each seated agent has one end. `Serves`: some outcome is "
@@ -782,7 +782,7 @@ SENTENCES: List[Tuple[str, List[str]]] = [
     ("The clock's calls are those of the game file.",
      ["file", "game_run/PlayedGame.IsPlayedBy", "game_run/PlayedGame.IsClockTranscript",
       "game_text/Schedule.schedule"]),
-    ("Goods and cash equal the recorded trades.",
+    ("Goods and cash match the recorded trades.",
      ["cash", "tac_commands/Cash.IsCashOfPosts", "trade_ledger/Posts.Matched",
       "settlement/Settlement.settlement_of", "settlement/Settlement.cash_gained",
       "auction_rules/Effects.holding", "auction_rules/Effects.dollars"]),
