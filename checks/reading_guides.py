@@ -7,7 +7,7 @@ TIMES = """\
 The times below are unmeasured estimates for a reader who knows a typed functional language, such as
 Haskell or OCaml. They are computed from everything printed, at these rates per minute: 95 symbols
 of definitions (150 in chapters that only list fields, and for Rust types), 150 words of rows, and
-220 words of other text; plus one seventh for going back. Pauses at hard definitions take extra
+220 words of other text. One seventh is added for going back. Pauses at hard definitions take extra
 time. Twenty-three language models, told to be sceptical, read editions of this page and its
 printout. Each found all three errors that had been planted for it. The last six estimated 149 to
 179 minutes for such a reader; the six before them, 153 to 191.

@@ -207,7 +207,7 @@ ALIKE = """\
   `is_sold` is about a point for a flight, and `sale` is the trade of such a point.
 - **Ask, published.** `ask` is computed from units, `published` is the ask that was shown last, and
   `quote_to_beat` is one dollar more than `published`.
-- **Winning.** `wins` is about a unit. `winning` counts an agent's winning units among given ones.
+- **Winning.** `wins` is about a unit. `winning` counts the given units that an agent wins.
   `need` is that count for the units that stand, but at least 1.
 - **None.** `None` of `Option` means that there is no value. `None` of `Package` means that a client
   stays at home. Only the module packages/Packages, and the log's `package_line`, use the second.
@@ -233,7 +233,7 @@ on that line."""
 TRUTHS = """\
 - **Reading ahead, or answering late.** No clause forbids it in words, but a server that did so
   would violate the clauses. The turns end at the line whose reply failed, and after a failed read
-  every whole line must have been answered. Any read or write may fail, so each reply is sent before
+  every whole line must have been answered. As any read or write may fail, each reply must precede
   the next read.
 - **Stale quotes.** The board in the reply to a quote may be stale: it may lack the newest entries
   of other callers. It need only be the board of some prefix of the history, one that includes all
