@@ -365,7 +365,7 @@ class Reader:
         return self.word not in KEYWORDS and bool(ATOM.fullmatch(self.word))
 
     def argument(self) -> Tree:
-        """An argument, with the items and fields that are taken of it."""
+        """An argument, with the items and fields that are taken from it."""
         if not self.is_argument():
             raise self.wrong()
         tree: Tree
