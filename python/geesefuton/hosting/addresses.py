@@ -4,6 +4,7 @@ from __future__ import annotations
 
 import ipaddress
 import socket
+from typing import Union
 
 
 def listen(port: int) -> socket.socket:
@@ -17,13 +18,21 @@ def listen(port: int) -> socket.socket:
                                 dualstack_ipv6=both, backlog=128)
 
 
+def parsed(text: str) -> Union[ipaddress.IPv4Address, ipaddress.IPv6Address]:
+    """An address, however it is written: `10.0.0.7` of `::ffff:10.0.0.7`.
+
+    Raises:
+        ValueError: It is none.
+    """
+    address = ipaddress.ip_address(text)
+    mapped = address.ipv4_mapped if isinstance(address, ipaddress.IPv6Address) else None
+    return mapped or address
+
+
 def plain_address(text: str) -> str:
-    """The one text of an address, however it is written: `fe80::1` of `FE80:0::1`, and `10.0.0.7`
-    of `::ffff:10.0.0.7`.
+    """The one text of an address: `fe80::1` of `FE80:0::1`.
 
     Raises:
         ValueError: It is no address.
     """
-    address = ipaddress.ip_address(text)
-    mapped = address.ipv4_mapped if isinstance(address, ipaddress.IPv6Address) else None
-    return str(mapped or address)
+    return str(parsed(text))

@@ -1,0 +1,206 @@
+"""Who may come in: the policy of a listener, without sockets.
+
+Limits are by *network*: an IPv4 address, or the first 64 bits of an IPv6 address, whose other bits
+a machine chooses as it likes. Many players may share one, behind a router. So only strangers are
+limited by it: a link that has shown what a player has, a seat's word or a token, is *known*, and
+counts by that.
+
+A link is a `Visit`:
+
+    visit = gate.arrive(address)  None: close it
+    visit.end = close             is called if it has to make room
+    visit.deadline                when its first line, or the head of its request, has to be whole
+    visit.whole()                 it is: the seconds until it may be judged; None: close it
+    visit.know(word)              it was right; False if too many links have the same word
+    visit.refuse()                it was a wrong word
+    visit.part()                  it is sent its last line, as one is that was refused
+    visit.leave()                 it is closed
+
+A network's first lines are judged at once until they are many, and then one after the other; a
+wrong one puts off the next ones by more. So guesses are slow. A right word waits as long as a wrong
+one, so silence tells nothing.
+"""
+
+from __future__ import annotations
+
+import enum
+import ipaddress
+from collections import Counter
+from typing import Callable, Counter as Counts, Dict, List, Optional, Set, Union
+
+from geesefuton.hosting.addresses import parsed
+
+LINE = 0.5  # seconds by which a first line puts off the next ones of its network
+WRONG = 2.0  # seconds by which a wrong one does so beyond that
+CREDIT = 20.0  # seconds that a network's lines are put off before any of them waits
+LONGEST = 15.0  # seconds that a first line waits at most
+WAITING = 8  # first lines of a network that wait
+MOST_NETWORKS = 1024  # that are remembered without need
+
+Network = Union[ipaddress.IPv4Network, ipaddress.IPv6Network]
+
+
+class Standing(enum.Enum):
+    """What is known of a visit."""
+
+    STRANGER = "it has not sent a first line"
+    JUDGED = "its first line is whole, and is judged or waits for that"
+    KNOWN = "it has shown a word or a token"
+    PARTING = "it was sent its last line"
+    GONE = "it is closed"
+
+
+class Visit:
+    """A link at a gate, which is a stranger at first.
+
+    Attributes:
+        deadline: When its first line has to be whole, by the gate's clock; infinite once it is.
+        standing: What is known of it.
+        end: Closes it. It is called if the visit has to make room for another.
+    """
+
+    def __init__(self, gate: "Gate", network: str, deadline: float) -> None:
+        self._gate, self.network, self.deadline = gate, network, deadline
+        self.standing, self.word = Standing.STRANGER, ""
+        self.end: Callable[[], None] = lambda: None
+
+    def is_known(self) -> bool:
+        """Whether it has shown a word or a token."""
+        return self.standing is Standing.KNOWN
+
+    def whole(self) -> Optional[float]:
+        """Its first line is whole: the seconds until it may be judged; None if too many lines of
+        its network wait, so that it is to be closed."""
+        self.deadline = float("inf")
+        return self._gate.line_up(self)
+
+    def know(self, word: str) -> bool:
+        """It has shown a word or a token. Returns whether no more links have it than may."""
+        return self._gate.move(self, Standing.KNOWN, word)
+
+    def refuse(self) -> None:
+        """It has shown a wrong word or token: it is sent its last line."""
+        self._gate.put_off(self.network, WRONG)
+        self.part()
+
+    def part(self) -> None:
+        """It is sent its last line. Until it is closed it makes room before all others."""
+        self._gate.move(self, Standing.PARTING)
+
+    def leave(self) -> None:
+        """It is closed. A second call changes nothing."""
+        if self.standing is Standing.JUDGED:
+            self._gate.put_off(self.network, -LINE)  # no line of it is judged any longer
+        self._gate.move(self, Standing.GONE)
+
+
+class Gate:
+    """Who may come in.
+
+    Args:
+        clock: The time in seconds, which does not go back.
+        most: The links at a time, of which `each` may be strangers of one network.
+        kept: How many of them are kept for those who are known, and for this machine itself.
+        first: The seconds until a first line has to be whole.
+        own: The links that may have the same word or token.
+
+    Attributes:
+        banned: The networks from which no link is taken.
+    """
+
+    def __init__(self, clock: Callable[[], float], most: int, each: int, kept: int, first: float,
+                 own: int = 16) -> None:
+        self._clock, self._most, self._each, self._kept = clock, most, each, kept
+        self._first, self._own = first, own
+        self.banned: Set[Network] = set()
+        self._known: Counts[str] = Counter()
+        self._crowds: Dict[str, List[Visit]] = {}  # those not known by networks, the eldest first
+        self._until: Dict[str, float] = {}  # until when the lines of a network are put off
+
+    def arrive(self, address: str) -> Optional[Visit]:
+        """A link comes from an address. Returns None if there is no place for it, or its address
+        is banned.
+
+        Raises:
+            ValueError: It is no address.
+        """
+        known = parsed(address)
+        if any(known in network for network in self.banned):
+            return None
+        network = str(known) if known.version == 4 else str(int(known) >> 64)
+        crowd, count = self._crowds.get(network, []), sum(map(len, self._crowds.values()))
+        taken = sum(self._known.values())
+        places = self._most - (taken if known.is_loopback else max(taken, self._kept))
+        if len(crowd) >= self._each or count >= places:
+            if len(crowd) < self._each:
+                crowd = max(self._crowds.values(), key=len, default=[])
+            if not _make_room(crowd):
+                return None
+        visit = Visit(self, network, self._clock() + self._first)
+        self._crowds.setdefault(network, []).append(visit)
+        return visit
+
+    def line_up(self, visit: Visit) -> Optional[float]:
+        """A visit's first line is to be judged (`Visit.whole`)."""
+        wait = max(0.0, self.put_off(visit.network, LINE) - CREDIT)
+        crowd = self._crowds.get(visit.network, [])
+        if wait and sum(each.standing is Standing.JUDGED for each in crowd) >= WAITING:
+            self.put_off(visit.network, -LINE)
+            return None
+        visit.standing = Standing.JUDGED
+        return wait
+
+    def put_off(self, network: str, seconds: float) -> float:
+        """Puts off the first lines of a network. Returns by how much they are now."""
+        now = self._clock()
+        if len(self._until) > MOST_NETWORKS:
+            self._until = {each: until for each, until in self._until.items() if until > now}
+        until = max(now, self._until.get(network, now)) + seconds
+        self._until[network] = min(until, now + CREDIT + LONGEST)
+        return self._until[network] - now
+
+    def move(self, visit: Visit, standing: Standing, word: str = "") -> bool:
+        """A visit's standing changes. Returns False if too many have its word already."""
+        if visit.standing is Standing.GONE:
+            return False
+        if standing is Standing.KNOWN and self._known[word] >= self._own:
+            return False
+        if visit.is_known():
+            self._known[visit.word] -= 1
+        else:
+            self._crowds[visit.network].remove(visit)
+        if standing is Standing.KNOWN:
+            self._known[word] += 1
+        elif standing is not Standing.GONE:
+            self._crowds.setdefault(visit.network, []).append(visit)
+        if not self._crowds.get(visit.network, True):
+            del self._crowds[visit.network]
+        visit.standing, visit.word = standing, word
+        return True
+
+
+def _make_room(crowd: List[Visit]) -> bool:
+    """Ends a visit: one that is parting, or else the eldest that has not sent a first line.
+    Returns whether there was one."""
+    for standing in (Standing.PARTING, Standing.STRANGER):
+        for visit in crowd:
+            if visit.standing is standing:
+                visit.leave()
+                visit.end()
+                return True
+    return False
+
+
+def most_links(most: int, others: int) -> int:
+    """How many links the system's limit of open files leaves, `most` at most.
+
+    Args:
+        most: The links that are wanted.
+        others: The open files that the rest of the process may need.
+    """
+    try:
+        from resource import RLIM_INFINITY, RLIMIT_NOFILE, getrlimit
+    except ImportError:  # no such limit
+        return most
+    soft, _ = getrlimit(RLIMIT_NOFILE)
+    return most if soft == RLIM_INFINITY else max(1, min(most, soft - others))
