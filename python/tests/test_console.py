@@ -106,6 +106,14 @@ class Commands(test_relay.Case):
             self.assertEqual(self.console.obey(f"allow {written}"),
                              f"{plain} is no longer banned")
 
+    def test_a_network_is_banned(self) -> None:
+        for number, source in enumerate(("2001:db8::7", "2001:db8:0:1::7")):
+            self.relay.links[number].source = source
+        self.assertEqual(self.console.obey("ban 2001:db8::1/64"),
+                         "banned 2001:db8::/64; links closed: 1")
+        self.assertEqual(self.console.obey("allow 2001:db8::/64"),
+                         "2001:db8::/64 is no longer banned")
+
     def test_a_ban_of_another_address_ends_nobody(self) -> None:
         self.relay.links[1].source = "10.0.0.9"
         self.connect(b"hel")  # a link that has no seat yet
@@ -123,6 +131,14 @@ class Commands(test_relay.Case):
         self.turn_until(old, b"refused wrongword\n")
         self.connect(b"hello red7k\n")
         self.turn_until_told(events.Rejoined)
+
+    def test_a_new_word_is_not_that_of_a_link_that_waits_with_the_old_one(self) -> None:
+        thief = self.connect(b"hello seat1\n")
+        self.turns()
+        self.console.obey("word 1 red7k")
+        self.console.obey("end seat1")
+        self.turn_until(thief, b"refused taken\n")
+        self.assertEqual(self.of(events.Rejoined), [])
 
     def test_a_seat_may_keep_its_word_and_have_that_of_nobody(self) -> None:
         for word in ("seat1", "red7k", "seat1"):

@@ -39,6 +39,17 @@ class Counting(unittest.TestCase):
             self.assertEqual(told, ["by e", "by f", "by g", None])
         self.assertEqual(OTHERS, "other addresses")
 
+    def test_a_clock_that_goes_back_silences_nobody(self) -> None:
+        for _ in range(2):
+            self.refusals.add(1000.0, "h", "again")
+        self.assertEqual(self.refusals.due(900.0), ["again"])
+
+    def test_a_few_are_told_at_once(self) -> None:
+        few = Refusals(2, "{} of {}: {}")
+        self.assertEqual([few.add(1.0, "h", text) for text in "abcd"], ["a", "b", None, None])
+        self.assertEqual(few.due(11.0), ["2 of h: d"])
+        self.assertIsNone(few.add(12.0, "h", "e"))
+
 
 if __name__ == "__main__":
     unittest.main()

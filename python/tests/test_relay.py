@@ -7,21 +7,22 @@ import tempfile
 import time
 import unittest
 from pathlib import Path
-from typing import Any, Dict, List, Type, Union
+from typing import Any, Dict, List, Type
 from unittest import mock
 
 from geesefuton.hosting import events
 from geesefuton.hosting.events import End, Event
 from geesefuton.hosting.journal import Journal
-from geesefuton.hosting.links import OuterLink
-from geesefuton.hosting.relay import (MOST_HELD, MOST_SAID, MOST_STRANGERS, NEAR_MOST, PARTING,
-                                      UNREAD, Relay)
+from geesefuton.hosting.gate import LINE
+from geesefuton.hosting.links import MOST_SAID, OuterLink, Session
+from geesefuton.hosting.loop import REST
+from geesefuton.hosting.relay import MOST_EACH, MOST_HELD, NEAR_MOST, PARTING, UNREAD, Relay
 from geesefuton.hosting.seats import Seat, State
-from geesefuton.hosting.sessions import ADMISSION, Session
 from geesefuton.records.dialects import MOST_LINE
 
 WORDS = [f"seat{number}" for number in range(8)]
 MOST = 60.0  # seconds that anything may take, on a machine that is busy with other work
+WELCOME = b"welcome\nand more\n"
 MUCH = b"x" * (1 << 20)  # more than the system keeps of a link with small buffers
 
 
@@ -48,11 +49,10 @@ class Case(unittest.TestCase):
         for server in self.servers:
             self.addCleanup(server.close)
             server.settimeout(MOST)
-        self.relay.begin([Session(seat, link)
+        self.relay.begin([Session(seat, link, WELCOME)
                           for seat, (link, _) in zip(self.relay.seats.seats, pairs)])
-        for number, agent in enumerate(self.agents):
-            self.servers[number].sendall(b"w\n" * ADMISSION)
-            self.turn_until(agent, b"w\n" * ADMISSION)
+        for agent in self.agents:
+            self.turn_until(agent, WELCOME)
 
     def connect(self, first: bytes, address: str = "127.0.0.1") -> socket.socket:
         """A new link from this address of the machine, which sends something."""
@@ -132,8 +132,8 @@ class Passing(Case):
     def test_a_reply_is_written_before_it_is_passed_on(self) -> None:
         write, kept = Relay._write, list[int]()
 
-        def watched(relay: Relay, link: Union[OuterLink, Session]) -> None:
-            if isinstance(link, OuterLink) and link.held:
+        def watched(relay: Relay, link: OuterLink) -> None:
+            if link.held:
                 kept.append(sum('"r":' in line for line in self.journal._held))
             write(relay, link)
 
@@ -153,12 +153,12 @@ class Passing(Case):
         self.turn_until(server, b"own 5\n")
         link = next(iter(self.relay.links.values()))
         link.held += b"@4 own 0 ()\n"  # as if the link had taken no more of it until now
-        self.relay._watch(link)
+        self.relay.loop.watch(link)
         server.sendall(b"@5 own 0 ()\n")
         # The server is heard before the link is written to.
-        ready = sorted(self.relay._select.select(MOST), key=lambda each: each[1])
+        ready = sorted(self.relay.loop._select.select(MOST), key=lambda each: each[1])
         self.assertEqual(len(ready), 2)
-        with mock.patch.object(self.relay._select, "select", lambda timeout: ready), \
+        with mock.patch.object(self.relay.loop._select, "select", lambda timeout: ready), \
                 mock.patch.object(self.journal, "flush", side_effect=OSError("power is lost")), \
                 self.assertRaisesRegex(OSError, "power is lost"):
             self.relay.turn(MOST)
@@ -200,7 +200,7 @@ class Passing(Case):
         agent, server = self.agents[0], self.servers[0]
         link = self.relay.links[0]
         link.held += b"x" * (8 << 20)  # more than the system keeps
-        self.relay._watch(link)
+        self.relay.loop.watch(link)
         self.turns()
         self.assertGreater(len(link.held), MOST_HELD)
         agent.sendall(b"own 5\n")
@@ -228,7 +228,7 @@ class Passing(Case):
         self.turn_until_told(events.Departed)
         again = self.connect(b"hello seat0\nown 9\n")
         self.turn_until_told(events.Rejoined)
-        self.turn_until(again, b"w\n" * ADMISSION)
+        self.turn_until(again, WELCOME)
         self.assertTrue(self.is_sent_nothing(self.servers[0]))  # the bid has no answer yet
         self.servers[0].sendall(b"@3 taken 0 0\n")
         self.turn_until(self.servers[0], b"own 9\n")
@@ -243,7 +243,7 @@ class Passing(Case):
         self.turns()
         again = self.connect(b"hello seat0\nown 9\nown 10\n")
         again.shutdown(socket.SHUT_WR)
-        self.turn_until(again, b"w\n" * ADMISSION)
+        self.turn_until(again, WELCOME)
         self.turns()
         self.servers[0].sendall(b"@3 taken 0 0\n")
         for line in (b"own 9\n", b"own 10\n"):
@@ -269,7 +269,7 @@ class Passing(Case):
         self.turn_until(self.servers[0], b"own 1\n")
         self.agents[0].shutdown(socket.SHUT_WR)
         self.turns()
-        self.assertEqual(self.relay._select.select(0.0), [])  # its end is heard once
+        self.assertEqual(self.relay.loop._select.select(0.0), [])  # its end is heard once
         self.servers[0].sendall(b"@0 own 0 ()\n")
         self.turn_until(self.agents[0], b"@0 own 0 ()\n")
         self.turn_until_told(events.Departed)
@@ -278,23 +278,13 @@ class Passing(Case):
     def test_one_that_ends_its_side_is_sent_all_that_it_has_not_read(self) -> None:
         link = self.relay.links[0]
         link.held += b"x" * (8 << 20)  # more than the system keeps
-        self.relay._watch(link)
+        self.relay.loop.watch(link)
         self.turns()
         self.agents[0].shutdown(socket.SHUT_WR)
         self.turns()
         self.turn_until(self.agents[0], b"x" * (8 << 20))
         self.turn_until_told(events.Departed)
         self.assertTrue(self.has_ended(self.agents[0]))
-
-    def test_nothing_is_passed_on_before_the_whole_welcome_has_come(self) -> None:
-        late = self.connect(b"hello seat2\nown 1\n")
-        self.turn_until_told(events.Arrived, 3)
-        self.servers[2].sendall(b"w\n" * (ADMISSION - 1))
-        self.assertTrue(self.is_sent_nothing(self.servers[2]) and self.is_sent_nothing(late))
-        self.servers[2].sendall(b"v\n")
-        self.turn_until(late, b"w\n" * (ADMISSION - 1) + b"v\n")
-        self.turn_until(self.servers[2], b"own 1\n")
-        self.assertEqual(len(self.of(events.Began)), 1)
 
 
 class Ends(Case):
@@ -334,7 +324,7 @@ class Ends(Case):
         self.agents[1].close()
         self.turn_until_told(events.Departed)
         again = self.connect(b"hello seat1\n")
-        self.turn_until(again, b"w\n" * ADMISSION)
+        self.turn_until(again, WELCOME)
         self.assertTrue(self.relay.waive("seat7"))
         self.relay.pass_time(time.monotonic())
         self.relay.release()
@@ -349,10 +339,9 @@ class Ends(Case):
         self.ask(1, b"hey\n", b"no syntax\n")
         self.ask(1, b"own 1\n", b"@0 own 0 ()\n")
         late = self.connect(b"hello seat2\nquit\n")
-        self.servers[2].sendall(b"w\n" * ADMISSION)
         self.turn_until(self.servers[2], b"quit\n")
         self.servers[2].sendall(b"bye\n")
-        self.turn_until(late, b"w\n" * ADMISSION + b"bye\n")
+        self.turn_until(late, WELCOME + b"bye\n")
         for number in range(2):
             self.ask(number, b"quit\n", b"bye\n")
         self.assertEqual(self.ends(), {"seat0": End.REFUSED, "seat1": End.LEFT, "seat2": End.LEFT})
@@ -364,7 +353,7 @@ class Ends(Case):
         self.agents[0].close()
         self.turn_until_told(events.Departed)
         self.agents[0] = self.connect(b"hello seat0\nown 2\nown")
-        self.turn_until(self.agents[0], b"w\n" * ADMISSION)
+        self.turn_until(self.agents[0], WELCOME)
         self.turn_until(self.servers[0], b"own 2\n")
         self.servers[0].sendall(b"@1 own 0 ()\n")
         self.turn_until(self.agents[0], b"@1 own 0 ()\n")
@@ -434,7 +423,7 @@ class Faults(Case):
         self.turns()
         self.relay._drop(self.relay.links[0])  # as if its end had been missed
         self.relay.pass_time(time.monotonic() + MOST + 1)
-        self.turn_until(second, b"w\n" * ADMISSION)
+        self.turn_until(second, WELCOME)
         third = self.connect(b"hello seat1\n")
         self.turns()
         heir = self.relay.seats.seats[1].heir
@@ -444,7 +433,7 @@ class Faults(Case):
         self.assertTrue(self.has_ended(third))
         self.assertIs(self.relay.seats.seats[1].state, State.FREE)
         again = self.connect(b"hello seat1\n")
-        self.turn_until(again, b"w\n" * ADMISSION)
+        self.turn_until(again, WELCOME)
 
     def test_the_server_ends_one_session_and_the_others_go_on(self) -> None:
         self.servers[0].close()
@@ -469,11 +458,11 @@ class Faults(Case):
 
         with mock.patch.object(Relay, "_give", fails):
             self.relay.pass_time(time.monotonic() + MOST + 1)
-        self.turn_until(seconds[1], b"w\n" * ADMISSION)
+        self.turn_until(seconds[1], WELCOME)
         self.assertIn("a fault", self.of(events.Warned)[0].text)
         self.assertTrue(self.has_ended(seconds[0]))
         third = self.connect(b"hello seat0\n")
-        self.turn_until(third, b"w\n" * ADMISSION)
+        self.turn_until(third, WELCOME)
 
 
 class Strangers(Case):
@@ -523,7 +512,7 @@ class Strangers(Case):
         third = self.connect(b"hello seat0\nown 4\n")
         self.turns()
         self.relay.pass_time(time.monotonic() + MOST + 1)
-        self.turn_until(third, b"w\n" * ADMISSION)
+        self.turn_until(third, WELCOME)
         self.turn_until(self.servers[0], b"own 4\n")
         self.assertTrue(self.has_ended(self.agents[0]))
         self.assertEqual(len(self.of(events.Rejoined)), 1)
@@ -532,7 +521,7 @@ class Strangers(Case):
         second = self.connect(b"hello seat0\nown 4\n")
         self.assertTrue(self.is_sent_nothing(second))
         self.agents[0].close()
-        self.turn_until(second, b"w\n" * ADMISSION)
+        self.turn_until(second, WELCOME)
         self.turn_until(self.servers[0], b"own 4\n")
         self.assertEqual(len(self.of(events.Rejoined)), 1)
         waits = self.connect(b"hello seat1\n")
@@ -565,32 +554,88 @@ class Strangers(Case):
         self.assertEqual(self.turn_until_told(events.Lost)[0].why, "it ended before its first line")
         self.assertEqual(self.of(events.Departed), [])
 
-    def test_the_eldest_goes_if_there_are_too_many(self) -> None:
-        self.assertEqual(MOST_STRANGERS, 200)
-        with mock.patch("geesefuton.hosting.relay.MOST_STRANGERS", 3):
-            links = []
-            for _ in range(3):
-                links.append(self.connect(b""))
-                self.turns()
-            self.assertFalse(any(map(self.has_ended, links)))
-            links.append(self.connect(b"hello seat2\n"))
-            self.turn_until_told(events.Arrived, 3)
-            self.assertEqual([self.has_ended(link) for link in links], [True, False, False, False])
-            links.append(self.connect(b""))  # one has its seat by now
-            self.assertFalse(any(map(self.has_ended, links[1:])))
+    def test_the_eldest_goes_if_there_are_too_many_of_a_network(self) -> None:
+        links = []
+        for _ in range(MOST_EACH):
+            links.append(self.connect(b""))
+            self.turns()
+        self.assertFalse(any(map(self.has_ended, links)))
+        links.append(self.connect(b"hello seat2\n"))
+        self.turn_until_told(events.Arrived, 3)
+        self.assertEqual([self.has_ended(link) for link in links],
+                         [True, *[False] * MOST_EACH])
+        self.assertEqual(self.of(events.Lost)[0].why, "too many links had not sent a first line")
+        links.append(self.connect(b""))  # one has its seat by now
+        self.assertFalse(any(map(self.has_ended, links[1:])))
+
+    def test_links_that_were_refused_are_few_at_a_time(self) -> None:
+        for _ in range(3 * MOST_EACH):
+            self.connect(b"x\n")
+            self.relay.turn(0.01)
+        self.turns()
+        self.assertLessEqual(len(self.relay.links), 2 + MOST_EACH)
+        self.ask(0, b"own 1\n", b"@0 own 0 ()\n")
+
+    def test_a_right_word_waits_as_long_as_a_wrong_one_after_many_guesses(self) -> None:
+        for _ in range(8):
+            self.turn_until(self.connect(b"hello seat9\n"), b"refused wrongword\n")
+        links = [self.connect(f"hello {word}\n".encode()) for word in ("seat2", "seat0", "no")]
+        self.assertTrue(all(map(self.is_sent_nothing, links)))
+        self.assertEqual(len(self.of(events.Arrived)), 2)
+        links[1].close()  # its word is not looked at any longer
+        self.turns()
+        self.relay.pass_time(time.monotonic() + 20 * LINE)
+        self.turn_until(links[0], WELCOME)
+        self.turn_until(links[2], b"refused wrongword\n")
+
+    def test_who_comes_and_goes_is_seated_more_and_more_slowly(self) -> None:
+        for _ in range(60):
+            self.connect(b"hello seat2\n").close()
+            self.turns()
+        self.assertLess(len(self.of(events.Arrived)), 45)
 
     def test_no_link_is_taken_for_a_while_if_no_more_files_may_be_opened(self) -> None:
         link = self.connect(b"hello seat2\n")
         with mock.patch.object(socket.socket, "accept", side_effect=OSError(24, "Too many files")):
             self.turns()
-        self.assertEqual(self.relay._select.select(0.01), [])  # nothing is tried again and again
-        self.relay.pass_time(time.monotonic() + 1.0)
-        self.servers[2].sendall(b"w\n" * ADMISSION)
-        self.turn_until(link, b"w\n" * ADMISSION)
+        self.assertEqual(self.relay.loop._select.select(0.01), [])  # nothing is tried again and again
+        self.relay.pass_time(time.monotonic() + REST + 0.1)
+        self.turn_until(link, WELCOME)
+
+    def test_a_handler_that_fails_is_told_once_and_tried_again(self) -> None:
+        ours, theirs = socket.socketpair()
+        self.addCleanup(ours.close)
+        self.addCleanup(theirs.close)
+        calls: List[bytes] = []
+
+        def fails() -> None:
+            calls.append(ours.recv(1))
+            raise RuntimeError("a fault")
+
+        theirs.sendall(b"abc")
+        self.relay.loop.attend(ours, fails)
+        for number in range(1, 4):
+            self.turns()
+            self.assertEqual(len(calls), number)
+            self.relay.pass_time(time.monotonic() + REST + 0.1)
+        self.relay.loop.forget(ours)
+        self.assertIn("a fault", self.of(events.Warned)[0].text)
+        self.assertEqual(len(self.of(events.Warned)), 1)
+        self.ask(0, b"own 1\n", b"@0 own 0 ()\n")
 
     def test_one_that_goes_before_it_is_taken_holds_nobody(self) -> None:
         self.relay._accept()  # as if a link had been there a moment before
         self.ask(0, b"own 1\n", b"@0 own 0 ()\n")
+
+    def test_a_word_that_is_changed_is_not_the_heirs(self) -> None:
+        heir = self.connect(b"hello seat0\n")
+        self.turns()
+        self.relay.change_word(self.relay.seats.seats[0], "red7k")
+        self.turn_until(heir, b"refused taken\n")
+        self.agents[0].close()
+        self.turn_until_told(events.Departed)
+        self.assertEqual(self.of(events.Rejoined), [])
+        self.turn_until(self.connect(b"hello red7k\n"), WELCOME)
 
     def test_an_error_costs_one_link(self) -> None:
         with mock.patch.object(self.relay.seats, "admit", side_effect=RuntimeError("a fault")):
@@ -620,7 +665,7 @@ class Strangers(Case):
         for end, buffer in ((link.socket, socket.SO_SNDBUF), (self.agents[0], socket.SO_RCVBUF)):
             end.setsockopt(socket.SOL_SOCKET, buffer, 1 << 16)  # the system does not enlarge it
         link.held += MUCH
-        self.relay._watch(link)
+        self.relay.loop.watch(link)
         deadline = time.monotonic() + MOST
         while link.stuck is None:
             self.assertLess(time.monotonic(), deadline, len(link.held))

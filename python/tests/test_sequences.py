@@ -19,9 +19,9 @@ from typing import Any, Callable, Dict, List, Optional, Tuple
 from unittest import mock
 
 from geesefuton.hosting import events
+from geesefuton.hosting.links import Session
 from geesefuton.hosting.relay import Relay
 from geesefuton.hosting.seats import State
-from geesefuton.hosting.sessions import ADMISSION, Session
 
 SEQUENCES = 10_000
 STEPS = 14  # of a sequence
@@ -82,6 +82,8 @@ class Door:
         pass
 
     def accept(self) -> Tuple[Wire, Tuple[str, int]]:
+        if not self.waiting:
+            raise BlockingIOError
         return self.waiting.pop(0), ("127.0.0.1", 0)
 
     def ready(self) -> int:
@@ -200,16 +202,8 @@ class Play:
         self.servers = [Wire() for _ in WORDS]
         self.waiting = [None] * len(WORDS)
         server: Any
-        self.relay.begin([Session(seat, server)
+        self.relay.begin([Session(seat, server, b"welcome\n")
                           for seat, server in zip(self.relay.seats.seats, self.servers)])
-        if self.draw.random() < 0.8:
-            for server in self.servers:
-                server.inbox += b"w\n" * ADMISSION
-
-    def welcome_late(self) -> None:
-        for server, session in zip(self.servers, self.relay.sessions):
-            if not session.welcome and not server.inbox and not server.is_ended:
-                server.inbox += b"w\n" * ADMISSION
 
     def answer(self) -> None:
         """The server answers what it was asked."""
@@ -288,7 +282,7 @@ class Play:
 
 STEPS_OF: List[Callable[[Play], None]] = [
     *[Play.connect] * 5, *[Play.say] * 3, *[Play.answer] * 4, *[Play.pass_time] * 3,
-    *[Play.begin] * 2, Play.quit, Play.stop, Play.reset, Play.read_or_not, Play.welcome_late,
+    *[Play.begin] * 2, Play.quit, Play.stop, Play.reset, Play.read_or_not,
     Play.server_ends, Play.waive, Play.release, Play.finish]
 
 

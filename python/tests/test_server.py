@@ -5,17 +5,18 @@ import signal
 import socket
 import subprocess
 import sys
+import threading
 import time
 import unittest
 from pathlib import Path
 from typing import Any, Iterator
 from unittest import mock
 
+from geesefuton import program
 from geesefuton.hosting import events, server
 from geesefuton.hosting.control import Phase
 from geesefuton.hosting.events import End
-from geesefuton.hosting.listeners import listens
-from geesefuton.hosting.server import TRIES, fault_of_head, first_line
+from geesefuton.hosting.server import TRIES
 from geesefuton.processes import free_port
 from tests.helpers import TOP, fake_program, python
 from tests.lobbies import GAME, MOST, WORDS, Case, Host
@@ -58,15 +59,21 @@ class Strangers(Case):
         self.check_game(host)
         self.assertFalse(file.exists())
         warned, = host.of(events.Warned)
-        self.assertRegex(warned.text, "did not start at its port .*outsider.*another port")
+        self.assertRegex(warned.text, "did not start: .*not welcomed within.*trying again")
 
-    def test_a_stranger_with_a_seats_word_at_the_servers_port_does_not_get_the_seat(self) -> None:
-        file = self.stranger("hello seat3\n")
+    def test_the_seats_of_the_server_have_words_that_nobody_else_knows(self) -> None:
+        self.stranger("hello seat3\n")
+        words, served = list[str](), program.served_words
+
+        def watched(game: Path, *more: Any) -> Any:
+            words.extend(game.read_text().split("\n")[1].split())
+            return served(game, *more)
+
+        self.patch(mock.patch("geesefuton.program.served_words", watched))
         host = Host(self.folder, start=None, pace=1000)
         self.check_game(host)
-        self.assertFalse(file.exists())
-        warned, = host.of(events.Warned)
-        self.assertRegex(warned.text, "asked for seat 3: the lobby got 'refused taken'")
+        self.assertEqual((len(set(words)), set(words) & set(WORDS)), (9, set()))
+        self.assertEqual(host.of(events.Warned), [])
 
     def test_a_stranger_with_a_wrong_first_line_is_no_fault(self) -> None:
         self.stranger("GET / HTTP/1.1\n")
@@ -76,7 +83,7 @@ class Strangers(Case):
 
     def test_strangers_at_every_port_end_the_start(self) -> None:
         self.patch(mock.patch.object(server, "WELCOMING", 0.2))
-        self.stranger("hello seat0\n", "stays")
+        self.stranger("", "stays")
         host = Host(self.folder, pace=5, start=0)
         host.end()
         self.assertEqual((host.status, host.of(events.Began)), (server.TAKEN, []))
@@ -91,24 +98,44 @@ class Strangers(Case):
                 server, "free_port", side_effect=lambda: next(ports, None) or free_port()))
             host = Host(self.folder, start=None, pace=1000)
             self.check_game(host)
-            other.setblocking(False)
-            self.assertRaises(BlockingIOError, other.accept)
         self.assertEqual(host.of(events.Warned), [])
 
-    def test_where_the_system_tells_nothing_nothing_is_said_to_somebody_elses_server(self) -> None:
-        self.set(FAKE_LATE="0.1")
-        self.patch(mock.patch.object(server, "SETTLING", 1.5))
-        self.patch(mock.patch.object(server, "listens", return_value=None))
+    def test_somebody_elses_server_that_welcomes_the_lobby_is_not_believed(self) -> None:
+        self.set(FAKE_LATE="0.3")
         with socket.create_server(("127.0.0.1", 0)) as other:
+            def welcomes() -> None:
+                for seat in range(8):
+                    other.accept()[0].sendall(b"welcome %d\nendow" % seat)
+
+            threading.Thread(target=welcomes, daemon=True).start()
             ports = iter([other.getsockname()[1]])
             self.patch(mock.patch.object(
                 server, "free_port", side_effect=lambda: next(ports, None) or free_port()))
             host = Host(self.folder, start=None, pace=1000)
             self.check_game(host)
-            other.setblocking(False)
-            with other.accept()[0] as link:
-                self.assertEqual(link.recv(99), b"")
-            self.assertRaises(BlockingIOError, other.accept)
+
+    def test_a_server_that_cannot_be_started_is_tried_again(self) -> None:
+        faults = iter([OSError(24, "Too many open files")] * 2)
+
+        def port() -> int:
+            for fault in faults:
+                raise fault
+            return free_port()
+
+        self.patch(mock.patch.object(server, "free_port", port))
+        host = Host(self.folder, start=None, pace=1000)
+        self.check_game(host)
+        self.assertEqual([warned.text for warned in host.of(events.Warned)],
+                         ["the server did not start: Too many open files; trying again"] * 2)
+
+    def test_a_server_that_does_not_end_after_its_log_is_killed(self) -> None:
+        self.set(FAKE_STAYS="1")
+        self.patch(mock.patch.object(server, "ENDING", 0.1))
+        host = Host(self.folder, pace=1, start=0, linger=0)
+        host.end()
+        self.assertEqual(host.status, 128 + signal.SIGKILL)
+        self.assertIn("did not end after its log", host.of(events.Warned)[0].text)
+        self.assertEqual(self.asked(), [])
 
     def test_a_server_that_listens_late_is_waited_for(self) -> None:
         self.set(FAKE_LATE="0.8")
@@ -124,19 +151,6 @@ class Strangers(Case):
         self.assertEqual(host.status, server.TAKEN)
         self.assertIn("did not listen within", host.of(events.Warned)[-1].text)
 
-    def test_the_head_of_the_log_has_to_seat_the_lobby(self) -> None:
-        seated = [f"link {seat} seated {seat}" for seat in range(8)]
-        self.set(FAKE_HEAD=",".join(["serve", *seated]))
-        host = Host(self.folder, pace=2, start=0, linger=0)
-        host.end()
-        self.assertEqual(host.of(events.Warned), [])
-        self.set(FAKE_HEAD=",".join(["serve", *seated[:3], "link 3 wrongword", *seated[5:]]))
-        host = Host(self.folder, pace=2, start=0, linger=0, journal=self.folder / "other.journal")
-        host.end()
-        warned, = host.of(events.Warned)
-        self.assertIn("did not have all eight seats of the server (it had 0 1 2 5 6 7)",
-                      warned.text)
-
 
 class Ticks(Case):
     """What the host is told at each tick."""
@@ -151,78 +165,6 @@ class Ticks(Case):
         host.end()
         counts = [event.lines[0] for event in host.of(events.Ticked)]
         self.assertEqual(set(counts) - {0}, {5}, counts)
-
-
-class Heads(unittest.TestCase):
-    def test_what_is_wrong_with_a_head(self) -> None:
-        def head(*lines: str) -> bytes:
-            return "\n".join(["taclog 1", "serve", *lines, "missed 0", "auction 0 54"]).encode()
-
-        seated = [f"link {number} seated {number}" for number in range(8)]
-        self.assertEqual(fault_of_head(head(*seated)), "")
-        self.assertEqual(fault_of_head(b"taclog 1\nfault links\n"), "")
-        self.assertEqual(fault_of_head(b""), "")
-        moved = [f"link {number + 1} seated {number}" for number in range(8)]
-        self.assertEqual(fault_of_head(head("link 0 lost", *moved)), "")
-        self.assertIn("(it had 1 0 2 3 4 5 6 7)", fault_of_head(
-            head("link 0 seated 1", "link 1 seated 0", *seated[2:])))
-        self.assertIn("(it had none)", fault_of_head(head()))
-
-    def test_a_first_line_is_not_taken_away(self) -> None:
-        ours, theirs = socket.socketpair()
-        with ours, theirs:
-            ours.setblocking(False)
-            self.assertIsNone(first_line(ours))
-            theirs.sendall(b"welcome")
-            self.assertIsNone(first_line(ours))
-            theirs.sendall(b" 3\nendow")
-            for _ in range(2):
-                self.assertEqual(first_line(ours), b"welcome 3")
-            self.assertEqual(ours.recv(99), b"welcome 3\nendow")
-            theirs.close()
-            self.assertRaises(ConnectionError, first_line, ours)
-
-
-class Listeners(unittest.TestCase):
-    """Whose a port is."""
-
-    def listening(self, number: int) -> None:
-        if listens(os.getpgrp(), number) is None:
-            self.skipTest("the system does not tell")
-
-    def test_ones_own_and_anothers(self) -> None:
-        with socket.create_server(("127.0.0.1", 0)) as own:
-            port = own.getsockname()[1]
-            self.listening(port)
-            self.assertTrue(listens(os.getpgrp(), port))
-            child = subprocess.Popen(["sleep", str(MOST)], start_new_session=True)
-            try:
-                self.assertFalse(listens(child.pid, port))
-            finally:
-                child.kill()
-                child.wait()
-        self.assertFalse(listens(os.getpgrp(), port))
-
-    def test_a_child_of_the_program_counts_as_the_program(self) -> None:
-        code = ("import subprocess, sys; subprocess.run([sys.executable, '-c', 'import socket; "
-                "other = socket.create_server((\"\", 0)); print(other.getsockname()[1], flush=True)"
-                "; import sys; sys.stdin.read()'])")
-        with subprocess.Popen(python(code), stdin=subprocess.PIPE, stdout=subprocess.PIPE,
-                              start_new_session=True) as child:
-            assert child.stdout is not None and child.stdin is not None
-            port = int(child.stdout.readline())
-            self.listening(port)
-            self.assertTrue(listens(child.pid, port))
-            self.assertFalse(listens(os.getpgrp(), port))
-            child.stdin.close()
-
-    def test_a_system_that_does_not_tell(self) -> None:
-        with mock.patch.object(Path, "read_text", side_effect=FileNotFoundError):
-            self.assertIsNone(listens(os.getpgrp(), 7000))
-        with socket.create_server(("127.0.0.1", 0)) as own:
-            self.listening(own.getsockname()[1])
-            with mock.patch("os.readlink", side_effect=PermissionError):
-                self.assertIsNone(listens(os.getpgrp(), own.getsockname()[1]))
 
 
 class Signals(Case):

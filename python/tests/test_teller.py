@@ -19,10 +19,11 @@ PART = re.compile(r"(! )?(\d\d:\d\d:\d\d) (.*)")
 
 def parts_of(*happened: Event) -> List[Sequence[str]]:
     """Of each line whether it is marked, its time, and its text."""
-    told: List[str] = []
+    told, now = list[str](), [0.0]
     with mock.patch("geesefuton.hosting.teller.tell", told.append):
-        teller = Teller(WORDS)
+        teller = Teller(WORDS, lambda: now[0])
         for event in happened:
+            now[0] = event.at
             teller.tell(event)
         teller.close()
     parts = [PART.fullmatch(line) for line in told]
@@ -123,14 +124,37 @@ class Texts(unittest.TestCase):
         self.assertLess(len(told), 200)
         self.assertRegex("\n".join(told), "[0-9]{3} more links from other addresses took no seat")
 
+    def test_one_that_comes_and_goes_is_a_few_lines(self) -> None:
+        comings: List[Event] = []
+        for number in range(500):
+            at = number / 100
+            comings += [events.Arrived(at, 1, "seat1", "h"), events.Departed(at, 1, "seat1")]
+        told = texts_of(*comings, events.Arrived(9.0, 2, "seat2", "i"))
+        self.assertEqual(len(told), 8)
+        self.assertIn("seat2 is here from i; missing: seat0 seat1 seat3", told[6])
+        self.assertEqual(told[7], "994 more times seat1 came or went; the last: seat1 lost its "
+                                  "link, and may reconnect")
+
+    def test_the_time_of_the_day_may_go_back(self) -> None:
+        told, now = list[str](), [0.0]
+        with mock.patch("geesefuton.hosting.teller.tell", told.append):
+            teller = Teller(WORDS, lambda: now[0])
+            for at in (10_000.0, 6_400.0):
+                teller.tell(events.Lost(at, "h", "it sent no line"))
+                now[0] += 11.0
+            teller.close()
+        self.assertEqual(len(told), 2)
+
     def test_what_is_counted_is_told_though_nothing_more_happens(self) -> None:
         told: List[str] = []
         came = threading.Event()
         with mock.patch("geesefuton.hosting.teller.tell", told.append), \
                 mock.patch("geesefuton.hosting.teller.LOOK", 0.01):
-            teller = Teller(WORDS)
-            for at in (time.time() - 20.0, time.time() - 19.0):
-                teller.tell(events.Lost(at, "h", "it sent no line"))
+            now = [0.0]
+            teller = Teller(WORDS, lambda: now[0])
+            for _ in range(2):
+                teller.tell(events.Lost(0.0, "h", "it sent no line"))
+            now[0] = 20.0
             deadline = time.monotonic() + 60.0
             while len(told) < 2 and time.monotonic() < deadline:
                 came.wait(0.01)

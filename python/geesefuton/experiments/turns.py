@@ -20,7 +20,7 @@ from typing import List, Optional
 from geesefuton import program
 from geesefuton.hosting.control import STOPPED, Phase
 from geesefuton.hosting.hosted_game import HostedGame
-from geesefuton.hosting.sessions import Session
+from geesefuton.hosting.links import Session
 from geesefuton.learning.stepping import Stepped
 from geesefuton.records.dialects import MOST_LINE, said_in, words_for
 from geesefuton.records.games import TICKS, welcome
@@ -111,13 +111,11 @@ class TurnServer:
             for seat in game.relay.seats.seats:
                 ours, theirs = socket.socketpair()
                 stack.callback(theirs.close)
-                sessions.append(Session(seat, ours))
+                sessions.append(Session(seat, ours, welcome(game.text, seat.number)))
                 self._turners.append(Turner(seat.number, theirs))
             game.relay.begin(sessions)
             self._first = first_seat(game.text)
             game.control.phase = Phase.PLAYING
-            for turner in self._turners:
-                turner.say(welcome(game.text, turner.seat))
             self._play_ticks(game, table)
             if game.is_stopped:
                 return STOPPED

@@ -1,10 +1,13 @@
-"""The addresses of links: a listener on all of this machine's, and one text for each."""
+"""The addresses of links: a listener on all of this machine's, one text for each, and networks."""
 
 from __future__ import annotations
 
 import ipaddress
 import socket
 from typing import Union
+
+Address = Union[ipaddress.IPv4Address, ipaddress.IPv6Address]
+Network = Union[ipaddress.IPv4Network, ipaddress.IPv6Network]
 
 
 def listen(port: int) -> socket.socket:
@@ -18,13 +21,13 @@ def listen(port: int) -> socket.socket:
                                 dualstack_ipv6=both, backlog=128)
 
 
-def parsed(text: str) -> Union[ipaddress.IPv4Address, ipaddress.IPv6Address]:
+def parsed(text: str) -> Address:
     """An address, however it is written: `10.0.0.7` of `::ffff:10.0.0.7`.
 
     Raises:
         ValueError: It is none.
     """
-    address = ipaddress.ip_address(text)
+    address = ipaddress.ip_address(text.partition("%")[0])
     mapped = address.ipv4_mapped if isinstance(address, ipaddress.IPv6Address) else None
     return mapped or address
 
@@ -36,3 +39,25 @@ def plain_address(text: str) -> str:
         ValueError: It is no address.
     """
     return str(parsed(text))
+
+
+def network_of(text: str) -> Network:
+    """The addresses that a text stands for: those of `2001:db8::/64`, or a single one.
+
+    Raises:
+        ValueError: It is neither.
+    """
+    return ipaddress.ip_network(text if "/" in text else parsed(text), strict=False)
+
+
+def plain_network(network: Network) -> str:
+    """The one text of some addresses, that of the address if it is a single one."""
+    return str(network.network_address if network.num_addresses == 1 else network)
+
+
+def is_within(text: str, network: Network) -> bool:
+    """Whether a text is an address, and is among those of a network."""
+    try:
+        return parsed(text) in network
+    except ValueError:
+        return False

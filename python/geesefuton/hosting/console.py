@@ -5,7 +5,7 @@ from __future__ import annotations
 import time
 from typing import Callable, Dict, NamedTuple, Optional
 
-from geesefuton.hosting.addresses import plain_address
+from geesefuton.hosting.addresses import Network, is_within, network_of, plain_network
 from geesefuton.hosting.control import Control, Phase
 from geesefuton.hosting.links import OuterLink
 from geesefuton.hosting.relay import Relay
@@ -44,7 +44,8 @@ class Console:
             "begin": Command("", "begins the game now; an empty line does the same", self._go_on),
             "without": Command("SEAT", "stops waiting for this agent", self._waive),
             "end": Command("SEAT", "closes the seat's link; its agent may reconnect", self._end),
-            "ban": Command("ADDRESS", "closes the address's links and accepts no more", self._ban),
+            "ban": Command("ADDRESS", "closes the address's links and accepts no more; also of "
+                           "addresses such as 2001:db8::/64", self._ban),
             "allow": Command("ADDRESS", "accepts links from the address again", self._allow),
             "word": Command("SEAT WORD", "changes the word that takes the seat", self._word),
             "finish": Command("", "after the last tick: stops waiting for agents", self._go_on),
@@ -112,20 +113,20 @@ class Console:
         return f"closed the link of {word}"
 
     def _ban(self, text: str) -> str:
-        address = _address(text)
-        self._relay.banned.add(address)
-        links = [link for link in self._relay.links.values() if link.source == address]
+        network = _network(text)
+        self._relay.gate.banned.add(network)
+        links = [link for link in self._relay.links.values() if is_within(link.source, network)]
         for link in links:
             self._relay.fail(link)
-        return f"banned {address}; links closed: {len(links)}"
+        return f"banned {plain_network(network)}; links closed: {len(links)}"
 
     def _allow(self, text: str) -> str:
-        address = _address(text)
-        if address not in self._relay.banned:
-            banned = " ".join(sorted(self._relay.banned)) or "none"
-            raise NotDone(f"{address} is not banned; banned addresses: {banned}")
-        self._relay.banned.remove(address)
-        return f"{address} is no longer banned"
+        network, banned = _network(text), self._relay.gate.banned
+        if network not in banned:
+            known = " ".join(sorted(map(plain_network, banned))) or "none"
+            raise NotDone(f"{plain_network(network)} is not banned; banned addresses: {known}")
+        banned.remove(network)
+        return f"{plain_network(network)} is no longer banned"
 
     def _word(self, name: str, word: str) -> str:
         seat, seats = self._seat(name), self._relay.seats
@@ -133,7 +134,7 @@ class Console:
             raise NotDone(f"{word} is not a seat word: use 1 to 16 letters a to z and digits")
         if seats.keys.get(word, seat.number) != seat.number:
             raise NotDone(f"{word} is another seat's word: choose a different one")
-        seats.change_word(seat.number, word)
+        self._relay.change_word(seat, word)
         return f"seat {seat.word} is now taken by its new word"
 
     def _help(self) -> str:
@@ -152,14 +153,14 @@ class Console:
         return None if seat.holder is None else self._relay.links.get(seat.holder)
 
 
-def _address(text: str) -> str:
-    """The address that a word of the host is.
+def _network(text: str) -> Network:
+    """The addresses that a word of the host is.
 
     Raises:
         NotDone: It is none.
     """
     try:
-        return plain_address(text)
+        return network_of(text)
     except ValueError:
         raise NotDone(f"{text} is not an address; `who` shows the agents' addresses") from None
 

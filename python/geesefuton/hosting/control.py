@@ -5,7 +5,8 @@ from __future__ import annotations
 import contextlib
 import enum
 import socket
-from typing import Callable, Protocol
+
+from geesefuton.hosting.loop import Loop
 
 STOPPED = 130  # the exit status of a game that was ended before its time
 
@@ -18,13 +19,6 @@ class Phase(enum.Enum):
     PLAYING = "the ticks pass"
     ENDING = "the last tick has passed; waiting for agents that have not left"
     SHOWING = "the log is written, and the page shows the last scores"
-
-
-class Attending(Protocol):
-    """What calls a handler whenever a file can be read."""
-
-    def attend(self, file: socket.socket, handler: Callable[[], None]) -> None:
-        """Calls the handler from now on."""
 
 
 class Control:
@@ -62,9 +56,9 @@ class Control:
         if self.phase is Phase.ENDING:
             self.is_end_asked = True
 
-    def wake_by(self, relay: Attending) -> None:
+    def wake_by(self, loop: Loop) -> None:
         """Lets whatever waits for links wait no longer once something is asked."""
-        relay.attend(self._wake, self._woken)
+        loop.attend(self._wake, self._woken)
 
     def close(self) -> None:
         """Closes what it has open. What is asked later changes nothing."""

@@ -1,11 +1,13 @@
-"""What happens while a game is hosted, as values: a `Lobby` passes them on as it happens."""
+"""What happens while a game is hosted, as values, which a `Lobby` queues for its listener."""
 
 from __future__ import annotations
 
 import enum
 import json
+import queue
+import threading
 from dataclasses import asdict, dataclass
-from typing import Optional, Tuple, Union
+from typing import Callable, Optional, Tuple, Union
 
 
 class End(enum.Enum):
@@ -132,6 +134,43 @@ Event = Union[
     Answered, Arrived, Departed, Refused, Lost, Waived, Began, Ticked, Rejoined, Ended, Finished,
     Warned
 ]
+
+
+class EventQueue:
+    """Gives events to a listener in their order, in a thread of its own, so that neither what it
+    does slowly nor what it raises is felt by what the events are about.
+
+    Args:
+        listener: Is given each event.
+    """
+
+    def __init__(self, listener: Callable[[Event], None]) -> None:
+        self._listener = listener
+        self._events: "queue.SimpleQueue[Optional[Event]]" = queue.SimpleQueue()
+        self._fault: Optional[Exception] = None
+        self._thread = threading.Thread(target=self._give, daemon=True)
+        self._thread.start()
+
+    def put(self, event: Event) -> None:
+        """Something has happened."""
+        self._events.put(event)
+
+    def close(self) -> None:
+        """Waits until the listener had all, and raises what it raised first."""
+        self._events.put(None)
+        self._thread.join()
+        if self._fault is not None:
+            raise self._fault
+
+    def _give(self) -> None:
+        while True:
+            event = self._events.get()
+            if event is None:
+                return
+            try:
+                self._listener(event)
+            except Exception as fault:
+                self._fault = self._fault or fault
 
 
 def json_of(event: Event) -> str:

@@ -24,11 +24,10 @@ one, so silence tells nothing.
 from __future__ import annotations
 
 import enum
-import ipaddress
 from collections import Counter
-from typing import Callable, Counter as Counts, Dict, List, Optional, Set, Union
+from typing import Callable, Counter as Counts, Dict, List, Optional, Set
 
-from geesefuton.hosting.addresses import parsed
+from geesefuton.hosting.addresses import Network, parsed
 
 LINE = 0.5  # seconds by which a first line puts off the next ones of its network
 WRONG = 2.0  # seconds by which a wrong one does so beyond that
@@ -36,8 +35,6 @@ CREDIT = 20.0  # seconds that a network's lines are put off before any of them w
 LONGEST = 15.0  # seconds that a first line waits at most
 WAITING = 8  # first lines of a network that wait
 MOST_NETWORKS = 1024  # that are remembered without need
-
-Network = Union[ipaddress.IPv4Network, ipaddress.IPv6Network]
 
 
 class Standing(enum.Enum):

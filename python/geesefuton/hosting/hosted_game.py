@@ -8,6 +8,7 @@ from __future__ import annotations
 
 import time
 from collections import deque
+from functools import partial
 from pathlib import Path
 from typing import Callable, Deque, List, Optional, Protocol
 
@@ -49,10 +50,10 @@ class HostedGame:
         self.by_hand: Optional[SideProcess] = None
         self._lines: Deque[str] = deque()
         self._orders = Orders(settings.orders, self._lines)
-        self._orders.look(relay)
+        self._orders.look(relay.loop)
         self._console = Console(relay, control)
         self._looked = self._last = 0.0
-        control.wake_by(relay)
+        control.wake_by(relay.loop)
 
     @property
     def is_stopped(self) -> bool:
@@ -67,17 +68,14 @@ class HostedGame:
         """Passes on what has come, for which it waits some seconds at most, and now and then looks
         at what has waited too long, at the host's commands and at the page."""
         self.relay.turn(min(timeout, LOOK))
-        now = time.monotonic()
+        now, guard = time.monotonic(), self.relay.loop.guard
         if now - self._looked >= LOOK:
             self._looked = now
-            self.relay.pass_time(now)
-            self._orders.look(self.relay)
-            self._console.note_homes()
-            for each in (self.page, self.by_hand):
-                fault = each.fault() if each else ""
-                if fault:
-                    self.warn(fault)
-        self._obey()
+            guard(partial(self.relay.pass_time, now))
+            guard(partial(self._orders.look, self.relay.loop))
+            guard(self._console.note_homes)
+            guard(self._look_at_pages)
+        guard(self._obey)
 
     def tick(self, number: int, lines: List[int]) -> None:
         """A tick has come, before which each agent has sent so many lines."""
@@ -93,6 +91,12 @@ class HostedGame:
         """How long agents that have not left after the last tick are still waited for."""
         return 0.0 if self.control.is_end_asked else max(
             0.0, self._last + self.settings.linger - time.monotonic())
+
+    def _look_at_pages(self) -> None:
+        for each in (self.page, self.by_hand):
+            fault = each.fault() if each else ""
+            if fault:
+                self.warn(fault)
 
     def _obey(self) -> None:
         """Does what the host asks for."""

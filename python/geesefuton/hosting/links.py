@@ -1,4 +1,5 @@
-"""The links from outside: to agents, and to strangers that have no seat.
+"""The links of a game: those from outside, to agents and to strangers that have no seat, and one to
+the server for each seat, which is kept while agents come and go.
 
 A link is *parting* once it was sent its last line: it has a moment to end its side, and is then
 closed. Its *owed* lines were passed on to the server and have no reply yet.
@@ -6,44 +7,133 @@ closed. Its *owed* lines were passed on to the server and have no reply yet.
 
 from __future__ import annotations
 
+import contextlib
 import socket
 import time
-from typing import Optional
+from collections import deque
+from typing import Callable, Deque, List, NamedTuple, Optional
 
+from geesefuton.hosting.events import End
+from geesefuton.hosting.gate import Visit
 from geesefuton.hosting.seats import Seat
 from geesefuton.link import KEEPALIVE
-from geesefuton.records.dialects import MOST_LINE
+from geesefuton.records.dialects import MOST_LINE, is_bye, is_refusal
 
+MOST_SAID = 65536  # bytes of an agent's lines that are kept; it is not read while there are more
 UNACKNOWLEDGED = 14_000  # milliseconds, the same time for a link with something on its way
 
 
-class OuterLink:
+class Served(NamedTuple):
+    """What is done once a file can be read or written, and what if that raises anything."""
+
+    read: Callable[[], None]
+    write: Callable[[], None]
+    fail: Callable[[], None]
+
+
+class Link:
+    """A link.
+
+    Attributes:
+        served: What serves it.
+        held: What is still to be sent to it.
+        wants: What the selector waits for.
+        has_ended: Whether it sends nothing more.
+        is_open: Whether it was not closed.
+    """
+
+    served: Served
+
+    def __init__(self, link: socket.socket) -> None:
+        self.socket, self.held, self.wants = link, bytearray(), 0
+        self.has_ended, self.is_open = False, True
+        link.setblocking(False)
+
+    def is_read(self) -> bool:
+        """Whether what it sends is read."""
+        return not self.has_ended
+
+    def send(self) -> int:
+        """Sends what is held, as far as it is taken: how many bytes that are.
+
+        Raises:
+            OSError: The link has failed.
+        """
+        count = 0
+        with contextlib.suppress(BlockingIOError):
+            while self.held:
+                taken = self.socket.send(self.held)
+                del self.held[:taken]
+                count += taken
+        return count
+
+
+class Session(Link):
+    """The link to the server that is kept for a seat, and has been welcomed.
+
+    Attributes:
+        welcome: The lines that the server has sent it first.
+        asked: The links whose lines were passed on and are not answered.
+        lines: How many lines agents have sent for it, and `passed` how many were passed on.
+        answered: How many replies came, and `refused` how many of them refuse a line.
+    """
+
+    def __init__(self, seat: Seat, link: socket.socket, welcome: bytes) -> None:
+        super().__init__(link)
+        self.seat, self.welcome = seat, welcome
+        self.asked: Deque[OuterLink] = deque()
+        self.lines = self.passed = self.answered = self.refused = 0
+        self._tail = b""
+
+    def feed(self, data: bytes) -> List[bytes]:
+        """The lines that are whole now, without their ends."""
+        *lines, self._tail = (self._tail + data).split(b"\n")
+        return lines
+
+    def answer(self, line: bytes) -> OuterLink:
+        """Counts a reply, and gives the link whose line it answers."""
+        self.answered += not is_bye(line)
+        self.refused += is_refusal(line)
+        link = self.asked.popleft()
+        link.owed -= 1
+        return link
+
+    def reason(self, reason: End) -> End:
+        """The reason of its end, in view of what was answered."""
+        return End.REFUSED if self.refused and self.refused == self.answered else reason
+
+
+class OuterLink(Link):
     """A link from outside: a stranger until its first line, and then the link of a seat.
 
     Attributes:
         number: By which `Seats` knows it.
+        visit: What the gate knows of it.
+        source: Where it comes from, as the host is told.
+        due: When its first line is judged, if that waits.
         seat: The seat that it has, or waits for.
         said: What it sent and was not passed on.
-        held: What is still to be sent to it.
         owed: How many of its lines were passed on and are not answered.
         stuck: Since when it takes nothing of what is held; None while nothing is held back.
         is_told: Whether the host was told so.
-        has_ended: Whether it sends nothing more.
         parting: When it is closed at the latest; None while it is in use.
     """
 
-    def __init__(self, number: int, link: socket.socket, source: str) -> None:
-        self.number, self.socket, self.source = number, link, source
-        self.since = time.monotonic()
+    def __init__(self, number: int, link: socket.socket, visit: Visit, source: str) -> None:
+        super().__init__(link)
+        self.number, self.visit, self.source = number, visit, source
         self.seat: Optional[Seat] = None
-        self.said, self.held = bytearray(), bytearray()
-        self.owed = 0
-        self.has_ended, self.is_open, self.wants = False, True, 0
+        self.said, self.owed = bytearray(), 0
+        self.due: Optional[float] = None
         self.parting: Optional[float] = None
         self.stuck: Optional[float] = None
         self.is_told = False
         self._is_skipping = False  # whether the rest of a line that is too long is coming
         tune(link)
+
+    def is_read(self) -> bool:
+        """Whether what it sends is read."""
+        return not self.has_ended and len(self.said) < MOST_SAID
 
     def feed(self, data: bytes) -> None:
         """Keeps what came, of a line that is too long only the beginning."""
@@ -58,26 +148,18 @@ class OuterLink:
             del self.said[MOST_LINE + 1 - length:]
             self._is_skipping = True
 
-    def is_stranger(self) -> bool:
-        """Whether it has not sent a first line."""
-        return self.seat is None and self.parting is None
-
     def has_line(self) -> bool:
         """Whether a whole line is there."""
         return b"\n" in self.said
 
-    def send(self) -> None:
-        """Sends what is held, as far as it is taken.
-
-        Raises:
-            OSError: The link has failed.
-        """
-        try:
-            while self.held:
-                del self.held[:self.socket.send(self.held)]
-                self.stuck, self.is_told = None, False
-        except BlockingIOError:
+    def send(self) -> int:
+        """As `Link.send`, and notes since when it is stuck."""
+        count = super().send()
+        if count:
+            self.stuck, self.is_told = None, False
+        if self.held:
             self.stuck = self.stuck or time.monotonic()
+        return count
 
     def take(self) -> bytes:
         """Takes the first line away, without its end."""
@@ -88,10 +170,9 @@ class OuterLink:
 
 
 def tune(link: socket.socket) -> None:
-    """Sets up a link: nothing waits for it, small pieces are sent at once, and one whose machine
-    has gone is noticed after some ten seconds, where the system can do so. There a link that takes
-    nothing of what it is sent for as long is ended, too."""
-    link.setblocking(False)
+    """Sets up a link: small pieces are sent at once, and one whose machine has gone is noticed
+    after some ten seconds, where the system can do so. There a link that takes nothing of what it
+    is sent for as long is ended, too."""
     link.setsockopt(socket.IPPROTO_TCP, socket.TCP_NODELAY, 1)
     link.setsockopt(socket.SOL_SOCKET, socket.SO_KEEPALIVE, 1)
     for name, value in KEEPALIVE.items():

@@ -18,7 +18,7 @@ from geesefuton import program
 from geesefuton.hosting import events, log_files
 from geesefuton.hosting.addresses import listen
 from geesefuton.hosting.control import STOPPED, Control, Phase
-from geesefuton.hosting.events import Event
+from geesefuton.hosting.events import Event, EventQueue
 from geesefuton.hosting.hosted_game import LOOK, HostedGame, Serving
 from geesefuton.hosting.journal import Journal, JournalError
 from geesefuton.hosting.link_audit import audit_journal, is_vouched
@@ -34,7 +34,7 @@ SERVED = b"taclog 1\nserve\n"  # the first lines of the log of a served game
 VOUCHING = 30.0  # seconds that may be taken to compare the log with the links
 ENDING = 1.0  # seconds that links have to end after the server
 SHOWING = 60.0  # seconds that the page has to show the last scores
-TELLING = 5.0  # seconds that the page for playing by hand has to show the last results
+TELLING = 5.0  # seconds that pages have to show the last results where nobody looks after them
 
 
 class LobbyError(Exception):
@@ -67,6 +67,7 @@ class Lobby:
         self.port: int = self._listener.getsockname()[1]
         self._control = Control()
         self._game: Optional[HostedGame] = None
+        self._is_left = False  # whether the host's terminal is closed
 
     @property
     def phase(self) -> Phase:
@@ -82,7 +83,8 @@ class Lobby:
         """Plays the game.
 
         Args:
-            on_event: Is told each event, in the calling thread.
+            on_event: Is told each event, in a thread of its own. What it raises does not end the
+                game, and is raised after it.
 
         Returns:
             The server's exit status, 128 plus the number of a signal that ended it; 130 if the game
@@ -93,19 +95,21 @@ class Lobby:
             LobbyError: The journal cannot be made.
         """
         with contextlib.ExitStack() as stack:
+            told = EventQueue(on_event)
+            stack.callback(told.close)
             stack.callback(self._control.close)
             stack.callback(self._listener.close)
             children = stack.enter_context(Children())
             folder = children.folder("lobby")
-            journal = self._open_journal(folder, on_event)
+            journal = self._open_journal(folder, told.put)
             if journal:
                 stack.callback(journal.close)
-            relay = Relay(self.words, self._listener, on_event, journal, self.settings.patience,
+            relay = Relay(self.words, self._listener, told.put, journal, self.settings.patience,
                           self.settings.longest_silence())
             stack.callback(relay.close)
             relay.seats.keys = self.settings.keys or relay.seats.keys
             game = HostedGame(self.settings, self._text, self._control, children, folder, relay,
-                              on_event)
+                              told.put)
             if journal and self.settings.page is not None:
                 game.page = PageProcess(children, self.settings, journal.file)
                 stack.callback(game.page.end)
@@ -115,6 +119,7 @@ class Lobby:
             self._game = game
             status = self._host(game)
             showing = float("inf") if self.settings.stays else SHOWING
+            showing = TELLING if self._is_left else showing
             for page, limit in ((game.page, showing), (game.by_hand, TELLING)):
                 if page and not game.is_stopped:
                     page.wait(limit, self._control)
@@ -124,6 +129,11 @@ class Lobby:
         """Ends the game before its time, or after it the showing of its scores. It may be called by
         a signal handler or a thread."""
         self._control.stop()
+
+    def hang_up(self) -> None:
+        """The host's terminal is closed: nobody is there to end the showing of the scores, and it
+        is short. It may be called by a signal handler or a thread."""
+        self._is_left = True
 
     def end_links(self) -> None:
         """Ends the links that are left after the last tick, so that the log is written. It may be

@@ -116,7 +116,7 @@ def _default_journal(game: Path, teller: Teller) -> Optional[Path]:
 
 class _Signals:
     """What signals do. Before the game they end the lobby. In the game a first ctrl-C only warns,
-    and a terminal that closes does not end it. After the last tick ctrl-C says what is waited for,
+    and a terminal that closes ends only the showing of the scores after it. After the last tick ctrl-C says what is waited for,
     and a second one ends that, with the log; and once the log is there it ends the page."""
 
     def __init__(self, lobby: Lobby, teller: Teller) -> None:
@@ -128,10 +128,20 @@ class _Signals:
         for number in (signal.SIGINT, signal.SIGTERM, signal.SIGHUP):
             if signal.getsignal(number) is not signal.SIG_IGN:
                 signal.signal(number, self._take)
+        if signal.getsignal(signal.SIGTSTP) is signal.SIG_DFL:
+            signal.signal(signal.SIGTSTP, self._pause)
+
+    def _pause(self, number: int, _: Optional[FrameType]) -> None:
+        """ctrl-Z: stops the lobby, but not in a game, whose clock would go on."""
+        if self._lobby.phase in (Phase.GATHERING, Phase.SHOWING):
+            os.kill(os.getpid(), signal.SIGSTOP)
+        else:
+            self._teller.say("ctrl-Z: the game goes on, for its clock does not stop")
 
     def _take(self, number: int, _: Optional[FrameType]) -> None:
         phase = self._lobby.phase
         if phase in (Phase.PLAYING, Phase.ENDING) and number == signal.SIGHUP:
+            self._lobby.hang_up()
             return
         if phase is Phase.PLAYING and number == signal.SIGINT and self._is_first():
             self._teller.say("ctrl-C: the game goes on; press ctrl-C again within five seconds to "

@@ -5,7 +5,7 @@ from __future__ import annotations
 import os
 from typing import Deque, Optional, TextIO
 
-from geesefuton.hosting.relay import Relay
+from geesefuton.hosting.loop import Loop
 
 
 class Orders:
@@ -22,16 +22,16 @@ class Orders:
         except (OSError, ValueError):  # a text in memory, or closed
             orders.extend(line.strip() for line in ([] if source.closed else source))
 
-    def look(self, relay: Relay) -> None:
+    def look(self, loop: Loop) -> None:
         """Begins to listen, and does so again once the lobby is in the foreground."""
         if self._number is None or self._is_attended or not self._may_read():
             return
         try:
-            relay.attend(self._number, lambda: self._read(relay))
+            loop.attend(self._number, lambda: self._read(loop))
             self._is_attended = True
         except (OSError, ValueError):  # a file, which can always be read
             while self._number is not None:
-                self._read(relay)
+                self._read(loop)
 
     def _may_read(self) -> bool:
         assert self._number is not None
@@ -40,10 +40,10 @@ class Orders:
         except OSError:
             return False
 
-    def _read(self, relay: Relay) -> None:
+    def _read(self, loop: Loop) -> None:
         assert self._number is not None
         if not self._may_read():
-            relay.forget(self._number)
+            loop.forget(self._number)
             self._is_attended = False
             return
         try:
@@ -53,7 +53,7 @@ class Orders:
         except OSError:
             data = b""
         if not data:
-            relay.forget(self._number)
+            loop.forget(self._number)
             self._number = None
             return
         *lines, self._tail = (self._tail + data).split(b"\n")

@@ -1,5 +1,4 @@
-"""Counts links that took no seat by their addresses, so that the lobby reports a flood in a few
-lines."""
+"""Counts what happens again and again, by who does it, so that a flood is told in a few lines."""
 
 from __future__ import annotations
 
@@ -7,33 +6,41 @@ import threading
 from dataclasses import dataclass
 from typing import Dict, List, Optional
 
-AGAIN = 10.0  # seconds in which an address is told of once
+AGAIN = 10.0  # seconds in which somebody is told of a few times
 MOST_ADDRESSES = 50  # that are counted each by itself
 OTHERS = "other addresses"
 
 
 @dataclass
 class _Count:
-    """What an address has done since it was told of."""
+    """What somebody has done in a while: what was told, what was not, and the last of that."""
 
     since: float
+    told: int = 0
     count: int = 0
     last: str = ""
 
 
 class Refusals:
-    """What was refused, by address. Threads may share it."""
+    """What was refused, by address, or what else happens again and again. Threads may share it.
 
-    def __init__(self) -> None:
+    Args:
+        few: How often somebody is told of at once in a while.
+        more: What is told of the rest: how many, who, and the last.
+    """
+
+    def __init__(self, few: int = 1,
+                 more: str = "{} more links from {} took no seat; the last: {}") -> None:
+        self._few, self._more = few, more
         self._counts: Dict[str, _Count] = {}
         self._lock = threading.Lock()
 
     def add(self, at: float, source: str, text: str) -> Optional[str]:
-        """Counts a refusal.
+        """Counts something.
 
         Args:
             at: When it was, in seconds.
-            source: The address.
+            source: Who did it.
             text: What is to be told of it.
 
         Returns:
@@ -42,25 +49,23 @@ class Refusals:
         with self._lock:
             if source not in self._counts and len(self._counts) >= MOST_ADDRESSES:
                 source = OTHERS
-            known = self._counts.get(source)
-            if known is None:
-                self._counts[source] = _Count(at)
+            known = self._counts.setdefault(source, _Count(at))
+            if known.told < self._few:
+                known.told += 1
                 return text
             known.count, known.last = known.count + 1, text
             return None
 
     def due(self, at: float) -> List[str]:
-        """What is to be told of the addresses whose time has come. Others are kept no longer."""
+        """What is to be told of those whose time has come. Others are kept no longer."""
         told = []
         with self._lock:
             for source, known in list(self._counts.items()):
-                if at - known.since < AGAIN:
+                if 0 <= at - known.since < AGAIN:
                     continue
-                if not known.count:
-                    del self._counts[source]
-                    continue
-                told.append(known.last if known.count == 1 else
-                            f"{known.count} more links from {source} took no seat; the last: "
-                            f"{known.last}")
-                self._counts[source] = _Count(at)
+                del self._counts[source]
+                if known.count:
+                    told.append(known.last if known.count == 1 else
+                                self._more.format(known.count, source, known.last))
+                    self._counts[source] = _Count(at, self._few)
         return told

@@ -12,23 +12,25 @@ from __future__ import annotations
 
 import contextlib
 import itertools
-import selectors
 import socket
 import time
-from typing import Any, Callable, Dict, Optional, Sequence, Set
+from functools import partial
+from typing import Callable, Dict, Optional, Sequence
 
 from geesefuton.hosting import events
 from geesefuton.hosting.addresses import plain_address
 from geesefuton.hosting.events import End, Event
+from geesefuton.hosting.gate import Gate, Standing, most_links
 from geesefuton.hosting.journal import Journal
-from geesefuton.hosting.links import OuterLink
+from geesefuton.hosting.links import MOST_SAID, OuterLink, Served, Session
+from geesefuton.hosting.loop import Loop
 from geesefuton.hosting.seats import Action, Give, Over, Refuse, Seat, Seats, State
-from geesefuton.hosting.sessions import ADMISSION, Session
 from geesefuton.records.dialects import MOST_LINE, is_bye
 
-MOST_SAID = 65536  # bytes of an agent's lines that are kept; it is not read while there are more
 MOST_HELD = 65536  # bytes for an agent that does not read; nothing is asked for it beyond these
-MOST_STRANGERS = 200  # links that have not sent a first line
+MOST_LINKS, MOST_EACH, KEPT = 200, 32, 48  # links at a time, as a `Gate` counts them
+OTHERS = 48  # open files that the lobby needs beside them
+AT_ONCE = 16  # links that are taken before others are served
 MOST_LINES = 65536  # of a seat that the server answers
 NEAR_MOST = 60000  # lines of a seat of which the host is told
 UNREAD = 5.0  # seconds after which the host is told of an agent that does not read
@@ -48,9 +50,10 @@ class Relay:
         silence: The seconds without a word after which a link gives way to another.
 
     Attributes:
-        started: When the welcome came, by `time.monotonic`.
+        started: When the game began, by `time.monotonic`.
         links: The links from outside, by their numbers.
-        banned: The addresses from which no link is taken.
+        gate: Which of them are taken.
+        loop: What waits for them, and for other files.
     """
 
     def __init__(self, words: Sequence[str], listener: socket.socket,
@@ -58,115 +61,76 @@ class Relay:
                  patience: float, silence: float) -> None:
         self.seats, self.sessions = Seats(words, silence), list[Session]()
         self.started: Optional[float] = None
-        self.banned: Set[str] = set()
+        self.gate = Gate(time.monotonic, most_links(MOST_LINKS, OTHERS), MOST_EACH, KEPT, patience)
         self._emit, self.journal, self._patience = emit, journal, patience
         self.links: Dict[int, OuterLink] = {}
         self._numbers = itertools.count()
         self._due: Dict[int, OuterLink] = {}
-        self._select = selectors.DefaultSelector()
+        self.loop = Loop(self._warn)
         self._listener = listener
-        self._deaf_until: Optional[float] = None  # no link is taken until then
         listener.setblocking(False)
-        self.attend(listener, self._accept)
-
-    # The selector.
-
-    def attend(self, file: Any, handler: Callable[[], None]) -> None:
-        """Calls a handler whenever a file or socket can be read."""
-        self._select.register(file, selectors.EVENT_READ, (handler, None))
-
-    def forget(self, file: Any) -> None:
-        """Does so no longer."""
-        with contextlib.suppress(KeyError, ValueError):
-            self._select.unregister(file)
+        self.loop.attend(listener, self._accept)
 
     def turn(self, timeout: float) -> None:
         """Waits until something comes, for some seconds at most, and passes it on."""
-        for key, mask in self._select.select(timeout):
-            handler, link = key.data
-            if link is None:
-                handler()
-                continue
-            try:
-                if mask & selectors.EVENT_WRITE and isinstance(link, OuterLink):
-                    self._owe(link, b"")  # the journal is written first
-                elif mask & selectors.EVENT_WRITE:
-                    self._write(link)
-                if mask & selectors.EVENT_READ:
-                    self._read(link)
-            except Exception as fault:  # it costs one agent its link, and not all of them the game
-                self._warn(f"closed a link after an error: {fault!r}")
-                self.fail(link)
+        self.loop.serve(timeout)
         self._deliver()
 
     def pass_time(self, now: float) -> None:
         """Ends what has waited too long, and writes what the journal keeps."""
         if self.journal:
             self.journal.flush()
-        if self._deaf_until is not None and now > self._deaf_until:
-            self._deaf_until = None
-            self.attend(self._listener, self._accept)
+        self.loop.pass_time(now)
         for seat in self.seats.seats:
             self._do(seat, seat.wait(now))
         for link in list(self.links.values()):
-            if link.parting is not None and now > link.parting:
-                self._drop(link)
-            elif link.is_stranger() and now - link.since > self._patience:
-                self._lose(link, f"it sent no line for {self._patience:g} seconds")
-            elif link.seat and link.stuck and now - link.stuck > UNREAD and not link.is_told:
-                link.is_told = True
-                self._warn(f"{link.seat.word} has not read its replies for {UNREAD:g} seconds; its "
-                           "requests wait until it does")
+            self.loop.guard(partial(self._look_at, link, now), partial(self.fail, link))
         self._deliver()
 
-    def _watch(self, link: OuterLink | Session) -> None:
-        """Sets what the selector waits for."""
-        if isinstance(link, Session):
-            reads = not link.has_ended
-        elif not link.is_open:
-            return
-        else:
-            reads = not link.has_ended and len(link.said) < MOST_SAID
-        wants = selectors.EVENT_READ if reads else 0
-        if link.held:
-            wants |= selectors.EVENT_WRITE
-        known, link.wants = link.wants, wants
-        if wants == known:
-            return
-        if not wants:
-            self._select.unregister(link.socket)
-        elif not known:
-            self._select.register(link.socket, wants, (None, link))
-        else:
-            self._select.modify(link.socket, wants, (None, link))
+    def _look_at(self, link: OuterLink, now: float) -> None:
+        """Ends a link that has waited too long, or judges its first line."""
+        if link.parting is not None:
+            if now > link.parting:
+                self._drop(link)
+        elif now > link.visit.deadline:
+            self._lose(link, f"it sent no line for {self._patience:g} seconds")
+        elif link.visit.standing is Standing.JUDGED and link.due is not None and now >= link.due:
+            self._judge(link)
+        elif link.seat and link.stuck and now - link.stuck > UNREAD and not link.is_told:
+            link.is_told = True
+            self._warn(f"{link.seat.word} has not read its replies for {UNREAD:g} seconds; its "
+                       "requests wait until it does")
 
     # Links from outside.
 
     def _accept(self) -> None:
-        try:
-            link, where = self._listener.accept()
-        except (BlockingIOError, ConnectionError):
-            return None
-        except OSError:  # no more files may be opened
-            self.forget(self._listener)
-            self._deaf_until = time.monotonic() + 0.5
-            return None
-        source = plain_address(where[0])
-        if source in self.banned:
-            return link.close()
-        strangers = [other for other in self.links.values() if other.is_stranger()]
-        if len(strangers) >= MOST_STRANGERS:
-            self._lose(strangers[0], f"{MOST_STRANGERS} links had not sent a first line")
-        try:
-            guest = OuterLink(next(self._numbers), link, source)
-        except OSError:  # it has gone already
-            return link.close()
-        self.links[guest.number] = guest
-        return self._watch(guest)
+        for _ in range(AT_ONCE):
+            try:
+                link, where = self._listener.accept()
+            except (BlockingIOError, ConnectionError):
+                return
+            visit = self.gate.arrive(where[0])
+            if visit is None:
+                link.close()
+                continue
+            try:
+                guest = OuterLink(next(self._numbers), link, visit, plain_address(where[0]))
+            except OSError:  # it has gone already
+                visit.leave()
+                link.close()
+                continue
+            visit.end = partial(self._make_room, guest)
+            guest.served = Served(partial(self._read, guest), partial(self._owe, guest, b""),
+                                  partial(self.fail, guest))
+            self.links[guest.number] = guest
+            self.loop.watch(guest)
 
-    def _read(self, link: OuterLink | Session) -> None:
-        if isinstance(link, Session):
-            return self._read_session(link)
+    def _make_room(self, link: OuterLink) -> None:
+        if link.parting is None:
+            self._lose(link, "too many links had not sent a first line")
+        self._drop(link)
+
+    def _read(self, link: OuterLink) -> None:
         if not link.is_open:
             return None
         try:
@@ -181,19 +145,30 @@ class Relay:
             return None  # what a refused link sends is not read
         link.feed(data)
         if link.seat is None:
-            if link.has_line() or len(link.said) > MOST_LINE:
+            if link.due is None and (link.has_line() or len(link.said) > MOST_LINE):
                 self._greet(link)
         elif link.seat.holder == link.number:
             self._hear(link, data.count(b"\n"))
-        return self._watch(link)
+        return self.loop.watch(link)
 
     def _greet(self, link: OuterLink) -> None:
+        """A first line is whole. It is judged, at once or later."""
+        wait = link.visit.whole()
+        if wait is None:
+            return self._lose(link, "too many links of its network wait for an answer")
+        link.due = time.monotonic() + wait
+        return None if wait else self._judge(link)
+
+    def _judge(self, link: OuterLink) -> None:
         """Seats or refuses a link by its first line."""
         is_line = link.has_line()
         line = link.take() if is_line else bytes(link.said)
         seat, answer = self.seats.admit(line) if is_line else (None, "syntax")
         if seat is None:
+            if answer == "wrongword":
+                link.visit.refuse()
             return self._refuse(link, answer, line)
+        link.visit.know(seat.word)
         link.seat, link.source = seat, OWN if self.seats.is_own(line) else link.source
         return self._do(seat, seat.come(link.number, time.monotonic()))
 
@@ -211,18 +186,16 @@ class Relay:
         link.has_ended = True
         seat = link.seat
         if link.parting is not None:
-            return self._watch(link) if link.held else self._drop(link)
+            return self.loop.watch(link) if link.held else self._drop(link)
         if seat is None:
             return self._lose(link, "it ended before its first line")
         if seat.holder == link.number and (link.has_line() or link.owed or link.held):
             self._do(seat, seat.stop(time.monotonic()))
-            return self._watch(link)
+            return self.loop.watch(link)
         return self.fail(link)
 
-    def fail(self, link: OuterLink | Session) -> None:
+    def fail(self, link: OuterLink) -> None:
         """A link has ended, or failed, or the host ends it."""
-        if isinstance(link, Session):
-            return self._end_session(link)
         if not link.is_open:
             return None
         seat = link.seat
@@ -241,9 +214,9 @@ class Relay:
         """Closes a link."""
         if link.is_open:
             link.is_open = False
-            if link.wants:
-                self._select.unregister(link.socket)
+            self.loop.drop(link)
             link.socket.close()
+            link.visit.leave()
             del self.links[link.number]
             self._due.pop(link.number, None)
 
@@ -256,6 +229,7 @@ class Relay:
         """Sends a link what it still gets, and closes it once it has ended its side."""
         if link.is_open and link.parting is None:
             link.parting = time.monotonic() + PARTING
+            link.visit.part()
             seat, link.seat = link.seat, None
             link.said.clear()
             self._owe(link, last)
@@ -274,7 +248,7 @@ class Relay:
             try:
                 self._act(seat, action, link)
             except Exception as fault:
-                self._warn(f"an error at seat {seat.word}: {fault!r}")
+                self.loop.caught(fault)
                 if link is not None:
                     self.fail(link)
 
@@ -300,9 +274,8 @@ class Relay:
         if self.sessions:
             session = self.sessions[seat.number]
             session.lines += link.said.count(b"\n")
-            if len(session.welcome) == ADMISSION:
-                self._owe(link, b"".join(session.welcome))
-                self._pass_on(session)
+            self._owe(link, session.welcome)
+            self._pass_on(session)
 
     # Sending.
 
@@ -317,50 +290,54 @@ class Relay:
                 self.journal.flush()
             due, self._due = self._due, {}
             for link in due.values():
-                try:
-                    self._write(link)
-                except Exception as fault:
-                    self._warn(f"closed a link after an error: {fault!r}")
-                    self.fail(link)
+                self.loop.guard(partial(self._write, link), partial(self.fail, link))
 
-    def _write(self, link: OuterLink | Session) -> None:
-        if isinstance(link, OuterLink) and not link.is_open:
+    def _write(self, link: OuterLink) -> None:
+        if not link.is_open:
             return None
         try:
             link.send()
         except OSError:
             return self.fail(link)
-        if isinstance(link, OuterLink) and not link.held:
+        if not link.held:
             if link.parting is not None:
                 return self._shut(link)
             if link.seat is not None and link.seat.holder == link.number and self.sessions:
                 self._pass_on(self.sessions[link.seat.number])
                 if link.has_ended and not (link.owed or link.has_line()):
                     return self.fail(link)
-        return self._watch(link)
+        return self.loop.watch(link)
 
     def _shut(self, link: OuterLink) -> None:
         if link.has_ended:
             return self._drop(link)
         with contextlib.suppress(OSError):  # it may have ended
             link.socket.shutdown(socket.SHUT_WR)
-        return self._watch(link)
+        return self.loop.watch(link)
 
     # Sessions at the server.
 
     def begin(self, sessions: Sequence[Session]) -> None:
         """The game begins with one link to the server for each seat."""
-        self.sessions = list(sessions)
+        self.sessions, self.started = list(sessions), time.monotonic()
+        here = tuple(seat.number for seat in self.seats.seats if seat.holder is not None)
         if self.journal:
-            here = [seat.number for seat in self.seats.seats if seat.holder is not None]
             self.journal.tell(begin=here)
+        for session in sessions:
+            session.served = Served(partial(self._read_session, session),
+                                    partial(self._send, session),
+                                    partial(self._end_session, session))
+            self.loop.watch(session)
+            self._do(session.seat, session.seat.begin(self.started))
+        if self.journal:
+            self.journal.begin_time()
+            self.journal.tell(tick=0, t=0)
+        self._emit(events.Began(time.time(), here))
         for session in sessions:
             link = self._holder(session.seat)
             if link is not None:
                 session.lines = link.said.count(b"\n")
-            self._watch(session)
-        for session in sessions:
-            self._do(session.seat, session.seat.begin(time.monotonic()))
+                self._owe(link, session.welcome)
 
     def release(self) -> None:
         """The last tick has passed: seats without a link are not kept any longer."""
@@ -402,12 +379,12 @@ class Relay:
             self._drop(link)
         for session in self.sessions:
             session.socket.close()
-        self._select.close()
+        self.loop.close()
 
     def _pass_on(self, session: Session) -> None:
         """Sends the next line of the seat's agent to the server, if none waits for its reply."""
         seat, link = session.seat, self._holder(session.seat)
-        if session.asked or link is None or len(session.welcome) < ADMISSION:
+        if session.asked or link is None:
             return
         if seat.state is State.OVER:
             link.said.clear()
@@ -424,8 +401,15 @@ class Relay:
                        f"{MOST_LINES:,}")
         link.owed += 1
         session.held += line + b"\n"
-        self._write(session)
-        self._watch(link)
+        self._send(session)
+        self.loop.watch(link)
+
+    def _send(self, session: Session) -> None:
+        try:
+            session.send()
+        except OSError:
+            return self._end_session(session)
+        return self.loop.watch(session)
 
     def _read_session(self, session: Session) -> None:
         try:
@@ -437,28 +421,9 @@ class Relay:
         if not data:
             self._end_session(session)
             return
-        lines = session.feed(data)
-        if len(session.welcome) < ADMISSION:
-            missing = ADMISSION - len(session.welcome)
-            session.welcome += [line + b"\n" for line in lines[:missing]]
-            lines = lines[missing:]
-            if len(session.welcome) == ADMISSION:
-                self._welcome(session)
-        for line in lines:
+        for line in session.feed(data):
             self._reply(session, line)
         self._pass_on(session)
-
-    def _welcome(self, session: Session) -> None:
-        if self.started is None:
-            self.started = time.monotonic()
-            if self.journal:
-                self.journal.begin_time()
-                self.journal.tell(tick=0, t=0)
-            here = [seat.number for seat in self.seats.seats if seat.holder is not None]
-            self._emit(events.Began(time.time(), tuple(here)))
-        link = self._holder(session.seat)
-        if link is not None:
-            self._owe(link, b"".join(session.welcome))
 
     def _reply(self, session: Session, line: bytes) -> None:
         if self.journal:
@@ -485,11 +450,15 @@ class Relay:
         """The server has ended its side: the game is over, or has failed."""
         session.has_ended = True
         session.held.clear()
-        self._watch(session)
+        self.loop.watch(session)
         seat, link = session.seat, self._holder(session.seat)
         self._do(seat, seat.finish() if link is None else seat.leave())
         if link is not None:
             self._part(link)
+
+    def change_word(self, seat: Seat, word: str) -> None:
+        """Another word leads to a seat from now on."""
+        self._do(seat, self.seats.change_word(seat.number, word))
 
     def _holder(self, seat: Seat) -> Optional[OuterLink]:
         return None if seat.holder is None else self.links.get(seat.holder)

@@ -116,7 +116,7 @@ class Seat:
     def speak(self, now: float) -> List[Action]:
         """The holder sends something."""
         self.heard = now
-        return self._refuse_heir() if self.state is State.CLAIMED else []
+        return self.refuse_heir() if self.state is State.CLAIMED else []
 
     def stop(self, now: float) -> List[Action]:
         """The holder ends its side, and something that it sent has no answer yet."""
@@ -151,7 +151,7 @@ class Seat:
         if self.playing and now - self.heard >= self.silence:
             return self._replace(self.heir, now)
         if not self.playing and now - self.claimed >= PROBED:
-            return self._refuse_heir()  # the holder's machine has answered all the while
+            return self.refuse_heir()  # the holder's machine has answered all the while
         return []
 
     def waive(self) -> List[Action]:
@@ -174,8 +174,7 @@ class Seat:
         """The agent has quit. Its link stays until it ends."""
         if self.state is State.OVER:
             return []
-        actions = self._refuse_heir()
-        return actions + self._end(End.LEFT)
+        return self.refuse_heir() + self._end(End.LEFT)
 
     def release(self) -> List[Action]:
         """The last tick has passed: a seat without a link waits for its agent no longer."""
@@ -186,11 +185,19 @@ class Seat:
         """All links are ended."""
         if self.state is State.OVER:
             return []
-        actions = self._refuse_heir()
+        actions = self.refuse_heir()
         if self.holder is None:
             return actions + self._end(self._missing())
         holder, self.holder = self.holder, None
         return actions + [Close(holder)] + self._end(End.HUNG)
+
+    def refuse_heir(self) -> List[Action]:
+        """The link that waits for it gets it no longer."""
+        if self.heir is None:
+            return []
+        heir, self.heir = self.heir, None
+        self.state = State.HELD
+        return [Refuse(heir)]
 
     def _give(self, link: Optional[int], now: float) -> List[Action]:
         assert link is not None
@@ -203,13 +210,6 @@ class Seat:
         assert self.holder is not None
         holder, self.holder, self.heir = self.holder, None, None
         return [Close(holder), *self._give(link, now)]
-
-    def _refuse_heir(self) -> List[Action]:
-        if self.heir is None:
-            return []
-        heir, self.heir = self.heir, None
-        self.state = State.HELD
-        return [Refuse(heir)]
 
     def _end(self, reason: End) -> List[Action]:
         self.state = State.OVER
@@ -255,11 +255,13 @@ class Seats:
         greeting = GREETING.fullmatch(line)
         return greeting is not None and greeting[1].decode("ascii") in self.own
 
-    def change_word(self, number: int, word: str) -> None:
-        """The word that led to a seat leads there no longer, and another does."""
+    def change_word(self, number: int, word: str) -> List[Action]:
+        """The word that led to a seat leads there no longer, not even a link that waits for it, and
+        another does."""
         for key in [key for key, seat in self.keys.items() if seat == number]:
             del self.keys[key]
         self.keys[word] = number
+        return self.seats[number].refuse_heir()
 
     def by_word(self, word: str) -> Optional[Seat]:
         """The seat of a word, or None."""

@@ -1,39 +1,42 @@
 """The server of a game by the clock: `tac serve`, whose eight seats the lobby takes.
 
-The server listens on every address. A link that reached its port before the lobby could hold up the
-start by saying nothing, or take a seat. So the lobby asks for all seats at once, at a server of its
-own, and counts the game as started only once all eight are welcomed. Otherwise it ends that server
-and tries another port; it has not passed on any agent by then. The head of the log shows which
-links had the seats.
+The server is given a copy of the game whose seat words are drawn for it, so that nobody else can
+take a seat. It is asked to listen on loopback alone, by the variable TAC_BIND. A server that does
+not take it listens on every address, and a link that reaches it before the lobby may hold it up by
+saying nothing: then the lobby ends it and starts another, since no agent was passed on by then.
+That it is the lobby's own server the welcome shows, which follows from the game.
 """
 
 from __future__ import annotations
 
 import contextlib
 import os
-import re
+import secrets
 import socket
 import subprocess
 import time
 from pathlib import Path
-from typing import List, Optional
+from typing import IO, List, Optional, Sequence
 
 from geesefuton import program
 from geesefuton.hosting.control import STOPPED, Phase
 from geesefuton.hosting.hosted_game import HostedGame
-from geesefuton.hosting.listeners import listens
-from geesefuton.hosting.sessions import Session
-from geesefuton.processes import free_port
-from geesefuton.records.games import SEATS, TICKS
+from geesefuton.hosting.links import Session
+from geesefuton.processes import free_port, why
+from geesefuton.records.games import SEATS, TICKS, welcome
 
+HOST = "127.0.0.1"
 TAKEN = 5  # the server's exit status if its port is taken
-TRIES = 5  # ports that the server is given
+TRIES = 5  # times that the server is started
 LISTENING = 15.0  # seconds that a server has to listen
-SETTLING = 0.3  # seconds in which a server ends that cannot listen
 WELCOMING = 5.0  # seconds until all eight seats are welcomed
+ENDING = 5.0  # seconds that a server has to end after its log
+SETTLING = 0.3  # seconds in which a server ends that cannot listen
 STEP = 0.005  # seconds between two looks at a server that is starting
 
-_SEATED = re.compile(rb"link \d+ seated ([0-7])")
+
+class NotStarted(Exception):
+    """A server that does not welcome the lobby."""
 
 
 class ClockServer:
@@ -42,43 +45,31 @@ class ClockServer:
     def play(self, game: HostedGame) -> int:
         """Plays the game, and gives the server's exit status, negative for a signal; `STOPPED` if
         the game was stopped before the log was there."""
+        lines, words = game.text.split("\n"), [secrets.token_hex(8) for _ in range(SEATS)]
+        lines[1] = " ".join(["words", *words])
         file = game.folder / "game"
-        file.write_text(game.text, encoding="ascii")
-        start = self._begin(game, file)
-        with contextlib.closing(start):
-            if start.links:
-                game.control.phase = Phase.PLAYING
-                game.relay.begin([Session(seat, link)
-                                  for seat, link in zip(game.relay.seats.seats, start.links)])
-            self._play(game, start)
-            if not start.output.closed:
-                return STOPPED
-            status = start.fault_status or start.process.wait()
-        warning = fault_of_head(b"".join(game.log)) if start.links else ""
-        if warning:
-            game.warn(warning)
-        return status
+        file.write_text("\n".join(lines), encoding="ascii")
+        for left in reversed(range(TRIES)):
+            with contextlib.closing(Server(game)) as server:
+                fault = server.start(file, words)
+                if not fault and (server.links or server.wait() != TAKEN):
+                    return self._play(game, server)
+                if game.is_stopped:
+                    return STOPPED
+                if fault:
+                    game.warn(f"the server did not start: {fault}; "
+                              + ("trying again" if left else "giving up"))
+        return TAKEN
 
-    def _begin(self, game: HostedGame, file: Path) -> "ServerStart":
-        """Starts the server, at another port if nothing was started at the first."""
-        for number in range(TRIES):
-            start = ServerStart(game, file)
-            start.enter()
-            if start.links or game.is_stopped or not start.may_try_again():
-                break
-            is_last = number + 1 == TRIES
-            if start.fault:
-                game.warn(f"the server did not start at its port {start.port}: {start.fault}; "
-                          + ("giving up" if is_last else "trying another port"))
-            if not is_last:
-                start.close()
-        return start
-
-    def _play(self, game: HostedGame, start: "ServerStart") -> None:
+    def _play(self, game: HostedGame, server: "Server") -> int:
         """Passes lines on until the server has ended."""
         relay, tick, is_finished = game.relay, 0, False
-        start.hear_log()
-        while not start.output.closed and not game.is_stopped:
+        if server.links:
+            game.control.phase = Phase.PLAYING
+            relay.begin([Session(seat, link, welcome(game.text, seat.number))
+                         for seat, link in zip(relay.seats.seats, server.links)])
+        output = server.hear_log()
+        while not output.closed and not game.is_stopped:
             wait = 1.0
             if relay.started is not None and tick < TICKS:
                 passed = (time.monotonic() - relay.started) * 1000 / game.settings.pace
@@ -90,6 +81,7 @@ class ClockServer:
                 is_finished = True
                 relay.finish()
             game.turn(wait)
+        return server.wait() if output.closed else STOPPED
 
     def _tell_tick(self, game: HostedGame, tick: int) -> None:
         """A tick has come; some before it may have been passed over."""
@@ -101,151 +93,124 @@ class ClockServer:
         game.tick(tick, lines)
 
 
-class ServerStart:
-    """A server that is being started at a port.
+class Server:
+    """A server, and how it is started.
 
     Attributes:
-        port: Its port.
-        process: The server.
         links: The lobby's links to its eight seats, once all of them are welcomed; else none.
-        fault: Why it was not started and was ended; "" if it ended by itself.
-        fault_status: The exit status that counts as the server's if it was ended; else 0.
     """
 
-    def __init__(self, game: HostedGame, file: Path) -> None:
-        self.port, self._game = free_port(), game
-        words = program.served_words(file, self.port, game.settings.pace, game.settings.form)
-        self.process = game.children.start(words, stdin=subprocess.DEVNULL, stdout=subprocess.PIPE)
-        assert self.process.stdout is not None
-        self.output = self.process.stdout
+    def __init__(self, game: HostedGame) -> None:
+        self._game = game
+        self._process: "Optional[subprocess.Popen[bytes]]" = None
         self.links: List[socket.socket] = []
-        self.fault, self.fault_status = "", 0
 
-    def enter(self) -> None:
-        """Takes all seats. The links of the agents go on meanwhile."""
+    def start(self, file: Path, words: Sequence[str]) -> str:
+        """Starts it at a free port, and takes all seats. The links of the agents go on meanwhile.
+        Returns why the lobby was not welcomed; "" if it was, or the server has ended by itself.
+
+        Args:
+            file: The game file.
+            words: Its seat words.
+        """
         links: List[socket.socket] = []
         try:
-            if self._wait_until_it_listens() and self._connect(links) and self._are_welcome(links):
+            port = free_port()
+            served = program.served_words(file, port, self._game.settings.pace,
+                                          self._game.settings.form)
+            self._process = self._game.children.start(
+                served, stdin=subprocess.DEVNULL, stdout=subprocess.PIPE,
+                env={**os.environ, "TAC_BIND": HOST})
+            self._connect(links, port, words)
+            self._be_welcomed(links)
+            if self._is_going():
                 self.links = links
-                return
-        except OSError:
-            if self._settles():  # otherwise it has ended by itself
-                self.fault = "it closed a link of the lobby"
-        if self.fault:
-            self._game.children.end(self.process)
-            self.fault_status = TAKEN
-        for link in links:
-            link.close()
+            return ""
+        except NotStarted as fault:
+            return str(fault)
+        except OSError as fault:
+            self._turn_until(time.monotonic() + SETTLING)
+            return why(fault) if self._process is None or self._is_going() else ""
+        finally:
+            for link in links if not self.links else ():
+                link.close()
 
-    def may_try_again(self) -> bool:
-        """Whether nothing was started: the port is taken, or a stranger was there first."""
-        return self.fault != "" or self.process.wait() == TAKEN
+    def hear_log(self) -> IO[bytes]:
+        """Reads the log from now on. Gives the output, which is closed at its end."""
+        assert self._process is not None and self._process.stdout is not None
+        output = self._process.stdout
+        os.set_blocking(output.fileno(), False)
+        self._game.relay.loop.attend(output, lambda: self._hear(output))
+        return output
+
+    def wait(self) -> int:
+        """Waits until it has ended, and gives its exit status; `STOPPED` if the game is stopped.
+        After a while it is killed."""
+        assert self._process is not None
+        if self._turn_until(time.monotonic() + ENDING):
+            self._game.warn("the server did not end after its log, and was killed")
+            self._game.children.end(self._process)
+        status = self._process.poll()
+        return STOPPED if status is None else status
 
     def close(self) -> None:
         """Ends it, if it has not ended, and closes its output."""
-        self._game.children.end(self.process)
-        self._game.relay.forget(self.output)
-        self.output.close()
+        if self._process is not None and self._process.stdout is not None:
+            self._game.children.end(self._process)
+            self._game.relay.loop.forget(self._process.stdout)
+            self._process.stdout.close()
 
-    def hear_log(self) -> None:
-        """Reads the log from now on; `output` is closed at its end."""
-        os.set_blocking(self.output.fileno(), False)
-        self._game.relay.attend(self.output, self._hear)
-
-    def _hear(self) -> None:
+    def _hear(self, output: IO[bytes]) -> None:
         with contextlib.suppress(BlockingIOError):
-            piece = os.read(self.output.fileno(), 1 << 16)
+            piece = os.read(output.fileno(), 1 << 16)
             if piece:
                 self._game.log.append(piece)
             else:
-                self._game.relay.forget(self.output)
-                self.output.close()
+                self._game.relay.loop.forget(output)
+                output.close()
 
     def _is_going(self) -> bool:
         """Whether the server runs and the game is not stopped."""
-        return self.process.poll() is None and not self._game.is_stopped
+        return self._process is not None and self._process.poll() is None \
+            and not self._game.is_stopped
 
-    def _wait_until_it_listens(self) -> bool:
-        """Waits until this very server listens at the port. Another one's is not touched, as far
-        as the system tells whose it is."""
-        deadline = time.monotonic() + LISTENING
-        while self._is_going():
-            known = listens(self.process.pid, self.port)
-            if known or known is None and _answers(self.port) and self._settles():
-                return True
-            if time.monotonic() >= deadline:
-                self.fault = f"it did not listen within {LISTENING:g} seconds"
-                return False
-            self._game.turn(STEP)
-        return False
-
-    def _settles(self) -> bool:
-        """Whether the server still runs after a time in which one ends that cannot listen."""
-        deadline = time.monotonic() + SETTLING
+    def _turn_until(self, deadline: float) -> bool:
+        """Waits until it has ended, or the game is stopped: whether it still goes on then."""
         while self._is_going() and time.monotonic() < deadline:
             self._game.turn(STEP)
         return self._is_going()
 
-    def _connect(self, links: List[socket.socket]) -> bool:
-        """Asks for all seats, each by a link of its own."""
-        for word in self._game.relay.seats.words:
-            link = socket.create_connection(("127.0.0.1", self.port), timeout=WELCOMING)
-            links.append(link)
-            link.setblocking(False)
-            link.setsockopt(socket.IPPROTO_TCP, socket.TCP_NODELAY, 1)
-            link.send(f"hello {word}\n".encode("ascii"))
-        return True
+    def _connect(self, links: List[socket.socket], port: int, words: Sequence[str]) -> None:
+        """Asks for all seats, each by a link of its own, once it listens."""
+        deadline = time.monotonic() + LISTENING
+        while len(links) < len(words) and self._is_going():
+            try:
+                links.append(socket.create_connection((HOST, port), timeout=WELCOMING))
+            except ConnectionRefusedError:
+                if time.monotonic() >= deadline:
+                    raise NotStarted(f"it did not listen within {LISTENING:g} seconds") from None
+                self._game.turn(STEP)
+                continue
+            links[-1].setsockopt(socket.IPPROTO_TCP, socket.TCP_NODELAY, 1)
+            links[-1].sendall(f"hello {words[len(links) - 1]}\n".encode("ascii"))
+            links[-1].setblocking(False)
 
-    def _are_welcome(self, links: List[socket.socket]) -> bool:
+    def _be_welcomed(self, links: List[socket.socket]) -> None:
         """Waits until all seats are welcomed."""
+        due = {link: welcome(self._game.text, seat) for seat, link in enumerate(links)}
         deadline = time.monotonic() + WELCOMING
-        while self._is_going():
-            answers = [first_line(link) for link in links]
-            for seat, answer in enumerate(answers):
-                if answer is not None and answer != f"welcome {seat}".encode():
-                    told = answer.decode("ascii", "replace")[:40]
-                    self.fault = f"another link asked for seat {seat}: the lobby got {told!r}"
-                    return False
-            if None not in answers:
-                return True
+        while due and self._is_going():
+            for link, left in list(due.items()):
+                with contextlib.suppress(BlockingIOError):
+                    said = link.recv(len(left))
+                    if not said:
+                        raise ConnectionError("it closed a link of the lobby")
+                    if not left.startswith(said):
+                        raise NotStarted(f"the lobby was not welcomed, but got {said[:40]!r}")
+                    due[link] = left[len(said):]
+                    if not due[link]:
+                        del due[link]
             if time.monotonic() >= deadline:
-                self.fault = f"an outsider's link held it up for {WELCOMING:g} seconds"
-                return False
-            self._game.turn(STEP)
-        return False
-
-
-def first_line(link: socket.socket) -> Optional[bytes]:
-    """The first line that a link was sent, without taking it away; None while it has not come.
-
-    Raises:
-        OSError: The link has ended, or failed.
-    """
-    try:
-        said = link.recv(100, socket.MSG_PEEK)
-    except BlockingIOError:
-        return None
-    if not said:
-        raise ConnectionError
-    return said.split(b"\n", 1)[0] if b"\n" in said else None
-
-
-def fault_of_head(log: bytes) -> str:
-    """What is wrong with who had the seats by the head of a log; "" if the lobby had them all."""
-    lines = log[:1 << 14].split(b"\n")
-    if lines[1:2] != [b"serve"]:
-        return ""  # no game was served
-    seated = [int(match[1]) for match in map(_SEATED.fullmatch, lines) if match]
-    if seated == list(range(SEATS)):
-        return ""
-    return ("by the head of the log the lobby did not have all eight seats of the server (it had "
-            f"{' '.join(map(str, seated)) or 'none'}): check whether an outsider played")
-
-
-def _answers(port: int) -> bool:
-    """Whether somebody listens at a port."""
-    try:
-        socket.create_connection(("127.0.0.1", port), timeout=1.0).close()
-    except OSError:
-        return False
-    return True
+                raise NotStarted(f"the lobby was not welcomed within {WELCOMING:g} seconds")
+            if due:
+                self._game.turn(STEP)

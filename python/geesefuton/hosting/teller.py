@@ -5,28 +5,35 @@ from __future__ import annotations
 import queue
 import threading
 import time
-from typing import List, Optional, Sequence, Set
+from typing import Callable, List, Optional, Sequence, Set
 
 from geesefuton import program
 from geesefuton.hosting import events
 from geesefuton.hosting.control import STOPPED
 from geesefuton.hosting.events import End, Event
 from geesefuton.hosting.link_audit import summary
-from geesefuton.hosting.refusals import AGAIN, Refusals
+from geesefuton.hosting.refusals import Refusals
 from geesefuton.processes import tell
 from geesefuton.records.games import TICKS
 
-LOOK = 1.0  # seconds between two looks at refusals that are still to be told
+LOOK = 1.0  # seconds between two looks at what recurs and is still to be told
+FEW = 6  # times in a while that it is told at once that a seat's agent came or went
 
 
 class Teller:
     """Tells the host what happens, from a thread of its own: a terminal that is held, or a pipe
-    that is not read, does not hold the game."""
+    that is not read, does not hold the game.
 
-    def __init__(self, words: Sequence[str]) -> None:
-        self._words = list(words)
+    Args:
+        words: The seat words.
+        clock: The time in seconds by which what recurs is told seldom; it does not go back.
+    """
+
+    def __init__(self, words: Sequence[str], clock: Callable[[], float] = time.monotonic) -> None:
+        self._words, self._clock = list(words), clock
         self._here: Set[str] = set()
         self._refusals = Refusals()
+        self._comings = Refusals(FEW, "{} more times {} came or went; the last: {}")
         self._lines: "queue.SimpleQueue[Optional[str]]" = queue.SimpleQueue()
         self._thread = threading.Thread(target=self._write, daemon=True)
         self._thread.start()
@@ -42,7 +49,7 @@ class Teller:
 
     def close(self) -> None:
         """Waits a little until all is told."""
-        self._tell_refusals(time.time() + AGAIN)
+        self._tell_due(float("inf"))
         self._lines.put(None)
         self._thread.join(2.0)
 
@@ -50,16 +57,16 @@ class Teller:
         clock = time.strftime("%H:%M:%S", time.localtime(at))
         self._lines.put(f"{'! ' if is_fault else ''}{clock} {text}")
 
-    def _tell_refusals(self, at: float) -> None:
-        for text in self._refusals.due(at):
-            self._put(min(at, time.time()), text, is_fault=True)
+    def _tell_due(self, now: float) -> None:
+        for text in self._refusals.due(now) + self._comings.due(now):
+            self._put(time.time(), text, is_fault=True)
 
     def _write(self) -> None:
         while True:
             try:
                 line = self._lines.get(timeout=LOOK)
             except queue.Empty:
-                self._tell_refusals(time.time())
+                self._tell_due(self._clock())
                 continue
             if line is None:
                 return
@@ -69,20 +76,22 @@ class Teller:
         if isinstance(event, events.Arrived):
             self._here.add(event.word)
             missing = [word for word in self._words if word not in self._here]
-            return [f"{event.word} is here from {event.source}; "
-                    f"missing: {' '.join(missing) or 'nobody'}"]
+            return self._again(self._comings, event.word, f"{event.word} is here from "
+                               f"{event.source}; missing: {' '.join(missing) or 'nobody'}")
         if isinstance(event, events.Rejoined):
             self._here.add(event.word)
-            return [f"{event.word} is back, from {event.source}"]
+            return self._again(self._comings, event.word,
+                               f"{event.word} is back, from {event.source}")
         if isinstance(event, events.Departed):
             self._here.discard(event.word)
-            return [f"{event.word} lost its link, and may reconnect"]
+            return self._again(self._comings, event.word,
+                               f"{event.word} lost its link, and may reconnect")
         if isinstance(event, events.Refused):
-            return self._refused(event.at, event.source, f"refused {event.source} as "
-                                 f"{event.answer}: it sent {event.line!r}")
+            return self._again(self._refusals, event.source, f"refused {event.source} as "
+                               f"{event.answer}: it sent {event.line!r}")
         if isinstance(event, events.Lost):
-            return self._refused(event.at, event.source,
-                                 f"lost a link from {event.source}: {event.why}")
+            return self._again(self._refusals, event.source,
+                               f"lost a link from {event.source}: {event.why}")
         if isinstance(event, events.Waived):
             return [f"no longer waiting for {event.word}"]
         if isinstance(event, events.Began):
@@ -105,11 +114,11 @@ class Teller:
             return [f"the game is over, exit status {event.status}{more}{vouched}{log}"]
         return [event.text]
 
-    def _refused(self, at: float, source: str, text: str) -> List[str]:
-        """What is to be told now of a link that took no seat, and of those before it."""
-        told = self._refusals.due(at)
-        now = self._refusals.add(at, source, text)
-        return told if now is None else [*told, now]
+    def _again(self, counted: Refusals, source: str, text: str) -> List[str]:
+        """What is to be told now of something that may recur, and of what was before it."""
+        now = self._clock()
+        told, text_now = counted.due(now), counted.add(now, source, text)
+        return told if text_now is None else [*told, text_now]
 
 
 FAULTS = (events.Refused, events.Lost, events.Warned, events.Departed)

@@ -1,0 +1,108 @@
+"""What waits for links and files, and serves those that are ready. What serves one may raise
+anything: the others are served all the same."""
+
+from __future__ import annotations
+
+import contextlib
+import selectors
+import time
+from functools import partial
+from typing import Any, Callable, Dict, List, Tuple
+
+from geesefuton.hosting.links import Link, Served
+
+REST = 0.5  # seconds until a file is attended again whose handler failed
+MOST_FAULTS = 50  # that are remembered, so as not to be told again
+
+
+class Loop:
+    """Serves what is ready, in one thread.
+
+    Args:
+        warn: Is told faults, each once.
+    """
+
+    def __init__(self, warn: Callable[[str], None]) -> None:
+        self._warn = warn
+        self._select = selectors.DefaultSelector()
+        self._resting: Dict[Any, Tuple[float, Callable[[], None]]] = {}
+        self._faults: List[str] = []
+
+    def attend(self, file: Any, handler: Callable[[], None]) -> None:
+        """Calls a handler whenever a file or socket can be read. If it raises anything the file
+        rests for a while."""
+        served = Served(handler, handler, partial(self._rest, file, handler))
+        self._select.register(file, selectors.EVENT_READ, served)
+
+    def forget(self, file: Any) -> None:
+        """Does so no longer."""
+        self._resting.pop(file, None)
+        with contextlib.suppress(KeyError, ValueError):
+            self._select.unregister(file)
+
+    def watch(self, link: Link) -> None:
+        """Sets what is waited for at a link, while it is open."""
+        if not link.is_open:
+            return
+        wants = selectors.EVENT_READ if link.is_read() else 0
+        if link.held:
+            wants |= selectors.EVENT_WRITE
+        self._want(link, wants)
+
+    def drop(self, link: Link) -> None:
+        """Waits for nothing more at a link."""
+        self._want(link, 0)
+
+    def serve(self, timeout: float) -> None:
+        """Waits until something is ready, for some seconds at most, and serves it."""
+        for key, mask in self._select.select(timeout):
+            served: Served = key.data
+            try:
+                if mask & selectors.EVENT_WRITE:
+                    served.write()
+                if mask & selectors.EVENT_READ:
+                    served.read()
+            except Exception as fault:
+                self.caught(fault)
+                served.fail()
+
+    def guard(self, work: Callable[[], None], fail: Callable[[], None] = lambda: None) -> None:
+        """Does something that may raise anything, and if it does, something else."""
+        try:
+            work()
+        except Exception as fault:
+            self.caught(fault)
+            fail()
+
+    def caught(self, fault: Exception) -> None:
+        """Tells a fault that was caught, if it was not told before."""
+        text = f"an error that ends no game: {fault!r}"
+        if text not in self._faults:
+            self._faults = [*self._faults[1 - MOST_FAULTS:], text]
+            self._warn(text)
+
+    def pass_time(self, now: float) -> None:
+        """Attends files again that have rested."""
+        for file, (until, handler) in list(self._resting.items()):
+            if now > until:
+                del self._resting[file]
+                self.attend(file, handler)
+
+    def close(self) -> None:
+        """Closes the selector."""
+        self._select.close()
+
+    def _rest(self, file: Any, handler: Callable[[], None]) -> None:
+        self.forget(file)
+        self._resting[file] = time.monotonic() + REST, handler
+
+    def _want(self, link: Link, wants: int) -> None:
+        known, link.wants = link.wants, wants
+        if wants == known:
+            return
+        if not wants:
+            self._select.unregister(link.socket)
+        elif not known:
+            self._select.register(link.socket, wants, link.served)
+        else:
+            self._select.modify(link.socket, wants, link.served)
