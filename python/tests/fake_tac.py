@@ -5,10 +5,11 @@
 refused. The log has a line for each line that was asked, and for each tick of a script. FAKE_STATUS
 is the exit status of `serve` and `step`, below 0 for a signal that ends `serve`, the file
 FAKE_TAKEN makes it end as if its port were taken, once, and FAKE_EARLY at once. FAKE_LATE is how
-many seconds `serve` takes until it listens; with FAKE_STAYS it does not end after its log. While
-there is a file FAKE_STRANGER, the first link is a stranger's, which says what is in the file; the
-file is removed then, if its name does not end with `stays`. FAKE_SLOW is how many seconds each line
-waits for its answer, and a line that begins with FAKE_HANG has none.
+many seconds `serve` takes until it listens, and FAKE_HEAD stands at the head of its log; with
+FAKE_STAYS it does not end after that. While there is a file FAKE_STRANGER, the first link is a
+stranger's, which says what is in the file; the file is removed then, if its name does not end with
+`stays`. FAKE_SLOW is how many seconds each line waits for its answer, and a line that begins with
+FAKE_HANG has none.
 
 `audit` calls each log sound, and `vouch` vouches for each link of a seat.
 
@@ -103,7 +104,8 @@ def serve(game: str, port: int) -> int:
     status = int(os.environ.get("FAKE_STATUS", "0"))
     if status < 0:
         os.kill(os.getpid(), -status)
-    print("taclog 1", *asked, "end", sep="\n", flush=True)
+    head = os.environ.get("FAKE_HEAD", "").split(",") if "FAKE_HEAD" in os.environ else []
+    print("taclog 1", *head, *asked, "end", sep="\n", flush=True)
     if "FAKE_STAYS" in os.environ:
         os.close(1)
         time.sleep(1e6)

@@ -163,8 +163,10 @@ class Signals(Case):
 
     def test_in_the_game(self) -> None:
         taken = lobby_command._Signals(self.lobby, self.teller)
-        self.assertEqual(set(self.handlers), {signal.SIGINT, signal.SIGTERM, signal.SIGHUP})
+        self.assertEqual(set(self.handlers),
+                         {signal.SIGINT, signal.SIGTERM, signal.SIGHUP, signal.SIGTSTP})
         self.assertFalse(self.take(signal.SIGHUP, 0.5) or self.teller.say.called)
+        self.lobby.hang_up.assert_called_once_with()
         self.assertFalse(self.take(signal.SIGINT, 1.0))
         self.assertIn("the game goes on", self.teller.say.call_args[0][0])
         self.assertFalse(self.take(signal.SIGINT, 6.5))  # not within five seconds
@@ -213,7 +215,20 @@ class Signals(Case):
         self.patch("signal.getsignal", lambda number: (
             signal.SIG_IGN if number == signal.SIGHUP else signal.SIG_DFL))
         lobby_command._Signals(self.lobby, self.teller)
-        self.assertEqual(set(self.handlers), {signal.SIGINT, signal.SIGTERM})
+        self.assertEqual(set(self.handlers), {signal.SIGINT, signal.SIGTERM, signal.SIGTSTP})
+
+    def test_ctrl_z_stops_the_lobby_but_not_in_a_game(self) -> None:
+        kill = self.patch("os.kill")
+        lobby_command._Signals(self.lobby, self.teller)
+        for phase in (Phase.STARTING, Phase.PLAYING, Phase.ENDING):
+            self.lobby.phase = phase
+            self.assertFalse(self.take(signal.SIGTSTP, 1.0) or kill.called)
+            self.assertIn("the game goes on", self.teller.say.call_args[0][0])
+        for phase in (Phase.GATHERING, Phase.SHOWING):
+            self.lobby.phase = phase
+            self.take(signal.SIGTSTP, 1.0)
+            kill.assert_called_once_with(os.getpid(), signal.SIGSTOP)
+            kill.reset_mock()
 
 
 class Journals(Case):

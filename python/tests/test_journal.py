@@ -13,6 +13,7 @@ from unittest import mock
 
 from geesefuton.hosting.journal import (SYNC, Exchange, Journal, JournalError, JournalReader,
                                         Schedule, read_journal)
+from geesefuton.hosting.server_links import server_links
 from geesefuton.records.dialects import CASH, Asked, asked_by, reply_of
 
 DATA = Path(__file__).resolve().parent / "data"
@@ -144,6 +145,23 @@ class Writer(unittest.TestCase):
             self.assertEqual(lines[3]["r"], "no syntax")
             reader = read_journal(file)
             self.assertEqual((reader.agents[3].asked, reader.agents[3].refused), (2, 1))
+
+    def test_lines_of_odd_bytes_take_little_room_and_are_read_as_they_came(self) -> None:
+        odd = [b"\xff" * 513, bytes(range(32)) * 16, b'"' * 512, b"\\" * 100, "\xe4 ".encode() * 99]
+        with tempfile.TemporaryDirectory() as place:
+            file = Path(place, "journal")
+            journal = Journal(file, self.fail)
+            journal.head(100, "words", json.loads(LINES[0])["game"])
+            journal.tell(begin=[0])
+            size = file.stat().st_size
+            for line in odd:
+                journal.request(0, line)
+                journal.reply(0, b"no syntax")
+            journal.close()
+            self.assertLess(file.stat().st_size - size, 1.5 * sum(map(len, odd)) + 400)
+            asked = b"".join(line + b"\n" for line in odd)
+            self.assertEqual(server_links(file)[0].asked.partition(b"\n")[2], asked)
+            self.assertEqual(read_journal(file).calls, [])
 
 
 class Keeping(unittest.TestCase):
@@ -374,9 +392,7 @@ class Meaning(unittest.TestCase):
                            {"tick": 4, "t": 400}, {"a": 1, "r": "bye", "t": 404})
         self.assertEqual(reader.calls, [
             Exchange(1, Asked("own", 20, "own 20"), 3, 2, "@4 own 0 ()", 4, 311, 7),
-            Exchange(2, None, 6, 3, "no syntax", None, 322, 8),
-            Exchange(1, Asked("cash", CASH, "cash"), 4, 2, "@0 cash -7", 0, 333, 9),
-            Exchange(1, None, 10, 3, "bye", None, 404, 12)])
+            Exchange(1, Asked("cash", CASH, "cash"), 4, 2, "@0 cash -7", 0, 333, 9)])
         first, second = reader.agents[1:3]
         self.assertEqual((first.asked, first.answered, first.refused, first.last), (3, 3, 0, 3))
         self.assertEqual((second.asked, second.answered, second.refused, second.last), (1, 1, 1, 3))
@@ -405,9 +421,8 @@ class Meaning(unittest.TestCase):
                  {"a": 1, "r": '{"no":"syntax"}', "t": 5},
                  {"a": 1, "q": '{"do":"own","auction":2}'}]
         reader.read("\n".join(map(json.dumps, lines)))
-        self.assertEqual([(call.asked and call.asked.text, call.reply, call.at)
-                          for call in reader.calls],
-                         [("own 20", "@4 own 0 ()", 4), (None, "no syntax", None)])
+        self.assertEqual([(call.asked.text, call.reply, call.at) for call in reader.calls],
+                         [("own 20", "@4 own 0 ()", 4)])
         self.assertEqual((reader.agents[1].refused, [call.asked for call in reader.pending()]),
                          (1, [Asked("own", 2, "own 2")]))
 

@@ -7,7 +7,7 @@ from unittest import mock
 
 from geesefuton.hosting import events
 from geesefuton.hosting.events import End
-from geesefuton.hosting.relay import MOST_STRANGERS
+from geesefuton.hosting.relay import MOST_EACH
 from tests.lobbies import WORDS, Agent, Case, Host
 
 
@@ -33,7 +33,7 @@ class BeforeTheGame(Case):
 
     def test_links_that_say_nothing_do_not_keep_agents_out(self) -> None:
         host = Host(self.folder, start=None, pace=1000, patience=60)
-        silent = [Agent(host.port, first=b"") for _ in range(MOST_STRANGERS + 2)]
+        silent = [Agent(host.port, first=b"") for _ in range(MOST_EACH + 2)]
         self.addCleanup(lambda: [link.close() for link in silent])
         for agent in self.agents(host, *WORDS):
             agent.welcome()
@@ -41,7 +41,7 @@ class BeforeTheGame(Case):
         self.assertEqual([silent[0].line(), silent[1].line()], ["", ""])
         host.hurry()
         host.end()
-        self.assertIn("200 links had not sent a first line",
+        self.assertIn("too many links had not sent a first line",
                       [event.why for event in host.of(events.Lost)])
 
     def test_one_that_goes_may_come_again(self) -> None:

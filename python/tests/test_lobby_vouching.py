@@ -11,7 +11,7 @@ from unittest import mock
 from geesefuton import program
 from geesefuton.hosting import events
 from geesefuton.hosting.journal import Journal
-from geesefuton.hosting.link_audit import summary
+from geesefuton.hosting.server_links import summary
 from tests.test_lobby import WORDS, Agent, Case, Host
 
 HEAD = ",".join(["serve", *(f"link {seat} seated {seat}" for seat in range(8))])

@@ -28,6 +28,7 @@ class Strangers(Case):
     def setUp(self) -> None:
         super().setUp()
         self.patch(mock.patch.object(server, "WELCOMING", 0.7))
+        self.patch(mock.patch.object(server, "AGAIN", 0.01))
 
     def patch(self, patch: Any) -> None:
         patch.start()
@@ -126,7 +127,7 @@ class Strangers(Case):
         host = Host(self.folder, start=None, pace=1000)
         self.check_game(host)
         self.assertEqual([warned.text for warned in host.of(events.Warned)],
-                         ["the server did not start: Too many open files; trying again"] * 2)
+                         ["cannot start the server: Too many open files; trying again and again"])
 
     def test_a_server_that_does_not_end_after_its_log_is_killed(self) -> None:
         self.set(FAKE_STAYS="1")

@@ -133,15 +133,14 @@ def ticks_by_journal(log: Log, reader: JournalReader) -> Ticks:
     histories = [KnownHistory(good, reader.schedule) for good in GOODS]
     readings: Dict[int, int] = {}
     for call in reader.calls:
-        if call.asked is None or call.asked.keyword == "quote" or call.at is None:
+        if call.asked.keyword == "quote" or call.at is None:
             continue
         if call.asked.good == CASH:
             readings[call.at] = call.tick
         else:
             histories[call.asked.good].place(call)
     for call in reader.pending():
-        if call.asked is not None:
-            histories[call.asked.good].pending[call.agent].append(call)
+        histories[call.asked.good].pending[call.agent].append(call)
     ticks = [_placed(history, log, reader.schedule) for history in histories]
     known: List[Optional[int]] = [readings.get(place) for place, entry in enumerate(log.cash)
                                   if not isinstance(entry, Post)]

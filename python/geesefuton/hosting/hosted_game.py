@@ -77,6 +77,12 @@ class HostedGame:
             guard(self._look_at_pages)
         guard(self._obey)
 
+    def rest(self, seconds: float) -> None:
+        """Passes on what comes for some seconds, or until the game is stopped."""
+        deadline = time.monotonic() + seconds
+        while not self.is_stopped and time.monotonic() < deadline:
+            self.turn(LOOK)
+
     def tick(self, number: int, lines: List[int]) -> None:
         """A tick has come, before which each agent has sent so many lines."""
         self.emit(events.Ticked(time.time(), number, tuple(lines)))

@@ -7,6 +7,7 @@ A journal is a text with one JSON object a line (docs/FORMATS.md, "The journal o
     {"begin":[A,..]}                                                  these have an agent
     {"tick":N,"t":MS}                                                 0 is the welcome
     {"a":A,"q":LINE}   {"a":A,"r":LINE,"t":MS}                        a line, and a reply
+    {"a":A,"q64":BASE64}                                              a line that is no plain text
     {"end":A,"why":WHY,"t":MS}                                        a session is over
     {"over":STATUS,"t":MS}                                            the server has ended
 
@@ -18,6 +19,7 @@ as it does on Linux.
 
 from __future__ import annotations
 
+import base64
 import copy
 import errno
 import json
@@ -27,7 +29,7 @@ import time
 from collections import deque
 from dataclasses import dataclass, field
 from pathlib import Path
-from typing import Any, Callable, Deque, Dict, List, Optional, Tuple
+from typing import Any, Callable, Deque, Dict, Iterator, List, Optional, Tuple
 
 from geesefuton.processes import why
 from geesefuton.records.dialects import (CASH, MOST_LINE, Asked, asked_by, is_refusal, position_of,
@@ -91,8 +93,11 @@ class Journal:
 
     def request(self, agent: int, line: bytes) -> None:
         """An agent's line that is about to be passed on."""
-        text = _quoted(line[:MOST_LINE + 1].decode("latin-1"))
-        self._held.append(f'{{"a":{agent},"q":{text}}}')
+        line = line[:MOST_LINE + 1]
+        key, text = "q", _quoted(line.decode("latin-1"))
+        if 3 * len(text) > 4 * len(line) + 60:  # escapes would make it up to six times as long
+            key, text = "q64", f'"{base64.b64encode(line).decode("ascii")}"'
+        self._held.append(f'{{"a":{agent},"{key}":{text}}}')
 
     def reply(self, agent: int, line: bytes) -> None:
         """A reply that came for an agent. It may be passed on after the next `flush`."""
@@ -176,11 +181,11 @@ class JournalError(Exception):
 
 @dataclass
 class Exchange:
-    """A request, and its reply in words once that has come.
+    """A request of an auction or of cash, and its reply in words once that has come.
 
     Attributes:
         agent: Who asked.
-        asked: What the server took it for; None if it was refused, or has no position.
+        asked: What the server took it for.
         order: The number of its line in the journal.
         tick: The tick that was the last when it was passed on.
         reply: Its reply.
@@ -190,7 +195,7 @@ class Exchange:
     """
 
     agent: int
-    asked: Optional[Asked]
+    asked: Asked
     order: int
     tick: int
     reply: Optional[str] = None
@@ -240,16 +245,20 @@ class Agent:
 class JournalReader:
     """What a journal says. Lines may be added while they are written.
 
+    Args:
+        keeps_calls: Whether `calls` are kept, which are most of what it needs.
+
     Attributes:
         text: The canonical text of the game file, and `game` what it says.
-        calls: The requests that were answered, in the order of their replies.
+        calls: The requests whose replies have a position, in the order of their replies.
         agents: The eight agents.
         tick: The last tick, and `time` the last time, in milliseconds since the welcome.
         has_begun: Whether the welcome was sent.
         status: The exit status of the server; None while it runs, or if the journal breaks off.
     """
 
-    def __init__(self) -> None:
+    def __init__(self, keeps_calls: bool = True) -> None:
+        self._keeps_calls = keeps_calls
         self.text, self.form, self.pace, self.at = "", "words", 0, 0
         self.game: Optional[Game] = None
         self.schedule: Optional[Schedule] = None
@@ -265,18 +274,27 @@ class JournalReader:
         Raises:
             JournalError: A line is not a journal line.
         """
-        for line in text.split("\n"):
-            if not line:
-                continue
-            self.lines += 1
-            try:
-                what = json.loads(line)
-                if (self.lines == 1) != ("journal" in what):
-                    raise ValueError("`journal` belongs in the first line, and in no other")
-                self._add(what)
-            except (ValueError, KeyError, IndexError, TypeError, AttributeError,
-                    GameError, ReplyError) as fault:
-                raise JournalError(f"line {self.lines} is not a journal line: {fault}") from None
+        for line in filter(None, text.split("\n")):
+            self.add(line)
+
+    def add(self, line: str) -> Dict[str, Any]:
+        """Adds a line, and gives its object, in which each line of an agent is a text.
+
+        Raises:
+            JournalError: It is not a journal line.
+        """
+        self.lines += 1
+        try:
+            what: Dict[str, Any] = json.loads(line)
+            if (self.lines == 1) != ("journal" in what):
+                raise ValueError("`journal` belongs in the first line, and in no other")
+            if "q64" in what:
+                what["q"] = base64.b64decode(what["q64"], validate=True).decode("latin-1")
+            self._add(what)
+        except (ValueError, KeyError, IndexError, TypeError, AttributeError,
+                GameError, ReplyError) as fault:
+            raise JournalError(f"line {self.lines} is not a journal line: {fault}") from None
+        return what
 
     def copy(self) -> "JournalReader":
         """What is known now, for a reader that works while more is added."""
@@ -337,28 +355,42 @@ class JournalReader:
         if not agent.waiting:
             raise ValueError("the reply has no request")
         order, tick, asking = agent.waiting.popleft()
-        reply = reply_of(line, self.form)
-        call = Exchange(number, None, order, tick, reply, position_of(reply), now, self.lines)
         agent.answered += 1
         agent.refused += is_refusal(line.encode("latin-1"))
-        if call.at is not None:
-            call.asked = asked_by(asking, self.form)
-            if call.asked is None:
-                raise ValueError("a line that made no call has a reply with a position")
-        self.calls.append(call)
+        reply = reply_of(line, self.form)
+        at = position_of(reply)
+        if at is None:
+            return
+        asked = asked_by(asking, self.form)
+        if asked is None:
+            raise ValueError("a line that made no call has a reply with a position")
+        if self._keeps_calls:
+            self.calls.append(Exchange(number, asked, order, tick, reply, at, now, self.lines))
+
+
+def lines_of(file: Path) -> Iterator[str]:
+    """The lines of a journal file, one after the other. A last one without its end is left out:
+    nothing of it was passed on.
+
+    Raises:
+        OSError: It cannot be read.
+    """
+    with file.open("rb") as lines:
+        for line in lines:
+            if line.endswith(b"\n") and len(line) > 1:
+                yield line[:-1].decode("latin-1")
 
 
 def read_journal(file: Path) -> JournalReader:
-    """Reads a journal file. A last line without its end is left out: nothing of it was passed on.
+    """Reads a journal file.
 
     Raises:
         JournalError: It is no journal.
         OSError: It cannot be read.
     """
     reader = JournalReader()
-    text = file.read_bytes().decode("latin-1")
-    reader.read(text[:text.rfind("\n") + 1])
+    for line in lines_of(file):
+        reader.add(line)
     if reader.game is None:
         raise JournalError("it lacks the first line of a journal")
     return reader
-

@@ -21,11 +21,11 @@ from geesefuton.hosting.control import STOPPED, Control, Phase
 from geesefuton.hosting.events import Event, EventQueue
 from geesefuton.hosting.hosted_game import LOOK, HostedGame, Serving
 from geesefuton.hosting.journal import Journal, JournalError
-from geesefuton.hosting.link_audit import audit_journal, is_vouched
 from geesefuton.hosting.page_process import PageProcess, SeatsProcess
 from geesefuton.hosting.relay import Relay
 from geesefuton.hosting.seats import State
 from geesefuton.hosting.server import ClockServer
+from geesefuton.hosting.server_links import audit_journal, is_vouched
 from geesefuton.hosting.settings import LobbySettings
 from geesefuton.processes import Children, why
 
@@ -248,7 +248,7 @@ def _vouching(game: HostedGame) -> Tuple[str, ...]:
     file = game.folder / "played.game"
     try:
         file.write_text(game.text, encoding="ascii")
-        return audit_journal(journal.file, file, log, game.folder, VOUCHING)
+        return audit_journal(journal.file, file, log, game.settings.form, game.folder, VOUCHING)
     except (JournalError, OSError, program.ProgramError) as fault:
         told = why(fault) if isinstance(fault, OSError) else str(fault)
         game.warn(f"cannot compare the log with the lobby's links: {told}")

@@ -49,8 +49,8 @@ class Nights:
     def follow(self, reader: JournalReader) -> None:
         """Works through what the journal has got since the last time."""
         for call in reader.calls[self._known:]:
-            night = call.asked and self._nights.get(call.asked.good)
-            if call.asked is not None and call.asked.keyword != "quote" and night:
+            night = self._nights.get(call.asked.good)
+            if call.asked.keyword != "quote" and night:
                 night.place(call)
         self._known = len(reader.calls)
         for night in self._nights.values():
@@ -104,7 +104,7 @@ class _RunningNight:
 
     def _take(self, call: Exchange) -> None:
         """The next entry is an agent's."""
-        if call.asked is None or call.reply is None or " taken " not in call.reply:
+        if call.reply is None or " taken " not in call.reply:
             return
         self._book.bid(call.agent, read_points(call.asked.text.split(" ", 2)[2]))
         self._ask = self._book.ask()

@@ -15,6 +15,7 @@ import re
 from pathlib import Path
 from typing import Dict, Iterable, List, NamedTuple, Optional, Sequence, Set, Tuple
 
+from geesefuton.hosting.seats import GREETING
 from geesefuton.hosting.server_links import LinkBytes
 from geesefuton.records.dialects import MOST_LINE
 
@@ -23,7 +24,6 @@ SHOWN = 60  # bytes of a line that are shown
 ASKED, SAID = ".asked", ".said"
 
 _NAME = re.compile(r"([a-z0-9]{1,16})(?:\.([1-9][0-9]{0,8}))?")
-_GREETING = re.compile(rb"hello ([a-z0-9]{1,16})")
 
 
 class RecordError(Exception):
@@ -39,7 +39,7 @@ class Piece(NamedTuple):
     @property
     def word(self) -> str:
         """The word of its greeting; "" if it has none."""
-        found = _GREETING.fullmatch(_lines_of(self.link.asked)[0])
+        found = GREETING.fullmatch(_lines_of(self.link.asked)[0])
         return found[1].decode("ascii") if found else ""
 
     def named(self, word: str) -> "Piece":

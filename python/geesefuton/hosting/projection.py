@@ -105,7 +105,7 @@ def _plans(log: Log, reader: JournalReader) -> List[List[int]]:
 def _trades(log: Log, reader: JournalReader) -> List[List[float]]:
     """The trades of tickets, in time, which is that of the reply to the later bid."""
     bids = {(call.asked.good, call.at): call for call in reader.calls
-            if call.asked and call.asked.good in TICKETS and call.asked.keyword == "bid"}
+            if call.asked.good in TICKETS and call.asked.keyword == "bid"}
     trades: List[List[float]] = []
     for good in TICKETS:
         last = 0.0

@@ -21,7 +21,7 @@ from typing import List
 from geesefuton import program
 from geesefuton.arguments import Parser
 from geesefuton.hosting.journal import JournalError, JournalReader, read_journal
-from geesefuton.hosting.recovery import Player, Recovery, RecoveryError, asked_of
+from geesefuton.hosting.recovery import Player, Recovery, RecoveryError
 from geesefuton.processes import Children, Output, command, tell, why
 from geesefuton.records.games import TICKS
 from geesefuton.records.logs import read_scores
@@ -40,7 +40,7 @@ def _arguments() -> argparse.Namespace:
 
 def _summary(reader: JournalReader) -> str:
     assert reader.game is not None
-    calls = sum(call.at is not None and asked_of(call).keyword != "quote" for call in reader.calls)
+    calls = sum(call.asked.keyword != "quote" for call in reader.calls)
     if reader.status in (program.OK, program.CLOCK):
         return f"the game was played to its end; {calls} calls"
     if not reader.has_begun:
@@ -60,7 +60,7 @@ def _tell_pending(reader: JournalReader, recovery: Recovery, player: Player, log
     words = reader.game.words
     for calls, what in ((recovery.made, "in the log"), (recovery.left, "left out")):
         for call in calls:
-            tell(f"  without a reply, {what}: {words[call.agent]}: {asked_of(call).text}")
+            tell(f"  without a reply, {what}: {words[call.agent]}: {call.asked.text}")
     if not recovery.left:
         return
     other, _ = Recovery(reader, player, pending=True).log()

@@ -21,7 +21,7 @@ from typing import Dict, Iterable, Iterator, List, NamedTuple, Sequence, Tuple
 
 from geesefuton import program
 from geesefuton.hosting.journal import Exchange, JournalReader, Schedule
-from geesefuton.records.dialects import CASH, Asked
+from geesefuton.records.dialects import CASH
 from geesefuton.records.games import GOODS, SEATS, TICKS
 
 MOST_TRIES = 300  # places of requests without a reply that are tried in an auction
@@ -55,12 +55,6 @@ class Player:
             raise RecoveryError(str(fault)) from None
         start = 0 if text.startswith("taclog ") else text.index("\ntaclog ") + 1
         return text[:start].splitlines(), text[start:]
-
-
-def asked_of(call: Exchange) -> Asked:
-    """What a call that has a position asks."""
-    assert call.asked is not None
-    return call.asked
 
 
 class KnownHistory:
@@ -216,7 +210,7 @@ def _in_order(items: Iterable[Tuple[int, Exchange]]) -> Iterator[Tuple[int, List
     eldest first."""
     by_tick: List[Dict[int, List[Exchange]]] = [defaultdict(list) for _ in range(TICKS + 1)]
     for tick, call in items:
-        by_tick[tick][asked_of(call).good].append(call)
+        by_tick[tick][call.asked.good].append(call)
     for tick, goods in enumerate(by_tick):
         asked: List[Exchange] = []
         heap = [(calls[0].order, good, 0) for good, calls in goods.items()]
@@ -241,7 +235,7 @@ def script_of(items: Iterable[Tuple[int, Exchange]]) -> Script:
     lines: List[str] = []
     calls: List[Exchange] = []
     for tick, asked in _in_order(items):
-        lines += (["tick"] if tick else []) + [f"{call.agent} {asked_of(call).text}"
+        lines += (["tick"] if tick else []) + [f"{call.agent} {call.asked.text}"
                                                for call in asked]
         calls += asked
     while lines and lines[-1] == "tick":
@@ -253,7 +247,7 @@ def differences(script: Script, told: Sequence[str]) -> List[Tuple[Exchange, str
     """The calls of a script whose replies are not as they were told, and the replies now. Readings
     of cash are left out, since the calls of a tick are not all at once in a served game."""
     return [(call, line[2:]) for call, line in zip(script.calls, told)
-            if asked_of(call).keyword != "cash" and call.reply not in (None, line[2:])]
+            if call.asked.keyword != "cash" and call.reply not in (None, line[2:])]
 
 
 class Recovery:
@@ -306,11 +300,11 @@ class Recovery:
         """The log, and a text for each reply that is not as it was told."""
         script = self.script()
         told, log = self._player.play(self._reader.text, script.text)
-        return log, [f"{call.agent} {asked_of(call).text}: replied {call.reply}, and now {line}"
+        return log, [f"{call.agent} {call.asked.text}: replied {call.reply}, and now {line}"
                      for call, line in differences(script, told)]
 
     def _place(self, call: Exchange) -> None:
-        asked = asked_of(call)
+        asked = call.asked
         if asked.good == CASH:
             self._readings.append(call)
         elif asked.keyword == "quote":
@@ -325,7 +319,7 @@ class Recovery:
 
     def _settle(self) -> None:
         for call in self.left:
-            self._histories[asked_of(call).good].pending[call.agent].append(call)
+            self._histories[call.asked.good].pending[call.agent].append(call)
         self._search([history for history in self._histories if history.pending])
         self.made = [call for history in self._histories for call in history.used]
         self.left = [call for call in self.left if call not in self.made]
@@ -350,11 +344,11 @@ class Recovery:
                                         " cannot be placed")
             script = script_of(item for history in histories for item in history.items(quotes=True))
             told, _ = self._player.play(self._reader.text, script.text)
-            wrong = {asked_of(call).good for call, _ in differences(script, told)}
+            wrong = {call.asked.good for call, _ in differences(script, told)}
             histories = [history for history in histories if history.good in wrong]
 
     def _append(self, calls: List[Exchange]) -> None:
         for call in sorted(calls, key=lambda call: call.order):
-            self._histories[asked_of(call).good].append(call, self._reader.tick)
+            self._histories[call.asked.good].append(call, self._reader.tick)
             self.left.remove(call)
             self.made.append(call)

@@ -32,6 +32,7 @@ LISTENING = 15.0  # seconds that a server has to listen
 WELCOMING = 5.0  # seconds until all eight seats are welcomed
 ENDING = 5.0  # seconds that a server has to end after its log
 SETTLING = 0.3  # seconds in which a server ends that cannot listen
+AGAIN = 0.5  # seconds until it is tried again
 STEP = 0.005  # seconds between two looks at a server that is starting
 
 
@@ -52,13 +53,14 @@ class ClockServer:
         for left in reversed(range(TRIES)):
             with contextlib.closing(Server(game)) as server:
                 fault = server.start(file, words)
-                if not fault and (server.links or server.wait() != TAKEN):
-                    return self._play(game, server)
                 if game.is_stopped:
                     return STOPPED
+                if not fault and (server.links or server.wait() != TAKEN):
+                    return self._play(game, server)
                 if fault:
                     game.warn(f"the server did not start: {fault}; "
                               + ("trying again" if left else "giving up"))
+                    game.rest(AGAIN if left else 0.0)
         return TAKEN
 
     def _play(self, game: HostedGame, server: "Server") -> int:
@@ -115,13 +117,7 @@ class Server:
         """
         links: List[socket.socket] = []
         try:
-            port = free_port()
-            served = program.served_words(file, port, self._game.settings.pace,
-                                          self._game.settings.form)
-            self._process = self._game.children.start(
-                served, stdin=subprocess.DEVNULL, stdout=subprocess.PIPE,
-                env={**os.environ, "TAC_BIND": HOST})
-            self._connect(links, port, words)
+            self._connect(links, self._launch(file), words)
             self._be_welcomed(links)
             if self._is_going():
                 self.links = links
@@ -129,11 +125,28 @@ class Server:
         except NotStarted as fault:
             return str(fault)
         except OSError as fault:
-            self._turn_until(time.monotonic() + SETTLING)
-            return why(fault) if self._process is None or self._is_going() else ""
+            return why(fault) if self._turn_until(time.monotonic() + SETTLING) else ""
         finally:
             for link in links if not self.links else ():
                 link.close()
+
+    def _launch(self, file: Path) -> int:
+        """Starts the process, as soon as the system lets it, and gives its port."""
+        game, told = self._game, ""
+        while not game.is_stopped:
+            try:
+                port = free_port()
+                served = program.served_words(file, port, game.settings.pace, game.settings.form)
+                self._process = game.children.start(
+                    served, stdin=subprocess.DEVNULL, stdout=subprocess.PIPE,
+                    env={**os.environ, "TAC_BIND": HOST})
+                return port
+            except OSError as fault:
+                if why(fault) != told:
+                    told = why(fault)
+                    game.warn(f"cannot start the server: {told}; trying again and again")
+                game.rest(AGAIN)
+        return 0
 
     def hear_log(self) -> IO[bytes]:
         """Reads the log from now on. Gives the output, which is closed at its end."""

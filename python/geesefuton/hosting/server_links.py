@@ -1,16 +1,19 @@
-"""The bytes of the lobby's own links to its server, one for each seat, as its journal has them.
+"""The bytes of the lobby's own links to its server, one for each seat, by the game's journal; and
+what `tac vouch` says of a log by such bytes.
 
 The journal has each line that the lobby passed on to the server, and each reply. It does not have
-the greeting and the ten lines of the welcome, which follow from the game file.
+the greeting and the ten lines of the welcome, which follow from the game file. What the lobby said
+to its server in place of a seat's word is not told: nobody else has to know it.
 """
 
 from __future__ import annotations
 
-import json
+import time
 from pathlib import Path
-from typing import List, NamedTuple
+from typing import List, NamedTuple, Optional, Sequence, Tuple, Union
 
-from geesefuton.hosting.journal import read_journal
+from geesefuton import program
+from geesefuton.hosting.journal import JournalError, JournalReader, lines_of
 from geesefuton.records.games import SEATS, welcome
 
 
@@ -32,16 +35,80 @@ def server_links(file: Path) -> List[LinkBytes]:
         JournalError: It is no journal.
         OSError: It cannot be read.
     """
-    reader = read_journal(file)
-    assert reader.game is not None
+    reader = JournalReader(keeps_calls=False)
+    asked, said = ([bytearray() for _ in range(SEATS)] for _ in range(2))
+    for line in lines_of(file):
+        what = reader.add(line)
+        if "q" in what:
+            asked[what["a"]] += what["q"].encode("latin-1") + b"\n"
+        elif "r" in what:
+            said[what["a"]] += what["r"].encode("latin-1") + b"\n"
+    if reader.game is None:
+        raise JournalError("it lacks the first line of a journal")
     if not reader.is_playing:
         return []
-    asked = [[f"hello {word}\n".encode("ascii")] for word in reader.game.words]
-    said = [[welcome(reader.text, seat)] if reader.has_begun else [] for seat in range(SEATS)]
-    for line in filter(None, file.read_bytes().split(b"\n")[:-1]):
-        what = json.loads(line)
-        if "q" in what:
-            asked[what["a"]].append(what["q"].encode("latin-1") + b"\n")
-        elif "r" in what:
-            said[what["a"]].append(what["r"].encode("latin-1") + b"\n")
-    return [LinkBytes(b"".join(sent), b"".join(came)) for sent, came in zip(asked, said)]
+    return [LinkBytes(b"hello %b\n%b" % (word.encode("ascii"), asked[seat]),
+                      welcome(reader.text, seat) + said[seat] if reader.has_begun else b"")
+            for seat, word in enumerate(reader.game.words)]
+
+
+def is_vouched(said: str) -> bool:
+    """Whether what is said of a link is a yes."""
+    return said.startswith("vouched ")
+
+
+def audit_link(link: LinkBytes, game: Path, log: Union[Path, bytes], form: str, folder: Path,
+               timeout: Optional[float] = None) -> str:
+    """What is said of a log by the bytes of one link.
+
+    Args:
+        link: The bytes.
+        game: The game file.
+        log: The log, a file or its bytes.
+        form: How the link's lines are written, `words` or `json`.
+        folder: Where files may be made.
+        timeout: The seconds that it may take; None for no limit.
+
+    Raises:
+        OSError: The folder takes no more.
+        program.ProgramError: There is no program, it refused a file, or took too long.
+    """
+    asked, said = folder / "link.asked", folder / "link.said"
+    asked.write_bytes(link.asked)
+    said.write_bytes(link.said)
+    return program.vouch(game, log, asked, said, form, timeout)
+
+
+def audit_journal(journal: Path, game: Path, log: Union[Path, bytes], form: str, folder: Path,
+                  most: float) -> Tuple[str, ...]:
+    """What is said of a log by the lobby's link of each seat; nothing if the server had not
+    started.
+
+    Args:
+        journal: The journal of the game.
+        game: The game file.
+        log: The log, a file or its bytes.
+        form: How the links' lines are written, `words` or `json`.
+        folder: Where files may be made.
+        most: The seconds that all of it may take.
+
+    Raises:
+        JournalError: It is no journal.
+        OSError: It cannot be read, or the folder takes no more.
+        program.ProgramError: As in `audit_link`.
+    """
+    deadline = time.monotonic() + most
+    return tuple(audit_link(link, game, log, form, folder, max(0.0, deadline - time.monotonic()))
+                 for link in server_links(journal))
+
+
+def summary(words: Sequence[str], said: Sequence[str]) -> str:
+    """How many links are vouched for, such as `vouched 8 of 8`, and what is said of the others.
+
+    Args:
+        words: What each link is called.
+        said: What is said of each.
+    """
+    others = [f"{word}: {each}" for word, each in zip(words, said) if not is_vouched(each)]
+    more = f" ({'; '.join(others)})" if others else ""
+    return f"vouched {len(said) - len(others)} of {len(said)}{more}"

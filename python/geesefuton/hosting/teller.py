@@ -11,8 +11,8 @@ from geesefuton import program
 from geesefuton.hosting import events
 from geesefuton.hosting.control import STOPPED
 from geesefuton.hosting.events import End, Event
-from geesefuton.hosting.link_audit import summary
 from geesefuton.hosting.refusals import Refusals
+from geesefuton.hosting.server_links import summary
 from geesefuton.processes import tell
 from geesefuton.records.games import TICKS
 

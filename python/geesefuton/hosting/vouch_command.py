@@ -27,10 +27,9 @@ from typing import Dict, List, NamedTuple, Optional, Sequence
 from geesefuton import program
 from geesefuton.arguments import Parser
 from geesefuton.hosting.journal import JournalError, read_journal
-from geesefuton.hosting.link_audit import audit_link, is_vouched
 from geesefuton.hosting.pieces import (ASKED, SAID, Piece, RecordError, first_difference,
                                        read_piece, stems_of)
-from geesefuton.hosting.server_links import LinkBytes, server_links
+from geesefuton.hosting.server_links import LinkBytes, audit_link, is_vouched, server_links
 from geesefuton.processes import Children, Output, command, tell
 from geesefuton.records.games import Game, read_game, welcome
 

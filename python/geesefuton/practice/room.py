@@ -18,9 +18,9 @@ from geesefuton.experiments.entrants import Entrant
 from geesefuton.hosting import events
 from geesefuton.hosting.control import STOPPED, Phase
 from geesefuton.hosting.events import Event
-from geesefuton.hosting.link_audit import summary
 from geesefuton.hosting.lobby import Lobby, LobbyError, recovery_line
 from geesefuton.hosting.relay import OWN
+from geesefuton.hosting.server_links import summary
 from geesefuton.hosting.settings import LobbySettings
 from geesefuton.hosting.teller import Teller
 from geesefuton.practice.board import Board
