@@ -65,60 +65,39 @@ class Placing(unittest.TestCase):
 class Guessing(unittest.TestCase):
     """Which requests without a reply were made, by what others were told."""
 
-    def settle(self, places: Sequence[int], pending: int, right: Dict[int, int], good: int = 20,
-               tick: int = 10) -> List[int]:
-        """Calls at these places, and as many requests of each of two agents without a reply; the
-        guess is right that has these agents' requests at these places."""
+    def settle(self, places: Sequence[int], agents: Sequence[int], right: Dict[int, int],
+               good: int = 20, tick: int = 10) -> bool:
+        """Calls at these places, and a request of each of these agents without a reply: whether it
+        is guessed that these agents' requests are at the right places."""
         history = KnownHistory(good, Schedule(GAME))
         for at in places:
             history.place(replace(call(good, at), answered=100))
-        for agent in (2, 3):
-            history.pending[agent] = [replace(call(good, 0, order=number, agent=agent), at=None)
-                                      for number in range(pending)]
+        for agent in agents:
+            history.pending[agent] = replace(call(good, 0, agent=agent), at=None)
         known = dict(history.calls)
-        for guess in history.guesses(tick):
-            if history.guess(known, guess) and right == {
-                    at: one.agent for at, one in history.calls.items() if at not in known}:
-                for agent in (2, 3):  # the eldest were made
-                    orders = [one.order for one in history.used if one.agent == agent]
-                    self.assertEqual(orders, list(range(len(orders))))
-                return [one.agent for one in history.used]
-        return []
+        return any(history.guess(known, guess) and right == {
+            at: one.agent for at, one in history.calls.items() if at not in known}
+            for guess in history.guesses(tick))
 
     def test_none(self) -> None:
-        self.assertEqual(self.settle([0, 1, 2], 1, {}), [])
+        self.assertTrue(self.settle([0, 1, 2], [2, 3], {}))
 
-    def test_one_and_two(self) -> None:
-        self.assertEqual(self.settle([0, 2], 1, {1: 3}), [3])
-        self.assertEqual(self.settle([0, 3], 2, {1: 3, 2: 2}), [3, 2])
-        self.assertEqual(self.settle([0, 3], 2, {1: 2, 2: 2}), [2, 2])
-        self.assertEqual(self.settle([0, 4], 2, {1: 3, 2: 2, 3: 2}), [3, 2, 2])
-        self.assertEqual(self.settle([0, 3], 1, {2: 3}, tick=54), [3])  # the other is the clock's
-
-    def test_blocks(self) -> None:
-        for agent in (2, 3):
-            self.assertEqual(self.settle([0, 6], 5, {at: agent for at in range(1, 6)}),
-                             [agent] * 5)
-        for skipped in (1, 4, 6):  # the clock's
-            places = [at for at in range(1, 7) if at != skipped]
-            self.assertEqual(self.settle([0, 7], 5, {at: 2 for at in places}), [2] * 5)
-        for first in (1, 5):  # four of a flight's eight gaps are the clock's
-            self.assertEqual(self.settle([0, 9], 4, {at: 3 for at in range(first, first + 4)},
-                                         good=0, tick=4), [3] * 4)
-
-    def test_blocks_of_two_agents(self) -> None:
-        for agents in ([2, 2, 3, 3, 3], [3, 2, 2, 2, 2], [3, 3, 3, 3, 2]):
-            self.assertEqual(self.settle([0, 6], 5, dict(enumerate(agents, 1))), agents)
-        self.assertEqual(self.settle([0, 5], 4, {1: 3, 2: 2, 3: 2, 4: 2}), [3, 2, 2, 2])
+    def test_some(self) -> None:
+        self.assertTrue(self.settle([0, 2], [2, 3], {1: 3}))
+        self.assertTrue(self.settle([0, 3], [2, 3], {1: 3, 2: 2}))
+        self.assertTrue(self.settle([0, 4], [2, 3, 5], {1: 3, 2: 5, 3: 2}))
+        self.assertTrue(self.settle([0, 3], [2, 3], {2: 3}, tick=54))  # the other is the clock's
+        self.assertTrue(self.settle([0, 9], [2, 3, 4, 5], {1: 2, 2: 3, 3: 4, 4: 5}, good=0,
+                                    tick=4))  # the other four gaps of a flight are the clock's
 
     def test_none_is_found(self) -> None:
-        self.assertEqual(self.settle([0, 2], 1, {7: 7}), [])
+        self.assertFalse(self.settle([0, 2], [2], {7: 7}))
 
     def test_none_stands_before_what_was_known(self) -> None:
         auction = KnownHistory(20, Schedule(GAME))
         auction.place(replace(call(20, 1), answered=10))
-        auction.pending[2] = [replace(call(20, 0, order=20, agent=2), at=None)]
-        self.assertEqual(list(auction.guesses(54)), [[], []])
+        auction.pending[2] = replace(call(20, 0, order=20, agent=2), at=None)
+        self.assertEqual(list(auction.guesses(54)), [{}, {}])
 
 
 def journal(*lines: str, tick: int = 0) -> JournalReader:
@@ -128,7 +107,7 @@ def journal(*lines: str, tick: int = 0) -> JournalReader:
 
 
 def asked(calls: Sequence[Exchange]) -> List[str]:
-    return [f"{call.agent} {call.asked.text}" for call in calls if call.asked is not None]
+    return [f"{call.agent} {call.asked.text}" for call in calls]
 
 
 def called(log: str) -> Dict[str, List[str]]:
@@ -193,13 +172,11 @@ class Making(unittest.TestCase):
 
     def test_a_request_that_others_replies_show_was_made(self) -> None:
         # Another agent's reply has the second position, so `own 20` of agent 1 had the first one.
-        # What agent 1 sent before that was made as well; of what it sent later nothing is known.
-        reader = journal(*(asks(1, line) for line in ("bid 21 ((-1 90))", "own 20", "own 22")),
-                         asks(2, "own 20"), told(2, "@1 own 0 ()"))
+        reader = journal(asks(1, "own 20"), asks(3, "own 22"), asks(2, "own 20"),
+                         told(2, "@1 own 0 ()"))
         recovery = self.make(reader)
-        self.assertEqual((asked(recovery.made), asked(recovery.left)),
-                         (["1 own 20", "1 bid 21 ((-1 90))"], ["1 own 22"]))
-        self.assertEqual(self.lines(recovery), ["1 bid 21 ((-1 90))", "1 own 20", "2 own 20"])
+        self.assertEqual((asked(recovery.made), asked(recovery.left)), (["1 own 20"], ["3 own 22"]))
+        self.assertEqual(self.lines(recovery), ["1 own 20", "2 own 20"])
 
     def test_what_a_quote_shows_tells_whose_request_was_made(self) -> None:
         bids = [asks(1, "bid 20 ((1 50))"), asks(3, "bid 20 ((1 70))"), asks(2, "quote 20")]
@@ -371,21 +348,6 @@ class WithTheProgram(unittest.TestCase):
             made += len(recovery.made)
             self.assertEqual(Recovery(of_text(part), self.player, pending=True).left, [])
         self.assertGreater(made, 0)
-
-    def test_what_came_before_a_request_that_was_made_was_made_too(self) -> None:
-        # Another agent's reply has the second position, so `own 20` of agent 1 had the first one.
-        requests = [f'{{"a":1,"q":"{line}"}}' for line in ("bid 21 ((-1 90))", "own 20", "own 22")]
-        reader = of_text([LINES[0], BEGIN, '{"tick":0,"t":0}', *requests,
-                          '{"a":2,"q":"own 20"}',
-                          f'{{"a":2,"r":"@1 own {GAME.endow[2][4]} ()","t":5}}'])
-        recovery = Recovery(reader, self.player)
-        for calls, due in ((recovery.made, ["own 20", "bid 21 ((-1 90))"]),
-                           (recovery.left, ["own 22"])):
-            self.assertEqual([one.asked and one.asked.text for one in calls], due)
-        log, faults = recovery.log()
-        histories = read_log(log).histories
-        self.assertEqual([len(histories[good]) for good in (20, 21, 22)], [3, 2, 1])
-        self.assertEqual((histories[21][0].caller, self.audit(log), faults), (1, "sound", []))
 
 
 if __name__ == "__main__":

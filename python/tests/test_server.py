@@ -91,7 +91,7 @@ class Strangers(Case):
         self.assertEqual(len(host.of(events.Warned)), TRIES)
         self.assertIn("giving up", host.of(events.Warned)[-1].text)
 
-    def test_somebody_elses_server_at_the_port_is_left_alone(self) -> None:
+    def test_somebody_elses_server_at_the_port_costs_that_port_alone(self) -> None:
         self.set(FAKE_LATE="0.3")  # so that the lobby finds the other one listening
         with socket.create_server(("127.0.0.1", 0)) as other:
             ports = iter([other.getsockname()[1]])
@@ -99,7 +99,6 @@ class Strangers(Case):
                 server, "free_port", side_effect=lambda: next(ports, None) or free_port()))
             host = Host(self.folder, start=None, pace=1000)
             self.check_game(host)
-        self.assertEqual(host.of(events.Warned), [])
 
     def test_somebody_elses_server_that_welcomes_the_lobby_is_not_believed(self) -> None:
         self.set(FAKE_LATE="0.3")

@@ -140,7 +140,7 @@ def ticks_by_journal(log: Log, reader: JournalReader) -> Ticks:
         else:
             histories[call.asked.good].place(call)
     for call in reader.pending():
-        histories[call.asked.good].pending[call.agent].append(call)
+        histories[call.asked.good].pending[call.agent] = call
     ticks = [_placed(history, log, reader.schedule) for history in histories]
     known: List[Optional[int]] = [readings.get(place) for place, entry in enumerate(log.cash)
                                   if not isinstance(entry, Post)]
@@ -152,9 +152,9 @@ def _placed(known: KnownHistory, log: Log, schedule: Schedule) -> List[int]:
     history, clock = log.histories[known.good], schedule.ticks[known.good]
     for position, entry in enumerate(history):
         call = known.calls.get(position)
-        if call is None and entry.caller != CLOCK and known.pending[entry.caller]:
+        if call is None and entry.caller in known.pending:
             # Its reply was lost with its link or at the end.
-            call = replace(known.pending[entry.caller].pop(0), at=position)
+            call = replace(known.pending.pop(entry.caller), at=position)
             known.calls[position] = call
         if (CLOCK if call is None else call.agent) != entry.caller:
             raise JournalError(f"it lacks entry {position} of good {known.good}")

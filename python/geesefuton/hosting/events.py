@@ -21,119 +21,107 @@ class End(enum.Enum):
 
 
 @dataclass(frozen=True)
-class Arrived:
-    """An agent has its seat for the first time, before or during the game."""
+class _Happened:
+    at: float  # seconds since 1970
 
-    at: float  # seconds since 1970, as in every event
+
+@dataclass(frozen=True)
+class _OfSeat(_Happened):
     seat: int
     word: str
+
+
+@dataclass(frozen=True)
+class Arrived(_OfSeat):
+    """An agent has its seat for the first time, before or during the game."""
+
     source: str  # the address that the link comes from
 
 
 @dataclass(frozen=True)
-class Departed:
-    """The link of a seated agent has ended. Until the game is over the agent may reconnect."""
+class Rejoined(_OfSeat):
+    """An agent that had lost its link has a new one, and goes on in the game."""
 
-    at: float
-    seat: int
-    word: str
+    source: str
 
 
 @dataclass(frozen=True)
-class Refused:
+class Departed(_OfSeat):
+    """The link of a seated agent has ended. Until the game is over the agent may reconnect."""
+
+
+@dataclass(frozen=True)
+class Ended(_OfSeat):
+    """A seat's part in the game is over. It comes once for each of the eight seats."""
+
+    reason: End
+    lines: int  # how many lines the agent sent
+
+
+@dataclass(frozen=True)
+class Refused(_Happened):
     """A link is refused by its first line."""
 
-    at: float
     source: str
     answer: str  # `syntax`, `wrongword` or `taken`
     line: str  # the beginning of the line
 
 
 @dataclass(frozen=True)
-class Lost:
+class Lost(_Happened):
     """A link that sent no line is gone."""
 
-    at: float
     source: str
     why: str
 
 
 @dataclass(frozen=True)
-class Waived:
+class Waived(_Happened):
     """The host does not wait for an agent any longer."""
 
-    at: float
     word: str
 
 
 @dataclass(frozen=True)
-class Began:
+class Began(_Happened):
     """The game begins."""
 
-    at: float
     seats: Tuple[int, ...]  # those that have an agent
 
 
 @dataclass(frozen=True)
-class Ticked:
+class Ticked(_Happened):
     """A tick has come, by the clock of the lobby."""
 
-    at: float
     tick: int  # 1 to 54
     lines: Tuple[int, ...] = ()  # how many lines each of the eight agents has sent so far
 
 
 @dataclass(frozen=True)
-class Rejoined:
-    """An agent that had lost its link has a new one, and goes on in the game."""
-
-    at: float
-    seat: int
-    word: str
-    source: str
-
-
-@dataclass(frozen=True)
-class Ended:
-    """A seat's part in the game is over. It comes once for each of the eight seats."""
-
-    at: float
-    seat: int
-    word: str
-    reason: End
-    lines: int  # how many lines the agent sent
-
-
-@dataclass(frozen=True)
-class Finished:
+class Finished(_Happened):
     """The server has ended."""
 
-    at: float
     status: int  # the exit status that `Lobby.run` gives
     log: Optional[str]  # the file that has the log
     vouched: Tuple[str, ...] = ()  # what `tac vouch` says of each seat's link; none if not asked
 
 
 @dataclass(frozen=True)
-class Warned:
+class Warned(_Happened):
     """Something that the host should know."""
 
-    at: float
     text: str
 
 
 @dataclass(frozen=True)
-class Answered:
+class Answered(_Happened):
     """What the host is told of a command."""
 
-    at: float
     text: str
 
 
-Event = Union[
-    Answered, Arrived, Departed, Refused, Lost, Waived, Began, Ticked, Rejoined, Ended, Finished,
-    Warned
-]
+Event = Union[Answered, Arrived, Departed, Refused, Lost, Waived, Began, Ticked, Rejoined, Ended,
+              Finished, Warned]
 
 
 class EventQueue:

@@ -25,10 +25,8 @@ from geesefuton.records.dialects import CASH
 from geesefuton.records.games import GOODS, SEATS, TICKS
 
 MOST_TRIES = 300  # places of requests without a reply that are tried in an auction
-FEW = 3  # so many are tried at all places
 
-Guess = List[Tuple[int, Exchange]]
-Way = Tuple[Sequence[int], Sequence[int]]  # positions, and the agents whose requests are there
+Guess = Dict[int, Exchange]  # by position
 
 
 class RecoveryError(Exception):
@@ -63,7 +61,7 @@ class KnownHistory:
     Attributes:
         calls: The calls by their positions.
         quotes: The quotes, by the time of their replies.
-        pending: The requests without a reply, each agent's in order.
+        pending: The requests without a reply, by agents: an agent has one at most.
         used: Those of them that are taken for made.
     """
 
@@ -72,7 +70,7 @@ class KnownHistory:
         self._ticks = schedule.ticks[good]
         self.calls: Dict[int, Exchange] = {}
         self.quotes: List[Exchange] = []
-        self.pending: Dict[int, List[Exchange]] = defaultdict(list)
+        self.pending: Dict[int, Exchange] = {}
         self.used: List[Exchange] = []
 
     def place(self, call: Exchange) -> None:
@@ -122,40 +120,25 @@ class KnownHistory:
                                         "clock's nor in a reply")
 
     def guesses(self, tick: int) -> Iterator[Guess]:
-        """Ways in which requests without a reply may have been made, the likeliest first, if the
-        clock has called until a tick."""
+        """Ways in which requests without a reply may have been made, those with few of them first,
+        if the clock has called until a tick."""
         gaps = self._gaps()  # before any guess is taken
-        least = {agent: [self._least(call) for call in calls[:len(gaps)]]
-                 for agent, calls in self.pending.items()}
+        least = {agent: self._least(call) for agent, call in self.pending.items()}
         # The lobby's clock may be behind: then all ticks are tried.
-        guesses = itertools.chain(self._guesses(gaps, least, tick),
-                                  self._guesses(gaps, least, TICKS))
+        guesses = ({at: self.pending[agent] for at, agent in way.items()} for last in (tick, TICKS)
+                   for count in range(max(0, len(gaps) - self._schedule.most(self.good, last)),
+                                      len(least) + 1) for way in _ways(gaps, least, count))
         return itertools.islice(guesses, MOST_TRIES)
 
     def guess(self, known: Dict[int, Exchange], guess: Guess) -> bool:
         """Takes a guess beside the calls that are known. Returns whether the positions that are
         left can be the clock's."""
-        self.calls, self.used = {**known, **dict(guess)}, [call for _, call in guess]
+        self.calls, self.used = {**known, **guess}, list(guess.values())
         return len(self._gaps()) <= len(self._ticks)
 
     def _gaps(self) -> List[int]:
         """The positions that no call has."""
         return [at for at in range(self.length()) if at not in self.calls]
-
-    # Where requests without a reply may have been.
-
-    def _guesses(self, gaps: List[int], least: Dict[int, List[int]],
-                 tick: int) -> Iterator[Guess]:
-        """Ways to fill the gaps that the clock leaves until a tick, those with few first."""
-        fewest = max(0, len(gaps) - self._schedule.most(self.good, tick))
-        first = min((places[0] for places in least.values() if places), default=0)
-        gaps = [at for at in gaps if at >= first]
-        most = min(sum(map(len, least.values())), len(gaps))
-        for count in range(fewest, most + 1):
-            ways = _all(gaps, least, count) if count <= FEW else _blocks(gaps, least, count)
-            yield from self._fitting(ways, least)
-        for count in range(max(fewest, FEW + 1), most + 1):
-            yield from self._fitting(_mixed_blocks(gaps, least, count), least)
 
     def _least(self, call: Exchange) -> int:
         """The least position of a request, by the replies that came before it was sent."""
@@ -165,44 +148,17 @@ class KnownHistory:
                   if quote.at is not None and quote.answered < call.order]
         return max(told + quoted, default=0)
 
-    def _fitting(self, ways: Iterable[Way], least: Dict[int, List[int]]) -> Iterator[Guess]:
-        """The ways in which each request comes after what was known when it was sent."""
-        for places, agents in ways:
-            taken: Dict[int, int] = defaultdict(int)
-            guess: Guess = []
-            for at, agent in zip(places, agents):
-                number = taken[agent]
-                if number == len(least[agent]) or at < least[agent][number]:
-                    break
-                taken[agent] += 1
-                guess.append((at, self.pending[agent][number]))
-            else:
-                yield guess
 
-
-def _all(gaps: Sequence[int], agents: Iterable[int], count: int) -> Iterable[Way]:
-    """All ways to fill so many gaps with agents' requests."""
-    return itertools.product(itertools.combinations(gaps, count),
-                             itertools.product(agents, repeat=count))
-
-
-def _starts(gaps: List[int], count: int) -> List[List[int]]:
-    """Gaps next to one another, but for one where that leaves few ways."""
-    if count == len(gaps) - 1:
-        return [gaps[:at] + gaps[at + 1:] for at in range(len(gaps))]
-    return [gaps[len(gaps) - count:], gaps[:count]]
-
-
-def _blocks(gaps: List[int], least: Iterable[int], count: int) -> Iterable[Way]:
-    """Some ways to fill many gaps with the requests of one agent."""
-    return itertools.product(_starts(gaps, count), [(agent,) * count for agent in least])
-
-
-def _mixed_blocks(gaps: List[int], least: Iterable[int], count: int) -> Iterable[Way]:
-    """Some ways to fill many gaps with the requests of two agents, one after the other."""
-    agents = [(one,) * first + (other,) * (count - first)
-              for one, other in itertools.permutations(least, 2) for first in range(1, count)]
-    return itertools.product(_starts(gaps, count), agents)
+def _ways(gaps: Sequence[int], least: Dict[int, int], count: int) -> Iterator[Dict[int, int]]:
+    """Ways to give so many gaps to different agents, to none before its least position: the agents
+    by position."""
+    if not count:
+        yield {}
+    for number, at in enumerate(gaps[:len(gaps) - count + 1] if count else ()):
+        for agent in [agent for agent, first in least.items() if first <= at]:
+            others = {other: first for other, first in least.items() if other != agent}
+            for way in _ways(gaps[number + 1:], others, count - 1):
+                yield {at: agent, **way}
 
 
 def _in_order(items: Iterable[Tuple[int, Exchange]]) -> Iterator[Tuple[int, List[Exchange]]]:
@@ -319,15 +275,10 @@ class Recovery:
 
     def _settle(self) -> None:
         for call in self.left:
-            self._histories[call.asked.good].pending[call.agent].append(call)
+            self._histories[call.asked.good].pending[call.agent] = call
         self._search([history for history in self._histories if history.pending])
         self.made = [call for history in self._histories for call in history.used]
         self.left = [call for call in self.left if call not in self.made]
-        # A session makes its calls in order: what an agent sent before one that was made was
-        # made, too.
-        last = {agent: max((call.order for call in self.made if call.agent == agent), default=0)
-                for agent in range(SEATS)}
-        self._append([call for call in self.left if call.order < last[call.agent]])
 
     def _search(self, histories: List[KnownHistory]) -> None:
         """Finds which requests without a reply were made, and where: so that all replies and quotes
@@ -339,8 +290,7 @@ class Recovery:
             for history in histories:
                 calls = known[history.good]
                 if not any(history.guess(calls, guess) for guess in guesses[history.good]):
-                    count = sum(map(len, history.pending.values()))
-                    raise RecoveryError(f"good {history.good}: its {count} requests without a reply"
+                    raise RecoveryError(f"good {history.good}: its {len(history.pending)} requests without a reply"
                                         " cannot be placed")
             script = script_of(item for history in histories for item in history.items(quotes=True))
             told, _ = self._player.play(self._reader.text, script.text)
