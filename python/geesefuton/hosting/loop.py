@@ -41,17 +41,17 @@ class Loop:
             self._select.unregister(file)
 
     def watch(self, link: Link) -> None:
-        """Sets what is waited for at a link, while it is open."""
-        if not link.is_open:
-            return
-        wants = selectors.EVENT_READ if link.is_read() else 0
-        if link.held:
+        """Sets what is waited for at a link: nothing more before it is closed."""
+        wants = selectors.EVENT_READ if link.is_open and link.is_read() else 0
+        if link.is_open and link.held:
             wants |= selectors.EVENT_WRITE
-        self._want(link, wants)
-
-    def drop(self, link: Link) -> None:
-        """Waits for nothing more at a link."""
-        self._want(link, 0)
+        known, link.wants = link.wants, wants
+        if not wants and known:
+            self._select.unregister(link.socket)
+        elif not known and wants:
+            self._select.register(link.socket, wants, link.served)
+        elif wants != known:
+            self._select.modify(link.socket, wants, link.served)
 
     def serve(self, timeout: float) -> None:
         """Waits until something is ready, for some seconds at most, and serves it."""
@@ -66,13 +66,12 @@ class Loop:
                 self.caught(fault)
                 served.fail()
 
-    def guard(self, work: Callable[[], None], fail: Callable[[], None] = lambda: None) -> None:
-        """Does something that may raise anything, and if it does, something else."""
+    def guard(self, work: Callable[[], None]) -> None:
+        """Does something that may raise anything."""
         try:
             work()
         except Exception as fault:
             self.caught(fault)
-            fail()
 
     def caught(self, fault: Exception) -> None:
         """Tells a fault that was caught, if it was not told before."""
@@ -95,14 +94,3 @@ class Loop:
     def _rest(self, file: Any, handler: Callable[[], None]) -> None:
         self.forget(file)
         self._resting[file] = time.monotonic() + REST, handler
-
-    def _want(self, link: Link, wants: int) -> None:
-        known, link.wants = link.wants, wants
-        if wants == known:
-            return
-        if not wants:
-            self._select.unregister(link.socket)
-        elif not known:
-            self._select.register(link.socket, wants, link.served)
-        else:
-            self._select.modify(link.socket, wants, link.served)

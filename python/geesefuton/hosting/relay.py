@@ -84,7 +84,11 @@ class Relay:
         for seat in self.seats.seats:
             self._do(seat, seat.wait(now))
         for link in list(self.links.values()):
-            self.loop.guard(partial(self._look_at, link, now), partial(self.fail, link))
+            try:
+                self._look_at(link, now)
+            except Exception as fault:
+                self.loop.caught(fault)
+                self.fail(link)
         self._deliver()
 
     def _look_at(self, link: OuterLink, now: float) -> None:
@@ -214,7 +218,7 @@ class Relay:
         """Closes a link."""
         if link.is_open:
             link.is_open = False
-            self.loop.drop(link)
+            self.loop.watch(link)
             link.socket.close()
             link.visit.leave()
             del self.links[link.number]
@@ -290,7 +294,11 @@ class Relay:
                 self.journal.flush()
             due, self._due = self._due, {}
             for link in due.values():
-                self.loop.guard(partial(self._write, link), partial(self.fail, link))
+                try:
+                    self._write(link)
+                except Exception as fault:
+                    self.loop.caught(fault)
+                    self.fail(link)
 
     def _write(self, link: OuterLink) -> None:
         if not link.is_open:
