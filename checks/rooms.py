@@ -21,9 +21,10 @@ from geesefuton.processes import command
 PACKAGE = TOP / "python" / "geesefuton"
 MAP = TOP / "python" / "README.md"
 # A name is a room if it is a folder, and otherwise a module of the package's own folder.
-ORDER = (("program", "processes", "arguments"), ("agent_arguments", "link_record", "records"),
-         ("link",), ("hosting", "learning", "playing"), ("experiments",), ("practice",),
-         ("doctor", "quickstart"), ("front",), ("__main__",))
+ORDER = (("program", "processes", "arguments"),
+         ("agent_arguments", "link_record", "network", "records"), ("link",), ("playing",),
+         ("hosting", "learning"), ("experiments",), ("practice",), ("doctor", "quickstart"),
+         ("front",), ("__main__",))
 BASE = 0  # modules of one room, and those of the base, may import each other
 MOST_LINES = 500
 OF_TUPLES = {"_asdict", "_fields", "_make", "_replace"}  # what anybody may use of a named tuple

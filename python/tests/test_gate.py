@@ -5,7 +5,7 @@ import unittest
 from typing import List, Optional
 from unittest import mock
 
-from geesefuton.hosting.gate import (LINE, LONGEST, WAITING, WRONG, Gate, Standing, Visit,
+from geesefuton.network.gate import (LINE, LONGEST, WAITING, WRONG, Gate, Standing, Visit,
                                      most_links)
 
 

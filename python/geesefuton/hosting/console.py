@@ -5,11 +5,11 @@ from __future__ import annotations
 import time
 from typing import Callable, Dict, NamedTuple, Optional
 
-from geesefuton.hosting.addresses import Network, is_within, network_of, plain_network
 from geesefuton.hosting.control import Control, Phase
 from geesefuton.hosting.links import OuterLink
 from geesefuton.hosting.relay import Relay
 from geesefuton.hosting.seats import Seat, State
+from geesefuton.network.addresses import Network, is_within, network_of, plain_network
 from geesefuton.records.games import is_seat_word
 
 SILENT = 10.0  # seconds without a word after which an agent is told as silent

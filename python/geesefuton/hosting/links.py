@@ -14,9 +14,9 @@ from collections import deque
 from typing import Callable, Deque, List, NamedTuple, Optional
 
 from geesefuton.hosting.events import End
-from geesefuton.hosting.gate import Visit
 from geesefuton.hosting.seats import Seat
 from geesefuton.link import KEEPALIVE
+from geesefuton.network.gate import Visit
 from geesefuton.records.dialects import MOST_LINE, is_bye, is_refusal
 
 MOST_SAID = 65536  # bytes of an agent's lines that are kept; it is not read while there are more

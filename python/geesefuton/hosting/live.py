@@ -33,13 +33,13 @@ from pathlib import Path
 from typing import Any, BinaryIO, Callable, Deque, Dict, List, Optional, Tuple
 
 from geesefuton.arguments import Parser, seconds, whole
-from geesefuton.hosting.addresses import listen
 from geesefuton.hosting.handouts import Handouts
 from geesefuton.hosting.journal import JournalError, JournalReader
 from geesefuton.hosting.nights import Nights
 from geesefuton.hosting.projection import Projection, View, project
 from geesefuton.hosting.recovery import Player, RecoveryError
 from geesefuton.hosting.viewers import Faults, Viewers
+from geesefuton.network.addresses import listen
 from geesefuton.processes import Children, command, give_way, tell, why
 from geesefuton.records.games import TICKS
 from geesefuton.records.logs import LogError

@@ -16,7 +16,6 @@ from typing import Callable, List, Optional, Tuple
 
 from geesefuton import program
 from geesefuton.hosting import events, log_files
-from geesefuton.hosting.addresses import listen
 from geesefuton.hosting.control import STOPPED, Control, Phase
 from geesefuton.hosting.events import Event, EventQueue
 from geesefuton.hosting.hosted_game import LOOK, HostedGame, Serving
@@ -27,6 +26,7 @@ from geesefuton.hosting.seats import State
 from geesefuton.hosting.server import ClockServer
 from geesefuton.hosting.server_links import audit_journal, is_vouched
 from geesefuton.hosting.settings import LobbySettings
+from geesefuton.network.addresses import listen
 from geesefuton.processes import Children, why
 
 FULL = 4  # the exit status if the output takes no more

@@ -18,13 +18,13 @@ from functools import partial
 from typing import Callable, Dict, Optional, Sequence
 
 from geesefuton.hosting import events
-from geesefuton.hosting.addresses import plain_address
 from geesefuton.hosting.events import End, Event
-from geesefuton.hosting.gate import Gate, Standing, most_links
 from geesefuton.hosting.journal import Journal
 from geesefuton.hosting.links import MOST_SAID, OuterLink, Served, Session
 from geesefuton.hosting.loop import Loop
 from geesefuton.hosting.seats import Action, Give, Over, Refuse, Seat, Seats, State
+from geesefuton.network.addresses import plain_address
+from geesefuton.network.gate import Gate, Standing, most_links
 from geesefuton.records.dialects import MOST_LINE, is_bye
 
 MOST_HELD = 65536  # bytes for an agent that does not read; nothing is asked for it beyond these

@@ -17,13 +17,13 @@ from pathlib import Path
 from typing import Any, Dict, List, Optional, Sequence
 
 from geesefuton.arguments import Parser, whole
-from geesefuton.hosting.addresses import listen
 from geesefuton.hosting.handouts import Handouts
 from geesefuton.hosting.journal import JournalError
 from geesefuton.hosting.live import NICE, Live
 from geesefuton.hosting.projection import View
 from geesefuton.hosting.recovery import Player
 from geesefuton.hosting.viewers import Faults, Viewers
+from geesefuton.network.addresses import listen
 from geesefuton.processes import Children, command, give_way, tell, why
 from geesefuton.records.games import TICKS
 

@@ -26,8 +26,8 @@ from typing import List, Optional
 from geesefuton import program
 from geesefuton.arguments import Parser, seconds, whole
 from geesefuton.experiments.entrants import Entrant, EntrantError, read_entrants
-from geesefuton.hosting.addresses import listen
 from geesefuton.hosting.lobby import LobbyError
+from geesefuton.network.addresses import listen
 from geesefuton.practice.board import Board
 from geesefuton.practice.folder import Folder, FolderError, write_whole
 from geesefuton.practice.room import Room, RoomSettings

@@ -27,7 +27,7 @@ import enum
 from collections import Counter
 from typing import Callable, Counter as Counts, Dict, List, Optional, Set
 
-from geesefuton.hosting.addresses import Network, parsed
+from geesefuton.network.addresses import Network, parsed
 
 LINE = 0.5  # seconds by which a first line puts off the next ones of its network
 WRONG = 2.0  # seconds by which a wrong one does so beyond that
