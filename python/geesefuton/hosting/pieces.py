@@ -119,8 +119,8 @@ def first_difference(pieces: Sequence[Piece], link: LinkBytes, welcome: bytes
         own = _Session(piece.link)
         matches = {start: _match(own, whole, start) for start in reached}
         if all(match.fault for match in matches.values()):
-            furthest = matches[max(matches, key=lambda start: start + matches[start].count)]
-            return Difference(f"{piece.name}, line {furthest.count + 1}", furthest.fault)
+            furthest = matches[max(matches, key=lambda start: start + matches[start].fitting)]
+            return Difference(f"{piece.name}, line {furthest.fitting + 1}", furthest.fault)
         reached = {end for match in matches.values() for end in match.ends}
     last = max(reached)
     if len(whole.lines) in reached:
@@ -142,7 +142,7 @@ class _Match(NamedTuple):
     """How a piece fits a seat's link from a line on: how many of its answered lines do, what is
     wrong with the next one, "" if all of them do, and then behind which lines it may end."""
 
-    count: int
+    fitting: int
     fault: str
     ends: Iterable[int] = ()
 
