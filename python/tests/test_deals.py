@@ -1,4 +1,3 @@
-import hashlib
 import tempfile
 import unittest
 from pathlib import Path
@@ -108,43 +107,8 @@ class Rooms(unittest.TestCase):
             with self.assertRaises(DealError, msg=text):
                 read_rooms(text)
 
-    def test_draws_are_fixed_in_range_and_reach_every_number(self) -> None:
-        self.assertEqual(drawn_rooms(1, 3, 6), drawn_rooms(1, 3, 6))
-        drawn = [rooms for seed in range(40) for rooms in drawn_rooms(seed, 3, 6)]
-        self.assertEqual(set(drawn), {3, 4, 5, 6})
-        self.assertNotEqual(drawn_rooms(1, 1, 64), drawn_rooms(2, 1, 64))
-        # The draw of a seed is the same on every machine and in every version.
-        self.assertEqual(drawn_rooms(1, 3, 6), [6, 3, 4, 3, 4, 5, 5, 6])
-
 
 class Endowments(unittest.TestCase):
-    def test_twelve_tickets_in_four_clumps(self) -> None:
-        met = set()
-        for seed in range(60):
-            endowments = classic_endowments(seed)
-            self.assertEqual(len(endowments), 8)
-            for units in endowments:
-                kinds = [[[units[4 * kind + night - 1] for night in nights] for kind in range(3)]
-                         for nights in ((1, 4), (2, 3))]
-                for side in kinds:  # the outer nights, and the inner ones
-                    self.assertEqual(sorted(sum(nights) for nights in side), [0, 2, 4])
-                    self.assertEqual(sorted(sum(side, [])), [0, 0, 0, 0, 2, 4])
-                met |= {(good, count) for good, count in enumerate(units) if count}
-        self.assertEqual(met, {(good, count) for good in range(12) for count in (2, 4)})
-
-    def test_draws_are_those_of_their_texts(self) -> None:
-        def drawn(part: int, count: int) -> int:
-            digest = hashlib.sha256(f"tickets 7 3 {part}".encode()).digest()
-            return int.from_bytes(digest[:8], "big") % count
-
-        due = [0] * 12
-        for first, nights in ((0, (1, 4)), (4, (2, 3))):
-            kind = drawn(first, 3)
-            others = [kind + 1, kind + 2]
-            for each, part, count in ((kind, 2, 4), (others[drawn(first + 1, 2)] % 3, 3, 2)):
-                due[4 * each + nights[drawn(first + part, 2)] - 1] += count
-        self.assertEqual(classic_endowments(7)[3], due)
-
     def test_a_made_game_may_have_them(self) -> None:
         with mock.patch("geesefuton.program.make", made):
             clumped = deals.made_deal(Rule(seed=3, is_clumped=True), 0).game

@@ -1,46 +1,58 @@
 """Draws from the seed of a made game, in addition to those of `tac make`."""
 
 import hashlib
-from typing import List
+from typing import List, Tuple
 
 from geesefuton.records.games import HOTELS, SEATS, TICKETS, ticket
 
 MOST_SEED = 18446744073709551615
-KINDS, OUTER, INNER = 3, (1, 4), (2, 3)  # of tickets; nights
-
-
-def _drawn(text: str, count: int) -> int:
-    """A number from 0 to count - 1: SHA-256 of a text, so that it is the same anywhere."""
-    return int.from_bytes(hashlib.sha256(text.encode()).digest()[:8], "big") % count
+KINDS, SIDES = 3, ((1, 4), (2, 3))  # of tickets; the outer and the inner nights
 
 
 def drawn_rooms(seed: int, low: int, high: int) -> List[int]:
     """How many rooms each of the eight nights has in the made game of a seed.
 
-    The numbers are drawn by the texts `rooms SEED NIGHT`.
+    The numbers are drawn by the texts `rooms SEED NIGHT`: the first eight bytes of SHA-256, modulo
+    how many numbers there are.
     """
-    return [low + _drawn(f"rooms {seed} {night}", high - low + 1) for night in range(len(HOTELS))]
+    digests = [_digest(f"rooms {seed} {night}") for night in range(len(HOTELS))]
+    return [low + int.from_bytes(each[:8], "big") % (high - low + 1) for each in digests]
 
 
 def classic_endowments(seed: int) -> List[List[int]]:
-    """How many of each ticket the eight agents begin with in the made game of a seed, clumped as in
-    the original game, as remembered.
+    """How many of each ticket, goods 16 to 27, the eight agents begin with in the made game of a
+    seed, as in the original game, as remembered: docs/FORMATS.md, "Classic endowments".
 
-    An agent has four tickets of one type on an outer night (1 or 4) and four of one type on an
-    inner night (2 or 3), and two of another type than these on an outer and an inner night each.
-    All are drawn by the texts `tickets SEED AGENT PART`, with PART from 0 to 7: of the outer and
-    then of the inner ones the type of the four, how far on the type of the two is, and their
-    nights.
+    An agent has four tickets of one type for night 1 or 4 and two of another type for one of these
+    nights, and the same for the nights 2 and 3. There are eight of each of the twelve tickets.
     """
-    endowments = []
-    for agent in range(SEATS):
-        units = [0] * len(TICKETS)
-        for side, nights in enumerate((OUTER, INNER)):
-            kind, further, *places = (
-                _drawn(f"tickets {seed} {agent} {4 * side + part}", count)
-                for part, count in enumerate((KINDS, KINDS - 1, len(nights), len(nights))))
-            other = (kind + 1 + further) % KINDS
-            for each, place, count in zip((kind, other), places, (4, 2)):
-                units[ticket(each, nights[place]) - TICKETS.start] += count
-        endowments.append(units)
+    endowments = [[0] * len(TICKETS) for _ in range(SEATS)]
+    for side, nights in enumerate(SIDES):
+        for units, four, two in zip(endowments, *_clumps(f"tickets {seed} {side}")):
+            for place, number in ((four, 4), (two, 2)):
+                good = ticket(place % KINDS, nights[place // KINDS % 2])
+                units[good - TICKETS.start] += number
     return endowments
+
+
+def _clumps(text: str) -> Tuple[List[int], List[int]]:
+    """For each agent the places of its four and of its two tickets of a side."""
+    attempt = -1
+    while True:
+        attempt += 1
+        # The eight tickets of each of six goods are two clumps of four; eight clumps stay whole.
+        order = _shuffled(f"{text} {attempt} four", 2 * 2 * KINDS)
+        fours, halved = order[:SEATS], order[SEATS:]
+        twos = [halved[place // 2] for place in _shuffled(f"{text} {attempt} two", SEATS)]
+        if all(four % KINDS != two % KINDS for four, two in zip(fours, twos)):
+            return fours, twos
+
+
+def _shuffled(text: str, number: int) -> List[int]:
+    """The numbers from 0 to below this one, in the order of the digests of `TEXT N`."""
+    return sorted(range(number), key=lambda each: _digest(f"{text} {each}"))
+
+
+def _digest(text: str) -> bytes:
+    """SHA-256 of a text, so that draws are the same anywhere."""
+    return hashlib.sha256(text.encode()).digest()
