@@ -120,7 +120,7 @@ class Dict(Space):
 
 
 class Box(Space):
-    """Arrays of a shape, here lists, of numbers between two bounds."""
+    """Arrays of a shape, here tuples or lists, of numbers between two bounds; of no shape, one."""
 
     def __init__(self, low: float, high: float, shape: Pair[int, ...] = (),
                  dtype: object = None) -> None:
@@ -128,7 +128,14 @@ class Box(Space):
         self.low, self.high, self.shape, self.dtype = low, high, shape, dtype
 
     def contains(self, x: Any) -> bool:
-        return len(x) == self.shape[0] and all(self.low <= number <= self.high for number in x)
+        return self._has(x, self.shape)
+
+    def _has(self, x: Any, shape: Pair[int, ...]) -> bool:
+        if shape:
+            return (isinstance(x, (list, tuple)) and len(x) == shape[0]
+                    and all(self._has(part, shape[1:]) for part in x))
+        kinds = (int,) if self.dtype == "int64" else (int, float)
+        return isinstance(x, kinds) and self.low <= x <= self.high
 
 
 class MultiDiscrete(Space):
@@ -158,6 +165,19 @@ def array(numbers: Any, dtype: object = None) -> Any:
     return list(numbers)
 
 
+REGISTERED: Mapping[str, str] = {}  # by the names of environments, what makes them
+
+
+def register(*, id: str, entry_point: str) -> None:
+    """Remembers what makes an environment."""
+    REGISTERED[id] = entry_point
+
+
+def same(numbers: Any) -> Any:
+    """A list in place of an array of the same numbers."""
+    return numbers
+
+
 @contextlib.contextmanager
 def installed() -> Iterator[None]:
     """Lets these stand for `gymnasium` and `numpy`, and their importers be imported anew."""
@@ -165,8 +185,8 @@ def installed() -> Iterator[None]:
     vars(spaces).update(Space=Space, Discrete=Discrete, Text=Text, Sequence=Sequence, Tuple=Tuple,
                         Dict=Dict, Box=Box, MultiDiscrete=MultiDiscrete)
     gymnasium, numpy = types.ModuleType("gymnasium"), types.ModuleType("numpy")
-    vars(gymnasium).update(spaces=spaces, Env=Env)
-    vars(numpy).update(array=array, int64="int64", float32="float32", asarray=array)
+    vars(gymnasium).update(spaces=spaces, Env=Env, register=register)
+    vars(numpy).update(array=array, int64="int64", float32="float32", asarray=same)
     ours = ("geesefuton.learning.spaces", "geesefuton.learning.numeric",
             "geesefuton.learning.interfaces")
     with mock.patch.dict(sys.modules, {"gymnasium": gymnasium, "gymnasium.spaces": spaces,

@@ -16,7 +16,7 @@ from geesefuton.learning.environment import ActionError, Environment
 from geesefuton.learning.market import score_rows
 from geesefuton.learning.rivals import SeatLink, maker_of, scores_of
 from geesefuton.program import ProgramError
-from geesefuton.records.drawing import drawn_rooms
+from geesefuton.records.drawing import classic_endowments, drawn_rooms
 from geesefuton.records.games import FLIGHTS, HOTELS, TICKS, Game, GameError, read_game
 from geesefuton.records.made_games import made_game
 from geesefuton.records.order import first_seat, order_of_turn
@@ -64,6 +64,7 @@ class Arguments(unittest.TestCase):
             {"render_mode": "human"}, {"rooms": (0, 3)}, {"rooms": (4, 3)}, {"rooms": (3, 65)},
             {"rooms": "3..6"}, {"rooms": 3}, {"rooms": (1.5, 3)}, {"rooms": (1, 2, 3)},
             {"game": FEW_ROOMS, "live": True}, {"game": FIRST, "rooms": (3, 6)},
+            {"endow": "clumped"}, {"game": FIRST, "endow": "classic"},
             {"rounds": 0}, {"rounds": 1001}, {"rounds": 1.5}, {"rivals": {"seat8": "planner"}},
             {"rivals": {"seat0": "nobody"}}, {"rivals": {f"seat{n}": "planner" for n in range(8)}}]
         for more in bad:
@@ -94,7 +95,7 @@ class Arguments(unittest.TestCase):
         self.assertEqual(environment.render(), "tick 0 of 54\n")
         self.assertIs(environment.unwrapped, environment)
         self.assertEqual(environment.metadata, {
-            "name": "geesefuton_v3", "render_modes": ["ansi"], "is_parallelizable": True})
+            "name": "geesefuton_v4", "render_modes": ["ansi"], "is_parallelizable": True})
         environment.close()
 
     def test_a_bad_reset_is_told_before_anything_changes(self) -> None:
@@ -120,20 +121,28 @@ class Arguments(unittest.TestCase):
             self.assertRaises(ProgramError, environment.reset)
             self.assertIsNone(environment.seed)
 
-    def test_it_is_copied_only_while_no_game_is_played(self) -> None:
-        copies: List[Callable[[Environment], Any]] = [
-            copy.copy, copy.deepcopy, lambda each: pickle.loads(pickle.dumps(each))]
+    def test_a_game_that_is_played_cannot_be_pickled(self) -> None:
         with tempfile.TemporaryDirectory() as folder:
             tac = fake_program(Path(folder), "read -r line\n")
             patch = mock.patch.dict(os.environ, {"TAC": tac})
             with patch, Environment(FIRST) as environment:
-                for each in copies:
-                    self.assertEqual(each(environment).possible_agents,
-                                     environment.possible_agents)
+                self.assertEqual(pickle.loads(pickle.dumps(environment)).possible_agents,
+                                 environment.possible_agents)
                 environment.reset()
-                for each in copies:
-                    self.assertRaisesRegex(TypeError, "with a running game", each, environment)
+                self.assertRaisesRegex(TypeError, "cannot be copied or pickled", pickle.dumps,
+                                       environment)
                 self.assertEqual(environment.num_agents, 8)
+
+    def test_games_without_seeds_differ_between_workers(self) -> None:
+        with mock.patch("geesefuton.learning.market.Stepped"):
+            for first in (None, 3):
+                workers, seen = [Environment() for _ in range(8)], set()
+                for number in range(50):
+                    for place, worker in enumerate(workers):
+                        is_given = first is not None and number == 0
+                        worker.reset(first + place if first is not None and is_given else None)
+                        seen.add(worker.seed)
+                self.assertEqual(len(seen), 400)
 
     def test_spaces_are_the_same_at_each_call(self) -> None:
         with fake_gymnasium.installed():
@@ -177,12 +186,20 @@ class Steps(unittest.TestCase):
             self.assertEqual((seen["clients"], seen["cash"]), (tuple(clients), 0))
             self.assertEqual(seen["holdings"], (0,) * 16 + self.game.endow[seat])
 
+    def test_what_all_agents_see_cannot_be_changed(self) -> None:
+        observations, *_ = self.environment.step({})
+        for seen in (self.observations[self.agents[0]], observations[self.agents[0]]):
+            self.assertEqual({key: type(value) for key, value in seen.items()}, {
+                "tick": int, "round": int, "quotes": tuple, "holdings": tuple, "cash": int,
+                "clients": tuple})
+            self.assertEqual({type(board) for board in seen["quotes"]}, {tuple})
+
     def test_flights_move_and_hotels_close_at_their_ticks(self) -> None:
         prices = [prices_of(flight) for flight in self.game.flights]
         observations = self.observations
         for tick in range(TICKS):
             seen = observations[self.agents[7]]
-            self.assertEqual((seen["tick"], seen["replies"]), (tick, []))
+            self.assertEqual(seen["tick"], tick)
             for good in FLIGHTS:
                 self.assertEqual(seen["quotes"][good][1:], (prices[good][tick], False))
             for good in HOTELS:
@@ -197,11 +214,11 @@ class Steps(unittest.TestCase):
         price = self.game.flights[3].first
         observations, rewards, ends, breaks, infos = self.environment.step({
             fifth: [f"bid 3 ((2 {price}))", "own 3"], second: ["own 3", "bid 99 ((1 1))", "what"]})
-        self.assertEqual(observations[fifth]["replies"], ["@1 taken 2 0", "@2 own 2 ()"])
-        self.assertEqual(observations[second]["replies"],
-                         ["@0 own 0 ()", "no auction", "no syntax"])
-        self.assertEqual(observations[self.agents[0]]["replies"], [])
-        for told, value in ((rewards, 0), (ends, False), (breaks, False), (infos, {})):
+        replies = {**dict.fromkeys(self.agents, []), fifth: ["@1 taken 2 0", "@2 own 2 ()"],
+                   second: ["@0 own 0 ()", "no auction", "no syntax"]}
+        self.assertEqual(infos, {agent: {"replies": told} for agent, told in replies.items()})
+        self.assertEqual(observations[fifth]["holdings"][3], 2)
+        for told, value in ((rewards, 0), (ends, False), (breaks, False)):
             self.assertEqual(told, dict.fromkeys(self.agents, value))
         lines = ["2 own 3", "2 bid 99 ((1 1))", "2 what", f"5 bid 3 ((2 {price}))", "5 own 3",
                  "tick", ""]
@@ -237,8 +254,8 @@ class Steps(unittest.TestCase):
             with self.subTest(actions=repr(actions)[:60]):
                 self.assertRaises(ActionError, environment.step, actions)
                 self.assertEqual((environment.tick, environment.script), (0, ""))
-        observations, *_ = environment.step({agent: ["own 0", *first]})
-        self.assertEqual(observations[agent]["replies"], ["@0 own 0 ()", "@1 taken 1 0"])
+        *_, infos = environment.step({agent: ["own 0", *first]})
+        self.assertEqual(infos[agent]["replies"], ["@0 own 0 ()", "@1 taken 1 0"])
 
     def test_bytes_of_a_script_have_an_end(self) -> None:
         lines = ["y" * 512] * 65_000
@@ -252,8 +269,8 @@ class Steps(unittest.TestCase):
         agent = self.agents[4]
         requests = ["own 8", "x" * 512, "x" * 513, "ü" * 256, "ü" * 257, "own 8\r", "quit", "",
                     "cash"]
-        observations, *_ = self.environment.step({agent: requests})
-        self.assertEqual(observations[agent]["replies"],
+        *_, infos = self.environment.step({agent: requests})
+        self.assertEqual(infos[agent]["replies"],
                          ["@0 own 0 ()", "no syntax", "no toolong", "no syntax", "no toolong",
                           "no syntax", "no syntax", "no syntax", "@0 cash 0"])
         rest(self.environment)
@@ -261,8 +278,8 @@ class Steps(unittest.TestCase):
 
     def test_an_agent_has_all_lines_of_a_session(self) -> None:
         agent, left = self.agents[0], 65_536
-        observations, *_ = self.environment.step({agent: ["quit "] * left})
-        self.assertEqual(observations[agent]["replies"], ["no syntax"] * left)
+        *_, infos = self.environment.step({agent: ["quit "] * left})
+        self.assertEqual(infos[agent]["replies"], ["no syntax"] * left)
         self.assertRaisesRegex(ActionError, "more than 65536", self.environment.step,
                                {agent: ["own 8"]})
         rest(self.environment)
@@ -298,9 +315,8 @@ class Games(unittest.TestCase):
                     for agent in agents:
                         self.assertIn(observations[agent], each.observation_space(agent))
                     actions = random_actions(source, agents)
-                    observations, *_ = each.step(actions)
-                    self.assertEqual({agent: len(observations[agent]["replies"])
-                                      for agent in agents},
+                    observations, *_, infos = each.step(actions)
+                    self.assertEqual({agent: len(infos[agent]["replies"]) for agent in agents},
                                      {agent: len(actions.get(agent, [])) for agent in agents})
                 self.assertEqual(each.log, played(each))
 
@@ -317,12 +333,13 @@ class Games(unittest.TestCase):
                     if each.round:
                         seen, *_ = each.step(random_actions(source, agents, most=12))
                         continue
-                    told, *_ = each.step(dict.fromkeys(agents, reading))
+                    told, *_, infos = each.step(dict.fromkeys(agents, reading))
                     for agent in agents:
                         before, words = seen[agent], [reply.split() for reply
-                                                      in told[agent]["replies"]]
-                        self.assertEqual([(int(bid), int(ask), state == "closed") for
-                                          _, _, bid, ask, state in words[:28]], before["quotes"])
+                                                      in infos[agent]["replies"]]
+                        self.assertEqual(tuple((int(bid), int(ask), state == "closed") for
+                                               _, _, bid, ask, state in words[:28]),
+                                         before["quotes"])
                         self.assertEqual(tuple(int(word[2]) for word in words[28:56]),
                                          before["holdings"])
                         self.assertEqual(int(words[56][2]), before["cash"])
@@ -331,13 +348,28 @@ class Games(unittest.TestCase):
                 self.assertGreater(each.log.count(b"\ntrade "), 20)
 
     def test_games_follow_from_their_seeds(self) -> None:
-        with Environment() as environment:
-            seeds = []
-            for seed in (None, None, 7, None, (1 << 64) - 1, None):
-                environment.reset(seed)
-                seeds.append(environment.seed)
-                self.assertEqual(environment.game, program.make(seeds[-1] or 0))
-            self.assertEqual(seeds, [0, 1, 7, 8, (1 << 64) - 1, 0])
+        runs = []
+        for _ in range(2):
+            with Environment() as environment:
+                seeds = []
+                for seed in (7, None, (1 << 64) - 1, None, None, 7, None):
+                    environment.reset(seed)
+                    self.assertIn(seed, (None, environment.seed))
+                    self.assertEqual(environment.game, program.make(environment.seed or 0))
+                    seeds.append(environment.seed)
+                runs.append(seeds)
+        self.assertEqual(runs[0], runs[1])
+        self.assertEqual(runs[0][:2], runs[0][5:])
+        self.assertEqual(len(set(runs[0])), 5)
+
+    def test_made_games_may_have_classic_endowments(self) -> None:
+        with Environment(endow="classic", rooms=(3, 6)) as environment:
+            _, infos = environment.reset(9)
+            due = made_game(9).with_rooms(drawn_rooms(9, 3, 6), False)
+            self.assertEqual(read_game(environment.game),
+                             due.with_endowments(classic_endowments(9)))
+            self.assertEqual([infos[agent]["endow"] for agent in environment.agents],
+                             classic_endowments(9))
 
     def test_made_games_may_have_few_rooms_and_live_quotes(self) -> None:
         with Environment(rooms=(2, 2), live=True) as environment:
@@ -377,14 +409,13 @@ class Games(unittest.TestCase):
             environment.reset(3)
             first = environment.game
             environment.step({})
-            observations, _ = environment.reset()
+            environment.reset()
             self.assertEqual((environment.game, environment.seed, environment.tick),
                              (first, None, 0))
             self.assertEqual(environment.game, read_game(SERVED_GAME.read_text()).text())
-            self.assertEqual(observations[environment.agents[0]]["replies"], [])
 
     def test_scores_so_far_are_those_if_nobody_asked_more(self) -> None:
-        with Environment(FIRST, scores=True) as environment:
+        with Environment(FIRST, hindsight=True) as environment:
             environment.reset()
             agents = list(environment.agents)
             price = read_game(FIRST.read_text()).flights[0].first
@@ -395,15 +426,15 @@ class Games(unittest.TestCase):
                                      agents[5]: ["bid 16 ((16 30))"]})
             scores = {**dict.fromkeys(agents, 0), agents[0]: -price,
                       agents[4]: 16 * 30 - 200 * short, agents[5]: -16 * 30}
-            self.assertEqual({agent: info["score"] for agent, info in told[-1].items()}, scores)
+            self.assertEqual({agent: info["hindsight"] for agent, info in told[-1].items()}, scores)
             with mock.patch("geesefuton.learning.scores.solve", side_effect=AssertionError):
                 told = environment.step({agents[4]: ["own 16", "cash", "quote 0", "what"]})
-            self.assertEqual({agent: info["score"] for agent, info in told[-1].items()}, scores)
+            self.assertEqual({agent: info["hindsight"] for agent, info in told[-1].items()}, scores)
             # Two rooms at 7 dollars or less, of 16: they cost nothing.
             told = environment.step({agents[6]: ["bid 15 ((2 7))"]})
-            self.assertEqual({agent: info["score"] for agent, info in told[-1].items()}, scores)
+            self.assertEqual({agent: info["hindsight"] for agent, info in told[-1].items()}, scores)
             last = rest(environment)
-            self.assertEqual({agent: info["score"] for agent, info in last[-1].items()}, last[1])
+            self.assertEqual({agent: info["hindsight"] for agent, info in last[-1].items()}, last[1])
             self.assertEqual(last[1], scores)
             self.assertEqual(environment.log, played(environment))
 
@@ -412,29 +443,29 @@ class Games(unittest.TestCase):
         good, least = min(((good, min(prices_of(game.flights[good]))) for good in FLIGHTS),
                           key=lambda flight: flight[1] - game.flights[flight[0]].first)
         self.assertLess(least, game.flights[good].first)
-        with Environment(FIRST, scores=True) as environment:
+        with Environment(FIRST, hindsight=True) as environment:
             environment.reset()
             agents = list(environment.agents)
             # The bid waits until the price has fallen so far, and a seat alone is no trip.
             for request, reply, score in ((f"bid {good} ((1 {least}))", "@0 taken 0 0", -least),
                                           (f"withdraw {good}", "@2 done", 0)):
-                observations, _, _, _, infos = environment.step({agents[3]: [request]})
-                self.assertEqual(observations[agents[3]]["replies"], [reply])
-                self.assertEqual({agent: info["score"] for agent, info in infos.items()},
+                *_, infos = environment.step({agents[3]: [request]})
+                self.assertEqual(infos[agents[3]]["replies"], [reply])
+                self.assertEqual({agent: info["hindsight"] for agent, info in infos.items()},
                                  {**dict.fromkeys(agents, 0), agents[3]: score})
 
     def test_a_game_has_no_scores_of_the_one_before(self) -> None:
-        with Environment(FIRST, scores=True) as environment:
+        with Environment(FIRST, hindsight=True) as environment:
             for is_played_on in (False, True):
                 environment.reset()
                 agents = list(environment.agents)
                 infos = environment.step({agents[0]: ["bid 0 ((1 800))"]})[-1]
-                self.assertLess(infos[agents[0]]["score"], 0)
+                self.assertLess(infos[agents[0]]["hindsight"], 0)
                 if is_played_on:
                     rest(environment)
                 environment.reset()
                 infos = environment.step({})[-1]
-                self.assertEqual({agent: info["score"] for agent, info in infos.items()},
+                self.assertEqual({agent: info["hindsight"] for agent, info in infos.items()},
                                  dict.fromkeys(agents, 0))
 
     def test_a_game_that_is_closed_can_be_begun_again(self) -> None:
@@ -444,7 +475,7 @@ class Games(unittest.TestCase):
         environment.close()
         self.assertEqual(environment.agents, [])
         self.assertRaises(ActionError, environment.step, {})
-        environment.reset()
+        environment.reset(2)
         self.assertEqual((environment.seed, environment.num_agents), (2, 8))
         environment.close()
 
@@ -486,6 +517,13 @@ class Bidder:
         return self.acted < 20
 
 
+class Silent(Bidder):
+    """A rival that does not say whether it goes on."""
+
+    def act(self) -> None:  # type: ignore[override]
+        super().act()
+
+
 @needs_program
 class Rivals(unittest.TestCase):
     def play(self, environment: Environment, seed: int) -> Environment:
@@ -521,6 +559,10 @@ class Rivals(unittest.TestCase):
             self.assertEqual(environment.log, played(environment))
             pickle.loads(pickle.dumps(environment)).close()
 
+    def test_only_false_ends_a_rival(self) -> None:
+        with Environment(rivals={"seat3": Silent}) as environment:
+            self.assertEqual(self.play(environment, 6).script.count("3 bid 8 "), TICKS)
+
     def test_games_of_rivals_alone_have_scores(self) -> None:
         game = read_game(program.make(1))
         makers = {seat: maker_of("planner") for seat in range(8)}
@@ -533,7 +575,7 @@ class Rivals(unittest.TestCase):
 class Clones(unittest.TestCase):
     def test_a_clone_goes_on_by_itself(self) -> None:
         source = random.Random(3)
-        with Environment(rounds=2, scores=True, rivals={"seat3": Bidder}) as environment:
+        with Environment(rounds=2, hindsight=True, rivals={"seat3": Bidder}) as environment:
             environment.reset(9)
             agents = list(environment.agents)
             for _ in range(31):
@@ -542,10 +584,28 @@ class Clones(unittest.TestCase):
             self.addCleanup(other.close)
             self.assertEqual((other.tick, other.round, other.script, other.agents),
                              (15, 1, environment.script, agents))
+            self.assertRaises(TypeError, pickle.dumps, other)
             actions = [random_actions(source, agents) for _ in range(54 * 2 - 31)]
             for each in actions:
                 self.assertEqual(environment.step(each), other.step(each))
             self.assertEqual(environment.log, other.log)
+
+    def test_each_of_two_copies_has_its_own_script(self) -> None:
+        with Environment(FIRST) as environment:
+            environment.reset()
+            agent, games = environment.agents[0], [environment]
+            environment.step({agent: ["cash"]})
+            for make in (Environment.clone, copy.copy, copy.deepcopy):
+                games.append(make(environment))
+                self.addCleanup(games[-1].close)
+            for good, game in enumerate(games):
+                game.step({agent: [f"bid {good} ((1 800))"]})
+            for good, game in enumerate(games):
+                game.step({agent: ["cash"]})
+                self.assertEqual(game.script,
+                                 f"0 cash\ntick\n0 bid {good} ((1 800))\ntick\n0 cash\ntick\n")
+                rest(game)
+                self.assertEqual(game.log, played(game))
 
     def test_a_clone_that_ends_leaves_the_game_alone(self) -> None:
         with Environment(FIRST) as environment:
@@ -553,7 +613,7 @@ class Clones(unittest.TestCase):
             other = environment.clone()
             other.step({other.agents[0]: ["bid 8 ((1 50))"]})
             other.close()
-            told, *_ = environment.step({environment.agents[0]: ["own 8"]})
+            *_, told = environment.step({environment.agents[0]: ["own 8"]})
             self.assertEqual(told[environment.agents[0]]["replies"], ["@0 own 0 ()"])
 
     def test_a_forked_process_begins_a_game_of_its_own(self) -> None:
@@ -571,6 +631,6 @@ class Clones(unittest.TestCase):
                 finally:
                     os._exit(status)
             self.assertEqual(os.waitpid(child, 0)[1], 0)
-            told, *_ = environment.step({agent: ["own 8"]})
+            *_, told = environment.step({agent: ["own 8"]})
             self.assertEqual(told[agent]["replies"], ["@0 own 0 ()"])
             rest(environment)

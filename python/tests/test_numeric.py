@@ -3,6 +3,7 @@
 import unittest
 from importlib import import_module
 from typing import Any, Dict, List
+from unittest import mock
 
 from tests import fake_gymnasium
 from tests.helpers import needs_program
@@ -14,7 +15,7 @@ def seen(**more: Any) -> Dict[str, Any]:
     """What an agent sees before the first tick of a game."""
     quotes = [(0, 300, False)] * 8 + [(0, 40, False)] * 8 + [(30, 0, False)] * 12
     return {"tick": 0, "round": 0, "quotes": quotes, "holdings": (0,) * 28, "cash": 0,
-            "clients": CLIENTS, "replies": [], **more}
+            "clients": CLIENTS, **more}
 
 
 class Case(unittest.TestCase):
@@ -91,6 +92,28 @@ class Games(Case):
             observations, rewards, *_ = seats.step(actions)
             steps += 1
         self.assertEqual((steps, len(rewards)), (108, 8))
+
+    def test_an_agent_that_is_not_there_is_told(self) -> None:
+        seats = self.numeric.Seats(rivals={"seat1": "watcher"})
+        self.addCleanup(seats.close)
+        seats.reset(7)
+        for agent in ("seat9", "seat1"):
+            with self.assertRaisesRegex(ValueError, f"there is no agent '{agent}'"):
+                seats.step({agent: [0] * 28})
+        self.assertEqual(seats.step({})[0]["seat0"][0], 1 / 54)
+
+    def test_a_seat_makes_no_view_of_another(self) -> None:
+        seat = self.numeric.Seat("seat2")
+        self.addCleanup(seat.close)
+        self.assertRaisesRegex(ValueError, "no game has begun", seat.step, [0] * 28)
+        with mock.patch.object(self.numeric, "chosen", wraps=self.numeric.chosen) as chosen:
+            seat.reset(seed=5)
+            seat.step([0] * 28)
+        self.assertEqual(chosen.call_count, 2)
+
+    def test_gymnasium_makes_a_seat_by_its_name(self) -> None:
+        self.assertEqual(fake_gymnasium.REGISTERED,
+                         {"geesefuton/Seat-v2": "geesefuton.learning.numeric:Seat"})
 
     def test_a_seat_of_a_rival_is_not_free(self) -> None:
         self.assertRaisesRegex(ValueError, "'seat1' must be a seat without a rival",

@@ -5,10 +5,9 @@ from typing import Any
 
 from tests import fake_gymnasium
 
-OBSERVATION = {"tick": 54, "round": 2, "quotes": [(0, 10_001, True)] * 28,
+OBSERVATION = {"tick": 54, "round": 2, "quotes": ((0, 10_001, True),) * 28,
                "holdings": (-3,) * 16 + (16,) * 12, "cash": -4000,
-               "clients": ((1, 2, 50, 0, 0, 0),) * 7 + ((4, 5, 150, 200, 200, 200),),
-               "replies": ["@0 taken 1 0"]}
+               "clients": ((1, 2, 50, 0, 0, 0),) * 7 + ((4, 5, 150, 200, 200, 200),)}
 
 
 class Spaces(unittest.TestCase):
@@ -24,12 +23,18 @@ class Spaces(unittest.TestCase):
         for key, value in (("tick", 55), ("tick", -1), ("tick", "3"), ("round", 3),
                            ("quotes", [(0, 0, True)] * 27), ("quotes", [(0, 10_002, True)] * 28),
                            ("quotes", [(0, 1)] * 28), ("holdings", (0,) * 27), ("cash", 0.5),
-                           ("clients", ((1, 2, 50, 0, 0, 0),) * 7), ("replies", ["x" * 513]),
-                           ("clients", ((1, 2, 50, 0, 0, 201),) * 8),
-                           ("replies", "bye"), ("replies", [""])):
+                           ("clients", ((1, 2, 50, 0, 0, 0),) * 7),
+                           ("clients", ((1, 2, 50, 0, 0, 201),) * 8)):
             with self.subTest(key=key, value=value):
                 self.assertNotIn({**OBSERVATION, key: value}, space)
         self.assertNotIn({"tick": 3}, space)
+
+    def test_observations_are_numbers_alone_which_can_be_put_into_one_array(self) -> None:
+        parts = self.spaces.observation_space(3).spaces
+        self.assertEqual({type(part).__mro__[1].__name__ for part in parts.values()}, {"Box"})
+        self.assertEqual({key: part.shape for key, part in parts.items()}, {
+            "tick": (), "round": (), "quotes": (28, 3), "holdings": (28,), "cash": (),
+            "clients": (8, 6)})
 
     def test_an_action_is_in_its_space(self) -> None:
         space = self.spaces.action_space()

@@ -18,10 +18,10 @@ place: each step begins one seat later, and the first seat of a game is pseudora
     cash        what it earned so far less what it paid, in dollars
     clients     for each of its eight clients the arrival, the departure, the premium and the values
                 of the three ticket types
-    replies     those to its requests in this step
 
-At reset `infos` has also `endow`, its tickets of the goods 16 to 27. After the last step the game
-is over: the rewards are the scores, in dollars; before, they are 0.
+The infos of an agent have `replies`, those to its requests in this step; at reset they have
+`endow`, its tickets of the goods 16 to 27, instead. After the last step the game is over: the
+rewards are the scores, in dollars; before, they are 0.
 
 The same requests give the same game, and its log is what `tac play` writes for the game's file and
 script. A game is one process of `tac step`.
@@ -30,19 +30,19 @@ script. A game is one process of `tac step`.
 from __future__ import annotations
 
 import copy
+import random
 from collections import abc
 from importlib import import_module
 from operator import index
 from pathlib import Path
-from types import TracebackType
-from typing import Any, Callable, Dict, List, Mapping, Optional, Sequence, Tuple, Type, Union
+from typing import Any, Callable, Dict, List, Mapping, Optional, Sequence, Tuple, Union
 
-from geesefuton.learning.interfaces import ParallelEnv
+from geesefuton.learning.interfaces import Parallel
 from geesefuton.learning.market import LimitError, Market
 from geesefuton.learning.rivals import Maker, Players, Rivals, maker_of
 from geesefuton.learning.scores import Scorer
-from geesefuton.records.books import Books, text_of
-from geesefuton.records.drawing import MOST_SEED, drawn_rooms
+from geesefuton.records.books import Board, Books, text_of
+from geesefuton.records.drawing import MOST_SEED, classic_endowments, drawn_rooms
 from geesefuton.records.games import (CLIENTS, GOODS, HOTELS, MOST_ROOMS, ROOMS, SEATS, TICKS, Game,
                                       read_game)
 from geesefuton.records.made_games import made_game
@@ -59,7 +59,7 @@ class ActionError(ValueError):
     """Actions that cannot be asked, or a call that is not due; nothing has changed."""
 
 
-class Environment(ParallelEnv):  # type: ignore[misc]
+class Environment(Parallel):
     """Games of eight seats, one after the other.
 
     Attributes:
@@ -79,8 +79,10 @@ class Environment(ParallelEnv):  # type: ignore[misc]
         rooms: The least and the most rooms that a hotel night of a made game has, drawn from its
             seed as by `tools/tournament --rooms`; None for 16.
         live: Whether each bid publishes a hotel's price in made games.
-        scores: Whether `infos` of each step have each agent's `score` if nobody asked anything
-            more.
+        endow: `classic`, for tickets as by `tools/tournament --endow classic` in made games; None
+            for those of `tac make`.
+        hindsight: Whether `infos` of each step have `hindsight`, the score that the agent would
+            have if nobody asked anything more. It follows from draws that no agent knows yet.
         rounds: How many steps there are before each tick, 1 to 1000.
         rivals: Agents that play in this process, by the names of their seats: each the name of a
             shipped one, as `baseline`, or a class that is made with a `SeatLink` and has `act`,
@@ -93,16 +95,19 @@ class Environment(ParallelEnv):  # type: ignore[misc]
         ValueError: Another argument is out of its range.
     """
 
-    metadata = {"name": "geesefuton_v3", "render_modes": ["ansi"], "is_parallelizable": True}
+    metadata = {"name": "geesefuton_v4", "render_modes": ["ansi"], "is_parallelizable": True}
 
     def __init__(self, game: Union[str, Path, None] = None, *,
-                 rooms: Optional[Tuple[int, int]] = None, live: bool = False, scores: bool = False,
-                 rounds: int = 1, rivals: Optional[Rivals] = None,
-                 render_mode: Optional[str] = None) -> None:
+                 rooms: Optional[Tuple[int, int]] = None, live: bool = False,
+                 endow: Optional[str] = None, hindsight: bool = False, rounds: int = 1,
+                 rivals: Optional[Rivals] = None, render_mode: Optional[str] = None) -> None:
         if render_mode not in (None, "ansi"):
             raise ValueError(f"expected the render mode 'ansi' or None, not {render_mode!r}")
-        if game is not None and (rooms is not None or live):
-            raise ValueError("rooms and live quotes come from the game file: leave them out")
+        if game is not None and (rooms is not None or live or endow is not None):
+            raise ValueError("rooms, live quotes and tickets come from the game file: leave them "
+                             "out")
+        if endow not in (None, "classic"):
+            raise ValueError(f"expected endow as 'classic' or None, not {endow!r:.60}")
         if rooms is not None and not _are_rooms(rooms):
             raise ValueError(f"expected rooms as two numbers from 1 to {MOST_ROOMS}, the least "
                              f"first, not {rooms!r:.60}")
@@ -118,8 +123,9 @@ class Environment(ParallelEnv):  # type: ignore[misc]
         self.possible_agents = list(self._seats)
         self._zeros: Values = dict.fromkeys(self._seats, 0)
         self._falses: Values = dict.fromkeys(self._seats, False)
-        self._rooms, self._live, self._has_scores, self._rounds = rooms, live, scores, rounds
-        self._next = 0  # the seed of the next game
+        self._rooms, self._live, self._endow, self._rounds = rooms, live, endow, rounds
+        self._has_hindsight = hindsight
+        self._seeds = random.Random()  # of the games that have none given
         self._last: Optional[Tuple[int, Game, str]] = None  # the last made game and its seed
         self._spaces: Values = {}
         self._market: Optional[Market] = None
@@ -132,7 +138,7 @@ class Environment(ParallelEnv):  # type: ignore[misc]
         self.game, self.tick, self.round = game, 0, 0
         self.log: Optional[bytes] = None
         self._script = b""  # of a game that is no longer played
-        self._boards: List[Tuple[int, int, bool]] = []
+        self._boards: Tuple[Board, ...] = ()
         self._books: Optional[Books] = None
         self._known: List[Tuple[str, Values]] = []  # what each agent sees until more moves
         self._moves = -1
@@ -142,34 +148,9 @@ class Environment(ParallelEnv):  # type: ignore[misc]
         self._scores_now: Optional[List[int]] = None  # of all seats, if nobody asks anything more
 
     @property
-    def num_agents(self) -> int:
-        """How many agents play now."""
-        return len(self.agents)
-
-    @property
-    def max_num_agents(self) -> int:
-        """How many agents play in a game."""
-        return len(self.possible_agents)
-
-    @property
-    def unwrapped(self) -> "Environment":
-        """This environment."""
-        return self
-
-    @property
     def script(self) -> str:
         """The requests and ticks of the game so far, as a script for `tac play`."""
         return (self._market.script if self._market else self._script).decode()
-
-    @property
-    def observation_spaces(self) -> Values:
-        """The space of each agent's observations."""
-        return {agent: self.observation_space(agent) for agent in self.possible_agents}
-
-    @property
-    def action_spaces(self) -> Values:
-        """The space of each agent's actions."""
-        return {agent: self.action_space(agent) for agent in self.possible_agents}
 
     @property
     def state_space(self) -> Any:
@@ -203,9 +184,9 @@ class Environment(ParallelEnv):  # type: ignore[misc]
         """Begins a game, and ends the current one.
 
         Args:
-            seed: What the game is made from, 0 to 18446744073709551615; None for the number after
-                that of the game before, or 0 at first. A game of a file is the same for each, but
-                what its rivals draw is not.
+            seed: What the game is made from, 0 to 18446744073709551615; None for a number that is
+                drawn by the seed that was given last, or by the system's entropy if none was. A
+                game of a file is the same for each, but what its rivals draw is not.
             options: There are none; what is given is ignored.
 
         Returns:
@@ -216,23 +197,25 @@ class Environment(ParallelEnv):  # type: ignore[misc]
             ProgramError: There is no program, or it ended with an error.
             OSError: There is no room for pipes.
         """
-        seed = self._next if seed is None else _seed(seed)
+        is_drawn = seed is None
+        seed = self._seeds.randrange(MOST_SEED + 1) if seed is None else _seed(seed)
         self.close()
         game, text = (self._given, "") if self._given else self._made(seed)
         market = Market(game, text)
         self.seed = None if self._given else seed
-        self._next = (seed + 1) % (MOST_SEED + 1)
+        if not is_drawn:
+            self._seeds.seed(seed)
         self._clear(market.text)
         self._market = market
-        self._books, self._boards = market.books, list(market.books.boards)
+        self._books, self._boards = market.books, tuple(market.books.boards)
         self._clients = [tuple([client[:3] + client.values for client in clients])
                          for clients in game.clients]
-        self._scorer = Scorer(game) if self._has_scores else None
+        self._scorer = Scorer(game) if self._has_hindsight else None
         self._players = Players(market, self._rivals, seed)
         self.agents = list(self.possible_agents)
         infos = {agent: {"endow": list(game.endow[seat]), "clients": self._clients[seat]}
                  for agent, seat in self._seats.items()}
-        return self._observations({}), infos
+        return self._observations(), infos
 
     def _made(self, seed: int) -> Tuple[Game, str]:
         """The game of a seed, and its canonical text."""
@@ -241,6 +224,8 @@ class Environment(ParallelEnv):  # type: ignore[misc]
             if self._rooms is not None or self._live:
                 rooms = drawn_rooms(seed, *self._rooms) if self._rooms else [ROOMS] * len(HOTELS)
                 game = game.with_rooms(rooms, self._live)
+            if self._endow is not None:
+                game = game.with_endowments(classic_endowments(seed))
             self._last = seed, game, game.text()
         return self._last[1:]
 
@@ -259,7 +244,7 @@ class Environment(ParallelEnv):  # type: ignore[misc]
         Raises:
             ActionError: There is no game, or an action cannot be asked. Nothing has changed.
             ProgramError: The program ended with an error. The game is lost.
-            OSError: There is no room for the pipes of `scores`. The game is lost.
+            OSError: There is no room for the pipes of `hindsight`. The game is lost.
         """
         asked = self._asked(actions)
         assert self._market is not None
@@ -270,7 +255,7 @@ class Environment(ParallelEnv):  # type: ignore[misc]
                 self.round = 0
                 self._market.advance()
                 self.tick += 1
-            self._boards = list(self._market.books.boards)
+            self._boards = tuple(self._market.books.boards)
             return self._told(self._market, replies)
         except BaseException:
             self.close()
@@ -328,10 +313,10 @@ class Environment(ParallelEnv):  # type: ignore[misc]
     def _told(self, market: Market, replies: Replies) -> Step:
         """What a step returns."""
         agents = self.agents
-        observations = self._observations(replies)
+        observations = self._observations()
         # Copies take a fifth of the time of new dictionaries.
         rewards, are_over, are_cut = self._zeros.copy(), self._falses.copy(), self._falses.copy()
-        infos: Values = {agent: {} for agent in agents}
+        infos: Values = {agent: {"replies": replies.get(agent, [])} for agent in agents}
         if self.tick == TICKS:
             self.log = market.finish()
             self._scores_now = market.scores
@@ -342,10 +327,10 @@ class Environment(ParallelEnv):  # type: ignore[misc]
             if self._scores_now is None:
                 self._scores_now = self._scorer.scores(market.books)
             for agent in agents:
-                infos[agent]["score"] = self._scores_now[self._seats[agent]]
+                infos[agent]["hindsight"] = self._scores_now[self._seats[agent]]
         return observations, rewards, are_over, are_cut, infos
 
-    def _observations(self, replies: Replies) -> Values:
+    def _observations(self) -> Values:
         """What each agent sees."""
         books, tick, round_, boards = self._books, self.tick, self.round, self._boards
         assert books is not None
@@ -353,31 +338,26 @@ class Environment(ParallelEnv):  # type: ignore[misc]
             self._moves = books.moves
             self._known = [(agent, {
                 "tick": 0, "round": 0, "quotes": boards, "holdings": tuple(books.holdings[seat]),
-                "cash": books.cash[seat], "clients": self._clients[seat], "replies": []})
+                "cash": books.cash[seat], "clients": self._clients[seat]})
                 for agent, seat in self._seats.items()]
         observations: Values = {}
         for agent, known in self._known:
             seen = observations[agent] = known.copy()  # quicker than to make it from its parts
             seen["tick"], seen["round"], seen["quotes"] = tick, round_, boards
-            seen["replies"] = []
-        for agent, told in replies.items():
-            observations[agent]["replies"] = told
         return observations
 
     def clone(self) -> "Environment":
         """The same environment in the same game, which goes on by itself, in a process of its own.
 
+        `copy.copy` and `copy.deepcopy` give the same.
+
         Raises:
             ProgramError: There is no program, or it ended with an error.
             OSError: There is no room for pipes.
         """
-        other = object.__new__(type(self))
-        memory: Dict[int, Any] = {id(self): other, id(self._last): self._last}
-        if self._market is not None:
-            copied = memory[id(self._market)] = self._market.copied()
-            memory[id(self._market.books)] = copied.books
-        other.__dict__.update(copy.deepcopy(self.__dict__, memory))
-        return other
+        return copy.deepcopy(self)
+
+    __copy__ = clone
 
     def render(self) -> str:
         """The tick and the boards of all goods as a text of some lines.
@@ -417,22 +397,6 @@ class Environment(ParallelEnv):  # type: ignore[misc]
             self._script = self._market.script
             self._market.close()
             self._market, self._players = None, None
-
-    def __getstate__(self) -> Values:
-        if self._market is not None:
-            raise TypeError("an environment with a running game cannot be copied or pickled: use "
-                            "clone()")
-        return self.__dict__
-
-    def __str__(self) -> str:
-        return str(self.metadata["name"])
-
-    def __enter__(self) -> "Environment":
-        return self
-
-    def __exit__(self, kind: Optional[Type[BaseException]], fault: Optional[BaseException],
-                 trace: Optional[TracebackType]) -> None:
-        self.close()
 
 
 def _rivals_by_seat(rivals: Rivals, words: Sequence[str]) -> Dict[int, Maker]:

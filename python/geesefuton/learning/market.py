@@ -4,7 +4,7 @@ from __future__ import annotations
 
 import copy
 import re
-from typing import List, Optional, Sequence, Tuple
+from typing import Any, Dict, List, Optional, Sequence, Tuple
 
 from geesefuton import program
 from geesefuton.learning.stepping import Stepped
@@ -146,13 +146,12 @@ class Market:
         self.scores = [row[-1] for row in rows]
         return log
 
-    def copied(self) -> Market:
+    def __deepcopy__(self, memory: Dict[int, Any]) -> Market:
         """The same game in a process of its own, which goes on by itself."""
-        other = object.__new__(Market)
-        vars(other).update({name: copy.copy(value) for name, value in vars(self).items()
-                            if name not in ("_process", "books")})
-        other.books, other._process = self.books.copied(), Stepped(self.text.encode())
-        script, other._waiting = self.script, b""
+        other = copy.copy(self)
+        other._script, other._lines = self._script[:], self._lines[:]
+        other.books = memory[id(self.books)] = copy.deepcopy(self.books)
+        other._process, script, other._waiting = Stepped(self.text.encode()), self.script, b""
         other._process.exchange(script, script.count(b"\n") - self.books.tick)
         return other
 

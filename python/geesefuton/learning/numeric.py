@@ -2,7 +2,7 @@
 
 They need `numpy`, and for the spaces `gymnasium` (`pip install 'geesefuton[learn]'`). If Gymnasium
 and PettingZoo are installed, `Seat` is an `Env` of the one, and `Seats` a `ParallelEnv` of the
-other.
+other. `gymnasium.make("geesefuton.learning.numeric:geesefuton/Seat-v2")` then makes a `Seat`.
 
     environment = Seat(rivals=dict.fromkeys(SEATS[1:], "planner"))
     observation, info = environment.reset(seed=42)
@@ -25,13 +25,14 @@ score less the score promised at first.
 
 from __future__ import annotations
 
+from functools import cached_property
 from importlib import import_module
 from typing import Any, Dict, List, Optional, Sequence, Tuple
 
 import numpy
 
 from geesefuton.learning.environment import Environment
-from geesefuton.learning.interfaces import Env, ParallelEnv
+from geesefuton.learning.interfaces import Env, Parallel, register
 from geesefuton.learning.trips import NEVER, chosen
 from geesefuton.records.games import FLIGHTS, GOODS, HOTELS, TICKETS, TICKS
 
@@ -111,15 +112,36 @@ class View:
                 asked.append(f"bid {good} (({min(units, 16)} {price}))")
         return asked
 
+    def reward(self, before: View, is_over: bool, score: int, info: Dict[str, Any]) -> float:
+        """The reward of the step from the view before. If the game is over, its score in dollars
+        counts, and is put into the infos."""
+        if is_over:
+            info["score"] = score
+        return ((score if is_over else self.promised) - before.promised) / THOUSAND
 
-class Seats(ParallelEnv):  # type: ignore[misc]
+
+class _Spaces:
+    """The spaces of a seat, made when they are asked for."""
+
+    @cached_property
+    def observations(self) -> Any:
+        """That of its observations."""
+        return observation_space()
+
+    @cached_property
+    def actions(self) -> Any:
+        """That of its actions."""
+        return action_space()
+
+
+class Seats(Parallel):
     """Games of all seats that no rival has, by PettingZoo's parallel interface in numbers.
 
     Args:
         settings: Those of `Environment`, such as `rivals` and `rooms`.
     """
 
-    metadata = {"name": "geesefuton_numeric_v1", "render_modes": ["ansi"],
+    metadata = {"name": "geesefuton_numeric_v2", "render_modes": ["ansi"],
                 "is_parallelizable": True}
 
     def __init__(self, **settings: Any) -> None:
@@ -127,72 +149,41 @@ class Seats(ParallelEnv):  # type: ignore[misc]
         self._views: Dict[str, View] = {}
         self.possible_agents = self._games.possible_agents
         self.render_mode = self._games.render_mode
-        self._spaces: Dict[str, Tuple[Any, Any]] = {}
+        self._spaces = {agent: _Spaces() for agent in self.possible_agents}
 
     @property
     def agents(self) -> List[str]:
         """Those that play now."""
         return self._games.agents
 
-    @property
-    def num_agents(self) -> int:
-        """How many agents play now."""
-        return len(self.agents)
-
-    @property
-    def max_num_agents(self) -> int:
-        """How many agents play in a game."""
-        return len(self.possible_agents)
-
     def observation_space(self, agent: str) -> Any:
         """The space of an agent's observations, the same at each call."""
-        return self._spaces_of(agent)[0]
+        return self._spaces[agent].observations
 
     def action_space(self, agent: str) -> Any:
         """The space of an agent's actions, the same at each call."""
-        return self._spaces_of(agent)[1]
-
-    def _spaces_of(self, agent: str) -> Tuple[Any, Any]:
-        if agent not in self.possible_agents:
-            raise KeyError(agent)
-        if agent not in self._spaces:
-            self._spaces[agent] = observation_space(), action_space()
-        return self._spaces[agent]
-
-    @property
-    def observation_spaces(self) -> Dict[str, Any]:
-        """The space of each agent's observations."""
-        return {agent: self.observation_space(agent) for agent in self.possible_agents}
-
-    @property
-    def action_spaces(self) -> Dict[str, Any]:
-        """The space of each agent's actions."""
-        return {agent: self.action_space(agent) for agent in self.possible_agents}
+        return self._spaces[agent].actions
 
     def reset(self, seed: Optional[int] = None,
               options: Optional[Dict[str, Any]] = None) -> Tuple[Dict[str, Any], Dict[str, Any]]:
         """Begins a game, as `Environment.reset`. Gives for each agent its observation and infos."""
-        seen, _ = self._games.reset(seed, options)
+        seen, infos = self._games.reset(seed, options)
         self._views = {agent: View(each) for agent, each in seen.items()}
-        return self._observations(), {agent: {} for agent in self.agents}
+        return self._observations(), infos
 
     def step(self, actions: Dict[str, Any]) -> Tuple[Dict[str, Any], ...]:
         """Plays a step, as `Environment.step`. An agent without an action asks nothing.
 
         Raises:
-            ValueError: There is no game, or an action is none. Nothing has changed.
+            ValueError: There is no game or no such agent, or an action is none. Nothing has
+                changed.
         """
-        asked = {agent: self._views[agent].requests(action) for agent, action in actions.items()
-                 if agent in self._views}
-        before = {agent: view.promised for agent, view in self._views.items()}
+        asked = {agent: self._views[agent].requests(action) if agent in self._views else []
+                 for agent, action in actions.items()}
         seen, scores, ends, breaks, infos = self._games.step(asked)
-        self._views = {agent: View(each) for agent, each in seen.items()}
-        rewards = {}
-        for agent, view in self._views.items():
-            after = scores[agent] if ends[agent] else view.promised
-            rewards[agent] = (after - before[agent]) / THOUSAND
-            if ends[agent]:
-                infos[agent]["score"] = scores[agent]
+        before, self._views = self._views, {agent: View(each) for agent, each in seen.items()}
+        rewards = {agent: view.reward(before[agent], ends[agent], scores[agent], infos[agent])
+                   for agent, view in self._views.items()}
         return self._observations(), rewards, ends, breaks, infos
 
     def _observations(self) -> Dict[str, Any]:
@@ -217,7 +208,7 @@ class Seats(ParallelEnv):  # type: ignore[misc]
 
 
 class Seat(Env):  # type: ignore[misc]
-    """Games of one seat, as an environment of Gymnasium.
+    """Games of one seat, as an environment of Gymnasium. No other seat's view is made.
 
     Args:
         agent: The name of the seat. The others are rivals', or nobody's.
@@ -230,27 +221,30 @@ class Seat(Env):  # type: ignore[misc]
     metadata = {"render_modes": ["ansi"]}
 
     def __init__(self, agent: str = "seat0", **settings: Any) -> None:
-        self._seats = Seats(**settings)
-        if agent not in self._seats.possible_agents:
+        self._games = Environment(**settings)
+        if agent not in self._games.possible_agents:
             raise ValueError(f"{agent!r:.60} must be a seat without a rival")
-        self.agent, self.render_mode = agent, self._seats.render_mode
+        self.agent, self.render_mode = agent, self._games.render_mode
+        self._view: Optional[View] = None
+        self._spaces = _Spaces()
 
     @property
     def observation_space(self) -> Any:
         """The space of observations, the same at each call."""
-        return self._seats.observation_space(self.agent)
+        return self._spaces.observations
 
     @property
     def action_space(self) -> Any:
         """The space of actions, the same at each call."""
-        return self._seats.action_space(self.agent)
+        return self._spaces.actions
 
     def reset(self, *, seed: Optional[int] = None,
               options: Optional[Dict[str, Any]] = None) -> Tuple[Any, Dict[str, Any]]:
         """Begins a game, as `Environment.reset`. Gives the observation and infos."""
         super().reset(seed=seed)
-        observations, infos = self._seats.reset(seed, options)
-        return observations[self.agent], infos[self.agent]
+        seen, infos = self._games.reset(seed, options)
+        self._view = View(seen[self.agent])
+        return self._view.observation(), infos[self.agent]
 
     def step(self, action: Any) -> Tuple[Any, float, bool, bool, Dict[str, Any]]:
         """Plays a step. Gives the observation, the reward, whether the game is over, whether it
@@ -259,14 +253,22 @@ class Seat(Env):  # type: ignore[misc]
         Raises:
             ValueError: There is no game, or the action is none. Nothing has changed.
         """
-        told = self._seats.step({self.agent: action})
-        observation, reward, end, is_broken, infos = (each[self.agent] for each in told)
-        return observation, reward, end, is_broken, infos
+        before = self._view
+        if before is None:
+            raise ValueError("no game has begun: call reset first")
+        told = self._games.step({self.agent: before.requests(action)})
+        seen, score, end, is_broken, info = (each[self.agent] for each in told)
+        self._view = View(seen)
+        reward = self._view.reward(before, end, score, info)
+        return self._view.observation(), reward, end, is_broken, info
 
     def render(self) -> str:
         """The boards as text."""
-        return self._seats.render()
+        return self._games.render()
 
     def close(self) -> None:
         """Ends the game that is played."""
-        self._seats.close()
+        self._games.close()
+
+
+register(id="geesefuton/Seat-v2", entry_point="geesefuton.learning.numeric:Seat")

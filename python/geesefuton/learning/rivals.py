@@ -6,7 +6,8 @@ import importlib
 import random
 import sys
 from types import ModuleType
-from typing import Callable, Dict, List, Mapping, Optional, Protocol, Tuple, Union, cast
+from typing import (Callable, Dict, Iterator, List, Mapping, Optional, Protocol, Tuple, Union,
+                    cast)
 
 from geesefuton import program
 from geesefuton.learning.market import Market
@@ -76,7 +77,7 @@ class Acting(Protocol):
     """An agent that acts when it is told to."""
 
     def act(self) -> object:
-        """Acts once, and tells whether it goes on."""
+        """Acts once. It acts no more once this gives False."""
 
 
 Maker = Callable[[SeatLink], Acting]  # makes an agent for its seat
@@ -145,12 +146,20 @@ class Players:
             source = random.Random(f"{self._seed} {seat}")
             self._playing[seat] = self._makers[seat](SeatLink(self._market, seat, source))
         rival = self._playing[seat]
-        if rival is not None and not rival.act():
+        if rival is not None and rival.act() is False:
             self._playing[seat] = None
 
 
-def scores_of(game: Game, makers: Mapping[int, Maker], seed: int) -> List[int]:
-    """The scores of a game in which nobody plays but these, each once between two ticks.
+def played(game: Game, makers: Mapping[int, Maker], seed: int) -> Iterator[Market]:
+    """Plays a game in which nobody plays but these, each once between two ticks.
+
+    Args:
+        game: The game.
+        makers: What makes the agent of each seat.
+        seed: From which, with their seats, follows what they draw.
+
+    Yields:
+        The market, after each tick. After the last one it has the scores.
 
     Raises:
         ProgramError: There is no program, or it ended with an error.
@@ -164,7 +173,14 @@ def scores_of(game: Game, makers: Mapping[int, Maker], seed: int) -> List[int]:
                 if seat in makers:
                     players.act(seat)
             market.advance()
-        market.finish()
-        return market.scores
+            if tick == TICKS - 1:
+                market.finish()
+            yield market
     finally:
         market.close()
+
+
+def scores_of(game: Game, makers: Mapping[int, Maker], seed: int) -> List[int]:
+    """The scores, in dollars, of a game that is `played`."""
+    *_, market = played(game, makers, seed)
+    return market.scores

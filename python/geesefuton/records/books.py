@@ -7,8 +7,9 @@ agree with it.
 
 from __future__ import annotations
 
+import copy
 from itertools import repeat
-from typing import Dict, List, Optional, Sequence, Set, Tuple
+from typing import Any, Dict, List, Optional, Sequence, Set, Tuple
 
 from geesefuton.records.games import (AUCTIONS, CLOCK, FLIGHTS, HOTELS, HOUSE, SEATS, TICKETS,
                                       TICKS, Auction, Game)
@@ -289,18 +290,16 @@ class Books:
 
     def at_the_end(self) -> Books:
         """The books of the end of the game, if nobody asks anything more."""
-        end = self.copied()
+        end = copy.deepcopy(self)
         while end.tick < TICKS:
             end.advance()
         return end
 
-    def copied(self) -> Books:
-        """The same books, which go on by themselves."""
-        other = object.__new__(Books)
-        other.tick, other._closing, other.boards = self.tick, self._closing, self.boards[:]
-        other._drawn, other._fares, other._bid_for = self._drawn, self._fares, set(self._bid_for)
-        other.holdings, other.cash = [held[:] for held in self.holdings], self.cash[:]
-        other.moves = self.moves
+    def __deepcopy__(self, memory: Dict[int, Any]) -> Books:
+        """The same books, which go on by themselves. What is fixed of a game is shared."""
+        other = copy.copy(self)
+        other.boards, other.cash, other._bid_for = self.boards[:], self.cash[:], set(self._bid_for)
+        other.holdings = [held[:] for held in self.holdings]
         other._flights = [flight.copied() for flight in self._flights]
         other._nights = [night.copied() for night in self._nights]
         other._tickets = [tickets.copied() for tickets in self._tickets]
