@@ -1,6 +1,6 @@
 #!/usr/bin/env python3
-"""Reads the log of a game with the package's reader, and checks only the form and the numbers of
-each line: a baseline in Python for the audit.
+"""Reads the log of a game with the package's reader, which knows only the form of each line: a
+baseline in Python for the audit.
 
     bench/plain_reader.py my.log
 

@@ -3,13 +3,14 @@
 
     bench/stepped_games.py crates/tacd/out/tacd --processor 3 --beside ../before/python
 
-A game is `reset` with a seed of its own, 54 steps and `close`. There are three ways: nobody asks
+A game is `reset` with a seed of its own, 54 steps and `close`. There are four ways: nobody asks
 anything, and the quotes of all goods are read; all eight agents read what they hold and their cash;
-and one agent bids in each step, and scores are told. The ways take turns, round by round, each in a
-process of its own that keeps to one processor with all that it starts. With `--beside` the package
-in another folder, of another version, plays the same games in turn with this one, and has to see
-the same; where its observations have no holdings, its agents ask for them. The output has for each
-way the steps in a second of a processor and of wall time, in the median round.
+one agent bids in each step, and its score in hindsight is told; and a seat in numbers without
+rivals bids in every second game, which needs `numpy`. The ways take turns, round by round, each in
+a process of its own that keeps to one processor with all that it starts. With `--beside` the
+package in another folder, of another version, plays the same games in turn with this one, and has
+to see the same. The output has for each way the steps in a second of a processor and of wall time,
+in the median round.
 """
 
 import os
@@ -22,44 +23,47 @@ from running import Parser, command, file_of, run, whole
 from geesefuton.program import ProgramError
 
 HERE = os.path.join(os.path.dirname(os.path.dirname(os.path.abspath(__file__))), "python")
-WAYS = ("nobody asks", "all read", "scores")
+WAYS = ("nobody asks", "all read", "hindsight", "in numbers")
 # Plays games, and prints the seconds, the seconds of a processor, and a sum over what was seen.
 PLAYER = """
 import os, resource, sys, time
 folder, way, processor, first, count = sys.argv[1:]
 sys.path.insert(0, folder)
-try:
-    from geesefuton.learning.environment import Environment
-except ImportError:
-    from geesefuton.environment import Environment
+from geesefuton.learning.environment import Environment
 os.sched_setaffinity(0, {int(processor)})
 def spent():
     both = map(resource.getrusage, (resource.RUSAGE_SELF, resource.RUSAGE_CHILDREN))
     return sum(each.ru_utime + each.ru_stime for each in both)
-environment, seen = Environment(scores=way == "scores"), 0
-reading = [*(f"own {good}" for good in range(28)), "cash"]
-wall, before = time.perf_counter(), spent()
+if way == "in numbers":
+    from geesefuton.learning.numeric import Seat
+    environment = Seat()
+elif way == "hindsight":
+    try:
+        environment = Environment(hindsight=True)
+    except TypeError:  # an older version
+        environment = Environment(scores=True)
+else:
+    environment = Environment()
+seen, wall, before = 0, time.perf_counter(), spent()
 for seed in range(int(first), int(first) + int(count)):
-    observations, _ = environment.reset(seed)
-    agents = list(environment.agents)
-    has_holdings = "holdings" in observations[agents[0]]
-    while environment.agents:
-        actions = {}
-        if way == "scores":
-            actions = {agents[0]: ["bid 27 ((1 1))"]}
-        elif way == "all read" and not has_holdings:
-            actions = dict.fromkeys(agents, reading)
-        if way == "all read" and has_holdings:
+    observations, _ = environment.reset(seed=seed)
+    is_over = False
+    while not is_over:
+        if way == "in numbers":
+            observations, _, is_over, *_ = environment.step([seed % 2] * 28)
+            seen += float(observations.sum())
+            continue
+        agents = list(environment.agents)
+        actions = {agents[0]: ["bid 27 ((1 1))"]} if way == "hindsight" else {}
+        if way == "all read":
             seen += sum(sum(observations[agent]["holdings"]) + observations[agent]["cash"]
                         for agent in agents)
         observations, *_ = environment.step(actions)
         if way != "all read":
             seen += sum(ask for _, ask, _ in observations[agents[0]]["quotes"])
-        elif not has_holdings:
-            seen += sum(int(reply.split()[2]) for agent in agents
-                        for reply in observations[agent]["replies"])
+        is_over = not environment.agents
 environment.close()
-print(time.perf_counter() - wall, spent() - before, seen)
+print(time.perf_counter() - wall, spent() - before, round(seen))
 """
 
 

@@ -1,5 +1,6 @@
 #!/usr/bin/env python3
-"""Plays a small game in steps: one agent buys seats and bids for rooms, and sees its score.
+"""Plays a small game in steps: one agent buys seats and bids for rooms, and sees in hindsight what
+each step is worth.
 
 An agent that learns uses the same calls, which `geesefuton.learning.environment` describes;
 `learner.py` is one. This agent plays for the first client of a made game.
@@ -27,7 +28,7 @@ def requests(client, observation):
 
 
 def main():
-    with Environment(scores=True) as environment:
+    with Environment(hindsight=True) as environment:
         observations, infos = environment.reset(42)
         agent = environment.agents[0]
         client = infos[agent]["clients"][0]
@@ -37,8 +38,8 @@ def main():
             asked = requests(client, observations[agent]) if is_due else []
             observations, rewards, _, _, infos = environment.step({agent: asked})
             if asked:
-                print(f"it asks {asked}, and gets {observations[agent]['replies']}",
-                      f"its score is {infos[agent]['score']} if nobody asks anything more",
+                print(f"it asks {asked}, and gets {infos[agent]['replies']}",
+                      f"its score is {infos[agent]['hindsight']} if nobody asks anything more",
                       environment.render(), sep="\n")
     print(f"its score is {rewards[agent]}")
     return 0

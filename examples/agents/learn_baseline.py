@@ -1,10 +1,10 @@
 #!/usr/bin/env python3
 """Relearns the tables of baseline.py: how much hotel nights rise from a quote to the closing.
 
-Eight baselines play each other in simulator.py, half of the games with 16 rooms a night and half
-with 3 to 6 and live quotes. After each round of games the tables become the means of all rises so
-far, for use in the next round. It prints the tables in the form of baseline.py, with the error of
-each entry: two standard errors over games. All draws come from the seed.
+Eight baselines play each other in games in steps, half of them with 16 rooms a night and half with
+3 to 6 and live quotes. After each round of games the tables become the means of all rises so far,
+for use in the next round. It prints the tables in the form of baseline.py, with the error of each
+entry: two standard errors over games. All draws come from the seed.
 """
 
 from __future__ import annotations
@@ -15,27 +15,47 @@ import random
 import sys
 import time
 from collections import defaultdict
-from typing import Dict, List, Tuple
+from typing import Dict, List, Sequence, Tuple
 
 import baseline
-from simulator import Deal, Market, play
+
+from geesefuton.arguments import whole
+from geesefuton.learning.rivals import Shipped, played
+from geesefuton.processes import command
+from geesefuton.records.drawing import MOST_SEED, drawn_rooms
+from geesefuton.records.games import Game
+from geesefuton.records.made_games import made_game
 
 Entry = Tuple[str, int, int]  # a table, its row, and how many nights have closed
 TABLES = "PLENTY", "SCARCE"
-FEW = range(3, 7)  # rooms of a night
+FEW = 3, 6  # rooms of a night, at least and at most
 
 
-def rises(market: Market, few: bool) -> Dict[Entry, List[int]]:
-    """The rises, in dollars, from the quotes after each tick of a game to the closings."""
+def rises(game: Game, quotes: Sequence[Sequence[int]], few: bool) -> Dict[Entry, List[int]]:
+    """The rises, in dollars, to the closings of a game.
+
+    Args:
+        game: The game.
+        quotes: The prices of the eight hotel nights, before the first tick and after each.
+        few: Whether the game has few rooms.
+    """
     seen = defaultdict(list)
-    for tick, quotes in enumerate(market.quotes):
-        for place, quote in enumerate(quotes):
-            good, closed = 8 + place, tick // 6
+    for tick, prices in enumerate(quotes):
+        for place, (quote, hotel) in enumerate(zip(prices, game.hotels)):
             # Where rooms are scarce, the first bids tell so, and only then the table is used.
-            if tick < market.closings[good] and (quote or not few):
-                row = 2 * (good >= 12) + (good % 4 in (1, 2))
-                seen["SCARCE" if few else "PLENTY", row, closed].append(market.price[good] - quote)
+            if tick < hotel.closes and (quote or not few):
+                row = 2 * (place >= 4) + (place % 4 in (1, 2))
+                rise = quotes[-1][place] - quote
+                seen["SCARCE" if few else "PLENTY", row, tick // 6].append(rise)
     return seen
+
+
+def quotes_of(game: Game, seed: int) -> List[List[int]]:
+    """The prices of the hotel nights in a game of eight baselines, as `rises` takes them."""
+    quotes = [[0] * 8]
+    for market in played(game, dict.fromkeys(range(8), Shipped("baseline")), seed):
+        quotes.append([ask for _, ask, _ in market.books.boards[8:16]])
+    return quotes
 
 
 class Learner:
@@ -44,8 +64,9 @@ class Learner:
     def __init__(self) -> None:
         self.games: Dict[Entry, List[Tuple[int, int]]] = defaultdict(list)
 
-    def add(self, market: Market, few: bool) -> None:
-        for entry, seen in rises(market, few).items():
+    def add(self, found: Dict[Entry, List[int]]) -> None:
+        """Takes the rises of a game."""
+        for entry, seen in found.items():
             self.games[entry].append((sum(seen), len(seen)))
 
     def mean(self, entry: Entry) -> float:
@@ -77,34 +98,27 @@ def tables(errors: Dict[Entry, float]) -> str:
     return "\n".join(lines)
 
 
-def number_of(least: int):
-    def read(text: str) -> int:
-        if not text.isdigit() or int(text) < least:
-            raise argparse.ArgumentTypeError(f"expected a number of {least} or more, not {text}")
-        return int(text)
-    return read
-
-
 def main() -> int:
     parser = argparse.ArgumentParser(description=__doc__,
                                      formatter_class=argparse.RawDescriptionHelpFormatter)
-    parser.add_argument("--rounds", type=number_of(1), default=24,
+    parser.add_argument("--rounds", type=whole(1), default=24,
                         help="rounds of games (default: 24)")
-    parser.add_argument("--games", type=number_of(2), default=12,
+    parser.add_argument("--games", type=whole(2), default=12,
                         help="games a round (default: 12)")
-    parser.add_argument("--more", type=number_of(0), default=3,
+    parser.add_argument("--more", type=whole(0), default=3,
                         help="further rounds, to see which entries still move (default: 3)")
-    parser.add_argument("--seed", type=number_of(0), default=1,
+    parser.add_argument("--seed", type=whole(0), default=1,
                         help="seed of all draws (default: 1)")
     given = parser.parse_args()
     source, learner, begun = random.Random(given.seed), Learner(), time.monotonic()
     then: Dict[Entry, Tuple[float, float]] = {}
     for count in range(1, given.rounds + given.more + 1):
-        for game in range(given.games):
-            few = game % 2 == 1
-            market = play(Deal.draw(source, FEW if few else None), [
-                lambda seat: baseline.Baseline(seat, random.Random(source.random()))] * 8, source)
-            learner.add(market, few)
+        for number in range(given.games):
+            seed, few = source.randrange(MOST_SEED + 1), number % 2 == 1
+            game = made_game(seed)
+            if few:
+                game = game.with_rooms(drawn_rooms(seed, *FEW), True)
+            learner.add(rises(game, quotes_of(game, seed), few))
         learner.install()
         print(f"round {count} after {time.monotonic() - begun:.0f} s", file=sys.stderr, flush=True)
         if count == given.rounds:
@@ -118,9 +132,4 @@ def main() -> int:
 
 
 if __name__ == "__main__":
-    try:
-        sys.exit(main())
-    except KeyboardInterrupt:
-        sys.exit("learn_baseline.py: stopped")
-    except OSError as fault:  # a closed pipe or a full disk
-        sys.exit(f"learn_baseline.py: {fault.strerror}")
+    sys.exit(command("learn_baseline.py", main))

@@ -1,4 +1,4 @@
-"""The agent of examples/agents/baseline.py, in games of its simulator: no server and no time."""
+"""The agent of examples/agents/baseline.py, in games in steps: no server and no time."""
 
 import random
 import subprocess
@@ -7,10 +7,13 @@ import unittest
 from collections import Counter
 from typing import Callable, Dict, List, Optional, Tuple
 
+from geesefuton.learning.market import Market
+from geesefuton.learning.rivals import SeatLink
 from geesefuton.link import Quote, Unanswered
-from geesefuton.records.games import HOTELS, TICKETS, Client, inbound, outbound
+from geesefuton.records.games import HOTELS, TICKETS, TICKS, Client, Game, inbound, outbound
+from geesefuton.records.made_games import made_game
 from geesefuton.records.replies import Own
-from tests.helpers import TOP
+from tests.helpers import TOP, needs_program
 from tests.test_link import Server
 
 AGENTS = TOP / "examples" / "agents"
@@ -18,9 +21,7 @@ sys.path.insert(0, str(AGENTS))
 
 import baseline  # noqa: E402
 import learn_baseline  # noqa: E402
-import simulator  # noqa: E402
 from baseline import Baseline, Flight, Plan, best_shows, span  # noqa: E402
-from simulator import TICKS, Deal, Market, Seat  # noqa: E402
 
 REFUSALS = ["no spent", "no syntax", "no toolong", "no auction", "no memory",
             *(f"no bid {fault}" for fault in range(1, 6)), "@7 no closed", "@7 no wrongcall",
@@ -28,28 +29,27 @@ REFUSALS = ["no spent", "no syntax", "no toolong", "no auction", "no memory",
             "@7 no belowquote 16 10000 2", "@7 no belowquote 3 10001 0"]
 
 
-class Watched(Seat):
+class Watched(SeatLink):
     """A seat that keeps what its agent asks. `refuse` gives the reply to a call, or None where the
     market answers."""
 
     def __init__(self, market: Market, agent: int = 0,
                  refuse: Callable[[int], Optional[str]] = lambda good: None) -> None:
-        super().__init__(market, agent)
-        self.refuse = refuse
+        super().__init__(market, agent, random.Random(1))
+        self.market, self.refuse = market, refuse
         self.bids: List[Tuple[int, Tuple[Tuple[int, int], ...], str]] = []
         self.calls: Dict[int, int] = Counter()  # by auction
         self.lines = 0
 
-    def bid(self, good: int, *points: Tuple[int, int]) -> str:
+    def ask(self, line: str) -> str:
+        good = int(line.split(" ")[1])
         self.count(good)
-        reply = self.refuse(good) or super().bid(good, *points)
+        return self.refuse(good) or super().ask(line)
+
+    def bid(self, good: int, *points: Tuple[int, int]) -> str:
+        reply = super().bid(good, *points)
         self.bids.append((good, points, reply))
         return reply
-
-    def ask(self, request: str) -> str:
-        good = int(request.split()[1])
-        self.count(good)
-        return self.refuse(good) or super().ask(request)
 
     def own(self, good: int) -> int:
         self.count(good)
@@ -67,34 +67,24 @@ class Watched(Seat):
 class Hurried(Watched):
     """A seat whose agent's offer is taken right after its first look of a tick at what it holds."""
 
-    def __post_init__(self) -> None:
-        super().__post_init__()
+    def __init__(self, market: Market) -> None:
+        super().__init__(market)
         self.looked = [-1] * 28  # the tick of the last look
 
     def own(self, good: int) -> int:
         held = super().own(good)
-        if good in TICKETS and self.looked[good] < self.market.tick:
-            self.looked[good] = self.market.tick
-            self.market.bid(7, good, [[1, 300]])
-            self.market.withdraw(7, good)
+        if good in TICKETS and self.looked[good] < self.market.books.tick:
+            self.looked[good] = self.market.books.tick
+            self.market.ask([(7, f"bid {good} ((1 300))"), (7, f"withdraw {good}")])
         return held
 
 
-def deal(seed: int = 9, few: bool = False) -> Deal:
-    return Deal.draw(random.Random(seed), range(3, 7) if few else None)
-
-
-def alone(refuse: Callable[[int], Optional[str]] = lambda good: None, seed: int = 1,
-          ticks: int = TICKS) -> Tuple[Market, Watched, Baseline]:
-    """A game in which one agent bids. It looks twice a tick, in the first of them alone."""
-    market = Market(deal())
-    seat = Watched(market, refuse=refuse)
-    agent = Baseline(seat, random.Random(seed))
-    for tick in range(TICKS):
-        for _ in range(2 if tick < ticks else 0):
-            agent.round()
-        market.pass_tick()
-    return market, seat, agent
+def begun(case: unittest.TestCase, few: bool = False) -> Market:
+    """A game that has begun, which ends with its test."""
+    game = made_game(9)
+    market = Market(game.with_rooms([3, 4, 5, 6] * 2, True) if few else game)
+    case.addCleanup(market.close)
+    return market
 
 
 class Tables(unittest.TestCase):
@@ -105,17 +95,15 @@ class Tables(unittest.TestCase):
                                 for row in table for rise in row))
 
     def test_a_rise_is_that_to_the_closing(self) -> None:
-        market = Market(deal())
-        market.bid(0, 8, [[16, 70]])
-        for tick in range(TICKS):
-            market.pass_tick()
-        seen = learn_baseline.rises(market, few=False)
+        # Night 8 rises from 10 to 70 dollars at tick 3, and the others stay at 0.
+        game: Game = made_game(9)
+        quotes = [[10 if tick < 3 else 70, *[0] * 7] for tick in range(TICKS + 1)]
+        seen = learn_baseline.rises(game, quotes, few=False)
         self.assertEqual(sum(len(rises) for rises in seen.values()),
                          sum(6 * number for number in range(1, 9)))
-        first = market.deal.order.index(8) + 1  # it publishes its price at tick 6 at the latest
-        self.assertEqual(seen["PLENTY", 0, 0].count(70), 6)
-        self.assertEqual(Counter(market.closings.values()), Counter(range(6, 54, 6)))
-        self.assertEqual(market.closings[8], 6 * first)
+        self.assertEqual(seen["PLENTY", 0, 0].count(60), 3)
+        few = learn_baseline.rises(game, quotes, few=True)
+        self.assertEqual(sum(map(len, few.values())), game.hotels[0].closes)
 
 
 class Flights(unittest.TestCase):
@@ -141,7 +129,7 @@ class Flights(unittest.TestCase):
 
 
 class Plans(unittest.TestCase):
-    CLIENTS = deal().clients[0]
+    CLIENTS = made_game(9).clients[0]
 
     def test_where_all_is_free_each_gets_the_trip_that_it_prefers(self) -> None:
         plan = Plan(self.CLIENTS, [[0] * baseline.UNITS] * 28).settle()
@@ -180,7 +168,20 @@ class Plans(unittest.TestCase):
         self.assertEqual(best_shows(client.values, (200,) * 12, (1, 5)), (0, ()))
 
 
+@needs_program
 class Games(unittest.TestCase):
+    def alone(self, refuse: Callable[[int], Optional[str]] = lambda good: None, seed: int = 1,
+              ticks: int = TICKS) -> Tuple[Market, Watched, Baseline]:
+        """A game in which one agent bids. It looks twice a tick, in the first of them alone."""
+        market = begun(self)
+        seat = Watched(market, refuse=refuse)
+        agent = Baseline(seat, random.Random(seed))
+        for tick in range(TICKS):
+            for _ in range(2 if tick < ticks else 0):
+                agent.round()
+            market.advance()
+        return market, seat, agent
+
     def assert_allowed(self, seat: Watched) -> None:
         """Whether what was asked keeps to the limits, and is refused only where nobody can know."""
         for good, points, reply in seat.bids:
@@ -195,19 +196,19 @@ class Games(unittest.TestCase):
         self.assertLess(seat.lines, 65536)
 
     def games(self, few: bool) -> None:
-        market = Market(deal(few=few))
+        market = begun(self, few)
         seats = [Watched(market, agent) for agent in range(8)]
         source = random.Random(3)
         players = [Baseline(seat, source) for seat in seats[:3]]
         for _ in range(TICKS):
             for player in players:
                 self.assertTrue(player.round())
-            market.pass_tick()
+            market.advance()
         for player, seat in zip(players, seats):
             self.assertFalse(player.round())
             self.assertEqual(player.seen, TICKS)
             self.assert_allowed(seat)
-            held = market.hold[seat.agent]
+            held = market.books.holdings[seat.agent]
             self.assertTrue(all(held[good] >= 0 for good in TICKETS))
             self.assertEqual(player.have[8:16], held[8:16])
             trips = min(sum(held[inbound(day)] for day in range(1, 5)),
@@ -224,26 +225,28 @@ class Games(unittest.TestCase):
         for refusal in REFUSALS:
             with self.subTest(refusal=refusal):
                 ticks = TICKS if refusal == "no spent" else 13  # past two closings
-                market, seat, agent = alone(lambda good: refusal, ticks=ticks)
+                market, seat, agent = self.alone(lambda good: refusal, ticks=ticks)
                 self.assertFalse(agent.round())
-                self.assertEqual((market.cash[0], sum(market.hold[0][:16])), (0, 0))
+                books = market.books
+                self.assertEqual((books.cash[0], sum(books.holdings[0][:16])), (0, 0))
                 self.assertLess(max(seat.calls.values()), 1024)
                 self.assertTrue(all(1 <= price <= 10000 for _, points, _ in seat.bids
                                     for _, price in points))
 
     def test_refusals_of_one_kind_of_auction_cost_no_others(self) -> None:
         for goods, bought in ((TICKETS, range(16)), (HOTELS, range(8)), (range(8), HOTELS)):
-            market, _, _ = alone(lambda good: "no spent" if good in goods else None)
-            self.assertGreater(sum(market.hold[0][good] for good in bought), 0)
+            market, _, _ = self.alone(lambda good: "no spent" if good in goods else None)
+            self.assertGreater(sum(market.books.holdings[0][good] for good in bought), 0)
 
     def test_it_never_sells_what_it_sold_while_it_planned(self) -> None:
-        market = Market(deal())
+        market = begun(self)
         agent = Baseline(Hurried(market), random.Random(1))
         for _ in range(TICKS):
             agent.round()
-            market.pass_tick()
-        self.assertGreater(sum(market.hold[7][16:]), sum(market.deal.endow[7]))
-        self.assertTrue(all(market.hold[0][good] >= 0 for good in TICKETS), market.hold[0])
+            market.advance()
+        held = market.books.holdings
+        self.assertGreater(sum(held[7][16:]), sum(market.game.endow[7]))
+        self.assertTrue(all(held[0][good] >= 0 for good in TICKETS), held[0])
 
     def test_it_plays_on_after_lost_bids(self) -> None:
         lost: List[int] = []
@@ -265,36 +268,37 @@ class Games(unittest.TestCase):
                          if other == good and reply.split()[1] == "taken"]
                 return Own(1, self.own(good), taken[-1] if taken else ())
 
-        market = Market(deal())
+        market = begun(self)
         seat = Losing(market)
         agent = Baseline(seat, random.Random(1))
         for _ in range(TICKS):
             self.assertTrue(agent.act())
-            market.pass_tick()
+            market.advance()
         self.assertFalse(agent.act())
         self.assertGreater(len(lost), 14)
         for good in HOTELS:
             stood = [price for _, price in seat.holding(good).points]
             self.assertEqual(agent.bids[good], stood, good)
         seats = [sum(good in goods for _, goods in agent.plan.trips) for good in range(8)]
-        self.assertTrue(all(held <= 8 for held in market.hold[0][:8]), (market.hold[0], seats))
+        held = market.books.holdings[0][:8]
+        self.assertLessEqual(max(held), 8, (held, seats))
 
     def test_with_a_seed_it_draws_from_nothing_else(self) -> None:
         played = []
         for noise in (1, 2):
             random.seed(noise)
-            market, seat, _ = alone(seed=5)
-            played.append((market.hold, market.cash, seat.bids))
+            market, seat, _ = self.alone(seed=5)
+            played.append((market.books.holdings, market.books.cash, seat.bids))
         self.assertEqual(played[0], played[1])
 
     def test_it_knows_the_tick_from_the_closings_if_it_missed_some(self) -> None:
-        market = Market(deal())
-        agent = Baseline(Seat(market, 0), random.Random(1))
+        market = begun(self)
+        agent = Baseline(Watched(market), random.Random(1))
         for tick in range(TICKS):
             if tick % 7 == 0:
                 agent.round()
                 self.assertTrue(tick - 5 <= agent.tick <= tick, (tick, agent.tick))
-            market.pass_tick()
+            market.advance()
         self.assertFalse(agent.round())
 
 

@@ -156,28 +156,6 @@ class Faults(unittest.TestCase):
         self.assertEqual([log.end_of(agent) for agent in (0, 1, 5, 6)],
                          ["readfault", "", "writefault", "budget"])
 
-    def test_the_greatest_and_least_numbers(self) -> None:
-        for pattern, lines in (
-                ("8 update", ("8 update 1 0 = done", "8 update 53 4294967295 = done")),
-                ("[0-7] bid", ("0 bid ((16 10000)) = taken 0 0", "7 bid ((-16 1)) = taken 0 0",
-                               "0 bid ((15 1) (-1 1)) = no selfcross",
-                               f"0 bid ({' '.join(['(1 1)'] * 16)}) = taken 0 0",
-                               f"0 own = own 0 ({' '.join(['(1 1)'] * 16)})")),
-                ("trade", ("trade 8 0 16 10000", "trade 0 8 1 0")),
-                ("[0-8] post", (f"8 post 27 8255 {' '.join(['-2147483648', '2147483647'] * 4)} 0",
-                                "0 post 0 0" + " 0" * 9)),
-                ("[0-7] read", ("7 read = -123456789012345678", "0 read = 0")),
-                ("score 1", ("score 1 14000 -123456789012345678 4294967295 123456789012345678",
-                             "score 1 0 0 0 0")),
-                ("package 1 2 ", ("package 1 2 none", "package 1 2 1 1 5 4 3 2"))):
-            for line in lines:
-                self.accept(self.place(pattern), line)
-        # So many entries would be read, if they came.
-        self.refuse(self.place("auction 1 "), "auction 1 8256", "of auction 1, not",
-                    self.place("auction 2 "))
-        self.refuse(self.place("cash "), "cash 238048", "expected an entry of the cash book",
-                    self.place("sheet"))
-
     def test_what_numbers_of_a_line_mean(self) -> None:
         place = self.place("8 update")
         position = place - self.place("auction 0 ") - 1 - sum(
@@ -190,8 +168,8 @@ class Faults(unittest.TestCase):
                                       No(None, "belowquote", 0, Below(3, 101, 2)),
                                       (Trade(1, 2, 3, 4),)))
         post = self.place("[0-8] post")
-        self.assertIn(Post(3, 20, 11, (1, -2, 3, -4, 5, -6, 7, -8, 4)),
-                      self.accept(post, "3 post 20 11 1 -2 3 -4 5 -6 7 -8 4").cash)
+        self.assertIn(Post(3, 20, 1, (1, -2, 3, -4, 5, -6, 7, -8, 4)),
+                      self.accept(post, "3 post 20 1 1 -2 3 -4 5 -6 7 -8 4").cash)
         self.assertIn(Reading(6, -77), self.accept(post, "6 read = -77").cash)
         score = self.accept(self.place("score 1"), "score 1 2 -3 4 -5").scores[1]
         self.assertEqual((score.agent, score.best, score.cash, score.short, score.score),
@@ -208,29 +186,20 @@ class Faults(unittest.TestCase):
         self.refuse(2, "served", "expected `play` or `serve`")
         self.refuse(2, "play", "expected a line `auction 0 N`", 3)
 
-    def test_links(self) -> None:
-        self.refuse(4, "link 2 seated 1", "expected link 1, not 2")
+    def test_heads(self) -> None:
         self.refuse(4, "link 1 seated 8", "expected a line `link`")
         self.refuse(4, "link 1 gone", "expected a line `link`")
-        self.refuse(4, "linked", "expected a line `link`, `end` or `missed`")
-        other = "\n".join(self.lines).replace("link 7 seated 7", "link 7 seated 7\nlink 8 lost")
-        self.assertEqual(read_log(other + "\n").links[8], Verdict("lost"))
-        many = "\n".join(f"link {number} taken" for number in range(8, 255))
-        self.refuse(10, f"link 7 seated 7\n{many}\nlink 255 taken", "more than 255 links", 258)
-
-    def test_ends_and_lapsed_ticks(self) -> None:
+        self.refuse(4, "linked", "expected a line `missed N`")
         line = self.place("end ")
         self.refuse(line, "end 0 gone", "expected a line `end`")
         self.refuse(line, "end 8 quit", "expected a line `end`")
         missed = self.place("missed")
-        self.refuse(missed, "missed 256", "0 to 255, not 256")
-        self.refuse(missed, "missed", "expected")
+        self.refuse(missed, "missed", "expected a line `missed N`")
         self.refuse(missed, "missed 0\nmissed 0", "expected a line `auction 0 N`", missed + 1)
 
     def test_auctions(self) -> None:
         line = self.place("auction 1 ")
         self.refuse(line, "auction 2 54", "expected a line `auction 1 N`")
-        self.refuse(line, "auction 1 8257", "0 to 8,256")
         entries = int(self.lines[line - 1].split()[2])
         after = self.place("auction 2 ")
         self.refuse(line, f"auction 1 {entries - 1}", "expected a line `auction 2 N`", after - 1)
@@ -239,99 +208,56 @@ class Faults(unittest.TestCase):
     def test_entries(self) -> None:
         line = self.place("8 update")
         for bad in ("9 update 1 0 = done", "8 update 1 = done", "8 update 1 0 = done ",
-                    "8 update 1 0", "8 raise = done", "8 bid () = done x", "-1 own = own 0 ()"):
+                    "8 update 1 0", "8 raise = done", "8 bid () = done x", "-1 own = own 0 ()",
+                    "8 update 54 0 = done", "8 update 0 0 = done", "8 update 1 0 = fine"):
             self.refuse(line, bad, "")
-        self.refuse(line, "8 update 54 0 = done", "1 to 53, not 54")
-        self.refuse(line, "8 update 0 0 = done", "1 to 53, not 0")
-        self.refuse(line, "8 update 1 4294967296 = done", "4,294,967,295")
-        self.refuse(line, "8 update 1 0 = cash 5", "not the reply of an entry")
-        self.refuse(line, "8 update 1 0 = quote 1 2 open", "not the reply of an entry")
-        self.refuse(line, "8 update 1 0 = fine", "is not a reply")
+        for tick in (1, 53):
+            self.accept(line, f"8 update {tick} 4294967295 = done")
 
     def test_points(self) -> None:
         line = self.place("[0-7] bid")
-        for bad, why in (("()", "1 to 16, not 0"), ("((0 5))", "no units"),
-                         ("((1 0))", "1 to 10,000, not 0"), ("((1 10001))", "not 10,001"),
-                         ("((17 5))", "not 17"), ("((9 5) (-8 5))", "not 17"),
-                         ("(" + " ".join(["(1 5)"] * 17) + ")", "not 17"),
-                         ("((01 5))", "expected"), ("((1  5))", "expected"), ("(1 5)", "expected")):
-            self.refuse(line, f"0 bid {bad} = taken 0 0", why)
-
-    def test_ranges_of_replies(self) -> None:
-        line = self.place("[0-7] bid")
-        for reply, why in (("taken 256 0", "`bought`"), ("taken 0 256", "`sold`"),
-                           ("sold 256 1", "`units`"), ("sold 1 10002", "`price`"),
-                           ("own 1000001 ()", "a holding"), ("own -1000001 ()", "a holding"),
-                           ("own 0 ((0 1))", "no units"), ("own 0 ((17 1))", "17"),
-                           ("no belowquote 256 1 1", "`need`"),
-                           ("no belowquote 1 10002 1", "`price`"),
-                           ("no belowquote 1 1 256", "`offered`")):
-            self.refuse(line, f"0 bid ((1 5)) = {reply}", why)
-        line = self.place("[0-7] bid .* = no")
-        words = self.lines[line - 1].split(" = ")[0]
-        for good in ("taken 255 255", "sold 255 10001", "own -1000000 ()", "own 1000000 ((16 1))",
-                     "no belowquote 255 10001 255"):
-            text = "\n".join([*self.lines[:line - 1], f"{words} = {good}", *self.lines[line:], ""])
-            read_log(text)
+        many = " ".join(["(1 5)"] * 16)
+        for bad in ("()", "((0 5))", "((1 0))", "((17 5))", "((99999999 5))", f"({many} (1 5))",
+                    "((01 5))", "((1  5))", "(1 5)"):
+            self.refuse(line, f"0 bid {bad} = taken 0 0", "expected entry")
+        for good in (f"({many})", "((16 10000))", "((-16 1))", "((15 1) (-1 1))"):
+            self.accept(line, f"0 bid {good} = taken 0 0")
 
     def test_trades(self) -> None:
         line = self.place("trade")
-        self.refuse(line, "trade 0 8 0 5", "1 to 16, not 0")
-        self.refuse(line, "trade 0 8 17 5", "1 to 16, not 17")
-        self.refuse(line, "trade 0 8 1 10001", "0 to 10,000")
         self.refuse(line, "trade 9 8 1 5", "expected a trade")
         self.refuse(line, "trade 0 8 1", "expected a trade")
-        read_log("\n".join([*self.lines[:line - 1], *["trade 0 8 1 5"] * 128, *self.lines[line:],
-                            ""]))
-        self.refuse(line, "\n".join(["trade 0 8 1 5"] * 129), "more than 128", line + 128)
 
     def test_the_cash_book(self) -> None:
-        line = self.place("cash ")
-        self.refuse(line, "cash 238049", "0 to 238,048")
-        self.refuse(line, "cash x", "expected")
+        self.refuse(self.place("cash "), "cash x", "expected a line `cash N`")
+        self.refuse(self.place("cash "), "cash 238048", "expected an entry of the cash book",
+                    self.place("sheet"))
         post = self.place("[0-8] post")
-        self.refuse(post, "0 post 28 0 0 0 0 0 0 0 0 0 0", "0 to 27")
-        self.refuse(post, "0 post 0 8256 0 0 0 0 0 0 0 0 0", "0 to 8,255")
-        self.refuse(post, "0 post 0 0 2147483648 0 0 0 0 0 0 0 0", "a net of a post")
-        self.refuse(post, "0 post 0 0 -2147483649 0 0 0 0 0 0 0 0", "a net of a post")
+        self.refuse(post, "0 post 28 0 0 0 0 0 0 0 0 0 0", "expected an entry of the cash book")
+        self.refuse(post, "0 post 0 8256 0 0 0 0 0 0 0 0 0", "auction 0 has no entry 8256")
         self.refuse(post, "0 post 0 0 0 0 0 0 0 0 0 0", "expected an entry of the cash book")
         self.refuse(post, "8 read = 5", "expected an entry of the cash book")
         self.refuse(post, "0 read = 1234567890123456789", "expected an entry of the cash book")
 
     def test_scores(self) -> None:
         line = self.place("score 1")
-        self.refuse(line, "score 2 0 -726 0 -726", "expected agent 1, not 2")
-        self.refuse(line, "score 1 14001 0 0 0", "0 to 14,000")
-        self.refuse(line, "score 1 0 0 4294967296 0", "the tickets short")
+        self.refuse(line, "score 2 0 -726 0 -726", "expected the score of agent 1")
         self.refuse(line, "score 1 0 0 -1 0", "expected the score of agent 1")
         self.refuse(self.place("sheet"), "memory", "memory was refused for the scores")
         self.refuse(self.place("sheet"), "sheets", "expected the line `sheet`")
 
     def test_packages(self) -> None:
         line = self.place("package 1 2 ")
-        self.refuse(line, "package 2 2 none", "expected agent 1, not 2")
-        self.refuse(line, "package 1 3 none", "expected client 2, not 3")
-        self.refuse(line, "package 1 2 0 3 2 0 0 0", "no such package")
-        self.refuse(line, "package 1 2 0 1 3 1 1 0", "no such package")
-        self.refuse(line, "package 1 2 0 1 3 3 0 0", "no such package")
-        self.refuse(line, "package 1 2 2 1 3 0 0 0", "expected")
+        for bad in ("package 2 2 none", "package 1 3 none", "package 1 2 2 1 3 0 0 0"):
+            self.refuse(line, bad, "expected the package of agent 1 for client 2")
+        for bad in ("0 3 2 0 0 0", "0 1 3 1 1 0", "0 1 3 3 0 0"):
+            self.refuse(line, f"package 1 2 {bad}", "no such package")
 
-    def test_certificates(self) -> None:
+    def test_certificates_are_passed_over(self) -> None:
         line = self.place("cert 1 ")
-        leaf = "leaf" + " 0" * 28
-        self.refuse(line, "cert 2 1", "expected agent 1, not 2")
-        self.refuse(line, f"cert 1 2\n{leaf}", "the certificate ends before its last line")
-        self.refuse(line, "cert 1 0", "goes on after its 0 lines")
-        self.refuse(line, "cert 1 100000", "lines, and")
-        self.refuse(line, "cert 1 1\nleaf" + " 0" * 27, "a node of a certificate", line + 1)
-        self.refuse(line, "cert 1 1\nsplit 8 1", "a node of a certificate", line + 1)
-        rest = self.lines[line + 1:]
-        for feature, parts in ((0, 21), (1, 5), (2, 5), (3, 5)):
-            nodes = [f"split 0 {feature}", *[leaf] * parts]
-            text = [*self.lines[:line - 1], f"cert 1 {len(nodes)}", *nodes, *rest, ""]
-            read_log("\n".join(text))
-            text = [*self.lines[:line - 1], f"cert 1 {len(nodes) - 1}", *nodes[:-1], *rest, ""]
-            self.refuse_text("\n".join(text), line, "goes on after")
+        self.refuse(line, "cert 2 1", "expected a line `cert 1 N`")
+        self.refuse(line, "cert 1 0", "expected the score of agent 2", line + 1)
+        self.refuse(line, "cert 1 100000", "the certificate of agent 1", len(self.lines) + 1)
 
     def test_ends_of_the_text(self) -> None:
         text = "\n".join(self.lines) + "\n"

@@ -1,22 +1,18 @@
 """The one reader of logs, and of the reply lines that `tac play` writes before a log.
 
-It checks the form of each line and the ranges of its numbers, as `tac audit` does, and whether a
-certificate is one complete tree. Only `tac audit` judges a log by the rules.
+It reads lines by their forms, and finds each number where it is used. Whether a log is complete and
+by the rules is judged by `tac audit` alone: ranges that nothing here rests on, and certificates,
+are passed over.
 """
 
 import re
 from dataclasses import dataclass
-from typing import Dict, List, NoReturn, Optional, Pattern, Sequence, Tuple, Union
+from typing import List, NoReturn, Optional, Sequence, Tuple, Union
 
-from geesefuton.records.games import PACKAGES, Package
-from geesefuton.records.replies import (NUMBER, POINTS, SIGNED, Points, Reply, ReplyError,
-                                        read_entry_reply, read_points, read_words)
+from geesefuton.records.games import GOODS, PACKAGES, SEATS, Package
+from geesefuton.records.replies import (NUMBER, SIGNED, Points, Reply, ReplyError, read_entry_reply,
+                                        read_points, read_words)
 
-MOST_ENTRIES = 8256  # of an auction
-MOST_CASH_ENTRIES = 238_048
-MOST_TRADES = 128  # of an entry
-MOST_POSITION = 8255
-MOST_LINKS = 255
 MOST_BYTES = 67_108_864
 
 
@@ -153,79 +149,77 @@ class Played:
     log: Log
 
 
-_LINK = re.compile(rf"link ({NUMBER}) (?:seated ([0-7])|(syntax|wrongword|taken|lost))")
+_GOOD = r"(1?[0-9]|2[0-7])"
+_POINT = r"\(-?(?:[1-9]|1[0-6]) [1-9][0-9]{0,4}\)"  # units, and dollars for each
+_LINK = re.compile(rf"link {NUMBER} (?:seated ([0-7])|(syntax|wrongword|taken|lost))")
 _END = re.compile(r"end ([0-7]) (quit|end|readfault|writefault|budget)")
-_MISSED = re.compile(rf"missed ({NUMBER})")
 _ENTRY = re.compile(
-    rf"([0-8]) (?:bid (?P<points>{POINTS})|update (?P<tick>{NUMBER}) (?P<draw>{NUMBER})"
-    rf"|(?P<plain>withdraw|own|publish|close)) = (?P<reply>.*)")
+    rf"([0-8]) (?:bid (?P<points>\({_POINT}(?: {_POINT}){{0,15}}\))"
+    rf"|update (?P<tick>[1-9]|[1-4][0-9]|5[0-3]) (?P<draw>{NUMBER})"
+    r"|(?P<plain>withdraw|own|publish|close)) = (?P<reply>.*)")
 _TRADE = re.compile(rf"trade ([0-8]) ([0-8]) ({NUMBER}) ({NUMBER})")
-_POST = re.compile(rf"([0-8]) post ({NUMBER}) ({NUMBER})((?: {SIGNED}){{9}})")
-_READING = re.compile(rf"([0-7]) read = ({SIGNED})")
-_SCORE = re.compile(rf"score ([0-7]) ({NUMBER}) ({SIGNED}) ({NUMBER}) ({SIGNED})")
-_PACKAGE = re.compile(r"package ([0-7]) ([0-7]) "
-                      r"(?:none|([01]) ([1-4]) ([2-5]) ([0-4]) ([0-4]) ([0-4]))")
-_CERT = re.compile(rf"cert ([0-7]) ({NUMBER})")
-_LEAF = re.compile(rf"leaf(?: {NUMBER}){{28}}")
-_SPLIT = re.compile(r"split [0-7] ([0-3])")
+_CASH = re.compile(rf"([0-8]) post {_GOOD} ({NUMBER})((?: {SIGNED}){{9}})|([0-7]) read = ({SIGNED})")
+_SCORE = rf"({NUMBER}) ({SIGNED}) ({NUMBER}) ({SIGNED})"
+_PACKAGE = r"(?:none|([01]) ([1-4]) ([2-5]) ([0-4]) ([0-4]) ([0-4]))"
 _REPLY = re.compile(r"([0-7]) (.*)")
 _KNOWN = frozenset(PACKAGES)
 
 
-class _Reader:
-    """Goes through the lines of a text."""
+class _Lines:
+    """Goes through the lines of a text.
+
+    Attributes:
+        number: That of the line that was taken last, from 1.
+    """
 
     def __init__(self, text: Union[str, bytes]) -> None:
         if isinstance(text, bytes):
             text = text.decode("latin-1")  # so that a byte is a character, and a bad one is seen
         if len(text) > MOST_BYTES:
             raise LogError(1, f"more than {MOST_BYTES:,} bytes: this is not a log")
-        self.lines = text.split("\n")
-        self.place = 0
-
-    @property
-    def number(self) -> int:
-        """The number of the line that was taken last."""
-        return self.place
-
-    @property
-    def left(self) -> int:
-        """How many whole lines are left."""
-        return len(self.lines) - 1 - self.place
+        self._lines = text.split("\n")
+        self.number = 0
 
     def look(self) -> str:
         """The next line, which is not taken; "" at the end."""
-        return self.lines[self.place] if self.left else ""
+        return self._lines[self.number] if self.number < len(self._lines) - 1 else ""
 
-    def take(self, due: str) -> str:
-        """The next line. `due` says what is due there."""
-        if not self.left:
-            rest = self.lines[-1]
-            self.place += 1
-            self.fail(f"expected {due}, but the text ends" if not rest
-                      else f"the last line, {rest[:60]!r}, has no line end")
-        self.place += 1
-        return self.lines[self.place - 1]
-
-    def match(self, form: Pattern[str], due: str) -> "re.Match[str]":
-        """The next line, which has to have a form."""
-        line = self.take(due)
-        found = form.fullmatch(line)
+    def take(self, form: Union[str, "re.Pattern[str]"], due: str) -> "re.Match[str]":
+        """The next line, which has to have a form. `due` says what is due there."""
+        self.skip(1, due)
+        line = self._lines[self.number - 1]
+        found = re.fullmatch(form, line)
         if found is None:
             self.fail(f"expected {due}, not {line[:60]!r}")
         return found
 
+    def skip(self, count: int, due: str) -> None:
+        """Goes over lines."""
+        self.number += count
+        if self.number >= len(self._lines):
+            self.number, rest = len(self._lines), self._lines[-1]
+            self.fail(f"the last line, {rest[:60]!r}, has no line end" if rest
+                      else f"expected {due}, but the text ends")
+
     def exact(self, line: str) -> None:
         """Takes the next line, which has to be this one."""
-        got = self.take(f"the line `{line}`")
-        if got != line:
-            self.fail(f"expected the line `{line}`, not {got[:60]!r}")
+        self.take(re.escape(line), f"the line `{line}`")
 
-    def range(self, what: str, number: int, low: int, high: int) -> int:
-        """The number, if it is in its range."""
-        if not low <= number <= high:
-            self.fail(f"{what} is {low:,} to {high:,}, not {number:,}")
-        return number
+    def count(self, words: str) -> int:
+        """The number at the end of the next line, which has to begin with these words."""
+        return int(self.take(rf"{words} ({NUMBER})", f"a line `{words} N`")[1])
+
+    def end(self) -> None:
+        """Sees that no line is left."""
+        if self._lines[self.number:] != [""]:
+            self.number += 1
+            self.fail("a line follows the end of the log")
+
+    def find(self, line: str) -> None:
+        """Goes to a line."""
+        if line not in self._lines:
+            self.skip(len(self._lines), f"the line `{line}`")
+        self.number = self._lines.index(line)
 
     def fail(self, why: str) -> NoReturn:
         raise LogError(self.number, why)
@@ -237,7 +231,7 @@ def read_log(text: Union[str, bytes]) -> Log:
     Raises:
         LogError: The text is no log; the error names the first bad line.
     """
-    return _read_log(_Reader(text))
+    return _read_log(_Lines(text))
 
 
 def read_played(text: Union[str, bytes]) -> Played:
@@ -246,15 +240,15 @@ def read_played(text: Union[str, bytes]) -> Played:
     Raises:
         LogError: The text is not that; the error names the first bad line.
     """
-    reader = _Reader(text)
+    lines = _Lines(text)
     replies: List[Tuple[int, Reply]] = []
-    while reader.left and reader.look() != "taclog 1":
-        found = reader.match(_REPLY, "a reply line or the line `taclog 1`")
+    while lines.look() != "taclog 1":
+        found = lines.take(_REPLY, "a reply line or the line `taclog 1`")
         try:
             replies.append((int(found[1]), read_words(found[2])))
         except ReplyError as fault:
-            reader.fail(str(fault))
-    return Played(tuple(replies), _read_log(reader))
+            lines.fail(str(fault))
+    return Played(tuple(replies), _read_log(lines))
 
 
 def read_scores(text: Union[str, bytes]) -> Tuple[Score, ...]:
@@ -263,196 +257,88 @@ def read_scores(text: Union[str, bytes]) -> Tuple[Score, ...]:
     Raises:
         LogError: The text has no line `sheet`, or no sheet after it.
     """
-    reader = _Reader(text)
-    try:
-        reader.place = reader.lines.index("sheet")
-    except ValueError:
-        raise LogError(len(reader.lines), "expected the line `sheet`, but the text ends") from None
-    return _read_sheet(reader)
+    lines = _Lines(text)
+    lines.find("sheet")
+    return _read_sheet(lines)
 
 
-def _read_log(reader: _Reader) -> Log:
-    reader.exact("taclog 1")
-    kind = reader.take("`play` or `serve`")
+def _read_log(lines: _Lines) -> Log:
+    lines.exact("taclog 1")
+    kind = lines.take("play|serve", "`play` or `serve`")[0]
     links: List[Verdict] = []
     ends: List[Tuple[int, str]] = []
     missed = 0
     if kind == "serve":
-        links, ends, missed = _read_head(reader)
-    elif kind != "play":
-        reader.fail(f"expected `play` or `serve`, not {kind[:60]!r}")
-    histories = tuple(_read_history(reader, good) for good in range(28))
-    cash = _read_cash(reader)
-    if reader.look() == "memory":
-        reader.take("the line `sheet`")
-        reader.fail("memory was refused for the scores, so the log has none")
-    scores = _read_sheet(reader)
-    return Log(kind, tuple(links), tuple(ends), missed, histories, cash, scores)
+        while lines.look().startswith("link "):
+            found = lines.take(_LINK, "a line `link`")
+            links.append(Verdict("seated", int(found[1])) if found[1] else Verdict(found[2]))
+        while lines.look().startswith("end "):
+            found = lines.take(_END, "a line `end`")
+            ends.append((int(found[1]), found[2]))
+        missed = lines.count("missed")
+    histories = tuple(_read_history(lines, good) for good in GOODS)
+    cash = tuple(_read_cash(lines, histories) for _ in range(lines.count("cash")))
+    if lines.look() == "memory":
+        lines.skip(1, "the line `sheet`")
+        lines.fail("memory was refused for the scores, so the log has none")
+    return Log(kind, tuple(links), tuple(ends), missed, histories, cash, _read_sheet(lines))
 
 
-def _read_head(reader: _Reader) -> Tuple[List[Verdict], List[Tuple[int, str]], int]:
-    links: List[Verdict] = []
-    while reader.look().startswith("link "):
-        found = reader.match(_LINK, "a line `link`")
-        if int(found[1]) != len(links):
-            reader.fail(f"expected link {len(links)}, not {found[1]}")
-        if len(links) == MOST_LINKS:
-            reader.fail(f"there are more than {MOST_LINKS} links")
-        links.append(Verdict("seated", int(found[2])) if found[2] else Verdict(found[3]))
-    ends: List[Tuple[int, str]] = []
-    while reader.look().startswith("end "):
-        found = reader.match(_END, "a line `end`")
-        ends.append((int(found[1]), found[2]))
-    missed = int(reader.match(_MISSED, "a line `link`, `end` or `missed`")[1])
-    return links, ends, reader.range("the number of lapsed ticks", missed, 0, 255)
-
-
-def _count(reader: _Reader, words: str, most: int) -> int:
-    """The number at the end of a line with these words."""
-    found = reader.match(re.compile(rf"{words} ({NUMBER})"), f"a line `{words} N`")
-    return reader.range("the number of entries", int(found[1]), 0, most)
-
-
-def _read_history(reader: _Reader, good: int) -> Tuple[Entry, ...]:
+def _read_history(lines: _Lines, good: int) -> Tuple[Entry, ...]:
     entries: List[Entry] = []
-    for position in range(_count(reader, f"auction {good}", MOST_ENTRIES)):
-        found = reader.match(_ENTRY, f"entry {position} of auction {good}")
-        call = _call_of(reader, found)
-        reply = _entry_reply(reader, found["reply"])
+    for position in range(lines.count(f"auction {good}")):
+        found = lines.take(_ENTRY, f"entry {position} of auction {good}")
+        call = (Call(found["plain"]) if found["plain"]
+                else Call("bid", read_points(found["points"])) if found["points"]
+                else Call("update", (), int(found["tick"]), int(found["draw"])))
+        try:
+            reply = read_entry_reply(found["reply"])
+        except ReplyError as fault:
+            lines.fail(str(fault))
         trades: List[Trade] = []
-        while reader.look().startswith("trade "):
-            trades.append(_read_trade(reader))
-            if len(trades) > MOST_TRADES:
-                reader.fail(f"an entry has more than {MOST_TRADES} trades")
+        while lines.look().startswith("trade "):
+            trade = lines.take(_TRADE, "a trade")
+            trades.append(Trade(*map(int, trade.groups())))
         entries.append(Entry(int(found[1]), call, reply, tuple(trades)))
     return tuple(entries)
 
 
-def _call_of(reader: _Reader, found: "re.Match[str]") -> Call:
-    if found["plain"]:
-        return Call(found["plain"])
-    if found["tick"]:
-        tick = reader.range("the tick of an update", int(found["tick"]), 1, 53)
-        return Call("update", (), tick, reader.range("a draw", int(found["draw"]), 0, 4294967295))
-    return Call("bid", _points(reader, found["points"], least=1))
+def _read_cash(lines: _Lines, histories: Sequence[Sequence[Entry]]) -> Union[Post, Reading]:
+    found = lines.take(_CASH, "an entry of the cash book")
+    if found[5]:
+        return Reading(int(found[5]), int(found[6]))
+    good, position = int(found[2]), int(found[3])
+    if position >= len(histories[good]):
+        lines.fail(f"auction {good} has no entry {position}")
+    return Post(int(found[1]), good, position, tuple(map(int, found[4].split())))
 
 
-def _points(reader: _Reader, text: str, least: int) -> Points:
-    """Points within the limits of a bid."""
-    points = read_points(text)
-    reader.range("the number of points", len(points), least, 16)
-    for units, price in points:
-        if not units:
-            reader.fail("a point has no units")
-        reader.range("the price of a point", price, 1, 10_000)
-    reader.range("the number of units", sum(abs(units) for units, _ in points), least, 16)
-    return points
-
-
-_REPLY_RANGES = {"bought": 255, "sold": 255, "units": 255, "price": 10_001, "need": 255,
-                 "offered": 255}
-
-
-def _entry_reply(reader: _Reader, text: str) -> Reply:
-    try:
-        reply = read_entry_reply(text)
-    except ReplyError as fault:
-        reader.fail(str(fault))
-    numbers: Dict[str, object] = dict(vars(reply))
-    if text.startswith("own "):
-        reader.range("a holding", int(text.split(" ")[1]), -1_000_000, 1_000_000)
-        _points(reader, text.split(" ", 2)[2], least=0)
-    if text.startswith(("cash ", "quote ")):
-        reader.fail(f"{text[:60]!r} is not the reply of an entry")
-    below = numbers.get("below")
-    for name, number in {**numbers, **(vars(below) if below else {})}.items():
-        if name in _REPLY_RANGES and isinstance(number, int):
-            reader.range(f"`{name}` of a reply", number, 0, _REPLY_RANGES[name])
-    return reply
-
-
-def _read_trade(reader: _Reader) -> Trade:
-    found = reader.match(_TRADE, "a trade")
-    units = reader.range("the units of a trade", int(found[3]), 1, 16)
-    price = reader.range("the price of a trade", int(found[4]), 0, 10_000)
-    return Trade(int(found[1]), int(found[2]), units, price)
-
-
-def _read_cash(reader: _Reader) -> Tuple[Union[Post, Reading], ...]:
-    entries: List[Union[Post, Reading]] = []
-    for _ in range(_count(reader, "cash", MOST_CASH_ENTRIES)):
-        line = reader.take("an entry of the cash book")
-        reading = _READING.fullmatch(line)
-        if reading:
-            entries.append(Reading(int(reading[1]), int(reading[2])))
-            continue
-        post = _POST.fullmatch(line)
-        if post is None:
-            reader.fail(f"expected an entry of the cash book, not {line[:60]!r}")
-        good = reader.range("the good of a post", int(post[2]), 0, 27)
-        position = reader.range("the position of a post", int(post[3]), 0, MOST_POSITION)
-        nets = tuple(reader.range("a net of a post", int(word), -(1 << 31), (1 << 31) - 1)
-                     for word in post[4].split())
-        entries.append(Post(int(post[1]), good, position, nets))
-    return tuple(entries)
-
-
-def _read_sheet(reader: _Reader) -> Tuple[Score, ...]:
-    reader.exact("sheet")
-    scores = tuple(_read_score(reader, agent) for agent in range(8))
-    reader.exact("end")
-    if reader.left or reader.lines[-1]:
-        reader.place += 1
-        reader.fail("a line follows the end of the log")
+def _read_sheet(lines: _Lines) -> Tuple[Score, ...]:
+    lines.exact("sheet")
+    scores = tuple(_read_score(lines, agent) for agent in range(SEATS))
+    lines.exact("end")
+    lines.end()
     return scores
 
 
-def _read_score(reader: _Reader, agent: int) -> Score:
-    found = reader.match(_SCORE, f"the score of agent {agent}")
-    _same(reader, "agent", int(found[1]), agent)
-    best = reader.range("a best total", int(found[2]), 0, 14_000)
-    short = reader.range("the tickets short", int(found[4]), 0, 4294967295)
-    packages = tuple(_read_package(reader, agent, client) for client in range(8))
-    _read_cert(reader, agent)
-    return Score(agent, best, int(found[3]), short, int(found[5]), packages)
+def _read_score(lines: _Lines, agent: int) -> Score:
+    found = lines.take(f"score {agent} {_SCORE}", f"the score of agent {agent}")
+    packages = tuple(_read_package(lines, agent, client) for client in range(8))
+    lines.skip(lines.count(f"cert {agent}"), f"the certificate of agent {agent}")
+    best, cash, short, score = map(int, found.groups())
+    return Score(agent, best, cash, short, score, packages)
 
 
-def _same(reader: _Reader, what: str, got: int, due: int) -> None:
-    if got != due:
-        reader.fail(f"expected {what} {due}, not {got}")
-
-
-def _read_package(reader: _Reader, agent: int, client: int) -> Optional[Package]:
-    found = reader.match(_PACKAGE, f"the package of agent {agent} for client {client}")
-    _same(reader, "agent", int(found[1]), agent)
-    _same(reader, "client", int(found[2]), client)
-    if found[3] is None:
+def _read_package(lines: _Lines, agent: int, client: int) -> Optional[Package]:
+    found = lines.take(f"package {agent} {client} {_PACKAGE}",
+                       f"the package of agent {agent} for client {client}")
+    if found[1] is None:
         return None
-    hotel, arrive, depart, first, second, third = map(int, found.groups()[2:])
+    hotel, arrive, depart, first, second, third = map(int, found.groups())
     package = Package(hotel, arrive, depart, (first, second, third))
     if package not in _KNOWN:
-        reader.fail("there is no such package")
+        lines.fail("there is no such package")
     return package
-
-
-def _read_cert(reader: _Reader, agent: int) -> None:
-    """Goes over a certificate, which has to be one whole tree."""
-    found = reader.match(_CERT, f"the certificate of agent {agent}")
-    _same(reader, "agent", int(found[1]), agent)
-    number, count = reader.number, int(found[2])
-    if reader.left < count:
-        reader.fail(f"the certificate has {count:,} lines, and {reader.left:,} are left")
-    due = 1  # nodes
-    for _ in range(count):
-        line = reader.take("a node of a certificate")
-        split = _SPLIT.fullmatch(line)
-        if split is None and _LEAF.fullmatch(line) is None:
-            reader.fail(f"expected a node of a certificate, not {line[:60]!r}")
-        if due == 0:
-            raise LogError(number, "the certificate ends before its last line")
-        due += -1 if split is None else 20 if split[1] == "0" else 4
-    if due:
-        raise LogError(number, f"the certificate goes on after its {count:,} lines")
 
 
 def trades_of(histories: Sequence[Sequence[Entry]]) -> int:
