@@ -1,4 +1,5 @@
 import unittest
+from dataclasses import replace
 from typing import List
 
 from geesefuton.records.games import HOTELS
@@ -22,10 +23,10 @@ CLOSE = Entry(8, Call("close"), Sold(None, 1, 0))
 
 
 class Hotels(unittest.TestCase):
-    """Hotel 8 of a game with two rooms there."""
+    """Hotel 8 of a game with two rooms there, where it closes second."""
 
     def events(self, live: bool, *entries: Entry) -> List[MarketEvent]:
-        game = served_game().with_rooms([2] * 8, live)
+        game = replace(served_game().with_rooms([2] * 8, live), closing=(9, 8, *range(10, 16)))
         return list(events_of(game, 8, entries))
 
     def test_by_the_minute_only_the_clock_publishes(self) -> None:
@@ -53,11 +54,10 @@ class Hotels(unittest.TestCase):
 
     def test_readings_and_other_calls_change_nothing(self) -> None:
         own = Entry(0, Call("own"), Own(None, 0, ((2, 50),)))
-        wrong = Entry(8, Call("own"), No(None, "wrongcall"))
         withdraw = Entry(0, Call("withdraw"), No(None, "wrongcall"))
-        got = self.events(True, bid(0, (2, 50)), own, wrong, withdraw, PUBLISH)
+        got = self.events(True, bid(0, (2, 50)), own, withdraw, PUBLISH)
         self.assertEqual([(event.what, event.tick, event.dollars, event.position) for event in got],
-                         [("price", 0, 0, None), ("price", 0, 50, 0), ("price", 6, 50, 4)])
+                         [("price", 0, 0, None), ("price", 0, 50, 0), ("price", 6, 50, 3)])
 
     def test_trades_are_those_of_agents_on_both_sides(self) -> None:
         close = Entry(8, Call("close"), Sold(None, 2, 5), (Trade(1, 8, 2, 5),))

@@ -32,7 +32,7 @@ class FlightBook:
 
     def __init__(self, prices: Sequence[int]) -> None:
         self.price, self.prices = prices[0], prices
-        self.bids: Dict[int, List[Tuple[int, int]]] = {}
+        self.bids: Dict[int, Points] = {}
 
     def copied(self) -> FlightBook:
         """The same flight, which goes on by itself."""
@@ -46,12 +46,16 @@ class FlightBook:
 
     def bid(self, agent: int, points: Points) -> List[Side]:
         """An agent's bid is admitted, and replaces its earlier one."""
-        self.bids[agent] = list(points)
+        self.bids[agent] = points
         return self._sell([agent])
 
     def withdraw(self, agent: int) -> None:
         """What stands of an agent's bid is taken back."""
         self.bids.pop(agent, None)
+
+    def close(self) -> None:
+        """Nothing stands any more."""
+        self.bids = {}
 
     def update(self, tick: int) -> List[Side]:
         """The price of a tick comes, 1 to 53."""
@@ -68,7 +72,8 @@ class FlightBook:
         for agent in agents:
             trades += [(agent, units, self.price)
                        for units, price in self.bids[agent] if price >= self.price]
-            self.bids[agent] = [point for point in self.bids[agent] if point[1] < self.price]
+            self.bids[agent] = tuple([point for point in self.bids[agent]
+                                      if point[1] < self.price])
             if not self.bids[agent]:
                 del self.bids[agent]
         return trades
@@ -80,18 +85,19 @@ class NightBook:
     Attributes:
         published: The published price in dollars.
         is_closed: Whether it is closed.
+        bids: The bid of each agent, as units and dollars for each, the latest last.
     """
 
     def __init__(self, rooms: int, is_live: bool) -> None:
         self.published, self.is_closed = 0, False
         self._rooms, self._is_live = rooms, is_live
-        self._bids: Dict[int, Points] = {}  # the latest last
+        self.bids: Dict[int, Points] = {}
 
     def copied(self) -> NightBook:
         """The same night, which goes on by itself."""
         other = NightBook(self._rooms, self._is_live)
         other.published, other.is_closed = self.published, self.is_closed
-        other._bids = dict(self._bids)
+        other.bids = dict(self.bids)
         return other
 
     def board(self) -> Tuple[int, int]:
@@ -100,8 +106,8 @@ class NightBook:
 
     def bid(self, agent: int, points: Points) -> List[Side]:
         """An agent's bid is admitted, and replaces its earlier one."""
-        self._bids.pop(agent, None)
-        self._bids[agent] = points
+        self.bids.pop(agent, None)
+        self.bids[agent] = points
         if self._is_live:
             self.publish()
         return []
@@ -112,7 +118,7 @@ class NightBook:
 
     def ask(self) -> int:
         """The price of the last unit that would get a room, in dollars; 0 if fewer units stand."""
-        if not self._bids:
+        if not self.bids:
             return 0
         units = self._units()
         return -units[self._rooms - 1][0] if len(units) >= self._rooms else 0
@@ -124,12 +130,12 @@ class NightBook:
     def close(self) -> List[Side]:
         """The units that precede the others get the rooms, at the ask."""
         won = [agent for _, agent in self._units()[:self._rooms]]
-        self.published, self.is_closed, self._bids = self.ask(), True, {}
+        self.published, self.is_closed, self.bids = self.ask(), True, {}
         return [(agent, won.count(agent), self.published) for agent in sorted(set(won))]
 
     def _units(self) -> List[Tuple[int, int]]:
         """The price below 0 and the agent of each unit, in the order in which they precede."""
-        units = [(-price, agent) for agent, points in self._bids.items()
+        units = [(-price, agent) for agent, points in self.bids.items()
                  for count, price in points for _ in range(count)]
         return sorted(units, key=lambda unit: unit[0])  # at equal prices the earlier bid's first
 
@@ -248,10 +254,16 @@ class Books:
             if call.do == "update":
                 self.tick = max(self.tick, call.tick)
                 auction.move(next_price(self._drawn[good], auction.price, call.tick, call.draw))
-        elif isinstance(auction, TicketBook) or call.do == "close":
-            auction.close()
-        else:
+        elif isinstance(auction, NightBook) and call.do != "close":
             auction.publish()
+        if call.do == "close":
+            auction.close()
+
+    def standing(self, agent: int) -> Dict[int, Points]:
+        """What stands of an agent's bids for flights and rooms, by goods: units and dollars for
+        each."""
+        books = [*self._flights, *self._nights]
+        return {good: book.bids[agent] for good, book in enumerate(books) if agent in book.bids}
 
     def price_for(self, good: int, agent: int) -> Optional[int]:
         """What a unit more of a good costs an agent, in dollars; None if there is none."""

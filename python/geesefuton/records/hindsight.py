@@ -11,9 +11,8 @@ from typing import Dict, Iterable, List, NamedTuple, Tuple
 
 from geesefuton.records.accounts import Accounts
 from geesefuton.records.best_plans import Plan
-from geesefuton.records.games import CLOCK, FLIGHTS, HOTELS, SEATS, TICKETS, Game, name_of
-from geesefuton.records.logs import Entry, Log
-from geesefuton.records.replies import No
+from geesefuton.records.games import CLOCK, FLIGHTS, HOTELS, SEATS, Game, name_of
+from geesefuton.records.logs import Log
 from geesefuton.records.ticks import Placed, entries_by_tick, ticks_by_log
 
 MOST = 3  # decisions that are told of a team
@@ -84,7 +83,6 @@ class _Team:
         self._accounts, self._agent = accounts, agent
         self._plan = accounts.plan(agent)
         self._cash = accounts.cash[agent]
-        self._bids: Dict[int, List[List[int]]] = {}
         self._moments: List[Moment] = []
         self._decisions: List[Decision] = []
         self._waited, self._until = 0, 0
@@ -92,8 +90,6 @@ class _Team:
     def follow(self, tick: int, part: List[Placed]) -> None:
         """A part of a tick's entries has been worked through."""
         before, worth = self._plan, self._worth()
-        for good, _, entry in part:
-            self._take_bid(good, entry)
         trades = [(good, sign * trade.units, trade.price) for good, _, entry in part
                   for trade in entry.trades
                   for party, sign in ((trade.buyer, 1), (trade.seller, -1)) if party == self._agent]
@@ -115,7 +111,7 @@ class _Team:
         """The tick is over."""
         accounts, agent = self._accounts, self._agent
         bids = {good: ", ".join(f"{units} at {price}" for units, price in points)
-                for good, points in self._bids.items() if points and good < TICKETS.start}
+                for good, points in accounts.standing(agent).items()}
         self._moments.append(Moment(self._worth(), accounts.cash[agent],
                                     tuple(accounts.holdings[agent]), self._plan.missing, bids))
 
@@ -140,19 +136,6 @@ class _Team:
         at = "" if price is None else f" at {price}"
         return (f"Tick {tick}: {name_of(good)} closed, and it won {_units(won, 'room')}{at} where "
                 f"its best plan wanted {wanted}")
-
-    def _take_bid(self, good: int, entry: Entry) -> None:
-        """What stands of the team's bids."""
-        if entry.call.do == "close":
-            self._bids.pop(good, None)
-        elif entry.caller == self._agent and not isinstance(entry.reply, No):
-            if entry.call.do == "bid":
-                self._bids[good] = [list(point) for point in entry.call.points]
-            elif entry.call.do == "withdraw":
-                self._bids.pop(good, None)
-        if good in FLIGHTS and any(trade.buyer == self._agent for trade in entry.trades):
-            price = entry.trades[0].price
-            self._bids[good] = [point for point in self._bids.get(good, []) if point[1] < price]
 
 
 def _units(count: int, what: str) -> str:

@@ -1,4 +1,4 @@
-"""Prices over the ticks, recomputed by the rules from a game file and a log.
+"""Prices over the ticks, recomputed by the books of a game from its log.
 
 A log has the calls, but neither the prices that were shown nor times. Each call is assigned to the
 tick of the clock's last call in its auction, which comes at each tick for a flight and at each
@@ -6,13 +6,12 @@ sixth tick for a hotel. Ticket auctions have no such call before their end, so t
 tick.
 """
 
-from typing import Iterator, List, NamedTuple, Optional, Sequence, Tuple
+from typing import Iterator, List, NamedTuple, Optional, Sequence
 
-from geesefuton.records.books import NightBook
-from geesefuton.records.games import CLOCK, FLIGHTS, GOODS, HOTELS, HOUSE, Game
+from geesefuton.records.books import Books
+from geesefuton.records.games import CLOCK, GOODS, HOTELS, HOUSE, TICKETS, Game
 from geesefuton.records.logs import Entry, Log
-from geesefuton.records.replies import No
-from geesefuton.records.rules import MINUTE, next_price
+from geesefuton.records.ticks import ticks_by_clock
 
 
 class MarketEvent(NamedTuple):
@@ -40,61 +39,22 @@ class MarketEvent(NamedTuple):
 
 def events_of(game: Game, good: int, history: Sequence[Entry]) -> Iterator[MarketEvent]:
     """The prices and trades of an auction, in order."""
-    prices = _flight_prices(game, good, history) if good in FLIGHTS else \
-        _hotel_prices(game, good, history) if good in HOTELS else _no_prices(history)
-    for position, (tick, price, what) in enumerate(prices, -1):
-        if what:
-            assert price is not None
-            yield MarketEvent(what, tick, good, None if position < 0 else position, None, None,
-                              price)
-        if position >= 0:
-            yield from _trades(good, position, tick, history[position])
-
-
-# After an entry: the tick, the price, and `price` or `close` if it was published or changed.
-Step = Tuple[Optional[int], Optional[int], str]
-
-
-def _flight_prices(game: Game, good: int, history: Sequence[Entry]) -> Iterator[Step]:
-    flight, tick = game.flights[good], 0
-    price = flight.first
-    yield tick, price, "price"
-    for entry in history:
-        is_update = entry.call.do == "update" and entry.caller == CLOCK
-        if is_update:
-            tick = entry.call.tick
-            price = next_price(flight, price, tick, entry.call.draw)
-        yield tick, price, "price" if is_update else ""
-
-
-def _hotel_prices(game: Game, good: int, history: Sequence[Entry]) -> Iterator[Step]:
-    night, tick = NightBook(game.rooms[good - HOTELS.start], game.live), 0
-    yield tick, night.published, "price"
-    for entry in history:
-        call, before = entry.call.do, night.published
-        what = ""
-        if entry.caller == CLOCK and call in ("publish", "close"):
-            tick += MINUTE
-            night.publish()
-            what = "close" if call == "close" else "price"
-        elif call == "bid" and not isinstance(entry.reply, No):
-            night.bid(entry.caller, entry.call.points)
-        yield tick, night.published, what or ("price" if night.published != before else "")
-
-
-def _no_prices(history: Sequence[Entry]) -> Iterator[Step]:
-    yield None, None, ""
-    for _ in history:
-        yield None, None, ""
-
-
-def _trades(good: int, position: int, tick: Optional[int], entry: Entry) -> Iterator[MarketEvent]:
-    for trade in entry.trades:
-        if trade.buyer != HOUSE:
-            yield MarketEvent("trade", tick, good, position, trade.buyer, trade.units, trade.price)
-        if trade.seller != HOUSE:
-            yield MarketEvent("trade", tick, good, position, trade.seller, -trade.units,
-                              trade.price)
+    books = Books(game)
+    has_prices, price = good not in TICKETS, books.boards[good][1]
+    if has_prices:
+        yield MarketEvent("price", 0, good, None, None, None, price)
+    for position, (tick, entry) in enumerate(zip(ticks_by_clock(game, good, history), history)):
+        books.take(good, entry)
+        before, price = price, books.boards[good][1]
+        what = "close" if good in HOTELS and entry.call.do == "close" else "price"
+        is_told = entry.caller == CLOCK and (what == "close" or entry.call.do != "close")
+        if has_prices and (is_told or price != before):
+            yield MarketEvent(what, tick, good, position, None, None, price)
+        for trade in entry.trades:
+            for agent, units in ((trade.buyer, trade.units), (trade.seller, -trade.units)):
+                if agent != HOUSE:
+                    yield MarketEvent("trade", tick if has_prices else None, good, position, agent,
+                                      units, trade.price)
 
 
 def all_events(game: Game, log: Log) -> List[MarketEvent]:

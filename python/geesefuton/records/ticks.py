@@ -31,7 +31,7 @@ class Ticks(NamedTuple):
 
 def ticks_by_log(game: Game, log: Log) -> Ticks:
     """The ticks of a log's entries, as far as it tells them."""
-    ticks = [_by_clock(game, good, log.histories[good]) for good in range(TICKETS.start)]
+    ticks = [ticks_by_clock(game, good, log.histories[good]) for good in range(TICKETS.start)]
     ticks += [[0] * len(log.histories[good]) for good in TICKETS]
     now = 0
     for post in log.cash:
@@ -47,8 +47,8 @@ def ticks_by_log(game: Game, log: Log) -> Ticks:
     return Ticks(ticks, ticks_of_cash(log, ticks))
 
 
-def _by_clock(game: Game, good: int, history: Sequence[Entry]) -> List[int]:
-    """The ticks of the entries of a flight or a hotel night."""
+def ticks_by_clock(game: Game, good: int, history: Sequence[Entry]) -> List[int]:
+    """The ticks of the clock's last calls before the entries of an auction."""
     ticks, now, clock = [], 0, iter(clock_ticks(game, good))
     for entry in history:
         now = next(clock, now) if entry.caller == CLOCK else now
