@@ -141,7 +141,7 @@ class Games(Case):
             1, "", f"report: {self.folder}/games: it is not the folder of a tournament's run\n"))
         for words in (("--over", self.folder, "my.game"), ("--over", self.folder, "--csv"), (),
                       ("a",)):
-            self.assertEqual(refusal("records.report", *words)[0], 2)
+            self.assertEqual(refusal("experiments.report_command", *words)[0], 2)
         (self.folder / "games" / "9.0.log").unlink()
         (self.folder / "games" / "10.0.game").write_text("no game\n")
         done = run("experiments.report_command", "--over", self.folder)

@@ -10,7 +10,8 @@ from pathlib import Path
 from typing import Any
 from unittest import mock
 
-from geesefuton.records import report, report_page
+from geesefuton.experiments import report_command as report
+from geesefuton.records import report_page
 from geesefuton.records.logs import Log, read_played
 from geesefuton.records.prices import all_events
 from geesefuton.records.report_page import Heading, ranks, why_nothing
@@ -208,9 +209,9 @@ class Command(unittest.TestCase):
 
     def refused(self, told: str, *words: object) -> None:
         with mock.patch.dict(os.environ, {"TAC": self.tac}), \
-                mock.patch("geesefuton.records.report.Output",
+                mock.patch("geesefuton.experiments.report_command.Output",
                            side_effect=AssertionError("written")):
-            status, text = refusal("records.report", *words)
+            status, text = refusal("experiments.report_command", *words)
         self.assertEqual(status, 1)
         self.assertEqual(text.count("\n"), 1, text)
         self.assertIn(told, text)
@@ -295,7 +296,7 @@ class Command(unittest.TestCase):
                          (1, "report: standard output: its reader has gone\n"))
 
     def test_words_that_are_wrong(self) -> None:
-        status, text = refusal("records.report", "--cs", SERVED_GAME, SERVED_LOG)
+        status, text = refusal("experiments.report_command", "--cs", SERVED_GAME, SERVED_LOG)
         self.assertEqual(status, 2)
         self.assertEqual(text, "report: unrecognized arguments: --cs (see --help)\n")
 
