@@ -6,6 +6,7 @@ holds and the clients before it did not use cost nothing. So the choice is quick
 best.
 """
 
+from itertools import accumulate
 from typing import List, NamedTuple, Sequence, Tuple
 
 from geesefuton.records.games import GOODS, inbound, outbound, room, ticket
@@ -45,15 +46,17 @@ def chosen(clients: Sequence[Wishes], prices: Sequence[int], holdings: Sequence[
 def _trip(client: Wishes, costs: Sequence[int]) -> Tuple[int, List[int]]:
     """What the best trip of a client gains at these costs, and the goods that it uses."""
     wish_in, wish_out, premium, *values = client
+    flown = [TRIP - DAY * (abs(arrive - wish_in) + abs(depart - wish_out))
+             - costs[arrive - 1] - costs[depart + 2] for arrive, depart in STAYS]
     best, stay, house = 0, (0, 0), 0
     for hotel in (0, 1):
-        for arrive, depart in STAYS:
-            first = room(hotel, arrive)
-            gain = (TRIP + premium * hotel - DAY * (abs(arrive - wish_in) + abs(depart - wish_out))
-                    - costs[arrive - 1] - costs[depart + 2]
-                    - sum(costs[first:first + depart - arrive]))
-            if gain > best:
-                best, stay, house = gain, (arrive, depart), hotel
+        first = room(hotel, 1)
+        paid = [0, 0, *accumulate(costs[first:first + 4])]  # for the nights before each day
+        gains = [gain + premium * hotel + paid[arrive] - paid[depart]
+                 for gain, (arrive, depart) in zip(flown, STAYS)]
+        if max(gains) > best:
+            best, house = max(gains), hotel
+            stay = STAYS[gains.index(best)]
     if not best:
         return 0, []
     nights = list(range(*stay))
