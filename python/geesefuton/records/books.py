@@ -9,7 +9,7 @@ from __future__ import annotations
 
 import copy
 from itertools import repeat
-from typing import Any, Dict, List, Optional, Sequence, Set, Tuple
+from typing import Any, Dict, List, Optional, Sequence, Set, Tuple, TypeVar
 
 from geesefuton.records.games import (AUCTIONS, CLOCK, FLIGHTS, HOTELS, HOUSE, SEATS, TICKETS,
                                       TICKS, Auction, Game)
@@ -18,10 +18,21 @@ from geesefuton.records.replies import No, Points
 from geesefuton.records.rules import MINUTE, next_price, prices_of
 
 Board = Tuple[int, int, bool]  # the bid, the ask, and whether the auction is closed
+Kept = TypeVar("Kept", bound="_Book")
 Side = Tuple[int, int, int]  # an agent, its units (below 0: sold), and the dollars for each
 
 
-class FlightBook:
+class _Book:
+    """What stands in an auction."""
+
+    def copied(self: Kept) -> Kept:
+        """The same, which goes on by itself."""
+        other = copy.copy(self)
+        vars(other).update({name: copy.copy(value) for name, value in vars(self).items()})
+        return other
+
+
+class FlightBook(_Book):
     """A flight: one seller, who takes every bid at the price or above.
 
     Attributes:
@@ -33,12 +44,6 @@ class FlightBook:
     def __init__(self, prices: Sequence[int]) -> None:
         self.price, self.prices = prices[0], prices
         self.bids: Dict[int, Points] = {}
-
-    def copied(self) -> FlightBook:
-        """The same flight, which goes on by itself."""
-        other = FlightBook(self.prices)
-        other.price, other.bids = self.price, dict(self.bids)
-        return other
 
     def board(self) -> Tuple[int, int]:
         """The bid and the ask."""
@@ -79,7 +84,7 @@ class FlightBook:
         return trades
 
 
-class NightBook:
+class NightBook(_Book):
     """A hotel night: an ascending auction of its rooms, all sold at one price.
 
     Attributes:
@@ -92,13 +97,6 @@ class NightBook:
         self.published, self.is_closed = 0, False
         self._rooms, self._is_live = rooms, is_live
         self.bids: Dict[int, Points] = {}
-
-    def copied(self) -> NightBook:
-        """The same night, which goes on by itself."""
-        other = NightBook(self._rooms, self._is_live)
-        other.published, other.is_closed = self.published, self.is_closed
-        other.bids = dict(self.bids)
-        return other
 
     def board(self) -> Tuple[int, int]:
         """The bid and the ask."""
@@ -140,19 +138,13 @@ class NightBook:
         return sorted(units, key=lambda unit: unit[0])  # at equal prices the earlier bid's first
 
 
-class TicketBook:
+class TicketBook(_Book):
     """The tickets of a type and night: a continuous double auction between the agents."""
 
     def __init__(self) -> None:
         # The standing units, each its price and agent, in the order in which they arrived.
         self._buying: List[Tuple[int, int]] = []
         self._selling: List[Tuple[int, int]] = []
-
-    def copied(self) -> TicketBook:
-        """The same tickets, which go on by themselves."""
-        other = TicketBook()
-        other._buying, other._selling = self._buying[:], self._selling[:]
-        return other
 
     def board(self) -> Tuple[int, int]:
         """The bid and the ask."""

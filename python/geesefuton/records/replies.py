@@ -219,21 +219,14 @@ def words_of(reply: Reply) -> str:
     return entry_words(reply) if at is None else f"@{at} {entry_words(reply)}"
 
 
-def _is_whole(value: Any) -> bool:
-    return isinstance(value, int) and not isinstance(value, bool)
-
-
-def _whole(value: Any) -> int:
-    if not _is_whole(value):
-        raise ReplyError(f"{value!r} is not a whole number")
-    number: int = value
-    return number
-
-
-def _pair(value: Any) -> Tuple[int, int]:
-    if not isinstance(value, list) or len(value) != 2:
-        raise ReplyError(f"{value!r} is not a pair")
-    return _whole(value[0]), _whole(value[1])
+# The words of a reply in JSON, by its keys.
+_WORDS_BY_KEYS = {frozenset(keys.split()): words for keys, words in (
+    ("bye", "bye"), ("no", "no {no}"), ("no fault", "no {no} {fault}"), ("at no", "@{at} no {no}"),
+    ("at no need price offered", "@{at} no {no} {need} {price} {offered}"),
+    ("at taken", "@{at} taken {taken[0]} {taken[1]}"), ("at done", "@{at} done"),
+    ("at sold", "@{at} sold {sold[0]} {sold[1]}"), ("at own points", "@{at} own {own} {points}"),
+    ("at cash", "@{at} cash {cash}"), ("at quote open", "@{at} quote {quote[0]} {quote[1]} {open}"))}
+_STATES = {"true": "open", "false": "closed"}
 
 
 def read_json(line: str) -> Reply:
@@ -244,32 +237,18 @@ def read_json(line: str) -> Reply:
     """
     try:
         value = json.loads(line)
-    except ValueError:
-        raise ReplyError(f"{line[:60]!r} is not JSON") from None
-    if not isinstance(value, dict):
-        raise ReplyError(f"{line[:60]!r} is not an object")
-    keys = set(value)
-    at = _whole(value["at"]) if "at" in value else None
-    if keys == {"bye"}:
-        return Bye()
-    if "no" in keys and isinstance(value["no"], str):
-        return _read_json_refusal(value, at)
-    if at is None:
+        told = dict(value)
+        if "points" in value:  # as a bid string
+            text = json.dumps(value["points"], separators=(",", ":"))
+            told["points"] = text.translate(str.maketrans("[],", "() "))
+        if "open" in value:
+            told["open"] = _STATES[json.dumps(value["open"])]
+        reply = read_words(_WORDS_BY_KEYS[frozenset(value)].format_map(told))
+    except (ValueError, LookupError, TypeError, AttributeError, ReplyError):
+        raise ReplyError(f"{line[:60]!r} is not a reply") from None
+    if json.loads(reply_json(reply)) != value:  # so other types and further items are none
         raise ReplyError(f"{line[:60]!r} is not a reply")
-    if keys == {"at", "taken"}:
-        return Taken(at, *_pair(value["taken"]))
-    if keys == {"at", "done"}:
-        return Done(at)
-    if keys == {"at", "sold"}:
-        return Sold(at, *_pair(value["sold"]))
-    if keys == {"at", "own", "points"} and isinstance(value["points"], list):
-        return Own(at, _whole(value["own"]), tuple(map(_pair, value["points"])))
-    if keys == {"at", "cash"}:
-        return Cash(at, _whole(value["cash"]))
-    if keys == {"at", "quote", "open"} and isinstance(value["open"], bool):
-        bid, ask = _pair(value["quote"])
-        return Quote(at, bid, ask, not value["open"])
-    raise ReplyError(f"{line[:60]!r} is not a reply")
+    return reply
 
 
 def reply_json(reply: Reply) -> str:
@@ -300,20 +279,6 @@ def reply_json(reply: Reply) -> str:
         if reply.reason == "bid":
             value["fault"] = reply.fault
     return json.dumps(value, separators=(",", ":"))
-
-
-def _read_json_refusal(value: Any, at: Optional[int]) -> No:
-    reason, rest = value["no"], set(value) - {"no", "at"}
-    if at is not None and reason in CLOSING_REASONS and not rest:
-        return No(at, reason)
-    if at is not None and reason == "belowquote" and rest == {"need", "price", "offered"}:
-        below = [_whole(value[key]) for key in ("need", "price", "offered")]
-        return No(at, reason, 0, Below(*below))
-    if at is None and reason in LINE_REASONS and not rest:
-        return No(None, reason)
-    if at is None and reason == "bid" and rest == {"fault"}:
-        return No(None, reason, _whole(value["fault"]))
-    raise ReplyError(f"{json.dumps(value)[:60]!r} is not a refusal")
 
 
 def request_words(request: Request) -> str:
