@@ -14,7 +14,7 @@ from geesefuton.hosting import events
 from geesefuton.hosting.events import End, Event
 from geesefuton.hosting.journal import Journal
 from geesefuton.hosting.links import MOST_SAID, OuterLink, Session
-from geesefuton.hosting.loop import REST
+from geesefuton.network.loop import REST
 from geesefuton.hosting.relay import MOST_EACH, MOST_HELD, NEAR_MOST, PARTING, UNREAD, Relay
 from geesefuton.hosting.seats import Seat, State
 from geesefuton.network.gate import LINE

@@ -6,7 +6,7 @@ import contextlib
 import enum
 import socket
 
-from geesefuton.hosting.loop import Loop
+from geesefuton.network.loop import Loop
 
 STOPPED = 130  # the exit status of a game that was ended before its time
 

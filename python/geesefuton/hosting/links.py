@@ -7,65 +7,20 @@ closed. Its *owed* lines were passed on to the server and have no reply yet.
 
 from __future__ import annotations
 
-import contextlib
 import socket
 import time
 from collections import deque
-from typing import Callable, Deque, List, NamedTuple, Optional
+from typing import Deque, List, Optional
 
 from geesefuton.hosting.events import End
 from geesefuton.hosting.seats import Seat
 from geesefuton.link import KEEPALIVE
 from geesefuton.network.gate import Visit
+from geesefuton.network.loop import Link
 from geesefuton.records.dialects import MOST_LINE, is_bye, is_refusal
 
 MOST_SAID = 65536  # bytes of an agent's lines that are kept; it is not read while there are more
 UNACKNOWLEDGED = 14_000  # milliseconds, the same time for a link with something on its way
-
-
-class Served(NamedTuple):
-    """What is done once a file can be read or written, and what if that raises anything."""
-
-    read: Callable[[], None]
-    write: Callable[[], None]
-    fail: Callable[[], None]
-
-
-class Link:
-    """A link.
-
-    Attributes:
-        served: What serves it.
-        held: What is still to be sent to it.
-        wants: What the selector waits for.
-        has_ended: Whether it sends nothing more.
-        is_open: Whether it was not closed.
-    """
-
-    served: Served
-
-    def __init__(self, link: socket.socket) -> None:
-        self.socket, self.held, self.wants = link, bytearray(), 0
-        self.has_ended, self.is_open = False, True
-        link.setblocking(False)
-
-    def is_read(self) -> bool:
-        """Whether what it sends is read."""
-        return not self.has_ended
-
-    def send(self) -> int:
-        """Sends what is held, as far as it is taken: how many bytes that are.
-
-        Raises:
-            OSError: The link has failed.
-        """
-        count = 0
-        with contextlib.suppress(BlockingIOError):
-            while self.held:
-                taken = self.socket.send(self.held)
-                del self.held[:taken]
-                count += taken
-        return count
 
 
 class Session(Link):

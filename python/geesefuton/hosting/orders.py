@@ -5,7 +5,7 @@ from __future__ import annotations
 import os
 from typing import Deque, Optional, TextIO
 
-from geesefuton.hosting.loop import Loop
+from geesefuton.network.loop import Loop
 
 
 class Orders:

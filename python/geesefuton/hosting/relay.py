@@ -20,11 +20,11 @@ from typing import Callable, Dict, Optional, Sequence
 from geesefuton.hosting import events
 from geesefuton.hosting.events import End, Event
 from geesefuton.hosting.journal import Journal
-from geesefuton.hosting.links import MOST_SAID, OuterLink, Served, Session
-from geesefuton.hosting.loop import Loop
+from geesefuton.hosting.links import MOST_SAID, OuterLink, Session
 from geesefuton.hosting.seats import Action, Give, Over, Refuse, Seat, Seats, State
 from geesefuton.network.addresses import plain_address
 from geesefuton.network.gate import Gate, Standing, most_links
+from geesefuton.network.loop import Loop, Served
 from geesefuton.records.dialects import MOST_LINE, is_bye
 
 MOST_HELD = 65536  # bytes for an agent that does not read; nothing is asked for it beyond these
@@ -84,11 +84,7 @@ class Relay:
         for seat in self.seats.seats:
             self._do(seat, seat.wait(now))
         for link in list(self.links.values()):
-            try:
-                self._look_at(link, now)
-            except Exception as fault:
-                self.loop.caught(fault)
-                self.fail(link)
+            self.loop.guard(partial(self._look_at, link, now), partial(self.fail, link))
         self._deliver()
 
     def _look_at(self, link: OuterLink, now: float) -> None:

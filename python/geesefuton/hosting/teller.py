@@ -5,7 +5,7 @@ from __future__ import annotations
 import queue
 import threading
 import time
-from typing import Callable, List, Optional, Sequence, Set
+from typing import Callable, Dict, Optional, Sequence, Set, Type
 
 from geesefuton import program
 from geesefuton.hosting import events
@@ -40,8 +40,17 @@ class Teller:
 
     def tell(self, event: Event) -> None:
         """Tells an event."""
-        for text in self._texts(event):
-            self._put(event.at, text, isinstance(event, FAULTS))
+        told, now = self._text(event), self._clock()
+        counted, by = self._refusals, getattr(event, "source", "")
+        if isinstance(event, (events.Arrived, events.Rejoined, events.Departed)):
+            counted, by = self._comings, event.word
+        elif not isinstance(event, (events.Refused, events.Lost)):
+            by = ""
+        if by:  # it may recur
+            self._tell_due(now)
+            told = counted.add(now, by, told) or ""
+        if told:
+            self._put(event.at, told, isinstance(event, FAULTS))
 
     def say(self, text: str) -> None:
         """Tells a text."""
@@ -72,55 +81,45 @@ class Teller:
                 return
             tell(line)
 
-    def _texts(self, event: Event) -> List[str]:
-        if isinstance(event, events.Arrived):
+    def _text(self, event: Event) -> str:
+        """What is told of an event; "" for nothing."""
+        if isinstance(event, (events.Arrived, events.Rejoined)):
             self._here.add(event.word)
-            missing = [word for word in self._words if word not in self._here]
-            return self._again(self._comings, event.word, f"{event.word} is here from "
-                               f"{event.source}; missing: {' '.join(missing) or 'nobody'}")
-        if isinstance(event, events.Rejoined):
-            self._here.add(event.word)
-            return self._again(self._comings, event.word,
-                               f"{event.word} is back, from {event.source}")
-        if isinstance(event, events.Departed):
+        elif isinstance(event, events.Departed):
             self._here.discard(event.word)
-            return self._again(self._comings, event.word,
-                               f"{event.word} lost its link, and may reconnect")
-        if isinstance(event, events.Refused):
-            return self._again(self._refusals, event.source, f"refused {event.source} as "
-                               f"{event.answer}: it sent {event.line!r}")
-        if isinstance(event, events.Lost):
-            return self._again(self._refusals, event.source,
-                               f"lost a link from {event.source}: {event.why}")
-        if isinstance(event, events.Waived):
-            return [f"no longer waiting for {event.word}"]
+        if isinstance(event, events.Arrived):
+            missing = [word for word in self._words if word not in self._here]
+            return (f"{event.word} is here from {event.source}; missing: "
+                    f"{' '.join(missing) or 'nobody'}")
         if isinstance(event, events.Began):
             missing = [word for word in self._words if self._words.index(word) not in event.seats]
-            late = f" without {' '.join(missing)}" if missing else ""
-            return [f"the game begins{late}"]
+            return "the game begins" + (f" without {' '.join(missing)}" if missing else "")
         if isinstance(event, events.Ticked):
             lines = (f"{word} {count}" for word, count in zip(self._words, event.lines))
-            return [f"tick {event.tick} of {TICKS}; lines: {' '.join(lines)}"
-                    ] if event.tick % 6 == 0 else []
+            told = f"tick {event.tick} of {TICKS}; lines: {' '.join(lines)}"
+            return "" if event.tick % 6 else told
         if isinstance(event, events.Ended):
-            return [f"{event.word} {ENDS[event.reason]}, {event.lines} lines"]
+            return f"{event.word} {ENDS[event.reason]}, {event.lines} lines"
         if isinstance(event, events.Finished):
             if event.status == STOPPED:
-                return []  # it was told as a warning
+                return ""  # it was told as a warning
             meaning = program.MEANINGS.get(event.status, "")
             more = f": {meaning}" if meaning else ""
             vouched = f"; {summary(self._words, event.vouched)}" if event.vouched else ""
             log = f"; the log is in {event.log}" if event.log else ""
-            return [f"the game is over, exit status {event.status}{more}{vouched}{log}"]
-        return [event.text]
-
-    def _again(self, counted: Refusals, source: str, text: str) -> List[str]:
-        """What is to be told now of something that may recur, and of what was before it."""
-        now = self._clock()
-        told, text_now = counted.due(now), counted.add(now, source, text)
-        return told if text_now is None else [*told, text_now]
+            return f"the game is over, exit status {event.status}{more}{vouched}{log}"
+        return TEXTS[type(event)].format(**vars(event))
 
 
+TEXTS: Dict[Type[Event], str] = {
+    events.Rejoined: "{word} is back, from {source}",
+    events.Departed: "{word} lost its link, and may reconnect",
+    events.Refused: "refused {source} as {answer}: it sent {line!r}",
+    events.Lost: "lost a link from {source}: {why}",
+    events.Waived: "no longer waiting for {word}",
+    events.Warned: "{text}",
+    events.Answered: "{text}",
+}
 FAULTS = (events.Refused, events.Lost, events.Warned, events.Departed)
 ENDS = {
     End.LEFT: "has left",

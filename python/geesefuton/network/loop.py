@@ -1,18 +1,62 @@
-"""What waits for links and files, and serves those that are ready. What serves one may raise
-anything: the others are served all the same."""
+"""Links, and what waits for them and for other files, and serves those that are ready. What serves
+one may raise anything: the others are served all the same."""
 
 from __future__ import annotations
 
 import contextlib
 import selectors
+import socket
 import time
 from functools import partial
-from typing import Any, Callable, Dict, List, Tuple
-
-from geesefuton.hosting.links import Link, Served
+from typing import Any, Callable, Dict, List, NamedTuple, Tuple
 
 REST = 0.5  # seconds until a file is attended again whose handler failed
 MOST_FAULTS = 50  # that are remembered, so as not to be told again
+
+
+class Served(NamedTuple):
+    """What is done once a file can be read or written, and what if that raises anything."""
+
+    read: Callable[[], None]
+    write: Callable[[], None]
+    fail: Callable[[], None]
+
+
+class Link:
+    """A link.
+
+    Attributes:
+        served: What serves it.
+        held: What is still to be sent to it.
+        wants: What the selector waits for.
+        has_ended: Whether it sends nothing more.
+        is_open: Whether it was not closed.
+    """
+
+    served: Served
+
+    def __init__(self, link: socket.socket) -> None:
+        self.socket, self.held, self.wants = link, bytearray(), 0
+        self.has_ended, self.is_open = False, True
+        link.setblocking(False)
+
+    def is_read(self) -> bool:
+        """Whether what it sends is read."""
+        return not self.has_ended
+
+    def send(self) -> int:
+        """Sends what is held, as far as it is taken: how many bytes that are.
+
+        Raises:
+            OSError: The link has failed.
+        """
+        count = 0
+        with contextlib.suppress(BlockingIOError):
+            while self.held:
+                taken = self.socket.send(self.held)
+                del self.held[:taken]
+                count += taken
+        return count
 
 
 class Loop:
@@ -66,12 +110,13 @@ class Loop:
                 self.caught(fault)
                 served.fail()
 
-    def guard(self, work: Callable[[], None]) -> None:
-        """Does something that may raise anything."""
+    def guard(self, work: Callable[[], None], fail: Callable[[], None] = lambda: None) -> None:
+        """Does something that may raise anything, and if it does, something else."""
         try:
             work()
         except Exception as fault:
             self.caught(fault)
+            fail()
 
     def caught(self, fault: Exception) -> None:
         """Tells a fault that was caught, if it was not told before."""
