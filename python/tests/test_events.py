@@ -1,11 +1,12 @@
 """Events as lines of JSON."""
 
 import json
+import threading
 import unittest
 from typing import get_args
 
 from geesefuton.hosting import events
-from geesefuton.hosting.events import End, Event, json_of
+from geesefuton.hosting.events import End, Event, EventQueue, json_of
 
 AT = 1795906748.25
 ROWS = [
@@ -44,6 +45,37 @@ class Lines(unittest.TestCase):
 
     def test_no_event_is_forgotten(self) -> None:
         self.assertEqual({type(event) for event, _ in ROWS}, set(get_args(Event)))
+
+
+class Queue(unittest.TestCase):
+    def test_a_slow_listener_holds_nobody_and_has_all_in_the_end(self) -> None:
+        told, held = list[Event](), threading.Event()
+
+        def listen(event: Event) -> None:
+            held.wait(60.0)
+            told.append(event)
+
+        queue = EventQueue(listen)
+        for event, _ in ROWS:
+            queue.put(event)
+        self.assertEqual(told, [])
+        held.set()
+        queue.close()
+        self.assertEqual(told, [event for event, _ in ROWS])
+
+    def test_what_a_listener_raises_comes_at_the_end(self) -> None:
+        told = list[Event]()
+
+        def listen(event: Event) -> None:
+            told.append(event)
+            raise OSError(f"fault {len(told)}")
+
+        queue = EventQueue(listen)
+        for event, _ in ROWS:
+            queue.put(event)
+        with self.assertRaisesRegex(OSError, "fault 1"):
+            queue.close()
+        self.assertEqual(len(told), len(ROWS))
 
 
 if __name__ == "__main__":

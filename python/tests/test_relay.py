@@ -319,7 +319,7 @@ class Ends(Case):
             self.assertLess(abs(event.at - time.time()), MOST)
 
     def test_a_game_without_a_journal(self) -> None:
-        self.relay.journal = None
+        self.relay.journal = Journal(None, self.fail)
         self.ask(0, b"own 5\n", b"@0 own 0 ()\n")
         self.agents[1].close()
         self.turn_until_told(events.Departed)

@@ -19,6 +19,7 @@ from typing import Any, Callable, Dict, List, Optional, Tuple
 from unittest import mock
 
 from geesefuton.hosting import events
+from geesefuton.hosting.journal import Journal
 from geesefuton.hosting.links import Session
 from geesefuton.hosting.relay import Relay
 from geesefuton.hosting.seats import State
@@ -136,7 +137,8 @@ class Play:
         self.door, self.told = Door(), list[Any]()
         Play.now = 100.0
         listener: Any = self.door
-        self.relay = Relay(WORDS, listener, self.told.append, None, PATIENCE, SILENCE)
+        self.relay = Relay(WORDS, listener, self.told.append, Journal(None, print), PATIENCE,
+                           SILENCE)
         self.wires: List[Wire] = []
         self.asked: List[List[int]] = []
         self.read: List[int] = []

@@ -254,6 +254,28 @@ class Signals(Case):
             self.assertFalse(host.thread.is_alive())
         self.assertEqual(host.status, 0)
 
+    def test_without_a_terminal_the_scores_are_not_shown_for_long(self) -> None:
+        slow = [sys.executable, "-c", f"import time; time.sleep({MOST})"]
+        with mock.patch("geesefuton.hosting.page_process.page_words", return_value=slow), \
+                mock.patch("geesefuton.hosting.lobby.TELLING", 0.1):
+            host = Host(self.folder, pace=2, start=0, linger=0, page=free_port(), stays=True)
+            host.lobby.hang_up()
+            host.end()
+        self.assertEqual(host.status, 0)
+
+    def test_a_side_process_that_cannot_be_looked_at_ends_no_game(self) -> None:
+        host = Host(self.folder, start=None, pace=5, linger=0)
+        self.agents(host, "seat0")
+        game = host.lobby._game
+        assert game is not None
+        game.page = mock.Mock(**{"fault.side_effect": OSError(24, "Too many open files")})
+        host.wait(events.Warned)
+        game.control.go_on()
+        host.end()
+        self.assertEqual(host.status, 0)
+        self.assertIn("Too many open files", host.of(events.Warned)[0].text)
+        self.assertEqual(len(host.of(events.Warned)), 1)
+
     def test_ctrl_c_while_the_command_is_being_loaded_gives_no_traceback(self) -> None:
         held = self.folder / "held"
         held.mkdir()

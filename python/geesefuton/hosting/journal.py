@@ -54,26 +54,28 @@ class Journal:
         is_whole: Whether the file has taken all so far.
 
     Args:
-        file: A new file.
+        file: A new file; None if nothing is to be written.
         warn: Is told what fails, in the thread that writes.
 
     Raises:
         OSError: The file is there already, or cannot be made.
     """
 
-    def __init__(self, file: Path, warn: Callable[[str], None]) -> None:
+    def __init__(self, file: Optional[Path], warn: Callable[[str], None]) -> None:
         self.file, self._warn = file, warn
         self._held: List[str] = []
         self._zero: Optional[float] = None
-        # It has the seat words, which are passwords.
-        how = os.O_WRONLY | os.O_CREAT | os.O_EXCL | os.O_APPEND
-        self._number: Optional[int] = os.open(file, how, 0o600)
+        self._number: Optional[int] = None
         self._loss: Optional[OSError] = None  # why the disk did not keep something
-        self._is_loss_told = False
-        self._sync_folder()
-        self._is_dirty, self._closed = False, threading.Event()
-        self._syncing = threading.Thread(target=self._sync, args=(self._number,), daemon=True)
-        self._syncing.start()
+        self._is_loss_told = self._is_dirty = False
+        self._closed = threading.Event()
+        self._syncing: Optional[threading.Thread] = None
+        if file is not None:  # it has the seat words, which are passwords
+            how = os.O_WRONLY | os.O_CREAT | os.O_EXCL | os.O_APPEND
+            self._number = os.open(file, how, 0o600)
+            self._sync_folder(file.parent)
+            self._syncing = threading.Thread(target=self._sync, args=(self._number,), daemon=True)
+            self._syncing.start()
 
     @property
     def is_whole(self) -> bool:
@@ -93,6 +95,8 @@ class Journal:
 
     def request(self, agent: int, line: bytes) -> None:
         """An agent's line that is about to be passed on."""
+        if self._number is None:
+            return
         line = line[:MOST_LINE + 1]
         key, text = "q", _quoted(line.decode("latin-1"))
         if 3 * len(text) > 4 * len(line) + 60:  # escapes would make it up to six times as long
@@ -101,6 +105,8 @@ class Journal:
 
     def reply(self, agent: int, line: bytes) -> None:
         """A reply that came for an agent. It may be passed on after the next `flush`."""
+        if self._number is None:
+            return
         text = _quoted(line.decode("latin-1"))
         self._held.append(f'{{"a":{agent},"r":{text},"t":{self.now()}}}')
 
@@ -131,7 +137,8 @@ class Journal:
         """Writes all that is kept, waits until it is on the disk, and closes the file."""
         self.flush()
         self._closed.set()
-        self._syncing.join()
+        if self._syncing is not None:
+            self._syncing.join()
         self._tell_loss()
 
     def _give_up(self, fault: OSError) -> None:
@@ -145,10 +152,10 @@ class Journal:
             self._warn(f"cannot sync the journal {self.file} to disk ({why(self._loss)}): the game "
                        "goes on, but a power failure may lose more than its last second")
 
-    def _sync_folder(self) -> None:
+    def _sync_folder(self, place: Path) -> None:
         """Puts the file's name onto the disk."""
         try:
-            folder = os.open(self.file.parent, os.O_RDONLY)
+            folder = os.open(place, os.O_RDONLY)
         except OSError as fault:
             self._loss = fault
             return

@@ -8,7 +8,6 @@ closed. Its *owed* lines were passed on to the server and have no reply yet.
 from __future__ import annotations
 
 import socket
-import time
 from collections import deque
 from typing import Deque, List, Optional
 
@@ -106,15 +105,6 @@ class OuterLink(Link):
     def has_line(self) -> bool:
         """Whether a whole line is there."""
         return b"\n" in self.said
-
-    def send(self) -> int:
-        """As `Link.send`, and notes since when it is stuck."""
-        count = super().send()
-        if count:
-            self.stuck, self.is_told = None, False
-        if self.held:
-            self.stuck = self.stuck or time.monotonic()
-        return count
 
     def take(self) -> bytes:
         """Takes the first line away, without its end."""

@@ -102,15 +102,14 @@ class Lobby:
             children = stack.enter_context(Children())
             folder = children.folder("lobby")
             journal = self._open_journal(folder, told.put)
-            if journal:
-                stack.callback(journal.close)
+            stack.callback(journal.close)
             relay = Relay(self.words, self._listener, told.put, journal, self.settings.patience,
                           self.settings.longest_silence())
             stack.callback(relay.close)
             relay.seats.keys = self.settings.keys or relay.seats.keys
             game = HostedGame(self.settings, self._text, self._control, children, folder, relay,
                               told.put)
-            if journal and self.settings.page is not None:
+            if journal.file is not None and self.settings.page is not None:
                 game.page = PageProcess(children, self.settings, journal.file)
                 stack.callback(game.page.end)
             if self.settings.by_hand is not None:
@@ -148,12 +147,10 @@ class Lobby:
         return self._game.seconds_left(), [
             seat.word for seat in seats if seat.state is not State.OVER]
 
-    def _open_journal(self, folder: Path, emit: Callable[[Event], None]) -> Optional[Journal]:
+    def _open_journal(self, folder: Path, emit: Callable[[Event], None]) -> Journal:
         """The journal; one that goes away with the game if only the page needs it."""
         given = self.settings
         file = given.journal or (folder / "journal" if given.page is not None else None)
-        if file is None:
-            return None
         try:
             journal = Journal(file, lambda text: emit(events.Warned(time.time(), text)))
         except FileExistsError:
@@ -177,8 +174,7 @@ class Lobby:
         game.relay.settle()
         self._end_all(game)
         self._listener.close()  # a link would wait in vain while the page shows the scores
-        if game.relay.journal:
-            game.relay.journal.timed(over=status)
+        game.relay.journal.timed(over=status)
         self._control.phase = Phase.SHOWING
         return self._finish(game, status)
 
@@ -230,7 +226,7 @@ class Lobby:
         if kept.fault is not None and is_served:
             status = FULL
             where = f"the log is in {kept.file}" if kept.file else "the log is lost"
-            if not kept.file and journal and given.journal:
+            if not kept.file and given.journal:
                 made = "it again" if journal.is_whole else "one from what the journal has"
                 where += f"; to make {made}: {recovery_line(given.journal)}"
             game.warn(f"cannot write the log to its output ({kept.fault}): {where}")
@@ -243,7 +239,7 @@ def _vouching(game: HostedGame) -> Tuple[str, ...]:
     """What `tac vouch` says of the log by the lobby's link of each seat; nothing if the game was
     not served, the journal is not whole, or the program cannot tell, which is told."""
     journal, log = game.relay.journal, b"".join(game.log)
-    if journal is None or not journal.is_whole or not log.startswith(SERVED):
+    if journal.file is None or not journal.is_whole or not log.startswith(SERVED):
         return ()
     file = game.folder / "played.game"
     try:

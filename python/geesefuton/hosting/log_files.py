@@ -80,33 +80,24 @@ def _keep_elsewhere(log: bytes) -> Optional[Path]:
 
 def _write(log: bytes, target: Union[BinaryIO, Path]) -> Optional[str]:
     """Writes a log, and gives the fault if there is one."""
-    if not isinstance(target, Path) and not _has_number(target):
+    try:
+        output = Output(target if isinstance(target, Path) else target.fileno())
+    except OSError:  # a stream in memory
+        assert not isinstance(target, Path)
         try:
             target.write(log)
             target.flush()
         except OSError as fault:
             return why(fault)
         return None
-    output = Output(target if isinstance(target, Path) else target.fileno())
     output.write(log)
     output.close()
     return output.fault
 
 
-def _has_number(file: BinaryIO) -> bool:
-    try:
-        file.fileno()
-    except OSError:  # also of a stream in memory
-        return False
-    return True
-
-
 def _is_same(target: Target, file: Path) -> bool:
     try:
-        if target is None:
-            return False
-        known = os.stat(target if isinstance(target, Path) else target.fileno())
-        other = os.stat(file)
+        known = os.stat(target if isinstance(target, Path) else target.fileno()) if target else None
+        return known is not None and os.path.samestat(known, os.stat(file))
     except OSError:
         return False
-    return (known.st_dev, known.st_ino) == (other.st_dev, other.st_ino)

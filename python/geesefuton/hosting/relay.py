@@ -45,7 +45,7 @@ class Relay:
         words: The seat words.
         listener: Where links come in.
         emit: Is told what happens.
-        journal: Where it is written, if anywhere.
+        journal: Where it is written.
         patience: The seconds that a link has for its first line.
         silence: The seconds without a word after which a link gives way to another.
 
@@ -57,7 +57,7 @@ class Relay:
     """
 
     def __init__(self, words: Sequence[str], listener: socket.socket,
-                 emit: Callable[[Event], None], journal: Optional[Journal],
+                 emit: Callable[[Event], None], journal: Journal,
                  patience: float, silence: float) -> None:
         self.seats, self.sessions = Seats(words, silence), list[Session]()
         self.started: Optional[float] = None
@@ -78,8 +78,7 @@ class Relay:
 
     def pass_time(self, now: float) -> None:
         """Ends what has waited too long, and writes what the journal keeps."""
-        if self.journal:
-            self.journal.flush()
+        self.journal.flush()
         self.loop.pass_time(now)
         for seat in self.seats.seats:
             self._do(seat, seat.wait(now))
@@ -205,8 +204,7 @@ class Relay:
         was_holder = seat.holder == link.number and seat.state is not State.OVER
         actions = seat.go(link.number, time.monotonic())
         if was_holder and seat.state is not State.OVER:
-            if self.journal:
-                self.journal.timed(gone=seat.number)
+            self.journal.timed(gone=seat.number)
             self._emit(events.Departed(time.time(), seat.number, seat.word))
         return self._do(seat, actions)
 
@@ -267,8 +265,7 @@ class Relay:
             self._drop(link)
 
     def _give(self, seat: Seat, link: OuterLink, again: bool) -> None:
-        if self.journal:
-            self.journal.timed(here=seat.number, **{"from": link.source})
+        self.journal.timed(here=seat.number, **{"from": link.source})
         what = (time.time(), seat.number, seat.word, link.source)
         self._emit(events.Rejoined(*what) if again else events.Arrived(*what))
         if self.sessions:
@@ -286,8 +283,7 @@ class Relay:
 
     def _deliver(self) -> None:
         while self._due:
-            if self.journal:
-                self.journal.flush()
+            self.journal.flush()
             due, self._due = self._due, {}
             for link in due.values():
                 try:
@@ -300,10 +296,13 @@ class Relay:
         if not link.is_open:
             return None
         try:
-            link.send()
+            if link.send():
+                link.stuck, link.is_told = None, False
         except OSError:
             return self.fail(link)
-        if not link.held:
+        if link.held:
+            link.stuck = link.stuck or time.monotonic()
+        else:
             if link.parting is not None:
                 return self._shut(link)
             if link.seat is not None and link.seat.holder == link.number and self.sessions:
@@ -325,17 +324,15 @@ class Relay:
         """The game begins with one link to the server for each seat."""
         self.sessions, self.started = list(sessions), time.monotonic()
         here = tuple(seat.number for seat in self.seats.seats if seat.holder is not None)
-        if self.journal:
-            self.journal.tell(begin=here)
+        self.journal.tell(begin=here)
         for session in sessions:
             session.served = Served(partial(self._read_session, session),
                                     partial(self._send, session),
                                     partial(self._end_session, session))
             self.loop.watch(session)
             self._do(session.seat, session.seat.begin(self.started))
-        if self.journal:
-            self.journal.begin_time()
-            self.journal.tell(tick=0, t=0)
+        self.journal.begin_time()
+        self.journal.tell(tick=0, t=0)
         self._emit(events.Began(time.time(), here))
         for session in sessions:
             link = self._holder(session.seat)
@@ -353,8 +350,7 @@ class Relay:
         seat = self.seats.by_word(word)
         if seat is None:
             return False
-        if self.journal:
-            self.journal.timed(without=seat.number)
+        self.journal.timed(without=seat.number)
         self._emit(events.Waived(time.time(), word))
         self._do(seat, seat.waive())
         return True
@@ -396,8 +392,7 @@ class Relay:
         if len(link.held) > MOST_HELD or not link.has_line():
             return
         line = link.take()
-        if self.journal:
-            self.journal.request(seat.number, line)
+        self.journal.request(seat.number, line)
         session.asked.append(link)
         session.passed += 1
         if session.passed == NEAR_MOST:
@@ -430,8 +425,7 @@ class Relay:
         self._pass_on(session)
 
     def _reply(self, session: Session, line: bytes) -> None:
-        if self.journal:
-            self.journal.reply(session.seat.number, line)
+        self.journal.reply(session.seat.number, line)
         link = session.answer(line)
         if is_bye(line):
             self._do(session.seat, session.seat.leave())
@@ -446,8 +440,7 @@ class Relay:
             reason, lines = session.reason(reason), session.lines
             with contextlib.suppress(OSError):  # it may have ended
                 session.socket.shutdown(socket.SHUT_WR)
-        if self.journal:
-            self.journal.timed(end=seat.number, why=reason.value)
+        self.journal.timed(end=seat.number, why=reason.value)
         self._emit(events.Ended(time.time(), seat.number, seat.word, reason, lines))
 
     def _end_session(self, session: Session) -> None:

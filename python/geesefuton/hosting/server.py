@@ -15,7 +15,6 @@ import secrets
 import socket
 import subprocess
 import time
-from pathlib import Path
 from typing import IO, List, Optional, Sequence
 
 from geesefuton import program
@@ -46,13 +45,9 @@ class ClockServer:
     def play(self, game: HostedGame) -> int:
         """Plays the game, and gives the server's exit status, negative for a signal; `STOPPED` if
         the game was stopped before the log was there."""
-        lines, words = game.text.split("\n"), [secrets.token_hex(8) for _ in range(SEATS)]
-        lines[1] = " ".join(["words", *words])
-        file = game.folder / "game"
-        file.write_text("\n".join(lines), encoding="ascii")
         for left in reversed(range(TRIES)):
             with contextlib.closing(Server(game)) as server:
-                fault = server.start(file, words)
+                fault = server.start()
                 if game.is_stopped:
                     return STOPPED
                 if not fault and (server.links or server.wait() != TAKEN):
@@ -87,8 +82,7 @@ class ClockServer:
 
     def _tell_tick(self, game: HostedGame, tick: int) -> None:
         """A tick has come; some before it may have been passed over."""
-        if game.relay.journal:
-            game.relay.journal.timed(tick=tick)
+        game.relay.journal.timed(tick=tick)
         lines = [session.lines for session in game.relay.sessions]
         if tick == TICKS:
             game.last_tick()
@@ -107,17 +101,13 @@ class Server:
         self._process: "Optional[subprocess.Popen[bytes]]" = None
         self.links: List[socket.socket] = []
 
-    def start(self, file: Path, words: Sequence[str]) -> str:
+    def start(self) -> str:
         """Starts it at a free port, and takes all seats. The links of the agents go on meanwhile.
-        Returns why the lobby was not welcomed; "" if it was, or the server has ended by itself.
-
-        Args:
-            file: The game file.
-            words: Its seat words.
-        """
+        Returns why the lobby was not welcomed; "" if it was, or the server has ended by itself."""
         links: List[socket.socket] = []
+        words = [secrets.token_hex(8) for _ in range(SEATS)]
         try:
-            self._connect(links, self._launch(file), words)
+            self._connect(links, self._launch(words), words)
             self._be_welcomed(links)
             if self._is_going():
                 self.links = links
@@ -130,11 +120,14 @@ class Server:
             for link in links if not self.links else ():
                 link.close()
 
-    def _launch(self, file: Path) -> int:
+    def _launch(self, words: Sequence[str]) -> int:
         """Starts the process, as soon as the system lets it, and gives its port."""
         game, told = self._game, ""
+        file, lines = game.folder / "game", game.text.split("\n")
+        lines[1] = " ".join(["words", *words])
         while not game.is_stopped:
             try:
+                file.write_text("\n".join(lines), encoding="ascii")
                 port = free_port()
                 served = program.served_words(file, port, game.settings.pace, game.settings.form)
                 self._process = game.children.start(

@@ -22,7 +22,7 @@ from __future__ import annotations
 import argparse
 import sys
 from pathlib import Path
-from typing import Dict, List, NamedTuple, Optional, Sequence
+from typing import Dict, List, Optional, Tuple
 
 from geesefuton import program
 from geesefuton.arguments import Parser
@@ -31,7 +31,7 @@ from geesefuton.hosting.pieces import (ASKED, SAID, Piece, RecordError, first_di
                                        read_piece, stems_of)
 from geesefuton.hosting.server_links import LinkBytes, audit_link, is_vouched, server_links
 from geesefuton.processes import Children, Output, command, tell
-from geesefuton.records.games import Game, read_game, welcome
+from geesefuton.records.games import read_game, welcome
 
 PIECES = "{} has {} records, none of the whole session: add --published FOLDER or --journal J"
 
@@ -82,8 +82,6 @@ class _Judge:
         program.ProgramError: One of them is refused.
 
     Attributes:
-        text: The canonical text of the game file, and `game` what it says.
-        form: How lines are written, `words` or `json`.
         hint: What the user may have forgotten; "" for nothing.
     """
 
@@ -91,70 +89,70 @@ class _Judge:
         self._given, self._folder = given, folder
         for file in (given.game, given.log):
             file.open("rb").close()  # the program does not tell which file is missing
-        self.text = program.show(given.game)
-        self.game: Game = read_game(self.text)
-        self.form, self.hint = "json" if given.json else "words", ""
+        self._text = program.show(given.game)
+        self._words = read_game(self._text).words
+        self._form, self.hint = "json" if given.json else "words", ""
         audit = program.audit(given.game, given.log)
         if audit != "sound":
             raise VouchError(f"{given.log}: the audit says `{audit}`")
 
-    def audit(self, link: LinkBytes) -> str:
+    def judge(self) -> List[Tuple[str, str]]:
+        """What each link is called, and what is said of it.
+
+        Raises:
+            JournalError, OSError, RecordError, VouchError, program.ProgramError: A file is not
+                there or not right.
+        """
+        given, pieces = self._given, _read_pieces(self._given)
+        links = dict(zip(self._words, self._links()))
+        if given.seat is not None and given.seat not in self._words:
+            raise VouchError(f"{given.game} has no seat {given.seat}")
+        if given.publish:
+            _publish(given.publish, links)
+        if not given.mine:
+            return [(word, self._audit(link)) for word, link in links.items()]
+        for word, own in pieces.items():
+            if len(own) > 1 and word in self._words and not links:
+                raise VouchError(PIECES.format(word, len(own)))
+        return [(word if len(own) > 1 and word else own[0].name,
+                 self._of_pieces(word, own, links.get(word))) for word, own in pieces.items()]
+
+    def _audit(self, link: LinkBytes) -> str:
         """What `tac vouch` says of a link."""
-        said = audit_link(link, self._given.game, self._given.log, self.form, self._folder)
-        if self.form == "words" and not is_vouched(said) and b"\n{" in link.asked:
+        said = audit_link(link, self._given.game, self._given.log, self._form, self._folder)
+        if self._form == "words" and not is_vouched(said) and b"\n{" in link.asked:
             self.hint = "the lines look like JSON objects: try --json"
         return said
 
-    def links(self) -> List[LinkBytes]:
+    def _links(self) -> List[LinkBytes]:
         """The bytes of the lobby's link of each seat, by the journal or as they were published;
-        none if neither is given.
-
-        Raises:
-            JournalError: The journal is none.
-            OSError: A file cannot be read.
-            RecordError: A file is empty.
-            VouchError: The journal is of another game, or its game had not begun.
-        """
+        none if neither is given."""
         journal, published = self._given.journal, self._given.published
         if published:
-            return [read_piece(published / word).link for word in self.game.words]
+            return [read_piece(published / word).link for word in self._words]
         if not journal:
             return []
         reader = read_journal(journal)
-        if reader.text != self.text:
+        if reader.text != self._text:
             raise VouchError(f"{journal} is not the journal of the game {self._given.game}")
         if not reader.has_begun:
             raise VouchError(f"{journal}: the game had not begun")
-        self.form = reader.form
+        self._form = reader.form
         return server_links(journal)
 
-    def of_pieces(self, word: str, pieces: List[Piece], link: Optional[LinkBytes]) -> str:
+    def _of_pieces(self, word: str, pieces: List[Piece], link: Optional[LinkBytes]) -> str:
         """What is said of the records of a seat."""
         if len(pieces) == 1:
-            return self.audit(pieces[0].link)
+            return self._audit(pieces[0].link)
         if link is None:
             return "unvouched seat"
-        said = self.audit(link)
+        said = self._audit(link)
         if not is_vouched(said):
             return f"the seat's link: {said}"
-        difference = first_difference(pieces, link, welcome(self.text, self.game.words.index(word)))
+        difference = first_difference(pieces, link, welcome(self._text, self._words.index(word)))
         if difference is not None:
             return f"unvouched: {difference.where}: {difference.what}"
         return f"{said}, {len(pieces)} records"
-
-
-class _Found(NamedTuple):
-    """What is said of a link, and how that is called."""
-
-    name: str
-    said: str
-
-
-class _Judged(NamedTuple):
-    """What is said of each link, and what the user may have forgotten."""
-
-    links: List[_Found]
-    hint: str
 
 
 def _read_pieces(given: argparse.Namespace) -> Dict[str, List[Piece]]:
@@ -168,33 +166,7 @@ def _read_pieces(given: argparse.Namespace) -> Dict[str, List[Piece]]:
     return found
 
 
-def _judge(given: argparse.Namespace, folder: Path) -> _Judged:
-    """What is said of each link.
-
-    Raises:
-        JournalError, OSError, RecordError, VouchError, program.ProgramError: A file is not there or
-            not right.
-    """
-    pieces = _read_pieces(given)
-    judge = _Judge(given, folder)
-    words, links = judge.game.words, judge.links()
-    if given.seat is not None and given.seat not in words:
-        raise VouchError(f"{given.game} has no seat {given.seat}")
-    if given.publish:
-        _publish(given.publish, words, links)
-    if not given.mine:
-        found = [_Found(word, judge.audit(link)) for word, link in zip(words, links)]
-        return _Judged(found, judge.hint)
-    for word, own in pieces.items():
-        if len(own) > 1 and word in words and not links:
-            raise VouchError(PIECES.format(word, len(own)))
-    known = dict(zip(words, links))
-    found = [_Found(word if len(own) > 1 and word else own[0].name,
-                    judge.of_pieces(word, own, known.get(word))) for word, own in pieces.items()]
-    return _Judged(found, judge.hint)
-
-
-def _publish(folder: Path, words: Sequence[str], links: List[LinkBytes]) -> None:
+def _publish(folder: Path, links: Dict[str, LinkBytes]) -> None:
     """Writes the bytes of the lobby's links into a new folder.
 
     Raises:
@@ -204,7 +176,7 @@ def _publish(folder: Path, words: Sequence[str], links: List[LinkBytes]) -> None
     folder.mkdir(parents=True, exist_ok=True)
     if any(folder.iterdir()):
         raise VouchError(f"{folder} is not empty: name a new folder")
-    for word, link in zip(words, links):
+    for word, link in links.items():
         for suffix, data in zip((ASKED, SAID), link):
             file = Output(folder / f"{word}{suffix}")
             file.write(data)
@@ -217,19 +189,20 @@ def _main() -> int:
     given = _arguments()
     try:
         with Children() as children:
-            found, hint = _judge(given, children.folder("vouch"))
+            judge = _Judge(given, children.folder("vouch"))
+            found = judge.judge()
     except (JournalError, RecordError, VouchError) as fault:
         where = f"{given.journal}: " if isinstance(fault, JournalError) else ""
         tell(f"vouch: {where}{fault}")
         return 1
-    count = sum(is_vouched(each.said) for each in found)
-    lines = [*(f"{each.name}: {each.said}" for each in found), f"vouched: {count} of {len(found)}"]
+    count = sum(is_vouched(said) for _, said in found)
+    lines = [*map(": ".join, found), f"vouched: {count} of {len(found)}"]
     output = Output(1)
     if not output.write("".join(f"{line}\n" for line in lines)):
         tell(f"vouch: {output.name}: {output.fault}")
         return 1
-    if hint:
-        tell(f"vouch: {hint}")
+    if judge.hint:
+        tell(f"vouch: {judge.hint}")
     return 0 if count == len(found) else 1
 
 

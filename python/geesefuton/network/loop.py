@@ -10,6 +10,7 @@ import time
 from functools import partial
 from typing import Any, Callable, Dict, List, NamedTuple, Tuple
 
+READ, WRITE = selectors.EVENT_READ, selectors.EVENT_WRITE
 REST = 0.5  # seconds until a file is attended again whose handler failed
 MOST_FAULTS = 50  # that are remembered, so as not to be told again
 
@@ -51,11 +52,13 @@ class Link:
             OSError: The link has failed.
         """
         count = 0
-        with contextlib.suppress(BlockingIOError):
+        try:
             while self.held:
                 taken = self.socket.send(self.held)
                 del self.held[:taken]
                 count += taken
+        except BlockingIOError:
+            pass
         return count
 
 
@@ -76,7 +79,7 @@ class Loop:
         """Calls a handler whenever a file or socket can be read. If it raises anything the file
         rests for a while."""
         served = Served(handler, handler, partial(self._rest, file, handler))
-        self._select.register(file, selectors.EVENT_READ, served)
+        self._select.register(file, READ, served)
 
     def forget(self, file: Any) -> None:
         """Does so no longer."""
@@ -86,15 +89,18 @@ class Loop:
 
     def watch(self, link: Link) -> None:
         """Sets what is waited for at a link: nothing more before it is closed."""
-        wants = selectors.EVENT_READ if link.is_open and link.is_read() else 0
-        if link.is_open and link.held:
-            wants |= selectors.EVENT_WRITE
-        known, link.wants = link.wants, wants
-        if not wants and known:
+        wants = 0
+        if link.is_open:
+            wants = (READ if link.is_read() else 0) | (WRITE if link.held else 0)
+        known = link.wants
+        if wants == known:
+            return
+        link.wants = wants
+        if not wants:
             self._select.unregister(link.socket)
-        elif not known and wants:
+        elif not known:
             self._select.register(link.socket, wants, link.served)
-        elif wants != known:
+        else:
             self._select.modify(link.socket, wants, link.served)
 
     def serve(self, timeout: float) -> None:
@@ -102,9 +108,9 @@ class Loop:
         for key, mask in self._select.select(timeout):
             served: Served = key.data
             try:
-                if mask & selectors.EVENT_WRITE:
+                if mask & WRITE:
                     served.write()
-                if mask & selectors.EVENT_READ:
+                if mask & READ:
                     served.read()
             except Exception as fault:
                 self.caught(fault)
