@@ -87,6 +87,10 @@ class Admission(unittest.TestCase):
         place.come("10.0.1.9")
         self.assertEqual(len(place.ended), 1)
 
+    def test_a_few_places_are_left_for_strangers(self) -> None:
+        gate = Gate(lambda: 0.0, most=2, each=9, kept=50, first=1.0)
+        self.assertIsNotNone(gate.arrive("10.0.0.1"))
+
     def test_lines_that_are_judged_do_not_make_room(self) -> None:
         place = Place()
         for _ in range(4):

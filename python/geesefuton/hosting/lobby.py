@@ -198,8 +198,7 @@ class Lobby:
         """Sends to agents what they still get, for a while."""
         deadline = time.monotonic() + ENDING
         while not game.relay.is_done() and time.monotonic() < deadline:
-            game.relay.turn(LOOK)
-            game.relay.pass_time(time.monotonic())
+            game.turn(LOOK)
 
     def _stop(self, game: HostedGame) -> int:
         text = "stopped, without a log"

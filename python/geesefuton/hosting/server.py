@@ -203,20 +203,20 @@ class Server:
 
     def _be_welcomed(self, links: List[socket.socket]) -> None:
         """Waits until all seats are welcomed."""
-        due = {link: welcome(self._game.text, seat) for seat, link in enumerate(links)}
         deadline = time.monotonic() + WELCOMING
-        while due and self._is_going():
-            for link, left in list(due.items()):
-                with contextlib.suppress(BlockingIOError):
+        for seat, link in enumerate(links):
+            left = welcome(self._game.text, seat)
+            while left and self._is_going():
+                try:
                     said = link.recv(len(left))
-                    if not said:
-                        raise ConnectionError("it closed a link of the lobby")
-                    if not left.startswith(said):
-                        raise NotStarted(f"the lobby was not welcomed, but got {said[:40]!r}")
-                    due[link] = left[len(said):]
-                    if not due[link]:
-                        del due[link]
-            if time.monotonic() >= deadline:
-                raise NotStarted(f"the lobby was not welcomed within {WELCOMING:g} seconds")
-            if due:
-                self._game.turn(STEP)
+                except BlockingIOError:
+                    if time.monotonic() >= deadline:
+                        raise NotStarted(f"the lobby was not welcomed within {WELCOMING:g} seconds"
+                                         ) from None
+                    self._game.turn(STEP)
+                    continue
+                if not said:
+                    raise ConnectionError("it closed a link of the lobby")
+                if not left.startswith(said):
+                    raise NotStarted(f"the lobby was not welcomed, but got {said[:40]!r}")
+                left = left[len(said):]

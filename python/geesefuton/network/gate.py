@@ -97,7 +97,8 @@ class Gate:
     Args:
         clock: The time in seconds, which does not go back.
         most: The links at a time, of which `each` may be strangers of one network.
-        kept: How many of them are kept for those who are known, and for this machine itself.
+        kept: How many of them are kept for those who are known, and for this machine itself; half
+            of them at most.
         first: The seconds until a first line has to be whole.
         own: The links that may have the same word or token.
 
@@ -107,8 +108,8 @@ class Gate:
 
     def __init__(self, clock: Callable[[], float], most: int, each: int, kept: int, first: float,
                  own: int = 16) -> None:
-        self._clock, self._most, self._each, self._kept = clock, most, each, kept
-        self._first, self._own = first, own
+        self._clock, self._first, self._own = clock, first, own
+        self._most, self._each, self._kept = most, each, min(kept, most // 2)
         self.banned: Set[Network] = set()
         self._known: Counts[str] = Counter()
         self._crowds: Dict[str, List[Visit]] = {}  # those not known by networks, the eldest first
