@@ -195,7 +195,7 @@ class InTheGame(Case):
         host.hurry()
         host.end()
         journal = read_journal(self.folder / "my.journal")
-        self.assertEqual((journal.tick, journal.status, len(journal.calls)), (54, 0, 31))
+        self.assertEqual((journal.tick, journal.status, len(journal.calls)), (54, 0, 30))
         self.assertEqual([agent.end for agent in journal.agents],
                          ["absent"] * 3 + ["left"] + ["absent"] * 4)
 

@@ -241,7 +241,7 @@ class Classroom:
             resource.prlimit(host.pid, resource.RLIMIT_FSIZE, (-1, -1))
         elif self.befalls == "pages killed":
             for process in descendants(host.pid):
-                if b"geesefuton" in of_process(process, "cmdline"):
+                if b"\0geesefuton." in of_process(process, "cmdline"):  # and not the server
                     os.kill(process, signal.SIGKILL)
         elif self.befalls == "no files":
             resource.prlimit(host.pid, resource.RLIMIT_NOFILE, (3, FILES))

@@ -147,7 +147,10 @@ class Relay:
             if link.due is None and (link.has_line() or len(link.said) > MOST_LINE):
                 self._greet(link)
         elif link.seat.holder == link.number:
-            self._hear(link, data.count(b"\n"))
+            self._do(link.seat, link.seat.speak(time.monotonic()))
+            if self.sessions:
+                self.sessions[link.seat.number].lines += data.count(b"\n")
+                self._pass_on(self.sessions[link.seat.number])
         return self.loop.watch(link)
 
     def _greet(self, link: OuterLink) -> None:
@@ -162,23 +165,14 @@ class Relay:
         """Seats or refuses a link by its first line."""
         is_line = link.has_line()
         line = link.take() if is_line else bytes(link.said)
-        seat, answer = self.seats.admit(line) if is_line else (None, "syntax")
+        seat, told = self.seats.admit(line) if is_line else (None, "syntax")
         if seat is None:
-            if answer == "wrongword":
+            if told == "wrongword":
                 link.visit.refuse()
-            return self._refuse(link, answer, line)
+            return self._refuse(link, told, line)
         link.visit.know(seat.word)
-        link.seat, link.source = seat, OWN if self.seats.is_own(line) else link.source
+        link.seat, link.source = seat, OWN if told else link.source
         return self._do(seat, seat.come(link.number, time.monotonic()))
-
-    def _hear(self, link: OuterLink, lines: int) -> None:
-        """The holder of a seat has sent something."""
-        seat = link.seat
-        assert seat is not None
-        self._do(seat, seat.speak(time.monotonic()))
-        if self.sessions:
-            self.sessions[seat.number].lines += lines
-            self._pass_on(self.sessions[seat.number])
 
     def _end_side(self, link: OuterLink) -> None:
         """A link sends nothing more. What it sent before is still asked."""
@@ -302,20 +296,15 @@ class Relay:
             return self.fail(link)
         if link.held:
             link.stuck = link.stuck or time.monotonic()
-        else:
-            if link.parting is not None:
-                return self._shut(link)
-            if link.seat is not None and link.seat.holder == link.number and self.sessions:
-                self._pass_on(self.sessions[link.seat.number])
-                if link.has_ended and not (link.owed or link.has_line()):
-                    return self.fail(link)
-        return self.loop.watch(link)
-
-    def _shut(self, link: OuterLink) -> None:
-        if link.has_ended:
-            return self._drop(link)
-        with contextlib.suppress(OSError):  # it may have ended
-            link.socket.shutdown(socket.SHUT_WR)
+        elif link.parting is not None:
+            if link.has_ended:
+                return self._drop(link)
+            with contextlib.suppress(OSError):  # it may have ended
+                link.socket.shutdown(socket.SHUT_WR)
+        elif link.seat is not None and link.seat.holder == link.number and self.sessions:
+            self._pass_on(self.sessions[link.seat.number])
+            if link.has_ended and not (link.owed or link.has_line()):
+                return self.fail(link)
         return self.loop.watch(link)
 
     # Sessions at the server.

@@ -242,18 +242,14 @@ class Seats:
         self.keys = self.keys or {word: number for number, word in enumerate(self.words)}
 
     def admit(self, line: bytes) -> Tuple[Optional[Seat], str]:
-        """The seat that a first line asks for, or None and the refusal that is due."""
+        """The seat that a first line asks for, and `own` if it is that of one of the host's own
+        agents; or None and the refusal that is due."""
         greeting = GREETING.fullmatch(line)
-        if not greeting:
-            return None, "syntax"
-        word = greeting[1].decode("ascii")
+        word = greeting[1].decode("ascii") if greeting else ""
         number = self.own.get(word, self.keys.get(word))
-        return (None, "wrongword") if number is None else (self.seats[number], "")
-
-    def is_own(self, line: bytes) -> bool:
-        """Whether a first line that was admitted is that of one of the host's own agents."""
-        greeting = GREETING.fullmatch(line)
-        return greeting is not None and greeting[1].decode("ascii") in self.own
+        if number is None:
+            return None, "wrongword" if greeting else "syntax"
+        return self.seats[number], "own" if word in self.own else ""
 
     def change_word(self, number: int, word: str) -> List[Action]:
         """The word that led to a seat leads there no longer, not even a link that waits for it, and
