@@ -27,7 +27,6 @@ class Commands(test_relay.Case):
         self.control = Control()
         self.addCleanup(self.control.close)
         self.console = Console(self.relay, self.control)
-        self.console.note_homes()
 
     def who(self, number: int) -> str:
         return self.console.obey("who").split("\n")[number]

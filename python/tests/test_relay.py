@@ -294,8 +294,7 @@ class Ends(Case):
         self.ask(0, b"own 5\n", b"@0 own 0 ()\n")
         self.agents[1].close()
         self.turn_until_told(events.Departed)
-        self.assertFalse(self.relay.waive("seat9"))
-        self.assertTrue(self.relay.waive("seat7"))
+        self.relay.waive(self.relay.seats.seats[7])
         self.ask(0, b"quit\n", b"bye\n")
         self.relay.release()
         here = [{"here": number, "from": "127.0.0.1"} for number in range(2)]
@@ -325,7 +324,7 @@ class Ends(Case):
         self.turn_until_told(events.Departed)
         again = self.connect(b"hello seat1\n")
         self.turn_until(again, WELCOME)
-        self.assertTrue(self.relay.waive("seat7"))
+        self.relay.waive(self.relay.seats.seats[7])
         self.relay.pass_time(time.monotonic())
         self.relay.release()
         self.ask(0, b"quit\n", b"bye\n")

@@ -224,7 +224,7 @@ class Play:
         self.relay.pass_time(Play.now)
 
     def waive(self) -> None:
-        self.relay.waive(self.draw.choice(WORDS))
+        self.relay.waive(self.draw.choice(self.relay.seats.seats))
 
     def release(self) -> None:
         if self.servers:

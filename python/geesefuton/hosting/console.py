@@ -37,7 +37,6 @@ class Console:
 
     def __init__(self, relay: Relay, control: Control) -> None:
         self._relay, self._control = relay, control
-        self._homes: Dict[int, str] = {}  # the address from which each seat's agent came first
         self._commands: Dict[str, Command] = {
             "who": Command("", "shows which agents are here, from where, and which are silent",
                            self._who),
@@ -69,15 +68,7 @@ class Console:
             raise NotDone(f"expected `{_usage(name, known)}`")
         return known.run(*words)
 
-    def note_homes(self) -> None:
-        """Notes from which address each seat's agent came first."""
-        for seat in self._relay.seats.seats:
-            link = self._link(seat)
-            if link is not None:
-                self._homes.setdefault(seat.number, link.source)
-
     def _who(self) -> str:
-        self.note_homes()
         return "\n".join(map(self._presence, self._relay.seats.seats))
 
     def _presence(self, seat: Seat) -> str:
@@ -86,7 +77,7 @@ class Console:
         if link is None:
             return f"{seat.word} {'has finished' if seat.state is State.OVER else 'is missing'}"
         text = f"{seat.word} is here from {link.source}"
-        home, silent = self._homes[seat.number], time.monotonic() - seat.heard
+        home, silent = self._relay.homes[seat.number], time.monotonic() - seat.heard
         if home != link.source:
             text += f", but first came from {home}"
         if seat.playing and silent >= SILENT:
@@ -102,7 +93,7 @@ class Console:
         return ""
 
     def _waive(self, word: str) -> str:
-        self._relay.waive(self._seat(word).word)
+        self._relay.waive(self._seat(word))
         return ""
 
     def _end(self, word: str) -> str:
@@ -142,9 +133,9 @@ class Console:
                          for name, known in self._commands.items())
 
     def _seat(self, name: str) -> Seat:
-        seats = self._relay.seats
-        numbers = {str(seat.number): seat for seat in seats.seats}
-        seat = seats.by_word(name) or numbers.get(name)
+        seats = self._relay.seats.seats
+        known = {**{str(seat.number): seat for seat in seats}, **{seat.word: seat for seat in seats}}
+        seat = known.get(name)
         if seat is None:
             raise NotDone(f"there is no seat {name}: give a seat's word, or its number 0 to 7")
         return seat

@@ -73,7 +73,6 @@ class HostedGame:
             self._looked = now
             guard(partial(self.relay.pass_time, now))
             guard(partial(self._orders.look, self.relay.loop))
-            guard(self._console.note_homes)
             guard(self._look_at_pages)
         guard(self._obey)
 

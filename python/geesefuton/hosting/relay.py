@@ -52,6 +52,7 @@ class Relay:
     Attributes:
         started: When the game began, by `time.monotonic`.
         links: The links from outside, by their numbers.
+        homes: Whence each seat's agent came first.
         gate: Which of them are taken.
         loop: What waits for them, and for other files.
     """
@@ -64,6 +65,7 @@ class Relay:
         self.gate = Gate(time.monotonic, most_links(MOST_LINKS, OTHERS), MOST_EACH, KEPT, patience)
         self._emit, self.journal, self._patience = emit, journal, patience
         self.links: Dict[int, OuterLink] = {}
+        self.homes: Dict[int, str] = {}
         self._numbers = itertools.count()
         self._due: Dict[int, OuterLink] = {}
         self.loop = Loop(self._warn)
@@ -259,6 +261,7 @@ class Relay:
             self._drop(link)
 
     def _give(self, seat: Seat, link: OuterLink, again: bool) -> None:
+        self.homes.setdefault(seat.number, link.source)
         self.journal.timed(here=seat.number, **{"from": link.source})
         what = (time.time(), seat.number, seat.word, link.source)
         self._emit(events.Rejoined(*what) if again else events.Arrived(*what))
@@ -334,15 +337,11 @@ class Relay:
         for seat in self.seats.seats:
             self._do(seat, seat.release())
 
-    def waive(self, word: str) -> bool:
-        """The host does not wait for an agent. Returns whether a seat has its word."""
-        seat = self.seats.by_word(word)
-        if seat is None:
-            return False
+    def waive(self, seat: Seat) -> None:
+        """The host does not wait for an agent."""
         self.journal.timed(without=seat.number)
-        self._emit(events.Waived(time.time(), word))
+        self._emit(events.Waived(time.time(), seat.word))
         self._do(seat, seat.waive())
-        return True
 
     def finish(self) -> None:
         """Ends all links."""

@@ -259,10 +259,6 @@ class Seats:
         self.keys[word] = number
         return self.seats[number].refuse_heir()
 
-    def by_word(self, word: str) -> Optional[Seat]:
-        """The seat of a word, or None."""
-        return next((seat for seat in self.seats if seat.word == word), None)
-
     def is_anybody_here(self) -> bool:
         """Whether a link has a seat."""
         return any(seat.holder is not None for seat in self.seats)
