@@ -32,6 +32,7 @@ from baseline import BUY, KEEP, LAST, NEVER, UNITS, Baseline, Plan, best_shows, 
 
 SAMPLE = 6  # scenarios
 RISE = 2  # how often a drawn rise is the mean of exponential ones: the more, the nearer to the mean
+PACE = 0.6  # the part of the latest rise of a quote that is expected to go on each minute
 SHADE = 0.6  # the part that it bids of what a room adds beyond its predicted price
 MOST = 1000  # dollars of a bid
 Worths = Dict[int, List[float]]  # for hotel nights, what the first, second, .. room adds
@@ -66,7 +67,21 @@ class Scenarios(Baseline):
 
     def __init__(self, link: Link, source: random.Random) -> None:
         super().__init__(link, source)
-        self.plans: List[Plan] = []  # those of the scenarios
+        self.paths: Dict[int, List[int]] = {good: [] for good in HOTELS}  # quotes by closings
+
+    def predict(self, good: int) -> float:
+        """What an open night is expected to cost, in dollars: also if its quote goes on as it did
+        since the last but one closing, for as many minutes as it is expected to be open."""
+        path, minutes = self.paths[good], (len(self.open) + 1) / 2
+        rise = (path[-1] - path[-2:-4:-1][-1]) / (min(len(path), 3) - 1) if len(path) > 1 else 0
+        return max(super().predict(good), self.quotes[good] + PACE * rise * minutes)
+
+    def replan(self) -> None:
+        """Plans, after a look at how the quotes moved."""
+        for good in self.open:
+            if len(self.paths[good]) < 8 - len(self.open):
+                self.paths[good].append(self.quotes[good])
+        super().replan()
 
     def drawn(self, good: int) -> float:
         """A closing price of an open night, in dollars."""

@@ -9,7 +9,7 @@ from __future__ import annotations
 
 import copy
 from itertools import repeat
-from typing import Any, Dict, List, Optional, Sequence, Set, Tuple, TypeVar
+from typing import Any, Dict, List, Optional, Sequence, Set, Tuple, TypeVar, Union
 
 from geesefuton.records.games import (AUCTIONS, CLOCK, FLIGHTS, HOTELS, HOUSE, SEATS, TICKETS,
                                       TICKS, Auction, Game)
@@ -18,8 +18,10 @@ from geesefuton.records.replies import No, Points
 from geesefuton.records.rules import MINUTE, next_price, prices_of
 
 Board = Tuple[int, int, bool]  # the bid, the ask, and whether the auction is closed
-Kept = TypeVar("Kept", bound="_Book")
 Side = Tuple[int, int, int]  # an agent, its units (below 0: sold), and the dollars for each
+
+
+Kept = TypeVar("Kept", bound="_Book")
 
 
 class _Book:
@@ -254,7 +256,7 @@ class Books:
     def standing(self, agent: int) -> Dict[int, Points]:
         """What stands of an agent's bids for flights and rooms, by goods: units and dollars for
         each."""
-        books = [*self._flights, *self._nights]
+        books: List[Union[FlightBook, NightBook]] = [*self._flights, *self._nights]
         return {good: book.bids[agent] for good, book in enumerate(books) if agent in book.bids}
 
     def price_for(self, good: int, agent: int) -> Optional[int]:
@@ -309,13 +311,13 @@ class Books:
         other._tickets = [tickets.copied() for tickets in self._tickets]
         return other
 
-    def _timed(self, good: int) -> "FlightBook | NightBook | TicketBook":
+    def _timed(self, good: int) -> Union[FlightBook, NightBook, TicketBook]:
         """An auction as of this tick. A flight in which no bid stands is not updated before."""
         if good in FLIGHTS:
             self._flights[good].update(self.tick)
         return self._auction(good)
 
-    def _auction(self, good: int) -> "FlightBook | NightBook | TicketBook":
+    def _auction(self, good: int) -> Union[FlightBook, NightBook, TicketBook]:
         if good in FLIGHTS:
             return self._flights[good]
         return (self._nights[good - HOTELS.start] if good in HOTELS

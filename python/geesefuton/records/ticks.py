@@ -67,9 +67,11 @@ def ticks_of_cash(log: Log, ticks: Sequence[Sequence[int]],
     """
     known, cash, now = iter(readings), [], 0
     for entry in log.cash:
-        tick = (ticks[entry.good][entry.position] if isinstance(entry, Post)
-                else next(known, None))
-        now = now if tick is None else max(now, tick)
+        if isinstance(entry, Post):
+            now = max(now, ticks[entry.good][entry.position])
+        else:
+            tick = next(known, None)
+            now = max(now, tick or 0)
         cash.append(now)
     return cash
 
@@ -93,16 +95,16 @@ def ticks_by_script(game: Game, log: Log, script: str) -> Ticks:
             ticks[good].append(tick)
         if request is None:
             continue
-        good, agent = request.auction, int(line[0])
+        asked, agent = request.auction, int(line[0])
         if request.do == "cash" and reader == agent:
             readings.append(tick)
             reader = next(callers, None)
-        elif good is not None and good in GOODS:
+        elif asked is not None and asked in GOODS:
             # A request that was refused before its auction was asked has no entry.
-            at, history = len(ticks[good]), log.histories[good]
+            at, history = len(ticks[asked]), log.histories[asked]
             if at < len(history) and history[at].caller == agent and \
                     (history[at].call.do, history[at].call.points) == (request.do, request.points):
-                ticks[good].append(tick)
+                ticks[asked].append(tick)
     for good in GOODS:
         if len(ticks[good]) != len(log.histories[good]):
             raise ScriptError(f"it lacks calls of good {good}")
