@@ -257,16 +257,20 @@ class Baseline:
                 plan = plan.with_units(good, units)
                 worths.append(plan.worth())
             gains = [more - less - least for more, less in zip(worths, worths[1:])]
-            bids = sorted([int(min(gain, price + SHADE * max(0, gain - price), 1000))
-                           for gain in gains if gain >= 1], reverse=True)
-            if not bids or bids == self.bids[good]:
-                continue
+            self.place(good, [int(min(gain, price + SHADE * max(0, gain - price), 1000))
+                              for gain in gains if gain >= 1])
+
+    def place(self, good: int, bids: List[int]) -> None:
+        """Bids for the rooms of a night. If that is too low, it raises what has to beat the quote."""
+        bids = sorted(bids, reverse=True)
+        if not bids or bids == self.bids[good]:
+            return
+        words = self.link.bid(good, *((1, bid) for bid in bids)).split()
+        if words[1:3] == ["no", "belowquote"] and (self.winning(good) or bids[0] > int(words[4])):
+            need, beaten = int(words[3]), min(int(words[4]), 10000)
+            bids = [max(bid, beaten) for bid in (bids + [0] * need)[:need]] + bids[need:]
             words = self.link.bid(good, *((1, bid) for bid in bids)).split()
-            if words[1:3] == ["no", "belowquote"] and (winning or bids[0] > int(words[4])):
-                need, beaten = int(words[3]), min(int(words[4]), 10000)
-                bids = [max(bid, beaten) for bid in (bids + [0] * need)[:need]] + bids[need:]
-                words = self.link.bid(good, *((1, bid) for bid in bids)).split()
-            self.bids[good] = bids if words[1] == "taken" else self.bids[good]
+        self.bids[good] = bids if words[1] == "taken" else self.bids[good]
 
     def trade(self) -> None:
         """Bids for one more of each ticket and offers one, at what that changes in these stays."""

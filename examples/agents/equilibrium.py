@@ -144,19 +144,7 @@ class Equilibrium(Baseline):
             gains = sorted([more - less for more, less in zip(worths, worths[1:])], reverse=True)
             # Where the n-th room's bid is the price, each dollar of it is paid for n rooms.
             bids = [int(min(MOST, gain - GAP * number)) for number, gain in enumerate(gains)]
-            bids = [bid for bid in bids if bid >= 1]
-            self.place(good, bids, winning)
-
-    def place(self, good: int, bids: List[int], winning: int) -> None:
-        """Bids for the rooms of a night, and keeps those that win."""
-        if not bids or bids == self.bids[good]:
-            return
-        words = self.link.bid(good, *((1, bid) for bid in bids)).split()
-        if words[1:3] == ["no", "belowquote"] and (winning or bids[0] > int(words[4])):
-            need, beaten = int(words[3]), min(int(words[4]), 10000)
-            bids = [max(bid, beaten) for bid in (bids + [0] * need)[:need]] + bids[need:]
-            words = self.link.bid(good, *((1, bid) for bid in bids)).split()
-        self.bids[good] = bids if words[1] == "taken" else self.bids[good]
+            self.place(good, [bid for bid in bids if bid >= 1])
 
 
 def play(link: Link, pause: float) -> None:

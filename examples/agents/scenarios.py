@@ -120,19 +120,7 @@ class Scenarios(Baseline):
                 worth = sum(sure) / len(sure)
                 bid = int(min(MOST, worth, price + SHADE * max(0.0, worth - price)))
                 bids += [bid] if bid >= 1 else []
-            self.place(good, sorted(bids, reverse=True))
-
-    def place(self, good: int, bids: List[int]) -> None:
-        """Bids for the rooms of a night, and keeps those that win."""
-        winning = self.winning(good)
-        if not bids or bids == self.bids[good]:
-            return
-        words = self.link.bid(good, *((1, bid) for bid in bids)).split()
-        if words[1:3] == ["no", "belowquote"] and (winning or bids[0] > int(words[4])):
-            need, beaten = int(words[3]), min(int(words[4]), 10000)
-            bids = [max(bid, beaten) for bid in (bids + [0] * need)[:need]] + bids[need:]
-            words = self.link.bid(good, *((1, bid) for bid in bids)).split()
-        self.bids[good] = bids if words[1] == "taken" else self.bids[good]
+            self.place(good, bids)
 
 
 def play(link: Link, pause: float) -> None:

@@ -5,7 +5,7 @@ import subprocess
 import sys
 import unittest
 from collections import Counter
-from typing import Callable, Dict, List, Optional, Tuple
+from typing import Callable, Dict, List, Optional, Sequence, Tuple, Type
 
 from geesefuton.learning.market import Market
 from geesefuton.learning.rivals import SeatLink
@@ -22,6 +22,8 @@ sys.path.insert(0, str(AGENTS))
 import baseline  # noqa: E402
 import learn_baseline  # noqa: E402
 from baseline import Baseline, Flight, Plan, best_shows, span  # noqa: E402
+from equilibrium import Demand, Equilibrium, equilibrium  # noqa: E402
+from scenarios import Scenarios, added  # noqa: E402
 
 REFUSALS = ["no spent", "no syntax", "no toolong", "no auction", "no memory",
             *(f"no bid {fault}" for fault in range(1, 6)), "@7 no closed", "@7 no wrongcall",
@@ -195,11 +197,11 @@ class Games(unittest.TestCase):
         self.assertLess(max(seat.calls.values()), 1024)
         self.assertLess(seat.lines, 65536)
 
-    def games(self, few: bool) -> None:
+    def games(self, few: bool, kinds: Sequence[Type[Baseline]] = (Baseline,) * 3) -> None:
         market = begun(self, few)
         seats = [Watched(market, agent) for agent in range(8)]
         source = random.Random(3)
-        players = [Baseline(seat, source) for seat in seats[:3]]
+        players = [kind(seat, source) for kind, seat in zip(kinds, seats)]
         for _ in range(TICKS):
             for player in players:
                 self.assertTrue(player.round())
@@ -220,6 +222,10 @@ class Games(unittest.TestCase):
 
     def test_it_keeps_to_the_limits_where_quotes_are_live(self) -> None:
         self.games(few=True)
+
+    def test_its_kin_keep_to_the_limits(self) -> None:
+        for few in (False, True):
+            self.games(few, (Equilibrium, Scenarios))
 
     def test_it_survives_each_refusal(self) -> None:
         for refusal in REFUSALS:
@@ -300,6 +306,41 @@ class Games(unittest.TestCase):
                 self.assertTrue(tick - 5 <= agent.tick <= tick, (tick, agent.tick))
             market.advance()
         self.assertFalse(agent.round())
+
+
+class Equilibria(unittest.TestCase):
+    FARES = [320.0] * 8
+
+    def test_at_lower_prices_too_many_rooms_are_wanted_and_at_higher_ones_too_few(self) -> None:
+        demand = Demand([((2, 4), 100)] * 8, self.FARES)
+        prices = equilibrium(demand, [100.0] * 8)
+
+        def wanted(place: int, change: int) -> float:
+            moved = [price + change * (each == place) for each, price in enumerate(prices)]
+            return demand.at((moved[:4], moved[4:]))[place]
+
+        self.assertGreater(max(prices), 60)
+        for place, price in enumerate(prices):
+            self.assertLess(wanted(place, 60), 16)
+            self.assertTrue(price < 60 or wanted(place, -60) > 16, (place, price))
+
+    def test_clients_that_all_want_a_night_make_it_dearer(self) -> None:
+        first, last = (equilibrium(Demand([(days, 150)] * 8, self.FARES), [100.0] * 8)
+                       for days in ((1, 2), (4, 5)))
+        self.assertLess(first[7], last[7])
+        self.assertLess(last[4], first[4])
+
+
+class Worths(unittest.TestCase):
+    def test_a_room_adds_what_its_trip_loses_without_it(self) -> None:
+        # One client, one night of its stay, and all else too dear: the room carries the trip.
+        costs: List[List[float]] = [[baseline.NEVER] * 17 for _ in range(28)]
+        for good in (inbound(1), outbound(2)):
+            costs[good] = [300.0] * 17
+        costs[8] = [100.0] * 17
+        plan = Plan([Client(1, 2, 50, (0, 0, 0))] * 8, costs).settle()
+        self.assertEqual(added(plan)[8], [1000 - 600] * 8)
+        self.assertEqual(set(added(plan)[9]), {0})
 
 
 class Waiting(unittest.TestCase):

@@ -26,7 +26,7 @@ class Agents(unittest.TestCase):
                               timeout=60, env=variables(), check=False)
 
     def test_a_lost_link_ends_each_with_a_line(self) -> None:
-        for name in ("watcher", "planner", "trader", "baseline"):
+        for name in ("watcher", "planner", "trader", "baseline", "equilibrium", "scenarios"):
             with self.subTest(name=name):
                 server = Server([WELCOME])
                 done = self.run_agent(name, server.port)

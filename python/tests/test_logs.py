@@ -4,7 +4,7 @@ from typing import List
 
 from geesefuton.records.games import Package
 from geesefuton.records.logs import (Call, Entry, Log, LogError, Post, Reading, Trade, Verdict,
-                                     read_log, read_played, read_scores, trades_of)
+                                     read_log, read_scores, trades_of)
 from geesefuton.records.replies import Below, Done, No, Own, Sold, Taken
 from tests.helpers import PLAYED, SERVED_LOG, served_log
 
@@ -94,28 +94,13 @@ def text_of(entry) -> str:  # type: ignore[no-untyped-def]
 
 
 class PlayedText(unittest.TestCase):
-    def test_replies_and_log(self) -> None:
-        played = read_played(PLAYED.read_bytes())
+    def test_a_log_of_a_script_has_no_links(self) -> None:
         text = PLAYED.read_text()
-        self.assertEqual(played.log, read_log(text[text.index("taclog 1"):]))
-        self.assertEqual(len(played.replies), text[:text.index("taclog 1")].count("\n"))
-        self.assertEqual(played.replies[0], (0, Taken(0, 2, 0)))
-        self.assertEqual((played.log.kind, played.log.links, played.log.ends), ("play", (), ()))
-        self.assertEqual(played.log.seats(), list(range(8)))
-        self.assertEqual([score.score for score in played.log.scores],
+        log = read_log(text[text.index("taclog 1"):])
+        self.assertEqual((log.kind, log.links, log.ends), ("play", (), ()))
+        self.assertEqual(log.seats(), list(range(8)))
+        self.assertEqual([score.score for score in log.scores],
                          [1491, -516, 45, 0, 0, 0, 0, 0])
-
-    def test_bad_reply_lines(self) -> None:
-        text = PLAYED.read_text()
-        for line, why in (("0 @1 taken", "is not a reply"), ("8 @1 done", "a reply line or"),
-                          ("", "a reply line or")):
-            with self.assertRaises(LogError) as caught:
-                read_played(f"0 @0 done\n{line}\n{text}")
-            self.assertEqual(caught.exception.line, 2)
-            self.assertIn(why, str(caught.exception))
-        with self.assertRaises(LogError) as caught:
-            read_played("0 @0 done\n0 bye\n")
-        self.assertEqual(caught.exception.line, 3)
 
 
 class Faults(unittest.TestCase):

@@ -12,7 +12,7 @@ from unittest import mock
 
 from geesefuton.experiments import report_command as report
 from geesefuton.records import report_page
-from geesefuton.records.logs import Log, read_played
+from geesefuton.records.logs import Log, read_log
 from geesefuton.records.prices import all_events
 from geesefuton.records.report_page import Heading, ranks, why_nothing
 from geesefuton.records.rules import prices_of
@@ -182,7 +182,7 @@ class Page(unittest.TestCase):
 class Scripts(unittest.TestCase):
     def test_a_game_from_a_script(self) -> None:
         game = report.read_game((TOP / "examples" / "first.game").read_text())
-        log = read_played(PLAYED.read_bytes()).log
+        log = read_log(report.log_in(PLAYED.read_bytes()))
         text = report_page.page(game, log, all_events(game, log), Heading("g", "t"), game.words)
         self.assertIn("played from a script or in turns", text)
         self.assertNotIn("Rooms:", text)

@@ -15,7 +15,8 @@ from geesefuton.records.games import TICKS, Game
 from geesefuton.records.order import order_of_turn
 from geesefuton.records.replies import Own, Quote, ReplyError, read_words, text_of_points
 
-SHIPPED = {"baseline": True, "planner": False, "trader": False, "watcher": False}  # if it draws
+SHIPPED = {"baseline": True, "equilibrium": True, "scenarios": True, "planner": False,
+           "trader": False, "watcher": False}  # if it draws
 
 
 class SeatLink:

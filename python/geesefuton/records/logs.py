@@ -1,4 +1,4 @@
-"""The one reader of logs, and of the reply lines that `tac play` writes before a log.
+"""The one reader of logs.
 
 It reads lines by their forms, and finds each number where it is used. Whether a log is complete and
 by the rules is judged by `tac audit` alone: ranges that nothing here rests on, and certificates,
@@ -10,8 +10,8 @@ from dataclasses import dataclass
 from typing import List, NoReturn, Optional, Sequence, Tuple, Union
 
 from geesefuton.records.games import GOODS, PACKAGES, SEATS, Package
-from geesefuton.records.replies import (NUMBER, SIGNED, Points, Reply, ReplyError, read_entry_reply,
-                                        read_points, read_words)
+from geesefuton.records.replies import (NUMBER, SIGNED, Points, Reply, ReplyError,
+                                        read_entry_reply, read_points)
 
 MOST_BYTES = 67_108_864
 
@@ -141,14 +141,6 @@ class Log:
         return sum(entry.caller == agent for history in self.histories for entry in history)
 
 
-@dataclass(frozen=True)
-class Played:
-    """What `tac play` writes: the agent and the reply of each request, and then the log."""
-
-    replies: Tuple[Tuple[int, Reply], ...]
-    log: Log
-
-
 _GOOD = r"(1?[0-9]|2[0-7])"
 _POINT = r"\(-?(?:[1-9]|1[0-6]) [1-9][0-9]{0,4}\)"  # units, and dollars for each
 _LINK = re.compile(rf"link {NUMBER} (?:seated ([0-7])|(syntax|wrongword|taken|lost))")
@@ -161,7 +153,6 @@ _TRADE = re.compile(rf"trade ([0-8]) ([0-8]) ({NUMBER}) ({NUMBER})")
 _CASH = re.compile(rf"([0-8]) post {_GOOD} ({NUMBER})((?: {SIGNED}){{9}})|([0-7]) read = ({SIGNED})")
 _SCORE = rf"({NUMBER}) ({SIGNED}) ({NUMBER}) ({SIGNED})"
 _PACKAGE = r"(?:none|([01]) ([1-4]) ([2-5]) ([0-4]) ([0-4]) ([0-4]))"
-_REPLY = re.compile(r"([0-7]) (.*)")
 _KNOWN = frozenset(PACKAGES)
 
 
@@ -225,32 +216,6 @@ class _Lines:
         raise LogError(self.number, why)
 
 
-def read_log(text: Union[str, bytes]) -> Log:
-    """Reads a log.
-
-    Raises:
-        LogError: The text is no log; the error names the first bad line.
-    """
-    return _read_log(_Lines(text))
-
-
-def read_played(text: Union[str, bytes]) -> Played:
-    """Reads what `tac play` writes: reply lines, and then a log.
-
-    Raises:
-        LogError: The text is not that; the error names the first bad line.
-    """
-    lines = _Lines(text)
-    replies: List[Tuple[int, Reply]] = []
-    while lines.look() != "taclog 1":
-        found = lines.take(_REPLY, "a reply line or the line `taclog 1`")
-        try:
-            replies.append((int(found[1]), read_words(found[2])))
-        except ReplyError as fault:
-            lines.fail(str(fault))
-    return Played(tuple(replies), _read_log(lines))
-
-
 def read_scores(text: Union[str, bytes]) -> Tuple[Score, ...]:
     """Reads the sheet of a log alone, which takes a hundredth of the time of the whole.
 
@@ -262,7 +227,13 @@ def read_scores(text: Union[str, bytes]) -> Tuple[Score, ...]:
     return _read_sheet(lines)
 
 
-def _read_log(lines: _Lines) -> Log:
+def read_log(text: Union[str, bytes]) -> Log:
+    """Reads a log.
+
+    Raises:
+        LogError: The text is no log; the error names the first bad line.
+    """
+    lines = _Lines(text)
     lines.exact("taclog 1")
     kind = lines.take("play|serve", "`play` or `serve`")[0]
     links: List[Verdict] = []

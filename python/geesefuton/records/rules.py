@@ -4,9 +4,7 @@ The rules of `tac` are proved in its crates. This is the same in Python, for pag
 """
 
 from functools import lru_cache
-from itertools import accumulate
-from operator import add, mod
-from typing import List, Sequence, Tuple
+from typing import List, Tuple
 
 from geesefuton.records.games import FLIGHTS, HOTELS, TICKS, Flight, Game
 
@@ -28,30 +26,18 @@ def _moves(bound: int) -> Tuple[Tuple[int, ...], Tuple[int, ...]]:
     return tuple(lows), tuple(counts)
 
 
-def _kept_in(price: int, move: int) -> int:
-    """A price after a move, in dollars."""
-    return min(max(price + move, LOWEST), HIGHEST)
-
-
-def _path(price: int, lows: Sequence[int], counts: Sequence[int],
-          draws: Sequence[int]) -> List[int]:
-    """A price, and those that follow by the moves and draws of ticks, in dollars."""
-    moves = list(map(add, lows, map(mod, draws, counts)))
-    prices = list(accumulate(moves, initial=price))
-    if LOWEST <= min(prices) and max(prices) <= HIGHEST:
-        return prices  # as of most flights, and without a call for each tick
-    return list(accumulate(moves, _kept_in, initial=price))
-
-
 def next_price(flight: Flight, price: int, tick: int, draw: int) -> int:
     """The price of a flight in dollars after the update of a tick with a draw."""
     lows, counts = _moves(flight.bound)
-    return _kept_in(price, lows[tick - 1] + draw % counts[tick - 1])
+    return min(max(price + lows[tick - 1] + draw % counts[tick - 1], LOWEST), HIGHEST)
 
 
 def prices_of(flight: Flight) -> List[int]:
     """A flight's prices in dollars, before the first tick and after each of the ticks 1 to 53."""
-    return _path(flight.first, *_moves(flight.bound), flight.draws)
+    prices = [flight.first]
+    for low, count, draw in zip(*_moves(flight.bound), flight.draws):
+        prices.append(min(max(prices[-1] + low + draw % count, LOWEST), HIGHEST))
+    return prices
 
 
 def clock_ticks(game: Game, good: int) -> List[int]:
