@@ -32,8 +32,8 @@ ROOMS, OTHERS = 16, 56  # rooms of a night; clients of the seven other agents
 PREMIUMS = (50, 150)  # dollars: from what to what clients value the better hotel
 SHOWS = (0, 75, 102, 107, 107)  # dollars that tickets add to a stay of 0, 1, .. nights
 ROUNDS, STEP, SHRINK = 60, 6.0, 0.95  # of tatonnement; dollars for a room that is in excess at first
-WEIGHT = 0.5  # of the equilibrium's price in a prediction; the rest is that of baseline.py
-GAP = 4  # dollars between two bids that stand near the price of a night
+WEIGHT = 0.25  # of the equilibrium's price in a prediction; the rest is that of baseline.py
+GAP = 12  # dollars between two bids that stand near the price of a night
 MOST = 1000  # dollars of a bid
 Prices = Tuple[List[float], List[float]]  # of the four nights of each hotel, Shanties first
 

@@ -125,7 +125,7 @@ class Environment(Parallel):
         self._falses: Values = dict.fromkeys(self._seats, False)
         self._rooms, self._live, self._endow, self._rounds = rooms, live, endow, rounds
         self._has_hindsight = hindsight
-        self._seeds = random.Random()  # of the games that have none given
+        self._seeds: Optional[random.Random] = None  # draws those of games that have none given
         self._last: Optional[Tuple[int, Game, str]] = None  # the last made game and its seed
         self._spaces: Values = {}
         self._market: Optional[Market] = None
@@ -197,14 +197,17 @@ class Environment(Parallel):
             ProgramError: There is no program, or it ended with an error.
             OSError: There is no room for pipes.
         """
-        is_drawn = seed is None
-        seed = self._seeds.randrange(MOST_SEED + 1) if seed is None else _seed(seed)
+        source = self._seeds
+        if seed is None:
+            seed = (source or random.SystemRandom()).randrange(MOST_SEED + 1)
+        else:
+            seed = _seed(seed)
+            source = random.Random(seed)
         self.close()
         game, text = (self._given, "") if self._given else self._made(seed)
         market = Market(game, text)
         self.seed = None if self._given else seed
-        if not is_drawn:
-            self._seeds.seed(seed)
+        self._seeds = source
         self._clear(market.text)
         self._market = market
         self._books, self._boards = market.books, tuple(market.books.boards)
