@@ -3,6 +3,7 @@ from dataclasses import replace
 from typing import List
 
 from geesefuton.records.games import HOTELS
+from geesefuton.records.books import Books
 from geesefuton.records.logs import Call, Entry, Trade
 from geesefuton.records.prices import MarketEvent, all_events, events_of
 from geesefuton.records.replies import Below, Done, No, Own, Sold, Taken
@@ -27,7 +28,7 @@ class Hotels(unittest.TestCase):
 
     def events(self, live: bool, *entries: Entry) -> List[MarketEvent]:
         game = replace(served_game().with_rooms([2] * 8, live), closing=(9, 8, *range(10, 16)))
-        return list(events_of(game, 8, entries))
+        return list(events_of(game, 8, entries, Books(game)))
 
     def test_by_the_minute_only_the_clock_publishes(self) -> None:
         got = self.events(False, bid(0, (1, 50)), bid(1, (1, 60)), PUBLISH, bid(2, (1, 90)), CLOSE)
@@ -64,7 +65,7 @@ class Hotels(unittest.TestCase):
         got = [event for event in self.events(False, close) if event.what == "trade"]
         self.assertEqual(got, [MarketEvent("trade", 6, 8, 0, 1, 2, 5)])
         entry = Entry(2, Call("bid", ((-1, 60),)), Taken(None, 0, 1), (Trade(4, 2, 1, 70),))
-        self.assertEqual(list(events_of(served_game(), 20, [entry])),
+        self.assertEqual(list(events_of(served_game(), 20, [entry], Books(served_game()))),
                          [MarketEvent("trade", None, 20, 0, 4, 1, 70),
                           MarketEvent("trade", None, 20, 0, 2, -1, 70)])
 
@@ -73,7 +74,7 @@ class Flights(unittest.TestCase):
     """Flight 3, whose price each update moves by its draw."""
 
     def events(self, *entries: Entry) -> List[MarketEvent]:
-        return list(events_of(served_game(), 3, entries))
+        return list(events_of(served_game(), 3, entries, Books(served_game())))
 
     def test_updates_and_trades(self) -> None:
         flight = served_game().flights[3]
@@ -92,7 +93,7 @@ class Flights(unittest.TestCase):
 
     def test_the_house_has_no_trades_of_its_own(self) -> None:
         entry = Entry(4, Call("bid", ((1, 5),)), Taken(None, 0, 1), (Trade(8, 4, 1, 70),))
-        self.assertEqual(list(events_of(served_game(), 20, [entry])),
+        self.assertEqual(list(events_of(served_game(), 20, [entry], Books(served_game()))),
                          [MarketEvent("trade", None, 20, 0, 4, -1, 70)])
 
 

@@ -37,9 +37,9 @@ class MarketEvent(NamedTuple):
     dollars: int
 
 
-def events_of(game: Game, good: int, history: Sequence[Entry]) -> Iterator[MarketEvent]:
-    """The prices and trades of an auction, in order."""
-    books = Books(game)
+def events_of(game: Game, good: int, history: Sequence[Entry],
+              books: Books) -> Iterator[MarketEvent]:
+    """The prices and trades of an auction, in order, by the books of the game before it."""
     has_prices, price = good not in TICKETS, books.boards[good][1]
     if has_prices:
         yield MarketEvent("price", 0, good, None, None, None, price)
@@ -59,4 +59,6 @@ def events_of(game: Game, good: int, history: Sequence[Entry]) -> Iterator[Marke
 
 def all_events(game: Game, log: Log) -> List[MarketEvent]:
     """The prices and trades of all auctions, by good."""
-    return [event for good in GOODS for event in events_of(game, good, log.histories[good])]
+    books = Books(game)
+    return [event for good in GOODS
+            for event in events_of(game, good, log.histories[good], books)]

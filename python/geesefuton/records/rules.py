@@ -4,7 +4,7 @@ The rules of `tac` are proved in its crates. This is the same in Python, for pag
 """
 
 from functools import lru_cache
-from typing import List, Tuple
+from typing import Iterator, List, Sequence, Tuple
 
 from geesefuton.records.games import FLIGHTS, HOTELS, TICKS, Flight, Game
 
@@ -26,18 +26,23 @@ def _moves(bound: int) -> Tuple[Tuple[int, ...], Tuple[int, ...]]:
     return tuple(lows), tuple(counts)
 
 
+def _path(bound: int, price: int, tick: int, draws: Sequence[int]) -> Iterator[int]:
+    """The prices after each update from a tick on, by its draws."""
+    lows, counts = _moves(bound)
+    for low, count, draw in zip(lows[tick - 1:], counts[tick - 1:], draws):
+        price += low + draw % count
+        price = LOWEST if price < LOWEST else HIGHEST if price > HIGHEST else price
+        yield price
+
+
 def next_price(flight: Flight, price: int, tick: int, draw: int) -> int:
     """The price of a flight in dollars after the update of a tick with a draw."""
-    lows, counts = _moves(flight.bound)
-    return min(max(price + lows[tick - 1] + draw % counts[tick - 1], LOWEST), HIGHEST)
+    return next(_path(flight.bound, price, tick, (draw,)))
 
 
 def prices_of(flight: Flight) -> List[int]:
     """A flight's prices in dollars, before the first tick and after each of the ticks 1 to 53."""
-    prices = [flight.first]
-    for low, count, draw in zip(*_moves(flight.bound), flight.draws):
-        prices.append(min(max(prices[-1] + low + draw % count, LOWEST), HIGHEST))
-    return prices
+    return [flight.first, *_path(flight.bound, flight.first, 1, flight.draws)]
 
 
 def clock_ticks(game: Game, good: int) -> List[int]:
