@@ -134,15 +134,14 @@ class Arguments(unittest.TestCase):
                 self.assertEqual(environment.num_agents, 8)
 
     def test_games_without_seeds_differ_between_workers(self) -> None:
-        with mock.patch("geesefuton.learning.market.Stepped"):
-            for first in (None, 3):
-                workers, seen = [Environment() for _ in range(8)], set()
+        for firsts in ([None] * 8, list(range(8))):
+            workers, seen = [Environment() for _ in range(8)], []
+            with mock.patch("geesefuton.learning.market.Stepped"):
                 for number in range(50):
-                    for place, worker in enumerate(workers):
-                        is_given = first is not None and number == 0
-                        worker.reset(first + place if first is not None and is_given else None)
-                        seen.add(worker.seed)
-                self.assertEqual(len(seen), 400)
+                    for first, worker in zip(firsts, workers):
+                        worker.reset(first if number == 0 else None)
+                        seen.append(worker.seed)
+            self.assertEqual(len(set(seen)), 400)
 
     def test_spaces_are_the_same_at_each_call(self) -> None:
         with fake_gymnasium.installed():
