@@ -134,9 +134,11 @@ class Arguments(unittest.TestCase):
                 self.assertEqual(environment.num_agents, 8)
 
     def test_games_without_seeds_differ_between_workers(self) -> None:
+        game = made_game(1)
         for firsts in ([None] * 8, list(range(8))):
             workers, seen = [Environment() for _ in range(8)], []
-            with mock.patch("geesefuton.learning.market.Stepped"):
+            with mock.patch("geesefuton.learning.environment.Market"), \
+                    mock.patch("geesefuton.learning.environment.made_game", return_value=game):
                 for number in range(50):
                     for first, worker in zip(firsts, workers):
                         worker.reset(first if number == 0 else None)
