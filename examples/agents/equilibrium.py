@@ -128,8 +128,8 @@ class Equilibrium(Baseline):
         if self.scarce:
             return learned
         self.forecast()
-        return max(1, self.quotes[good],
-                   WEIGHT * self.prices[good - HOTELS[0]] + (1 - WEIGHT) * learned)
+        price = WEIGHT * self.prices[good - HOTELS[0]] + (1 - WEIGHT) * learned
+        return max(1, self.quotes[good], round(price))  # whole dollars, so that sums are exact
 
     def bid_for_rooms(self) -> None:
         """Bids for planned rooms, and for those that win, which a new bid may not give up."""

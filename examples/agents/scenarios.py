@@ -74,7 +74,7 @@ class Scenarios(Baseline):
         since the last but one closing, for as many minutes as it is expected to be open."""
         path, minutes = self.paths[good], (len(self.open) + 1) / 2
         rise = (path[-1] - path[-2:-4:-1][-1]) / (min(len(path), 3) - 1) if len(path) > 1 else 0
-        return max(super().predict(good), self.quotes[good] + PACE * rise * minutes)
+        return max(super().predict(good), round(self.quotes[good] + PACE * rise * minutes))
 
     def replan(self) -> None:
         """Plans, after a look at how the quotes moved."""
@@ -87,7 +87,7 @@ class Scenarios(Baseline):
         """A closing price of an open night, in dollars."""
         quote = self.quotes[good]
         factor = sum(-math.log(1 - self.source.random()) for _ in range(RISE)) / RISE
-        return max(1, quote + factor * (self.predict(good) - quote))
+        return max(1, round(quote + factor * (self.predict(good) - quote)))
 
     def scenario(self) -> Plan:
         """The best plan found at drawn prices, from the plan at predicted ones."""
