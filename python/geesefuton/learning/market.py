@@ -150,7 +150,7 @@ class Market:
         """The same game in a process of its own, which goes on by itself."""
         other = copy.copy(self)
         other._script, other._lines = self._script[:], self._lines[:]
-        other.books = memory[id(self.books)] = copy.deepcopy(self.books)
+        other.books = copy.deepcopy(self.books, memory)
         other._process, script, other._waiting = Stepped(self.text.encode()), self.script, b""
         other._process.exchange(script, script.count(b"\n") - self.books.tick)
         return other
