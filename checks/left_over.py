@@ -65,12 +65,14 @@ class Script(NamedTuple):
         words: Its file and its words. PORT and PAGE stand for free ports.
         beside: The same of a script that it plays with, which is started before it.
         reader: The file of a script that reads what it prints; "" for none.
+        stays: Whether it goes on until a signal ends it.
     """
 
     name: str
     words: List[str]
     beside: List[str] = []
     reader: str = ""
+    stays: bool = False
 
 
 class Run(NamedTuple):
@@ -89,8 +91,8 @@ class Run(NamedTuple):
 
 
 def scripts(hanger: str, browser: str, record: str) -> Iterator[Script]:
-    """Each script; the lobby comes three times, waiting for its agents, running a game, and showing
-    one on a page.
+    """Each script; the lobby comes four times, waiting for its agents, running a game, and showing
+    one on a page or letting it be played by hand.
 
     Args:
         hanger: The file of an agent that hangs.
@@ -113,15 +115,16 @@ def scripts(hanger: str, browser: str, record: str) -> Iterator[Script]:
     yield Script("lobby, waiting", [*lobby, "--start", "4"])
     yield Script("lobby, game", [*lobby, "--start", "0.1"])
     yield Script("lobby, page", [*lobby, "--start", "0.1", "--page", "PAGE"])
-    yield Script("live page", ["tools/live", journal, "PORT", "--until-over"])
+    yield Script("live page", ["tools/live", journal, "PORT"], stays=True)
+    yield Script("lobby, by hand", [*lobby, "--start", "0.1", "--by-hand", "PAGE"])
     yield Script("recovery", ["tools/recover", journal])
     yield Script("vouching", ["tools/vouch", str(data / "served.game"), str(data / "served.log"),
                               record])
     yield Script("room", ["tools/room", "--port", "PORT", "--page", "PAGE", "--pace", "50",
                           "--wait", "0.3", "--after", "1", "--games", "1"],
                  [planner, "localhost", "PORT", "seat0", "--pause", "0.05", "--again"])
-    yield Script("seat", ["tools/seat", "localhost", "PORT", "seat0", "--until-over"],
-                 [*lobby, "--start", "1.5"], browser)
+    yield Script("seat", ["tools/seat", "localhost", "PORT", "seat0"], [*lobby, "--start", "1.5"],
+                 browser, stays=True)
     yield Script("learner", ["examples/learner.py", "--rounds", "2", "--games", "2", "--unseen",
                              "10"])
     yield Script("game in steps", ["examples/step.py"])
@@ -205,7 +208,7 @@ def main() -> int:
             (folder / f"twotrips.{side}").write_text(line)
         tried_scripts = scripts(str(hanger), str(browser), str(folder / "twotrips"))
         runs = [Run(script, number, moment) for script in tried_scripts
-                for number in ENDS for moment in (MOMENTS if number else (0.0,))
+                for number in ENDS[script.stays:] for moment in (MOMENTS if number else (0.0,))
                 if script.name.startswith(given.only or "")]
         bad = 0
         with ThreadPoolExecutor(given.at_once) as pool:

@@ -12,7 +12,7 @@ import sys
 import tempfile
 from pathlib import Path
 from types import FrameType, TracebackType
-from typing import Any, Callable, Optional, Sequence, Type, Union
+from typing import Any, Callable, List, Optional, Sequence, Type, Union
 
 from geesefuton.program import ProgramError
 
@@ -88,6 +88,14 @@ def _priority_of_session(process: int) -> int:
         OSError: The process has ended, or the system does not share by sessions.
     """
     return int(Path(f"/proc/{process}/autogroup").read_text(encoding="ascii").split()[-1])
+
+
+def python_words(module: str) -> List[str]:
+    """The words that run the `main` of a module of this package in a Python of its own, which takes
+    no code from the current folder, nor from where variables point."""
+    package = str(Path(__file__).resolve().parents[1])
+    return [sys.executable, "-I", "-c", f"import sys; sys.path.insert(0, {package!r}); "
+            f"from {module} import main; sys.exit(main())"]
 
 
 def free_port() -> int:

@@ -1,16 +1,13 @@
 """When a game begins, by which words its seats are taken, and how long its pages stay."""
 
 import io
-import subprocess
 import unittest
-from pathlib import Path
 from types import SimpleNamespace
 from typing import Any, Optional, Tuple
 from unittest import mock
 
 from geesefuton.hosting import events, lobby
 from geesefuton.hosting.lobby import Lobby
-from geesefuton.hosting.page_process import PageProcess, SeatsProcess
 from geesefuton.hosting.settings import LobbySettings
 from geesefuton.processes import free_port
 from tests.lobbies import GAME, WORDS, Agent, Case, Host
@@ -109,28 +106,26 @@ class Hosting(Case):
 
     def test_how_long_pages_stay_after_the_game(self) -> None:
         for stays in (False, True):
-            pages = [mock.Mock(fault=mock.Mock(return_value="")) for _ in range(2)]
-            with mock.patch.object(lobby, "PageProcess", return_value=pages[0]), \
-                    mock.patch.object(lobby, "SeatsProcess", return_value=pages[1]):
+            page = mock.Mock(look=mock.Mock(return_value=""))
+            with mock.patch.object(lobby, "PageProcess", return_value=page):
                 host = Host(self.folder, pace=2, start=0, linger=0, stays=stays, page=free_port(),
                             by_hand=free_port(), journal=self.folder / f"{stays}.journal")
                 host.end()
-            first, second = (page.wait.call_args[0][0] for page in pages)
-            self.assertTrue(first == NEVER if stays else 10 <= first <= 60, first)
-            self.assertTrue(2 <= second <= 10, second)
-            for page in pages:
-                page.end.assert_called_once_with()
+            showing = page.wait.call_args[0][0]
+            self.assertTrue(showing == NEVER if stays else 10 <= showing <= 60, showing)
+            self.assertEqual(page.close.call_count, int(not stays))
+            page.end.assert_called_once_with()
 
-    def test_a_page_that_ends_in_the_game_is_told_once(self) -> None:
-        pages = [mock.Mock(fault=mock.Mock(side_effect=[f"{name} has ended", *[""] * 999]))
-                 for name in ("the page", "the page for playing by hand")]
-        with mock.patch.object(lobby, "PageProcess", return_value=pages[0]), \
-                mock.patch.object(lobby, "SeatsProcess", return_value=pages[1]):
-            host = Host(self.folder, pace=5, start=0, linger=0, page=free_port(),
-                        by_hand=free_port())
-            host.end()
-        self.assertEqual([event.text for event in host.of(events.Warned)],
-                         ["the page has ended", "the page for playing by hand has ended"])
+    def test_what_the_page_says_in_the_game_is_told(self) -> None:
+        for ports in ({"page": free_port()}, {"by_hand": free_port()}):
+            page = mock.Mock(look=mock.Mock(side_effect=["the page has ended", *[""] * 999]))
+            with mock.patch.object(lobby, "PageProcess", return_value=page) as made:
+                host = Host(self.folder, pace=5, start=0, linger=0, **ports)
+                host.end()
+            self.assertEqual([event.text for event in host.of(events.Warned)],
+                             ["the page has ended"])
+            self.assertEqual(made.call_args[0][2:4], (WORDS, host.lobby.port))
+            (self.folder / "my.journal").unlink()
 
 
 class Limits(Case):
@@ -151,19 +146,6 @@ class Limits(Case):
         words, _, _, journal, patience, silence = made.call_args[0]
         self.assertEqual((words, journal.file, patience, silence),
                          (WORDS, self.folder / "my.journal", 7.0, 9.0))
-
-
-class Outputs(unittest.TestCase):
-    """Where the processes beside the game print."""
-
-    def output(self, make: Any, *more: Any) -> Any:
-        children = mock.Mock()
-        make(children, LobbySettings(GAME, 7000, 5, None, page=7080, by_hand=7090), *more)
-        return children.start.call_args[1]["stdout"]
-
-    def test_the_host_is_shown_the_addresses_of_seats_and_nothing_of_the_page(self) -> None:
-        self.assertEqual(self.output(PageProcess, Path("my.journal")), subprocess.DEVNULL)
-        self.assertEqual(self.output(SeatsProcess, WORDS, 7000), 2)
 
 
 if __name__ == "__main__":

@@ -8,8 +8,6 @@ import socket
 import subprocess
 import sys
 import tempfile
-import threading
-import time
 import unittest
 from argparse import Namespace
 from pathlib import Path
@@ -17,9 +15,8 @@ from typing import Any, Iterator, Optional
 from unittest import mock
 
 from geesefuton.hosting import lobby, lobby_command
-from geesefuton.hosting.control import STOPPED, Control, Phase
+from geesefuton.hosting.control import STOPPED, Phase
 from geesefuton.hosting.lobby import Lobby, LobbyError
-from geesefuton.hosting.page_process import PageProcess, page_words, seats_words
 from geesefuton.hosting.settings import LobbySettings
 from geesefuton.processes import free_port
 from tests.helpers import TOP, python, variables
@@ -311,57 +308,6 @@ class Pages(Case):
         self.addCleanup(made._control.close)
         return made
 
-    def settings(self, **more: Any) -> LobbySettings:
-        return LobbySettings(GAME, 0, 5, None, page=8000, **more)
-
-    def page(self, poll: Optional[int] = None, **more: Any) -> PageProcess:
-        """A page whose process has ended with a status, or runs."""
-        self.children = mock.Mock()
-        self.children.start.return_value = mock.Mock(
-            poll=mock.Mock(return_value=poll), returncode=poll)
-        return PageProcess(self.children, self.settings(**more), Path("my.journal"))
-
-    def test_its_words(self) -> None:
-        self.assertEqual(page_words(self.settings(), Path("my.journal")), [
-            sys.executable, "-m", "geesefuton.hosting.live", "my.journal", "8000", "--late", "6",
-            "--until-over", "--agents", "0"])
-        self.assertEqual(page_words(self.settings(late=0, names=True), Path("j"))[5:],
-                         ["--late", "0", "--until-over", "--agents", "0", "--names"])
-        self.assertEqual(page_words(self.settings(start=20.0), Path("j"))[-2:], ["--start", "20.0"])
-        self.assertEqual(page_words(self.settings(stays=True), Path("j"))[-1], "--stay")
-        self.assertEqual(page_words(self.settings(form="json"), Path("j"))[-1], "--json")
-
-    def test_the_words_of_the_page_for_playing_by_hand(self) -> None:
-        settings = self.settings(by_hand=7090)
-        words = [sys.executable, "-m", "geesefuton.playing.seat_command", "127.0.0.1", "7000",
-                 "red", "blue", "--page", "7090", "--listen", "0.0.0.0", "--pace",
-                 str(settings.pace), "--until-over"]
-        self.assertEqual(seats_words(settings, ["red", "blue"], 7000), words)
-        settings = self.settings(by_hand=7090, form="json", advice=False)
-        self.assertEqual(seats_words(settings, ["red", "blue"], 7000),
-                         [*words, "--json", "--no-advice"])
-
-    def test_it_finds_the_package_and_knows_when_the_game_is_over(self) -> None:
-        page = self.page()
-        words, how = self.children.start.call_args
-        self.assertEqual(words[0][3], "my.journal")
-        self.assertIn(str(TOP / "python"), how["env"]["PYTHONPATH"].split(os.pathsep))
-        self.assertEqual(how["stdin"], subprocess.PIPE)
-        page.close()
-        self.children.start.return_value.stdin.close.assert_called_once_with()
-
-    def test_it_is_waited_for_until_it_ends_or_the_host_stops_it(self) -> None:
-        control = Control()
-        self.addCleanup(control.close)
-        began = time.monotonic()
-        self.page(0).wait(60.0, control)
-        page = self.page()
-        page.wait(0.05, control)
-        self.children.start.return_value.stdin.close.assert_called_once_with()
-        threading.Timer(0.1, control.stop).start()
-        page.wait(60.0, control)
-        self.assertLess(time.monotonic() - began, 30.0)
-
     def test_links_come_in_at_every_address(self) -> None:
         made = self.lobby(None)
         self.assertIn(made._listener.getsockname()[0], ("::", "0.0.0.0"))
@@ -393,23 +339,6 @@ class Pages(Case):
         with socket.create_server(("", 0)) as other, \
                 self.assertRaisesRegex(LobbyError, "port .*in use"):
             self.lobby(other.getsockname()[1])
-
-    def test_the_game_goes_on_without_it(self) -> None:
-        self.assertEqual(self.page().fault(), "")
-        page = self.page(1)
-        self.assertRegex(page.fault(), "page ended with exit status 1; the game goes")
-        self.assertEqual(page.fault(), "")  # it is told once
-
-    def test_one_that_ran_for_a_while_is_started_again(self) -> None:
-        page = self.page(1, start=20.0)
-        with mock.patch("geesefuton.hosting.page_process.STEADY", 0.0):
-            for _ in range(2):
-                self.assertRegex(page.fault(), "page ended with exit status 1, and was restarted")
-        self.assertIn("the game goes on without it", page.fault())
-        words = [call.args[0] for call in self.children.start.call_args_list]
-        self.assertEqual(len(words), 3)
-        self.assertEqual(words[0], [*words[1], "--start", "20.0"])
-        self.assertEqual(words[1], words[2])
 
     def test_without_a_journal_of_the_hosts_it_has_one_that_goes_away(self) -> None:
         for page, given, due in ((None, None, None), (None, "my.journal", "my.journal"),

@@ -19,15 +19,15 @@ from pathlib import Path
 from typing import Any, Dict, List, Optional, Tuple
 from unittest import mock
 
-from geesefuton.hosting.live import NICE, STALL, Live, _arguments
+from geesefuton.hosting.live import NICE, PAGE, STALL, Live, _arguments
 from geesefuton.hosting.projection import Projection, View
 from geesefuton.hosting.recovery import RecoveryError
-from geesefuton.hosting.viewers import BEAT, Faults
+from geesefuton.hosting.viewers import BEAT
+from geesefuton.network.pages import Faults, read_page
 from geesefuton.processes import free_port
 from tests.helpers import DATA, TOP
 from tests.journals import LINES, nights_of, place_of
 
-PAGE = TOP / "python/geesefuton/hosting/live.html"
 TICK_9 = place_of(9)
 MOST = 60.0  # seconds that anything may take, on a machine that is busy with other work
 
@@ -267,15 +267,11 @@ class Following(unittest.TestCase):
 
 class Words(unittest.TestCase):
     def test_words(self) -> None:
-        for words, late, names, until_over, json_form in (
-                ([], 6, False, False, False), (["--late", "0"], 0, False, False, False),
-                (["--late", "54", "--names", "--until-over"], 54, True, True, False),
-                (["--json"], 6, False, False, True)):
+        for words, late, names in (([], 6, False), (["--late", "0"], 0, False),
+                                   (["--late", "54", "--names"], 54, True)):
             with mock.patch("sys.argv", ["live", "my.journal", "7080", *words]):
                 self.assertEqual(vars(_arguments()), {
-                    "journal": Path("my.journal"), "port": 7080, "late": late, "names": names,
-                    "until_over": until_over, "agents": None, "start": None,
-                    "json": json_form, "stay": False})
+                    "journal": Path("my.journal"), "port": 7080, "late": late, "names": names})
         for words in (["0"], ["65536"], ["7080", "--late", "-1"], ["7080", "--until"]):
             with mock.patch("sys.argv", ["live", "my.journal", *words]), \
                     mock.patch("geesefuton.arguments.tell"), self.assertRaises(SystemExit):
@@ -329,9 +325,9 @@ class Serving(unittest.TestCase):
 
     def test_a_game_that_goes_on_and_ends(self) -> None:
         self.journal.write_text("\n".join(LINES[:TICK_9 + 1]) + "\n")
-        live = self.start("--until-over")
+        self.start()
         page, policy = self.get("/")
-        self.assertEqual(page, PAGE.read_bytes())
+        self.assertEqual(page, read_page(PAGE))
         self.assertIn("default-src 'none'", policy)
         with self.assertRaises(urllib.error.HTTPError) as refused:
             self.get("/../journal")
@@ -353,11 +349,10 @@ class Serving(unittest.TestCase):
         with self.journal.open("a") as file:
             file.write("\n".join(LINES[TICK_9 + 1:]) + "\n")
         for read in reads:
-            text = read.read()  # until the process ends it
+            text = read.read()  # until the page ends it
             self.assertIn(b"event: end", text)
             last = json.loads(re.findall(rb"data: (\{.*\})", text)[-1])
             self.assertEqual((last["phase"], last["status"]), ("over", 0))
-        self.assertEqual(live.wait(MOST), 0)
 
     def states(self, read: "socket.SocketIO", count: int) -> List[dict]:
         states: List[dict] = []
@@ -384,24 +379,11 @@ class Serving(unittest.TestCase):
                 file.write("\n".join(LINES[TICK_9 + 1:]) + "\n")
             text = read.read()  # until the page ends it
             self.assertEqual(json.loads(re.findall(rb"data: (\{.*\})", text)[-1])["phase"], "over")
-        self.assertEqual(self.get("/")[0], PAGE.read_bytes())
+        self.assertEqual(self.get("/")[0], read_page(PAGE))
         self.assertIsNone(live.poll())
         live.terminate()
         told = live.communicate(timeout=MOST)[1].decode().split("\n")
         self.assertLess(len(told), 6, told)
-
-    def test_a_game_whose_journal_has_no_end_is_over_once_standard_input_is_closed(self) -> None:
-        self.journal.write_text("\n".join(LINES[:TICK_9 + 1]) + '\n{"a":1,"q')
-        live = self.start("--until-over", stdin=subprocess.PIPE)
-        self.get("/")
-        with self.events() as viewer, viewer.makefile("rb") as read:
-            self.assertEqual(self.states(read, 1)[0]["phase"], "running")
-            assert live.stdin is not None
-            live.stdin.close()
-            text = read.read()
-        state = json.loads(re.findall(rb"data: (\{.*\})", text)[-1])
-        self.assertEqual((state["phase"], state["status"], state["tick"]), ("over", None, 9))
-        self.assertEqual(live.wait(MOST), 0)
 
     def test_it_stays_until_it_is_stopped(self) -> None:
         self.journal.write_text("\n".join(LINES) + "\n")

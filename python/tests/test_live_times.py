@@ -9,7 +9,7 @@ from unittest import mock
 from geesefuton.hosting import live
 from geesefuton.hosting.live import Live
 from geesefuton.hosting.projection import View
-from geesefuton.hosting.viewers import Faults
+from geesefuton.network.pages import Faults
 from tests.journals import HEAD, LINES, place_of
 from tests.test_live import projection
 

@@ -25,33 +25,38 @@ def contrast(one: str, other: str) -> float:
     return (first + 0.05) / (second + 0.05)
 
 
-def themes_of(page: str) -> List[Dict[str, str]]:
-    """The colours of each theme of a page."""
-    style = (PACKAGE / "geesefuton" / page).read_text(encoding="utf-8")
-    found = [dict(re.findall(r"--(\w+): (#[0-9a-f]+)", block))
-             for block in re.findall(r":root[^{]*\{([^}]*)\}", style)]
-    return [colours for colours in found if colours]
+STYLE = (PACKAGE / "geesefuton/network/style.css").read_text(encoding="utf-8")
+THEMES: List[Dict[str, str]] = [
+    colours for colours in (dict(re.findall(r"--(\w+): (#[0-9a-f]+)", block))
+                            for block in re.findall(r":root[^{]*\{([^}]*)\}", STYLE)) if colours]
 
 
 class Colours(unittest.TestCase):
     def check(self, names: "tuple[str, ...]", least: float) -> None:
-        for page in PAGES:
-            for colours in themes_of(page):
-                for name in names:
-                    for ground in ("paper", "card"):
-                        if name in colours:
-                            with self.subTest(page=page, name=name, ground=ground):
-                                ratio = contrast(colours[name], colours[ground])
-                                self.assertGreaterEqual(ratio, least)
+        for colours in THEMES:
+            for name in names:
+                for ground in ("paper", "card"):
+                    with self.subTest(name=name, ground=ground):
+                        self.assertGreaterEqual(contrast(colours[name], colours[ground]), least)
 
-    def test_each_page_has_a_light_theme_and_twice_the_same_dark_one(self) -> None:
+    def test_there_is_a_light_theme_and_twice_the_same_dark_one(self) -> None:
+        light, dark, again = THEMES
+        self.assertEqual(dark, again)
+        self.assertEqual(light.keys(), dark.keys())
+
+    def test_all_pages_have_these_colours_and_no_others(self) -> None:
         for page in PAGES:
-            light, dark, again = themes_of(page)
-            self.assertEqual(dark, again)
-            self.assertEqual(light.keys(), dark.keys())
+            text = (PACKAGE / "geesefuton" / page).read_text(encoding="utf-8")
+            style = text[text.index("<style>"):text.index("</style>")]
+            self.assertEqual(style.count("/* style.css */"), 1, page)
+            self.assertEqual(re.findall(r"#[0-9a-f]{3,8}\b|--\w+: #", style), [], page)
+            self.assertLessEqual(set(re.findall(r"var\(--(\w+)\)", text)) - {"row", "place"},
+                                 set(THEMES[0]), page)
 
     def test_texts(self) -> None:
         self.check(TEXTS, 4.5)
+        for colours in THEMES:
+            self.assertGreaterEqual(contrast(colours["on"], colours["accent"]), 4.5)
 
     def test_edges_and_bars(self) -> None:
         self.check(SHAPES, 3.0)

@@ -10,14 +10,15 @@ from typing import Any, Callable, Dict, List, Optional, Sequence, Tuple
 from unittest import mock
 
 from geesefuton.hosting.journal import JournalError
-from geesefuton.hosting.viewers import Faults, Viewers
+from geesefuton.hosting.live import PAGE
+from geesefuton.hosting.viewers import Viewers
+from geesefuton.network.pages import Faults, read_page
 from geesefuton.practice import page
 from geesefuton.practice.page import RoomPage, Screens
 from tests.helpers import TOP
 
 Step = Tuple[float, Callable[[], None]]
-ROOM = (TOP / "python/geesefuton/practice/room.html").read_bytes()
-LIVE = (TOP / "python/geesefuton/hosting/live.html").read_bytes()
+ROOM, LIVE = read_page(TOP / "python/geesefuton/practice/room.html"), read_page(PAGE)
 
 
 class Live:
@@ -56,7 +57,7 @@ class Pages(unittest.TestCase):
         self.place = Path(place.name)
         self.now, self.told = 1000.0, list[str]()
         self.steps: List[Step] = []
-        self.screens = Screens(b"", Faults(self.fail))
+        self.screens = Screens(b"")
         self.until, sleep = 0.0, asyncio.sleep
         self.shown: List[Tuple[float, Dict[str, Any], bytes]] = []
         Live.made, Live.fault = [], None

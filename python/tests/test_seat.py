@@ -2,12 +2,13 @@ import queue
 import threading
 import time
 import unittest
-from typing import Any, Callable, Dict
+from concurrent.futures import Future
+from typing import Any, Callable, Dict, List
 from unittest import mock
 
 from geesefuton.link import Link
 from geesefuton.playing.answers import Answer
-from geesefuton.playing.seat import Seat
+from geesefuton.playing.seat import Seat, greeting
 from geesefuton.records.replies import Request
 from tests.seat_server import SeatServer
 
@@ -29,6 +30,8 @@ class Case(unittest.TestCase):
         patch.start()
         self.addCleanup(patch.stop)
         self.seat = Seat(lambda: Link.greet("127.0.0.1", self.server.port, "red", limit=5))
+        self.changed = threading.Event()
+        self.seat.tell = self.changed.set
 
     def end(self) -> None:
         """All closes, so the seat says `quit`."""
@@ -38,12 +41,13 @@ class Case(unittest.TestCase):
 
     def wait(self, holds: Callable[[Dict[str, Any]], bool]) -> Dict[str, Any]:
         """The first state that is so."""
-        version, until = -1, time.monotonic() + MOST
+        until = time.monotonic() + MOST
         while time.monotonic() < until:
-            state = self.seat.state(version, 1)
-            version = state["version"]
+            self.changed.clear()
+            state = self.seat.state()
             if holds(state):
                 return state
+            self.changed.wait(1)
         raise AssertionError(f"no such state: {state}")
 
     def begin(self) -> Dict[str, Any]:
@@ -53,7 +57,7 @@ class Case(unittest.TestCase):
 
     def bid(self, good: int, *points: Any) -> Answer:
         """A bid, and its answer."""
-        return self.seat.order(Request("bid", good, points))
+        return self.seat.order(Request("bid", good, points)).result(MOST)
 
 
 class Seats(Case):
@@ -83,7 +87,7 @@ class Seats(Case):
     def test_a_withdrawal(self) -> None:
         self.begin()
         self.bid(20, (-1, 70))
-        self.assertTrue(self.seat.order(Request("withdraw", 20)).is_done)
+        self.assertTrue(self.seat.order(Request("withdraw", 20)).result(MOST).is_done)
         self.wait(lambda state: state["goods"][20][1] == ())
 
     def test_a_refusal_says_what_would_be_right(self) -> None:
@@ -148,7 +152,7 @@ class Seats(Case):
         def slow(link: Link, request: Request) -> Any:
             if request.do == "bid":
                 time.sleep(0.1)
-                silent.append(self.seat.state(-1, 0)["silent"])
+                silent.append(self.seat.state()["silent"])
             return send(link, request)
 
         with mock.patch.object(Link, "send", slow):
@@ -156,7 +160,7 @@ class Seats(Case):
             self.bid(9, (1, 50))
         self.assertTrue(0.1 <= silent[0] < 10, silent)
         self.end()
-        self.assertEqual(self.seat.state(-1, 0)["silent"], 0)
+        self.assertEqual(self.seat.state()["silent"], 0)
 
     def test_looks_are_a_quarter_of_a_tick_apart_within_bounds(self) -> None:
         waits = list[float]()
@@ -209,23 +213,44 @@ class Seats(Case):
         self.bid(20, (-1, 70))
         self.server.units[20], self.server.standing[20], self.server.cash = -1, "()", 70
         self.end()
-        state = self.seat.state(-1, 0)
+        state = self.seat.state()
         self.assertEqual((state["phase"], state["cash"], state["goods"][20][0]), ("over", 70, -1))
         self.assertEqual(self.server.heard[-1], "quit")
         self.assertFalse(self.bid(20, (1, 70)).is_done)
 
     def test_an_order_that_comes_at_the_end_is_answered(self) -> None:
         self.begin()
-        answers = []
         self.server.refusals["own 8"] = ""
-        threads = [threading.Thread(target=lambda: answers.append(self.bid(20, (1, 70))))
-                   for _ in range(4)]
-        for thread in threads:
-            thread.start()
+        answers: "List[Future[Answer]]" = [self.seat.order(Request("bid", 20, ((1, 70),)))
+                                           for _ in range(4)]
         self.end()
-        for thread in threads:
-            thread.join(5)
-        self.assertEqual(len(answers), 4)
+        answers.append(self.seat.order(Request("bid", 20, ((1, 70),))))
+        self.assertEqual(len([answer.result(MOST) for answer in answers]), 5)
+
+    def test_whatever_ends_the_link_is_told(self) -> None:
+        for host in ("a..b", "x" * 70):  # names that the system cannot look up at all
+            seat = Seat(greeting(host, 7000, "red", "words", lambda: True))
+            self.seat, seat.tell = seat, self.changed.set
+            seat.begin()
+            state = self.wait(lambda state: state["phase"] == "failed")
+            self.assertRegex(state["fault"], "^Unicode\\w*Error: .")
+
+    def test_a_lost_link_is_left_while_no_browser_has_the_page_open(self) -> None:
+        is_open = threading.Event()
+        self.seat = Seat(greeting("127.0.0.1", self.server.port, "red", "words", is_open.is_set))
+        self.seat.tell = self.changed.set
+        self.server.refusals["hello"] = ""  # the host ends its link before the game
+        self.seat.begin()
+        state = self.wait(lambda state: state["phase"] == "failed")
+        self.assertEqual(state["fault"], "red: it was lost while no browser had this page open")
+        self.assertEqual(self.server.heard, ["hello red"])
+        is_open.set()
+        self.server.refusals["hello"] = ""
+        self.begin()  # and one that is open is connected again
+        self.assertEqual(self.server.heard[:3], ["hello red"] * 3)
+        is_open.clear()
+        self.server.refusals["quote 5"] = ""
+        self.wait(lambda state: state["phase"] == "failed")
 
 
 if __name__ == "__main__":

@@ -13,12 +13,22 @@ from typing import Any, Dict, List
 from unittest import mock
 
 from geesefuton.playing import seat_command
+from geesefuton.playing.seat_command import NICE, address_lines
 from tests.helpers import PACKAGE, refusal, variables
 from tests.seat_server import SeatServer
 
 CODE = "import sys; from geesefuton.playing.seat_command import main; sys.exit(main())"
 CODER = "#!/bin/sh\necho CODE OF $3\n"
 MOST = 60.0  # seconds that anything may take, on a machine that is busy with other work
+
+
+def ask(address: str, **given: Any) -> Dict[str, Any]:
+    """What a seat's page is answered."""
+    request = urllib.request.Request(address, json.dumps(given).encode(),
+                                     {"Content-Type": "application/json"})
+    with urllib.request.urlopen(request, timeout=MOST) as answer:
+        told: Dict[str, Any] = json.loads(answer.read())
+        return told
 
 
 class SeatCommands(unittest.TestCase):
@@ -59,24 +69,20 @@ class SeatCommands(unittest.TestCase):
         process.send_signal(signal.SIGINT)
         self.assertEqual(process.wait(MOST), 130)
 
-    def test_it_ends_once_the_game_is_over_and_was_told(self) -> None:
-        process = self.start("red", "--until-over", "--no-advice")
+    def test_a_seat_is_played_and_its_result_stays(self) -> None:
+        process = self.start("red", "--no-advice")
         address = self.addresses(process, 1)[0].split()[1]
-        page = self.ask(address + "open", "{}")["page"]
-        while self.ask(address + "state", f'{{"page":"{page}","after":-1}}')["phase"] != "running":
+        page = ask(address + "open")["page"]
+        while ask(address + "state", page=page)["phase"] != "running":
             pass
         self.server.closed = list(range(28))
-        while self.ask(address + "state", f'{{"page":"{page}","after":-1}}')["phase"] != "over":
+        while ask(address + "state", page=page)["phase"] != "over":
             pass
-        self.assertEqual(process.wait(MOST), 0)
         self.assertEqual(self.server.heard[-1], "quit")
-
-    def ask(self, address: str, body: str) -> Dict[str, Any]:
-        """What the page is answered."""
-        given = urllib.request.Request(address, body.encode(), {"Content-Type": "application/json"})
-        with urllib.request.urlopen(given, timeout=MOST) as answer:
-            told: Dict[str, Any] = json.loads(answer.read())
-            return told
+        own = os.getpriority(os.PRIO_PROCESS, 0)
+        self.assertEqual(os.getpriority(os.PRIO_PROCESS, process.pid), min(19, own + NICE))
+        process.terminate()
+        self.assertEqual(process.wait(MOST), 143)
 
     def test_codes_for_phones(self) -> None:
         with tempfile.TemporaryDirectory() as name:
@@ -103,12 +109,19 @@ class SeatCommands(unittest.TestCase):
             status, told = refusal("playing.seat_command", *words)
             self.assertEqual((status, told.count("\n")), (2, 1))
 
-    def test_what_browsers_call_the_address(self) -> None:
-        self.assertEqual(seat_command.host_of("192.0.2.7"), "192.0.2.7")
-        self.assertEqual(seat_command.host_of("fe80::1"), "[fe80::1]")
-        with mock.patch("socket.socket", side_effect=OSError), \
-                mock.patch("socket.gethostname", return_value="host"):
-            self.assertEqual(seat_command.host_of("0.0.0.0"), "host")
+    def test_what_is_printed(self) -> None:
+        seats = [("red", "aa"), ("blue", "bb")]
+        with mock.patch.object(seat_command.shutil, "which", lambda _: None):
+            self.assertEqual(list(address_lines(seats, 7090, "fe80::1")), [
+                "red: http://[fe80::1]:7090/aa/", "blue: http://[fe80::1]:7090/bb/"])
+            for found, lines in (
+                    (["10.0.0.7"], ["red: http://10.0.0.7:7090/aa/"]),
+                    ([], ["red: http://localhost:7090/aa/"]),
+                    (["10.0.0.7", "10.1.1.1", "10.2.1.1"], [
+                        "red: http://10.0.0.7:7090/aa/",
+                        "if 10.0.0.7 cannot be reached, try 10.1.1.1 or 10.2.1.1 in its place"])):
+                with mock.patch.object(seat_command, "own_addresses", lambda it=found: it):
+                    self.assertEqual(list(address_lines(seats[:1], 7090)), lines)
 
 
 if __name__ == "__main__":

@@ -1,18 +1,19 @@
+import asyncio
 import http.client
 import json
 import re
-import socket
 import threading
-import time
 import unittest
 from typing import Any, Dict, Optional, Tuple
 from unittest import mock
 
-from geesefuton.link import Link
-from geesefuton.playing.seat_page import (LETTERS, MOST_BODY, MOST_EACH, TOKEN, WAIT, Pages, Site,
-                                           Table)
+from geesefuton.network.addresses import listen
+from geesefuton.network.pages import Faults, PageServer, page_gate
+from geesefuton.playing.seat_page import Pages, Site, Table, make_site
 from geesefuton.program import ProgramError
 from tests.test_seat import MOST, Case
+
+TOKEN = "abcdefgh23"
 
 
 class OpenPages(unittest.TestCase):
@@ -40,6 +41,17 @@ class OpenPages(unittest.TestCase):
         self.time += 0.2
         self.assertTrue(self.pages.plays(self.pages.open("")))
 
+    def test_whether_one_is_open(self) -> None:
+        self.assertFalse(self.pages.is_open())
+        self.pages.open("")
+        self.time += 5
+        later = self.pages.open("")
+        self.time += 8
+        self.assertTrue(self.pages.is_open())
+        self.pages.hear(later)
+        self.time += 9.1
+        self.assertFalse(self.pages.is_open())
+
     def test_the_pages_that_are_known_are_few(self) -> None:
         first, eldest = self.pages.open(""), self.pages.open("")
         for _ in range(60):
@@ -56,16 +68,43 @@ class Served(Case):
 
     def setUp(self) -> None:
         super().setUp()
-        self.table = Table(self.seat, True)
-        self.site = Site(("127.0.0.1", 0), [self.table])
-        self.addCleanup(self.site.server_close)
-        threading.Thread(target=self.site.serve_forever, args=(0.02,), daemon=True).start()
-        self.addCleanup(self.site.shutdown)
+        ready = threading.Event()
+
+        async def serve() -> None:
+            self.loop, self.ended = asyncio.get_running_loop(), asyncio.Event()
+            self.table = Table(self.seat, Pages(), asyncio.Lock(), TOKEN)
+            server = PageServer(Site([self.table]).answer, page_gate(), Faults(self.fail))
+            with listen(0) as listener:
+                self.port = listener.getsockname()[1]
+                serving = asyncio.ensure_future(server.serve(listener))
+                ready.set()
+                await self.ended.wait()
+                serving.cancel()
+                await asyncio.wait([serving])
+
+        thread = threading.Thread(target=lambda: asyncio.run(serve()), daemon=True)
+        thread.start()
+        self.addCleanup(thread.join)
+        ready.wait(MOST)
+        self.addCleanup(lambda: self.loop.call_soon_threadsafe(self.ended.set))
+        patch = mock.patch("geesefuton.playing.seat_page.PAUSE", 0.0)
+        patch.start()
+        self.addCleanup(patch.stop)
+
+    def wait(self, holds: Any) -> Dict[str, Any]:
+        """The first state that is so; the table is told of each."""
+        until = threading.Event()
+        for _ in range(int(MOST / 0.02)):
+            state = self.seat.state()
+            if holds(state):
+                return state
+            until.wait(0.02)
+        raise AssertionError(f"no such state: {state}")
 
     def fetch(self, method: str, path: str, body: Any = None,
               kind: str = "application/json") -> Tuple[int, str]:
         """The status and the text of an answer."""
-        link = http.client.HTTPConnection("127.0.0.1", self.site.server_address[1], timeout=MOST)
+        link = http.client.HTTPConnection("127.0.0.1", self.port, timeout=MOST)
         try:
             text = body if isinstance(body, (bytes, type(None))) else json.dumps(body).encode()
             link.request(method, path, text, {"Content-Type": kind})
@@ -76,7 +115,7 @@ class Served(Case):
 
     def ask(self, what: str, token: Optional[str] = None, **given: Any) -> Tuple[int, Any]:
         """The status and the object of an answer."""
-        status, text = self.fetch("POST", f"/{token or self.table.token}/{what}", given)
+        status, text = self.fetch("POST", f"/{token or TOKEN}/{what}", given)
         return status, json.loads(text)
 
     def open(self) -> str:
@@ -91,18 +130,16 @@ class Served(Case):
         return state
 
     def test_the_page_is_at_its_address_alone(self) -> None:
-        self.assertRegex(self.table.token, f"^[{LETTERS}]{{{TOKEN}}}$")
-        status, text = self.fetch("GET", f"/{self.table.token}/")
+        status, text = self.fetch("GET", f"/{TOKEN}/")
         self.assertEqual(status, 200)
         self.assertEqual(re.findall(r"(?:src|href)=\"(?!data:)|https?://(?!www.w3.org)", text), [])
-        link = http.client.HTTPConnection("127.0.0.1", self.site.server_address[1], timeout=MOST)
+        link = http.client.HTTPConnection("127.0.0.1", self.port, timeout=MOST)
         self.addCleanup(link.close)
-        link.request("GET", f"/{self.table.token}")
+        link.request("GET", f"/{TOKEN}")
         moved = link.getresponse()
-        self.assertEqual((moved.status, moved.getheader("Location")),
-                         (308, f"/{self.table.token}/"))
-        for path, due in (("/", 404), ("/wrong/", 403), (f"/{self.table.token}x/", 403),
-                          (f"/{self.table.token}/more", 404)):
+        self.assertEqual((moved.status, moved.getheader("Location")), (308, f"/{TOKEN}/"))
+        for path, due in (("/", 404), ("/wrong/", 403), (f"/{TOKEN}x/", 403), ("/%c3%a9/", 403),
+                          (f"/{TOKEN}/more", 404)):
             self.assertEqual(self.fetch("GET", path)[0], due, path)
         self.assertEqual(self.server.heard, [])
 
@@ -141,7 +178,7 @@ class Served(Case):
         self.assertTrue(self.ask("bid", page=later, good=9, points=[[1, 70]])[1]["done"])
 
     def test_requests_that_are_none(self) -> None:
-        page, path = self.open(), f"/{self.table.token}/bid"
+        page, path = self.open(), f"/{TOKEN}/bid"
         for given in ({"good": 28}, {"good": True}, {"good": "9"}, {"good": 9, "points": [[1]]},
                       {"good": 9, "points": [[1.5, 70]]}, {"good": 9, "points": ["1"]}):
             status, answer = self.ask("bid", page=page, **given)
@@ -151,20 +188,20 @@ class Served(Case):
         self.assertEqual(self.fetch("POST", path, b"{")[0], 400)
         self.assertEqual(self.fetch("POST", path, b"[" * 4000)[0], 400)
         self.assertEqual(self.fetch("POST", path, b"{}", "text/plain")[0], 415)
-        self.assertEqual(self.fetch("POST", path, b"{}" + b" " * (MOST_BODY - 2))[0], 409)
-        self.assertEqual(self.fetch("POST", path, b"{}" + b" " * (MOST_BODY - 1))[0], 413)
-        for length in ("", "Content-Length: -1\r\n", "Content-Length: x\r\n"):
-            with socket.create_connection(self.site.server_address[:2], MOST) as link:
-                link.sendall(f"POST {path} HTTP/1.1\r\n{length}\r\n".encode())
-                answer = link.makefile("rb").read()  # the link is ended
-            self.assertTrue(answer.startswith(b"HTTP/1.1 413 "), answer)
+        self.assertEqual(self.fetch("POST", path, b"{}", "application/json; charset=utf-8")[0], 409)
 
     def test_news_is_waited_for_by_the_version_that_the_page_has(self) -> None:
         page = self.open()
-        with mock.patch.object(self.seat, "state", wraps=self.seat.state) as state:
-            for given, due in ({"after": 7}, 7), ({"after": "7"}, -1), ({}, -1):
-                self.ask("state", page=page, **given)
-                self.assertEqual(state.call_args[0], (due, WAIT))
+        with mock.patch("geesefuton.playing.seat_page.WAIT", MOST):
+            version = -1
+            for given in (None, "7", 7.5):  # none of these is a version
+                version = self.ask("state", page=page, after=given)[1]["version"]
+            self.assertGreater(self.ask("state", page=page, after=version)[1]["version"], version)
+        self.table._solver = None
+        self.end()
+        version = self.state(page)["version"]
+        with mock.patch("geesefuton.playing.seat_page.WAIT", 0.01):  # and not longer than so
+            self.assertEqual(self.ask("state", page=page, after=version)[1]["version"], version)
 
     def test_advice_is_asked_for_and_can_be_switched_off(self) -> None:
         page = self.open()
@@ -179,16 +216,36 @@ class Served(Case):
             status, answer = self.ask("advice", page=page)
         self.assertEqual((status, answer["text"]),
                          (503, "The solver cannot be asked: there is no program"))
-        self.table.has_advice = False
+        self.table._solver = None
         self.assertEqual(self.ask("advice", page=page)[0], 403)
         self.assertFalse(self.state(page)["advice"])
+
+    def test_a_seat_asks_the_solver_one_thing_at_a_time(self) -> None:
+        page, begun, may_answer = self.open(), threading.Event(), threading.Event()
+
+        def solve(*_: Any) -> Dict[str, Any]:
+            begun.set()
+            may_answer.wait(MOST)
+            return {"total": 7}
+
+        with mock.patch("geesefuton.playing.seat_page.counsel", side_effect=solve) as counsel:
+            first = threading.Thread(target=lambda: self.ask("advice", page=page))
+            first.start()
+            begun.wait(MOST)
+            self.assertEqual([self.ask("advice", page=page)[0] for _ in range(9)], [429] * 9)
+            may_answer.set()
+            first.join(MOST)
+            self.assertEqual(self.ask("advice", page=page), (200, {"total": 7}))
+            self.assertEqual(counsel.call_count, 2)
 
     def test_after_the_game_the_result_is_told(self) -> None:
         page = self.open()
         with mock.patch("geesefuton.playing.seat_page.counsel", return_value={"total": 7}):
             self.end()
+            while self.state(page)["result"] is None:
+                pass  # a state is waited for
             self.assertEqual(self.state(page)["result"], {"total": 7})
-        self.assertTrue(self.table.is_told.is_set())
+        self.assertTrue(self.table.is_told)
         page = self.ask("open", page=page)[1]["page"]
         self.assertEqual(self.seat.phase, "over")
         self.assertFalse(self.ask("bid", page=page, good=9, points=[[1, 70]])[1]["done"])
@@ -203,47 +260,45 @@ class Served(Case):
         with mock.patch("geesefuton.playing.seat_page.counsel", side_effect=solve) as counsel:
             self.end()
             self.assertIsNone(self.state(page)["result"])
-            self.assertFalse(self.table.is_told.is_set())
+            self.assertFalse(self.table.is_told)
             may_answer.set()
-            until = time.monotonic() + MOST
-            while self.state(page)["result"] is None and time.monotonic() < until:
+            while self.state(page)["result"] is None:
                 pass  # a state is waited for
             self.assertEqual(self.state(page)["result"], {"total": 7})
             self.assertEqual(counsel.call_count, 1)
-        self.assertTrue(self.table.is_told.is_set())
+        self.assertTrue(self.table.is_told)
 
     def test_without_a_solver_there_is_no_result(self) -> None:
         page = self.open()
-        self.table.has_advice = False
+        self.table._solver = None
         self.end()
         self.assertNotIn("result", self.state(page))
-        self.assertTrue(self.table.is_told.is_set())
+        self.assertTrue(self.table.is_told)
 
-    def test_links_of_one_address_are_limited(self) -> None:
-        links = [http.client.HTTPConnection("127.0.0.1", self.site.server_address[1], timeout=MOST)
-                 for _ in range(MOST_EACH)]
-        for link in links:
-            link.request("GET", "/")
-            link.getresponse().read()
-        with self.assertRaises(OSError):
-            self.fetch("GET", "/")
-        links[0].close()
-        deadline = time.monotonic() + MOST
-        while True:
-            try:
-                self.assertEqual(self.fetch("GET", "/")[0], 404)
-                break
-            except OSError:
-                self.assertLess(time.monotonic(), deadline, "no link is taken any more")
-                time.sleep(0.01)
-        for link in links:
-            link.close()
+    def test_one_that_cannot_be_asked_gives_no_result(self) -> None:
+        page = self.open()
+        with mock.patch("geesefuton.playing.seat_page.counsel", side_effect=ProgramError("none")):
+            self.end()
+            while self.state(page).get("result", 0) is None:
+                pass  # a state is waited for
+        self.assertNotIn("result", self.state(page))
 
 
-class Words(unittest.TestCase):
-    def test_seats_have_tokens_of_their_own(self) -> None:
-        tables = [Table(mock.Mock(spec=Link), True) for _ in range(8)]
-        self.assertEqual(len({table.token for table in tables}), 8)
+class Sites(unittest.TestCase):
+    def test_each_seat_has_a_table_at_its_token_and_all_share_a_solver(self) -> None:
+        async def made(has_advice: bool) -> Site:
+            return make_site("localhost", 7000, [("red", "a"), ("blue", "b")], "json", 500,
+                             has_advice)
+
+        for has_advice in (True, False):
+            site = asyncio.run(made(has_advice))
+            self.assertEqual([table.token for table in site.tables], ["a", "b"])
+            solvers = {table._solver for table in site.tables}
+            self.assertEqual((len(solvers), None in solvers), (1, not has_advice))
+        with mock.patch("geesefuton.playing.seat.Link.greet") as greet:
+            site.tables[1].seat._greet()
+        greet.assert_called_once_with("localhost", 7000, "blue", "json")
+        self.assertEqual(site.tables[1].seat._pace, 0.5)
 
 
 if __name__ == "__main__":

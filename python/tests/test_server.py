@@ -201,7 +201,7 @@ class Signals(Case):
 
     def test_a_page_that_ends_while_agents_are_gathered_is_told_at_once(self) -> None:
         words = [sys.executable, "-c", "raise SystemExit(7)"]
-        with mock.patch("geesefuton.hosting.page_process.page_words", return_value=words):
+        with mock.patch("geesefuton.hosting.page_process.python_words", return_value=words):
             host = Host(self.folder, start=None, page=free_port())
             warned, = host.wait(events.Warned)
             self.assertIn("the page ended with exit status 7", warned.text)
@@ -245,7 +245,7 @@ class Signals(Case):
 
     def test_the_wait_for_the_page_can_be_interrupted(self) -> None:
         slow = [sys.executable, "-c", f"import time; time.sleep({MOST})"]
-        with mock.patch("geesefuton.hosting.page_process.page_words", return_value=slow):
+        with mock.patch("geesefuton.hosting.page_process.python_words", return_value=slow):
             host = Host(self.folder, pace=2, start=0, linger=0, page=free_port())
             host.wait(events.Finished)
             self.assertTrue(host.thread.is_alive())
@@ -256,8 +256,8 @@ class Signals(Case):
 
     def test_without_a_terminal_the_scores_are_not_shown_for_long(self) -> None:
         slow = [sys.executable, "-c", f"import time; time.sleep({MOST})"]
-        with mock.patch("geesefuton.hosting.page_process.page_words", return_value=slow), \
-                mock.patch("geesefuton.hosting.lobby.TELLING", 0.1):
+        with mock.patch("geesefuton.hosting.page_process.python_words", return_value=slow), \
+                mock.patch("geesefuton.hosting.lobby.SHOWING", 0.1):
             host = Host(self.folder, pace=2, start=0, linger=0, page=free_port(), stays=True)
             host.lobby.hang_up()
             host.end()
@@ -268,7 +268,7 @@ class Signals(Case):
         self.agents(host, "seat0")
         game = host.lobby._game
         assert game is not None
-        game.page = mock.Mock(**{"fault.side_effect": OSError(24, "Too many open files")})
+        game.page = mock.Mock(**{"look.side_effect": OSError(24, "Too many open files")})
         host.wait(events.Warned)
         game.control.go_on()
         host.end()

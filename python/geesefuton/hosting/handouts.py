@@ -8,20 +8,14 @@ from __future__ import annotations
 
 import re
 from pathlib import Path
-from typing import Dict, NamedTuple, Optional
+from typing import Dict, Optional
 
 from geesefuton import program
+from geesefuton.network.pages import Response, read_page
 
 STARTERS = ("starter.py", "starter.mjs", "Starter.java")
 HERE = re.compile(r"localhost|127\.[0-9.]+|::1")  # a name of the machine itself
 HOST = re.compile(r"(?:\[([0-9A-Fa-f:.]+)\]|([0-9A-Za-z.-]+))(?::[0-9]+)?")
-
-
-class Handout(NamedTuple):
-    """A file that is handed out: its media type, and its bytes."""
-
-    kind: str
-    body: bytes
 
 
 class Handouts:
@@ -39,11 +33,11 @@ class Handouts:
 
     def __init__(self, port: int, address: str = "", again: bool = False) -> None:
         self.port, self._address, self._again = port, address, again
-        self._page = (Path(__file__).resolve().parent / "join.html").read_text(encoding="utf-8")
+        self._page = read_page(Path(__file__).with_name("join.html")).decode()
         self._texts = _read_starters()
         self.are_there = bool(self._texts)
 
-    def answer(self, path: str, host: str) -> Optional[Handout]:
+    def answer(self, path: str, host: str) -> Optional[Response]:
         """The file at a path; None if there is none.
 
         Args:
@@ -54,9 +48,10 @@ class Handouts:
         if name == "join" and self.are_there:
             page = self._page.replace("--host--", self._name(host)).replace(
                 "--port--", str(self.port)).replace("--again--", " --again" * self._again)
-            return Handout("text/html; charset=utf-8", page.encode())
+            return Response("200 OK", "text/html; charset=utf-8", page.encode())
         if name in self._texts:
-            return Handout("text/plain; charset=utf-8", self._filled(name, host).encode())
+            return Response("200 OK", "text/plain; charset=utf-8",
+                            self._filled(name, host).encode())
         return None
 
     def _name(self, host: str) -> str:

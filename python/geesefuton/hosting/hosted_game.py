@@ -37,8 +37,7 @@ class HostedGame:
         relay: The links of the agents.
         emit: Is told each event.
         log: The pieces of the log so far.
-        page: The live page, if there is one.
-        by_hand: The page by which persons play seats, if there is one.
+        page: The process of the pages, if there are any.
     """
 
     def __init__(self, settings: LobbySettings, text: str, control: Control, children: Children,
@@ -47,7 +46,6 @@ class HostedGame:
         self.children, self.folder, self.relay, self.emit = children, folder, relay, emit
         self.log: List[bytes] = []
         self.page: Optional[SideProcess] = None
-        self.by_hand: Optional[SideProcess] = None
         self._lines: Deque[str] = deque()
         self._orders = Orders(settings.orders, self._lines)
         self._orders.look(relay.loop)
@@ -98,10 +96,9 @@ class HostedGame:
             0.0, self._last + self.settings.linger - time.monotonic())
 
     def _look_at_pages(self) -> None:
-        for each in (self.page, self.by_hand):
-            fault = each.fault() if each else ""
-            if fault:
-                self.warn(fault)
+        told = self.page.look() if self.page else ""
+        if told:
+            self.warn(told)
 
     def _obey(self) -> None:
         """Does what the host asks for."""

@@ -1,11 +1,11 @@
-"""Shows a running game on a page: reads the journal that the lobby writes, and serves one page to
-any number of viewers.
+"""Shows a game on a page, until ctrl-C: reads the journal that the lobby writes, and serves one page
+to any number of viewers.
 
-The lobby starts this command for `--page PORT`. It is a process of its own, reads only the journal,
-and runs at a lower priority, so neither it nor a viewer slows the game. Once a tick, and at most
-once a second, it runs `tac play` on the game so far, and computes the worth of each agent's best
-plan from its holdings, the cost of missing goods at current prices, and the dollars that it has
-paid. When the game is over it sends the scores to all viewers, whose pages keep them.
+The lobby shows this page itself if it has `--page PORT`. It is served by a process of its own, at a
+lower priority, which reads only the journal: so neither it nor a viewer slows the game. Once a tick
+and at most once a second, it runs `tac play` on the game so far, and computes the worth of each
+agent's best plan from its holdings, the cost of missing goods at current prices, and the dollars
+that it has paid. When the game is over it sends the scores to all viewers, whose pages keep them.
 
 With --late TICKS the page shows at once only what each agent can ask itself: published prices,
 closed auctions, the time, and which agents are here. It shows scores, trades, numbers of requests
@@ -21,25 +21,20 @@ import argparse
 import asyncio
 import contextlib
 import json
-import os
-import signal
-import socket
-import stat
 import sys
 import time
 from collections import deque
-from importlib.util import find_spec
 from pathlib import Path
-from typing import Any, BinaryIO, Callable, Deque, Dict, List, Optional, Tuple
+from typing import Any, BinaryIO, Deque, Dict, Optional, Tuple
 
-from geesefuton.arguments import Parser, seconds, whole
-from geesefuton.hosting.handouts import Handouts
+from geesefuton.arguments import Parser, whole
 from geesefuton.hosting.journal import JournalError, JournalReader
 from geesefuton.hosting.nights import Nights
 from geesefuton.hosting.projection import Projection, View, project
 from geesefuton.hosting.recovery import Player, RecoveryError
-from geesefuton.hosting.viewers import Faults, Viewers
+from geesefuton.hosting.viewers import Viewers
 from geesefuton.network.addresses import listen
+from geesefuton.network.pages import Faults, PageServer, page_gate, read_page, run
 from geesefuton.processes import Children, command, give_way, tell, why
 from geesefuton.records.games import TICKS
 from geesefuton.records.logs import LogError
@@ -49,8 +44,9 @@ EACH = 1.0  # seconds between projections, at least; less if ticks are shorter
 SHARE = 2  # projections may take one part of so many of the time
 PIECE = 1 << 18  # bytes of the journal that are read at once
 STALL = 3.0  # seconds by which a tick may be late until the page says that the journal has stopped
-LINGER = 4.0  # seconds that viewers have to take the last scores
+LINGER = 4.0  # seconds that screens have to get the last scores
 NICE = 5  # by how much the priority is lower
+PAGE = Path(__file__).with_name("live.html")
 
 
 class Live:
@@ -186,76 +182,12 @@ class Live:
         await self._viewers.show(text.encode("ascii"), self._is_final)
 
 
-def _joining(port: Optional[int]) -> Dict[str, Any]:
-    """What is to be known of a port for agents: the host's address, as others may reach it, and
-    whether the package has seats that are played by hand."""
-    if port is None:
-        return {}
-    with socket.socket(socket.AF_INET, socket.SOCK_DGRAM) as link, contextlib.suppress(OSError):
-        link.connect(("192.0.2.1", 9))  # an address of documents: nothing is sent to it
-        address = link.getsockname()[0]
-        return {"port": port, "address": address, "seat": _has_seats()}
-    return {"port": port, "seat": _has_seats()}
-
-
-def _has_seats() -> bool:
-    return find_spec("geesefuton.playing") is not None
-
-
-def _watch_standard_input(cut: Callable[[], None]) -> None:
-    """Calls `cut` at the end of standard input, if that is a pipe: whoever started the page closes
-    it once nothing more comes."""
-    loop = asyncio.get_running_loop()
-
-    def look() -> None:
-        if not os.read(0, 4096):
-            loop.remove_reader(0)
-            cut()
-
-    with contextlib.suppress(OSError):  # there is no standard input
-        if stat.S_ISFIFO(os.fstat(0).st_mode):
-            loop.add_reader(0, look)
-
-
 async def _run(given: argparse.Namespace, journal: BinaryIO, player: Player) -> None:
-    faults = Faults(tell)
-    viewers = Viewers((Path(__file__).resolve().parent / "live.html").read_bytes(), faults)
-    begins = None if given.start is None else time.monotonic() + given.start
-    joining = _joining(given.agents)
-    if joining and not given.json:
-        viewers.handouts = Handouts(joining["port"], joining.get("address", ""))
-        joining["starters"] = viewers.handouts.are_there
-    live = Live(journal, View(given.late, given.names), player, viewers, faults, joining, begins)
+    faults, viewers = Faults(tell), Viewers(read_page(PAGE))
+    live = Live(journal, View(given.late, given.names), player, viewers, faults)
     with contextlib.closing(listen(given.port)) as listener:
-        serving = asyncio.ensure_future(viewers.accept(listener))
-        if given.until_over:
-            _watch_standard_input(live.cut)
-        await asyncio.gather(live.follow(), live.project())
-        if given.stay or not given.until_over:
-            await serving
-        serving.cancel()
-        await asyncio.wait([serving])
-    deadline = time.monotonic() + LINGER
-    while viewers.count and time.monotonic() < deadline:
-        await asyncio.sleep(0.05)
-
-
-async def _run_until_signal(given: argparse.Namespace, journal: BinaryIO, player: Player) -> int:
-    """Runs the page, and gives the exit status."""
-    work = asyncio.ensure_future(_run(given, journal, player))
-    signals: List[int] = []
-
-    def stop(number: int) -> None:
-        signals.append(number)
-        work.cancel()
-
-    for number in (signal.SIGINT, signal.SIGTERM, signal.SIGHUP):
-        asyncio.get_running_loop().add_signal_handler(number, stop, number)
-    try:
-        await work
-    except asyncio.CancelledError:
-        return 128 + signals[0] if signals else 1
-    return 0
+        server = PageServer(viewers.answer, page_gate(), faults)
+        await asyncio.gather(server.serve(listener), live.follow(), live.project())
 
 
 def _arguments() -> argparse.Namespace:
@@ -268,17 +200,6 @@ def _arguments() -> argparse.Namespace:
              "(default: 6)")
     add("--names", action="store_true",
         help="show agents by their seat words, which are passwords")
-    add("--agents", type=whole(1, 65535), metavar="PORT",
-        help="show this port, for agents, before the game")
-    add("--json", action="store_true",
-        help="agents send JSON objects: hand out no starters, which send words")
-    add("--start", type=seconds, metavar="SECONDS",
-        help="count down this time until the game begins by itself")
-    add("--until-over", action="store_true",
-        help="end once the game is over, or a pipe at standard input is closed, and viewers have "
-             "the scores (default: stay until ctrl-C)")
-    add("--stay", action="store_true",
-        help="with --until-over: stop reading once the game is over, and stay until ctrl-C")
     return parser.parse_args()
 
 
@@ -287,8 +208,7 @@ def _main() -> int:
     give_way(NICE)
     try:
         with given.journal.open("rb") as journal, Children() as children:
-            player = Player(children.folder("live"))
-            return asyncio.run(_run_until_signal(given, journal, player))
+            return run(_run(given, journal, Player(children.folder("live"))))
     except JournalError as fault:
         tell(f"live: {given.journal}: {fault}")
         return 1

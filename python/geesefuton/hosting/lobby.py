@@ -20,7 +20,7 @@ from geesefuton.hosting.control import STOPPED, Control, Phase
 from geesefuton.hosting.events import Event, EventQueue
 from geesefuton.hosting.hosted_game import LOOK, HostedGame, Serving
 from geesefuton.hosting.journal import Journal, JournalError
-from geesefuton.hosting.page_process import PageProcess, SeatsProcess
+from geesefuton.hosting.page_process import PageProcess
 from geesefuton.hosting.relay import Relay
 from geesefuton.hosting.seats import State
 from geesefuton.hosting.server import ClockServer
@@ -33,8 +33,7 @@ FULL = 4  # the exit status if the output takes no more
 SERVED = b"taclog 1\nserve\n"  # the first lines of the log of a served game
 VOUCHING = 30.0  # seconds that may be taken to compare the log with the links
 ENDING = 1.0  # seconds that links have to end after the server
-SHOWING = 60.0  # seconds that the page has to show the last scores
-TELLING = 5.0  # seconds that pages have to show the last results where nobody looks after them
+SHOWING = 60.0  # seconds that the pages have to show the last scores
 
 
 class LobbyError(Exception):
@@ -109,19 +108,17 @@ class Lobby:
             relay.seats.keys = self.settings.keys or relay.seats.keys
             game = HostedGame(self.settings, self._text, self._control, children, folder, relay,
                               told.put)
-            if journal.file is not None and self.settings.page is not None:
-                game.page = PageProcess(children, self.settings, journal.file)
+            if self.settings.page is not None or self.settings.by_hand is not None:
+                game.page = PageProcess(children, self.settings, self.words, self.port,
+                                        journal.file)
                 stack.callback(game.page.end)
-            if self.settings.by_hand is not None:
-                game.by_hand = SeatsProcess(children, self.settings, self.words, self.port)
-                stack.callback(game.by_hand.end)
             self._game = game
             status = self._host(game)
-            showing = float("inf") if self.settings.stays else SHOWING
-            showing = TELLING if self._is_left else showing
-            for page, limit in ((game.page, showing), (game.by_hand, TELLING)):
-                if page and not game.is_stopped:
-                    page.wait(limit, self._control)
+            if game.page and not game.is_stopped:
+                stays = self.settings.stays and not self._is_left
+                if not stays:  # otherwise it ends by the host's word alone
+                    game.page.close()
+                game.page.wait(float("inf") if stays else SHOWING, self._control)
         return status
 
     def interrupt(self) -> None:

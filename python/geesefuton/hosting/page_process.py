@@ -1,130 +1,128 @@
-"""The process of the live page, which the lobby starts, and restarts if it ends.
-
-Its standard input is a pipe, whose end tells it that the game is over, even if its journal has no
-end, as on a full disk.
-"""
+"""The process of a game's pages, as the lobby sees it. Whatever becomes of it, the game goes on."""
 
 from __future__ import annotations
 
-import os
+import contextlib
+import json
 import subprocess
-import sys
 import time
-from dataclasses import replace
 from pathlib import Path
-from typing import List, Sequence
+from typing import Callable, List, Optional
 
 from geesefuton.hosting.control import Control
 from geesefuton.hosting.settings import LobbySettings
-from geesefuton.processes import Children
+from geesefuton.network.addresses import new_token
+from geesefuton.processes import Children, python_words, why
 
-LOOK = 0.1  # seconds between two looks at whether the page has ended
-STEADY = 5.0  # seconds that a process has to have run to be started again
+LOOK = 0.1  # seconds between two looks at whether the pages have ended
+STEADY = 5.0  # seconds that a process has to have run to be started again at once
+AGAIN, LONGEST = 5.0, 60.0  # seconds until one that fails is tried again, at first and at most
 
 
 class SideProcess:
-    """A process beside the game, which goes on without it.
+    """A process beside the game, which goes on without it. It is started again if it ends.
 
     Args:
         children: By which it is started.
         name: What it is called in messages.
-        words: The words that start it.
-        output: Where its standard output goes.
-        again: The words that start it again once it has ended; none if it is not.
+        module: The module of the package whose `main` it runs.
+        told: Gives what is written to its standard input, which then stays open.
     """
 
-    def __init__(self, children: Children, name: str, words: List[str], output: int,
-                 again: Sequence[str] = ()) -> None:
-        self._children, self._name, self._output, self._again = children, name, output, again
-        self._is_told = False
-        self._start(words)
+    def __init__(self, children: Children, name: str, module: str, told: Callable[[], bytes]
+                 ) -> None:
+        self._children, self._name, self._told = children, name, told
+        self._words = python_words(module)
+        self._process: "Optional[subprocess.Popen[bytes]]" = None
+        self._began, self._due, self._pause = 0.0, float("-inf"), AGAIN
 
-    def _start(self, words: List[str]) -> None:
-        path = [str(Path(__file__).resolve().parents[2]), os.environ.get("PYTHONPATH", "")]
-        self._process = self._children.start(
-            words, stdin=subprocess.PIPE, stdout=self._output,
-            env={**os.environ, "PYTHONPATH": os.pathsep.join(filter(None, path))})
-        self._began = time.monotonic()
-
-    def fault(self) -> str:
-        """What the host is to be told of a process that has ended, once; else "". One that ran for
-        a while is started again, if it can be."""
-        if self._is_told or self._process.poll() is None:
-            return ""
-        status = self._process.returncode
-        if self._again and time.monotonic() - self._began >= STEADY:
+    def look(self) -> str:
+        """Starts it, if it does not run and may be tried. Gives what the host is to be told; "" for
+        nothing. It raises nothing."""
+        now, fault = time.monotonic(), ""
+        if self._process is not None:
+            if self._process.poll() is None:
+                return ""
+            fault = f"{self._name} ended with exit status {self._process.returncode}"
             self.end()
-            self._start([*self._again])
-            return f"{self._name} ended with exit status {status}, and was restarted"
-        self._is_told = True
-        return f"{self._name} ended with exit status {status}; the game goes on without it"
+            if now - self._began >= STEADY:
+                self._due, self._pause = now, AGAIN
+            else:
+                self._put_off(now)
+        if now >= self._due:
+            try:
+                self._start(now)
+                return fault and f"{fault}, and was restarted"
+            except OSError as why_not:  # such as too many open files
+                fault = f"{self._name} cannot be started: {why(why_not)}"
+                self._put_off(now)
+        return fault and f"{fault}; the game goes on, and it is tried again in " \
+                         f"{self._due - now:g} s"
+
+    def _put_off(self, now: float) -> None:
+        """It is tried again later, each time by more."""
+        self._due, self._pause = now + self._pause, min(2 * self._pause, LONGEST)
+
+    def _start(self, now: float) -> None:
+        self._process = self._children.start(self._words, stdin=subprocess.PIPE,
+                                             stdout=subprocess.DEVNULL)
+        self._began = now
+        assert self._process.stdin is not None
+        with contextlib.suppress(BrokenPipeError):  # it has ended already
+            self._process.stdin.write(self._told())
+            self._process.stdin.flush()
 
     def is_running(self) -> bool:
-        """Whether the process has not ended."""
-        return self._process.poll() is None
+        """Whether there is a process that has not ended."""
+        return self._process is not None and self._process.poll() is None
 
     def close(self) -> None:
-        """The game is over: its standard input ends, by which it knows that no more will come."""
-        if self._process.stdin is not None:
-            self._process.stdin.close()
+        """Ends its standard input, by which it knows that no more will come."""
+        if self._process is not None and self._process.stdin is not None:
+            with contextlib.suppress(BrokenPipeError):
+                self._process.stdin.close()
 
     def end(self) -> None:
         """Ends it, if it has not ended."""
         self.close()
-        self._children.end(self._process)
+        if self._process is not None:
+            self._children.end(self._process)
+            self._process = None
 
     def wait(self, limit: float, control: Control) -> None:
         """Waits until it has ended, for some seconds at most, unless the host stops it."""
-        self.close()
         deadline = time.monotonic() + limit
         while self.is_running() and not control.is_stopped and time.monotonic() < deadline:
             time.sleep(LOOK)
 
 
 class PageProcess(SideProcess):
-    """The live page of a game.
-
-    Args:
-        children: By which it is started.
-        settings: What the lobby was told.
-        journal: The file that it shows.
-    """
-
-    def __init__(self, children: Children, settings: LobbySettings, journal: Path) -> None:
-        # Once it was started again, how long the game still waits is not known.
-        again = page_words(replace(settings, start=None), journal)
-        super().__init__(children, "the page", page_words(settings, journal), subprocess.DEVNULL,
-                         again)
-
-
-class SeatsProcess(SideProcess):
-    """The page by which persons play seats. The host is shown its addresses.
+    """The pages of a game: the board, and the seats that persons play, whose addresses the host is
+    shown. Started again, it serves each seat at the same address.
 
     Args:
         children: By which it is started.
         settings: What the lobby was told.
         words: The seat words.
         port: The lobby's port for agents.
+        journal: The file that the board shows; None if there is no board.
+
+    Attributes:
+        seats: For each seat that persons may play its word, and the token of its page.
     """
 
-    def __init__(self, children: Children, settings: LobbySettings, words: List[str],
-                 port: int) -> None:
-        super().__init__(children, "the page for playing by hand",
-                         seats_words(settings, words, port), 2)
+    def __init__(self, children: Children, settings: LobbySettings, words: List[str], port: int,
+                 journal: Optional[Path]) -> None:
+        begins = None if settings.start is None else time.monotonic() + settings.start
+        self.seats = [(word, new_token()) for word in words] if settings.by_hand is not None else []
 
+        def told() -> bytes:
+            """What is to be served, with the seconds until the game begins."""
+            left = None if begins is None else max(0.0, begins - time.monotonic())
+            return json.dumps({
+                "port": port, "form": settings.form, "pace": settings.pace, "page": settings.page,
+                "journal": journal and str(journal), "late": settings.late, "begins": left,
+                "names": settings.names, "by_hand": settings.by_hand, "seats": self.seats,
+                "advice": settings.advice}).encode("ascii") + b"\n"
 
-def page_words(settings: LobbySettings, journal: Path) -> List[str]:
-    """The words that start the page."""
-    return [sys.executable, "-m", "geesefuton.hosting.live", str(journal), str(settings.page),
-            "--late", str(settings.late), "--until-over", "--agents", str(settings.port)] \
-        + (["--start", str(settings.start)] if settings.start is not None else []) \
-        + ["--json"] * (settings.form == "json") + ["--names"] * settings.names \
-        + ["--stay"] * settings.stays
-
-
-def seats_words(settings: LobbySettings, words: List[str], port: int) -> List[str]:
-    """The words that start the page by which persons play seats."""
-    return [sys.executable, "-m", "geesefuton.playing.seat_command", "127.0.0.1", str(port), *words,
-            "--page", str(settings.by_hand), "--listen", "0.0.0.0", "--pace", str(settings.pace),
-            "--until-over"] + ["--json"] * (settings.form == "json") \
-        + ["--no-advice"] * (not settings.advice)
+        super().__init__(children, "the page", "geesefuton.hosting.game_pages", told)

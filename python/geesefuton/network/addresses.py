@@ -1,24 +1,87 @@
-"""The addresses of links: a listener on all of this machine's, one text for each, and networks."""
+"""The addresses of this machine and of links: listeners, one text for each, networks, and tokens of
+pages."""
 
 from __future__ import annotations
 
+import contextlib
 import ipaddress
+import os
+import secrets
 import socket
-from typing import Union
+from typing import Iterator, List, Optional, Union
+
+ANYWHERE = "192.0.2.1"  # an address for documents, to which nothing is sent
+LETTERS = "abcdefghjkmnpqrstuvwxyz23456789"  # none that is taken for another one
+TOKEN = 10  # letters
 
 Address = Union[ipaddress.IPv4Address, ipaddress.IPv6Address]
 Network = Union[ipaddress.IPv4Network, ipaddress.IPv6Network]
 
 
-def listen(port: int) -> socket.socket:
-    """A listening socket on every address of the machine.
+def listen(port: int, address: str = "") -> socket.socket:
+    """A listening socket at an address of the machine, or at all of them.
 
     Raises:
-        OSError: The port is taken, or may not be used.
+        OSError: The port is taken, or may not be used, or there is no such address here.
     """
-    both = socket.has_dualstack_ipv6()
-    return socket.create_server(("", port), family=socket.AF_INET6 if both else socket.AF_INET,
-                                dualstack_ipv6=both, backlog=128)
+    both = not address and socket.has_dualstack_ipv6()
+    family = socket.AF_INET6 if both or ":" in address else socket.AF_INET
+    try:
+        return socket.create_server((address, port), family=family, dualstack_ipv6=both,
+                                    backlog=128)
+    except socket.gaierror:
+        raise  # the address is a name that nobody has
+    except OSError as fault:
+        raise OSError(fault.errno, os.strerror(fault.errno)) from None  # without the address
+
+
+def own_addresses() -> List[str]:
+    """The addresses by which other machines may reach this one, the likeliest first; none if it is
+    in no network."""
+    found = [each for each in _sent_from_each() if each is not None] or _named_addresses()
+    return [each for each in dict.fromkeys(found) if not parsed(each).is_loopback]
+
+
+def own_address() -> str:
+    """The address by which other machines most likely reach this one."""
+    return next(iter(own_addresses()), "localhost")
+
+
+def _sent_from_each() -> Iterator[Optional[str]]:
+    """The addresses that the system would send from: to anywhere, by its default route, and then
+    out of each interface, which needs no route."""
+    yield _sent_from(socket.AF_INET, ANYWHERE) or _sent_from(socket.AF_INET6, "2001:db8::1")
+    if hasattr(socket, "SO_BINDTODEVICE"):
+        for _, interface in socket.if_nameindex():
+            yield _sent_from(socket.AF_INET, ANYWHERE, interface)
+
+
+def _sent_from(family: int, target: str, interface: str = "") -> Optional[str]:
+    """The address from which something would be sent; None if it could not be."""
+    with contextlib.suppress(OSError), socket.socket(family, socket.SOCK_DGRAM) as probe:
+        if interface:
+            probe.setsockopt(socket.SOL_SOCKET, socket.SO_BINDTODEVICE, interface.encode())
+        probe.connect((target, 9))  # sends nothing: the system only chooses an address
+        return str(probe.getsockname()[0])
+    return None
+
+
+def _named_addresses() -> List[str]:
+    """The addresses that the name of this machine stands for."""
+    with contextlib.suppress(OSError):
+        return [str(found[4][0]) for found in socket.getaddrinfo(
+            socket.gethostname(), None, socket.AF_INET, socket.SOCK_STREAM)]
+    return []
+
+
+def page_address(host: str, port: int, token: str) -> str:
+    """The address of a page that is reached by a token."""
+    return f"http://{f'[{host}]' if ':' in host else host}:{port}/{token}/"
+
+
+def new_token() -> str:
+    """A token that nobody guesses: 49 bits, in letters and digits."""
+    return "".join(secrets.choice(LETTERS) for _ in range(TOKEN))
 
 
 def parsed(text: str) -> Address:

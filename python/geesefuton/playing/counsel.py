@@ -10,6 +10,7 @@ from geesefuton.link import account
 from geesefuton.records.games import Client
 
 OWED = 200  # dollars for each ticket that is sold and not held
+SOLVING = 60.0  # seconds that the solver may take
 
 
 def counsel(holdings: Sequence[int], clients: Sequence[Client]) -> Dict[str, Any]:
@@ -21,9 +22,10 @@ def counsel(holdings: Sequence[int], clients: Sequence[Client]) -> Dict[str, Any
         for each good what one unit more adds in dollars, a spared penalty included.
 
     Raises:
-        ProgramError: There is no program, or it failed.
+        ProgramError: There is no program, it failed, or took too long.
     """
-    lines = program.worth(account(holdings, clients)).split("\n")
+    lines = program.run("worth", program.INPUT, given=account(holdings, clients),
+                        timeout=SOLVING).split("\n")
     place = lines.index("base")
     solved = lines[place + 2:place + 10]  # after `base` and `total`
     more = [int(line.split()[2]) for line in lines[1:place]]

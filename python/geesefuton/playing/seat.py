@@ -11,10 +11,11 @@ import queue
 import threading
 import time
 from collections import deque
-from dataclasses import dataclass, field
-from typing import Any, Callable, Deque, Dict, List, Optional, Tuple
+from concurrent.futures import Future
+from dataclasses import dataclass
+from typing import Any, Callable, Deque, Dict, List, NamedTuple, Optional, Tuple
 
-from geesefuton.link import Link, LinkError, Unanswered
+from geesefuton.link import REJOIN, Link, LinkError, Unanswered
 from geesefuton.playing.answers import Answer, answer_of, asked_in_words
 from geesefuton.playing.game_clock import GameClock
 from geesefuton.records.games import FLIGHTS, GOODS, HOTELS, TICKETS, Client
@@ -28,8 +29,6 @@ READINGS = 2  # of the cash after a change: another caller's trade may be missin
 KEPT = 40  # answers that are kept
 # Flights move before the hotel of their tick closes: so who saw it closed then sees them moved.
 ORDER = (*HOTELS, *FLIGHTS, *TICKETS)
-LATE = 20.0  # seconds until a browser is told that its order was not answered yet
-NOT_YET = Answer(False, "The server has not answered yet: what it answers will be listed below.")
 NOT_NOW = Answer(False, "There is no game now in which this could be asked.")
 
 
@@ -53,13 +52,29 @@ class Holding:
         return good not in HOTELS and time.monotonic() >= self.due
 
 
-@dataclass
-class Order:
-    """A bid or a withdrawal, and its answer."""
+class Order(NamedTuple):
+    """A bid or a withdrawal, and what will come of it."""
 
     request: Request
-    done: threading.Event = field(default_factory=threading.Event)
-    answer: Answer = NOT_YET
+    answer: "Future[Answer]"
+
+
+def greeting(host: str, port: int, word: str, form: str,
+             is_open: Callable[[], bool]) -> Callable[[], Link]:
+    """What takes a seat, as `Link.greet`. A lost link is connected again only while a browser has
+    the seat's page open: so a host who ends the link of a page that nobody looks at frees the seat.
+    """
+    class SeatLink(Link):
+        """The link of the seat."""
+
+        def rejoin(self, within: float = REJOIN) -> None:
+            """Connects again, as `Link.rejoin`."""
+            if not is_open():
+                self.close()
+                raise LinkError(f"{word}: it was lost while no browser had this page open")
+            super().rejoin(within)
+
+    return lambda: SeatLink.greet(host, port, word, form)
 
 
 class Seat:
@@ -71,12 +86,15 @@ class Seat:
 
     Attributes:
         clients: The seat's clients, once the game has begun.
+        version: The number of the newest state.
+        tell: Is called in any thread once there is a new state.
     """
 
     def __init__(self, greet: Callable[[], Link], pace: Optional[float] = None) -> None:
         self._greet, self._pace = greet, pace
-        self._changed = threading.Condition()
-        self._version = 0
+        self.version = 0
+        self.tell: Callable[[], None] = lambda: None
+        self._lock = threading.RLock()
         self._state: Dict[str, Any] = {"phase": "idle"}
         self._asked: Optional[float] = None  # since when a reply is waited for
         self._thread: Optional[threading.Thread] = None
@@ -97,7 +115,7 @@ class Seat:
 
     def begin(self) -> None:
         """Takes the seat, unless it is taken already. After a game it is taken for the next."""
-        with self._changed:
+        with self._lock:
             if self._thread is not None:
                 if self._thread.is_alive() and self.phase not in ("over", "failed"):
                     return
@@ -122,27 +140,18 @@ class Seat:
         return [units + (sum(count for count, _ in points) if with_standing else 0)
                 for units, points in self._state["goods"]]
 
-    def order(self, request: Request) -> Answer:
-        """Asks a bid or a withdrawal, and waits for what comes of it."""
-        if self.phase != "running":
-            return NOT_NOW
-        order = Order(request)
+    def order(self, request: Request) -> "Future[Answer]":
+        """Asks a bid or a withdrawal, and gives what will come of it."""
+        order = Order(request, Future())
         self._orders.put(order)
-        if self.phase != "running":  # the game has ended meanwhile
+        if self.phase != "running":  # perhaps since a moment
             self._refuse_rest()
-        order.done.wait(LATE)
         return order.answer
 
-    def state(self, after: int, wait: float) -> Dict[str, Any]:
-        """What there is to show.
-
-        Args:
-            after: The version that is known; a later one is waited for.
-            wait: The seconds for which it is waited for at most.
-        """
-        with self._changed:
-            self._changed.wait_for(lambda: self._version != after, wait)
-            state, version, now = self._state, self._version, time.monotonic()
+    def state(self) -> Dict[str, Any]:
+        """What there is to show."""
+        with self._lock:
+            state, version, now = self._state, self.version, time.monotonic()
         mark = self._clock.now(now)
         asked = self._asked
         return {**state, "version": version, "tick": mark.tick, "since": now - mark.moment,
@@ -150,8 +159,8 @@ class Seat:
                 "silent": now - asked if asked is not None else 0}
 
     def publish(self) -> None:
-        """Makes what is known now the state, and wakes those who wait for it."""
-        with self._changed:
+        """Makes what is known now the state, and tells that there is a new one."""
+        with self._lock:
             self._state = {
                 "phase": self._phase, "fault": self._fault,
                 "clients": [[each.arrive, each.depart, each.premium, *each.values]
@@ -160,8 +169,8 @@ class Seat:
                 "quotes": [each.quote and [each.quote.bid, each.quote.ask, each.quote.closed]
                            for each in self._goods],
                 "cash": self._cash, "closed": list(self._closed), "calls": list(self._calls)}
-            self._version += 1
-            self._changed.notify_all()
+            self.version += 1
+        self.tell()
 
     # What the thread does.
 
@@ -179,6 +188,8 @@ class Seat:
             self._phase = "over"
         except LinkError as fault:
             self._phase, self._fault = "failed", str(fault)
+        except Exception as fault:  # whatever ends the thread is told, so that no page waits for it
+            self._phase, self._fault = "failed", f"{type(fault).__name__}: {fault}"
         finally:
             self._asked = None
             self.publish()
@@ -190,8 +201,7 @@ class Seat:
                 order = self._orders.get_nowait()
             except queue.Empty:
                 return
-            order.answer = NOT_NOW
-            order.done.set()
+            order.answer.set_result(NOT_NOW)
 
     def _send(self, link: Link, request: Request) -> Reply:
         self._asked = time.monotonic()
@@ -295,8 +305,7 @@ class Seat:
             answer = Answer(False, "The link was lost before this was answered, and is back: look "
                                    "at what stands there, and ask again if it is missing.")
         except LinkError:
-            order.answer = Answer(False, "The link is lost.")
-            order.done.set()
+            order.answer.set_result(Answer(False, "The link is lost."))
             raise
         if self._readings:
             self._read_cash(link)
@@ -304,9 +313,8 @@ class Seat:
         self._calls.append({"number": self._number, "tick": self._clock.now(time.monotonic()).tick,
                             "what": asked_in_words(request), "text": answer.text,
                             "done": answer.is_done})
-        order.answer = answer
         self.publish()
-        order.done.set()
+        order.answer.set_result(answer)
 
     def _see_open(self, link: Link, good: int) -> None:
         """Looks at a hotel's or a ticket's quote after a bid, which may have moved it."""

@@ -3,7 +3,7 @@
 The command is an agent like any other, whose decisions come from a page. It prints the address of
 the page, which contains a fresh token: nobody can see or ask anything without the address. It takes
 the seat once a browser opens the page; until then an agent can take the seat. With several words it
-has a page for each seat. It reconnects a lost link.
+has a page for each seat. It reconnects a lost link while the page is open in a browser.
 
 With --listen browsers on other machines can open the pages too, such as phones in the room, and if
 `qrencode` is installed the command also prints their addresses as QR codes. On request the pages
@@ -19,19 +19,15 @@ import shutil
 import socket
 import subprocess
 import sys
-import threading
-import time
-from typing import Iterator, List
+from typing import Iterator, Sequence, Tuple
 
 from geesefuton.arguments import Parser, whole
-from geesefuton.link import Link
-from geesefuton.playing.seat import Seat
-from geesefuton.playing.seat_page import Site, Table
-from geesefuton.processes import command, tell, why
+from geesefuton.network.addresses import listen, new_token, own_addresses, page_address
+from geesefuton.network.pages import Faults, PageServer, page_gate, run
+from geesefuton.playing.seat_page import make_site
+from geesefuton.processes import command, give_way, tell, why
 
-LOOK = 0.1  # seconds between two looks at whether all games are over
-LINGER = 10.0  # seconds after the end for pages that were not told of it
-GRACE = 1.0  # seconds for the other pages of a seat, and for what is being sent
+NICE = 5  # by how much the priority is lower, as the solver's
 
 
 def _arguments() -> argparse.Namespace:
@@ -49,74 +45,50 @@ def _arguments() -> argparse.Namespace:
         help="the time from tick to tick (default: measured)")
     add("--json", action="store_true", help="send JSON objects instead of words")
     add("--no-advice", action="store_true", help="do not let the page ask the solver")
-    add("--until-over", action="store_true",
-        help="end once all games that have begun are over and their pages have the result")
     return parser.parse_args()
 
 
-def host_of(address: str) -> str:
-    """What browsers call an address at which the page listens."""
-    if address not in ("0.0.0.0", "::"):
-        return f"[{address}]" if ":" in address else address
-    with contextlib.suppress(OSError), \
-            socket.socket(socket.AF_INET, socket.SOCK_DGRAM) as probe:
-        probe.connect(("192.0.2.1", 9))  # nothing is sent: it only chooses an address of its own
-        host: str = probe.getsockname()[0]
-        return host
-    return socket.gethostname()
+def address_lines(seats: Sequence[Tuple[str, str]], port: int, address: str = "") -> Iterator[str]:
+    """What is printed: for each seat its word and the address of its page, also as a QR code.
 
-
-def _lines(words: List[str], addresses: List[str], with_codes: bool) -> Iterator[str]:
-    """What is printed: the address of each seat, and its QR code."""
-    coder = shutil.which("qrencode") if with_codes else None
-    for word, address in zip(words, addresses):
-        yield f"{word}: {address}"
+    Args:
+        seats: The word of each seat, and the token of its page.
+        port: The port of the pages.
+        address: The address at which they are served; "" for all of this machine.
+    """
+    hosts = [address] if address else own_addresses() or ["localhost"]
+    coder = None if address == "127.0.0.1" else shutil.which("qrencode")
+    for word, token in seats:
+        place = page_address(hosts[0], port, token)
+        yield f"{word}: {place}"
         if coder is not None:
-            code = subprocess.run([coder, "-t", "UTF8", address], stdout=subprocess.PIPE,
+            code = subprocess.run([coder, "-t", "UTF8", place], stdout=subprocess.PIPE,
                                   stdin=subprocess.DEVNULL, check=False).stdout
             yield code.decode("utf-8", "replace").rstrip("\n")
+    if hosts[1:]:
+        yield f"if {hosts[0]} cannot be reached, try {' or '.join(hosts[1:])} in its place"
 
 
-def _wait(tables: List[Table], until_over: bool) -> None:
-    """Waits for ctrl-C, or until all games are over."""
-    while True:
-        begun = [table for table in tables if table.seat.phase != "idle"]
-        ended = all(table.seat.phase in ("over", "failed") for table in begun)
-        if until_over and begun and ended:
-            break
-        time.sleep(LOOK)
-    deadline = time.monotonic() + LINGER
-    for table in begun:
-        table.is_told.wait(max(0, deadline - time.monotonic()))
-    time.sleep(GRACE)
-
-
-def _table(given: argparse.Namespace, word: str) -> Table:
-    form = "json" if given.json else "words"
-    pace = given.pace / 1000 if given.pace else None
-    seat = Seat(lambda: Link.greet(given.host, given.port, word, form), pace)
-    return Table(seat, not given.no_advice)
+async def _serve(given: argparse.Namespace, listener: socket.socket) -> None:
+    seats = [(word, new_token()) for word in given.words]
+    site = make_site(given.host, given.port, seats, "json" if given.json else "words", given.pace,
+                     not given.no_advice)
+    everywhere = given.listen in ("0.0.0.0", "::")
+    for line in address_lines(seats, listener.getsockname()[1], "" if everywhere else given.listen):
+        print(line, flush=True)
+    await PageServer(site.answer, page_gate(), Faults(tell)).serve(listener)
 
 
 def _main() -> int:
     given = _arguments()
-    tables = [_table(given, word) for word in given.words]
+    give_way(NICE)
     try:
-        site = Site((given.listen, given.page), tables)
+        listener = listen(given.page, given.listen)
     except OSError as fault:
         tell(f"seat: cannot serve a page at {given.listen}, port {given.page}: {why(fault)}")
         return 1
-    with site:
-        threading.Thread(target=site.serve_forever, daemon=True).start()
-        host, port = host_of(given.listen), site.server_address[1]
-        addresses = [f"http://{host}:{port}/{table.token}/" for table in tables]
-        for line in _lines(given.words, addresses, given.listen != "127.0.0.1"):
-            print(line, flush=True)
-        try:
-            _wait(tables, given.until_over)
-        finally:
-            site.shutdown()
-    return 0
+    with contextlib.closing(listener):
+        return run(_serve(given, listener))
 
 
 def main() -> int:

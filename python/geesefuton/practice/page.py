@@ -19,19 +19,18 @@ from typing import Any, Dict, List, Optional, Sequence
 from geesefuton.arguments import Parser, whole
 from geesefuton.hosting.handouts import Handouts
 from geesefuton.hosting.journal import JournalError
-from geesefuton.hosting.live import NICE, Live
+from geesefuton.hosting.live import NICE, PAGE, Live
 from geesefuton.hosting.projection import View
 from geesefuton.hosting.recovery import Player
-from geesefuton.hosting.viewers import Faults, Viewers
+from geesefuton.hosting.viewers import Viewers
 from geesefuton.network.addresses import listen
+from geesefuton.network.pages import Faults, PageServer, page_gate, read_page, run
 from geesefuton.processes import Children, command, give_way, tell, why
 from geesefuton.records.games import TICKS
 
 LOOK = 0.25  # seconds between two looks at what the room shows
 STAY = 20.0  # seconds for which final scores stay
 STOPPED = 3.0  # seconds for which a game stays that was stopped
-
-HERE = Path(__file__).resolve().parent
 
 
 class Screens(Viewers):
@@ -62,8 +61,7 @@ class RoomPage:
                  faults: Faults) -> None:
         self._file, self._screens, self._player, self._late = file, screens, player, late
         self._faults = faults
-        self._room = (HERE / "room.html").read_bytes()
-        self._live = (HERE.parent / "hosting" / "live.html").read_bytes()
+        self._room, self._live = map(read_page, (Path(__file__).with_name("room.html"), PAGE))
         self._shown = b""
 
     async def follow(self) -> None:
@@ -142,10 +140,11 @@ async def _end(tasks: "Sequence[asyncio.Future[None]]") -> None:
 
 async def _run(given: argparse.Namespace, player: Player) -> None:
     faults = Faults(tell)
-    screens = Screens(b"", faults)
+    screens = Screens(b"")
     page = RoomPage(given.board, screens, player, given.late, faults)
     with contextlib.closing(listen(given.port)) as listener:
-        await asyncio.gather(screens.accept(listener), page.follow())
+        server = PageServer(screens.answer, page_gate(), faults)
+        await asyncio.gather(server.serve(listener), page.follow())
 
 
 def _main() -> int:
@@ -156,8 +155,7 @@ def _main() -> int:
     given = parser.parse_args()
     give_way(NICE)
     with Children() as children:
-        asyncio.run(_run(given, Player(children.folder("page"))))
-    return 0
+        return run(_run(given, Player(children.folder("page"))))
 
 
 def main() -> int:

@@ -1,0 +1,121 @@
+"""The process that serves the pages of a game: the board, and the seats that persons play.
+
+The lobby starts it, and alone decides when it ends. Standard input is a pipe: its first line says
+what is to be served, so that no seat word stands among the words of a process, which everybody on
+the host may read. The pipe's end says that the game is over, even if its journal has no end, as on
+a full disk: then screens and players have a while to get the last scores.
+"""
+
+from __future__ import annotations
+
+import asyncio
+import contextlib
+import json
+import os
+import time
+from typing import Any, BinaryIO, Dict, List
+
+from geesefuton.hosting.handouts import Handouts
+from geesefuton.hosting.journal import JournalError
+from geesefuton.hosting.live import LINGER, NICE, PAGE, Live
+from geesefuton.hosting.projection import View
+from geesefuton.hosting.recovery import Player
+from geesefuton.hosting.viewers import Viewers
+from geesefuton.network.addresses import listen, own_address
+from geesefuton.network.pages import Answering, Faults, PageServer, page_gate, read_page, run
+from geesefuton.playing.seat_command import address_lines
+from geesefuton.playing.seat_page import Site, make_site
+from geesefuton.processes import Children, command, give_way, tell, why
+
+TELLING = 30.0  # seconds that players have, for which the solver is asked one after the other
+LOOK = 0.05  # seconds between two looks at whether all have them
+GRACE = 0.5  # seconds for what is being sent
+
+
+def _make_board(given: Dict[str, Any], journal: BinaryIO, viewers: Viewers, faults: Faults,
+                player: Player) -> Live:
+    """What shows the game on screens."""
+    joining: Dict[str, Any] = {"port": given["port"], "address": own_address(), "seat": True}
+    if given["form"] == "words":  # starters send words
+        viewers.handouts = Handouts(joining["port"], joining["address"])
+        joining["starters"] = viewers.handouts.are_there
+    begins = None if given["begins"] is None else time.monotonic() + given["begins"]
+    view = View(given["late"], given["names"])
+    return Live(journal, view, player, viewers, faults, joining, begins)
+
+
+async def _follow(live: Live, ended: "asyncio.Future[None]") -> None:
+    """Shows the game until it is over. The seats go on without the board."""
+    ended.add_done_callback(lambda _: live.cut())
+    try:
+        await asyncio.gather(live.follow(), live.project())
+    except JournalError as fault:
+        tell(f"the page shows nothing more of the game: {fault}")
+
+
+def _watch_standard_input(ended: "asyncio.Future[None]") -> None:
+    """Sets a future at the end of standard input."""
+    loop = asyncio.get_running_loop()
+
+    def look() -> None:
+        if not os.read(0, 4096):
+            loop.remove_reader(0)
+            ended.set_result(None)
+
+    loop.add_reader(0, look)
+
+
+async def _serve(given: Dict[str, Any], player: Player) -> None:
+    """Serves the pages until the lobby has ended the game, and a while longer."""
+    ended: "asyncio.Future[None]" = asyncio.get_running_loop().create_future()
+    _watch_standard_input(ended)
+    faults, gate, viewers = Faults(tell), page_gate(), Viewers(read_page(PAGE))
+    site = make_site("127.0.0.1", given["port"], given["seats"], given["form"], given["pace"],
+                     given["advice"])
+    tasks: "List[asyncio.Future[None]]" = []
+    with contextlib.ExitStack() as stack:
+
+        def begin(answer: Answering, port: int) -> None:
+            try:
+                listener = stack.enter_context(contextlib.closing(listen(port)))
+            except OSError as fault:
+                raise OSError(fault.errno, why(fault), f"port {port}") from None
+            tasks.append(asyncio.ensure_future(PageServer(answer, gate, faults).serve(listener)))
+
+        if given["by_hand"] is not None:
+            begin(site.answer, given["by_hand"])
+            for line in address_lines(given["seats"], given["by_hand"]):
+                tell(line)
+        if given["page"] is not None:
+            journal = stack.enter_context(open(given["journal"], "rb"))
+            begin(viewers.answer, given["page"])
+            await _follow(_make_board(given, journal, viewers, faults, player), ended)
+        await ended
+        await _linger(viewers, site)
+        for task in tasks:
+            task.cancel()
+        await asyncio.gather(*tasks, return_exceptions=True)
+
+
+async def _linger(viewers: Viewers, site: Site) -> None:
+    """Waits until the screens and the players have the last scores, for a while at most."""
+    begun, passed = time.monotonic(), 0.0
+    played = [table for table in site.tables if table.seat.phase not in ("idle", "failed")]
+    while passed < TELLING and (viewers.count and passed < LINGER or any(
+            table.pages.is_open() and not table.is_told for table in played)):
+        await asyncio.sleep(LOOK)
+        passed = time.monotonic() - begun
+    await asyncio.sleep(GRACE if played else 0)
+
+
+def _main() -> int:
+    give_way(NICE)
+    with os.fdopen(0, "rb", buffering=0, closefd=False) as told:
+        given: Dict[str, Any] = json.loads(told.readline())
+    with Children() as children:
+        return run(_serve(given, Player(children.folder("pages"))))
+
+
+def main() -> int:
+    """The process of the pages."""
+    return command("the page", _main)
