@@ -101,10 +101,14 @@ def _print(name: str, lines: List[str]) -> int:
 Finding = Tuple[bool, str]  # whether it is as it should be, and a line that says so or what to do
 
 
+def _runs_here() -> bool:
+    """Whether the program is one for this system."""
+    return platform.system() == "Linux" and platform.machine() in ("x86_64", "AMD64")
+
+
 def _system() -> Finding:
-    is_due = platform.system() == "Linux" and platform.machine() in ("x86_64", "AMD64")
-    return is_due, f"platform: {_platform()}" + ("" if is_due else (
-        "; the program needs x86-64 Linux: host games there; agents run anywhere"))
+    return True, f"platform: {_platform()}" + ("" if _runs_here() else (
+        "; agents run here; the program, which hosts games, needs x86-64 Linux"))
 
 
 def _library() -> Finding:
@@ -177,14 +181,11 @@ def _addresses() -> Finding:
                 continue
     if found:
         return True, f"addresses: {' '.join(found)}"
-    return False, "addresses: none but this machine's own: join the room's network first"
+    return True, "addresses: none but this machine's own; to play with others, join their network"
 
 
 def _files() -> Finding:
-    try:
-        import resource
-    except ImportError:
-        return True, "open files: the limit is unknown"
+    import resource  # Windows has none
     soft, _ = resource.getrlimit(resource.RLIMIT_NOFILE)
     return soft < 0 or soft >= 256, f"open files: {soft} at most" + (
         "" if soft < 0 or soft >= 256 else ": run `ulimit -n 1024` before the lobby")
@@ -197,6 +198,7 @@ def _folder() -> Finding:
 
 
 FINDINGS = (_system, _library, _file, _runs, _hash, _python, _ports, _addresses, _files, _folder)
+OF_AGENTS = (_system, _python, _addresses, _folder)  # where agents alone run
 
 
 def main() -> int:
@@ -207,7 +209,7 @@ def main() -> int:
 def _doctor() -> int:
     Parser("doctor", "Checks what this machine has and lacks, and how to get what is missing.\n"
            "The exit status is 1 if something is missing.").parse_args()
-    findings = [look() for look in FINDINGS]
+    findings = [look() for look in (FINDINGS if _runs_here() else OF_AGENTS)]
     status = _print("doctor", [f"{'ok  ' if is_due else 'FIX '} {text}"
                                for is_due, text in findings])
     return status or int(not all(is_due for is_due, _ in findings))

@@ -14,7 +14,7 @@ from pathlib import Path
 from types import FrameType, TracebackType
 from typing import Any, Callable, List, Optional, Sequence, Type, Union
 
-from geesefuton.program import ProgramError
+from geesefuton.program import STOPPING, ProgramError
 
 # The guard is a shell that makes a folder, and waits until the pipe to it closes: then the script
 # has ended, even by SIGKILL. Each process writes its number into the folder `groups` before it
@@ -49,14 +49,14 @@ class Stopped(BaseException):
 
 
 def stop_on_signals() -> None:
-    """Lets SIGINT, SIGTERM and SIGHUP raise `Stopped` in the main thread.
+    """Lets the signals that stop a script raise `Stopped` in the main thread.
 
     A signal that is ignored, as SIGHUP is under `nohup`, stays ignored.
     """
     def stop(number: int, _: Optional[FrameType]) -> None:
         raise Stopped(number)
 
-    for number in (signal.SIGINT, signal.SIGTERM, signal.SIGHUP):
+    for number in STOPPING:
         if signal.getsignal(number) is not signal.SIG_IGN:
             signal.signal(number, stop)
 

@@ -7,7 +7,6 @@ the package, or crates/tacd/out/tacd of the clone that contains the package.
 import atexit
 import contextlib
 import errno
-import fcntl
 import os
 import platform
 import shutil
@@ -19,10 +18,10 @@ from pathlib import Path
 from typing import Any, Iterator, List, Optional, Sequence, Set, Tuple, Union
 
 __all__ = [
-    "INPUT", "LEAST_LIBRARY", "MEANINGS", "OK", "CLOCK", "UNSOUND", "ProgramError", "audit",
-    "ended", "examples", "exit_status", "find", "find_runnable", "library", "make", "moved",
-    "nameless_file", "play", "run", "served_words", "show", "solve", "start", "table", "top",
-    "upgrade", "vouch", "why_not_run", "worth",
+    "INPUT", "LEAST_LIBRARY", "MEANINGS", "OK", "CLOCK", "STOPPING", "UNSOUND", "ProgramError",
+    "audit", "ended", "examples", "exit_status", "find", "find_runnable", "library", "make",
+    "moved", "nameless_file", "play", "run", "served_words", "show", "solve", "start", "table",
+    "top", "upgrade", "vouch", "why_not_run", "worth",
 ]
 
 Word = Union[str, int, "os.PathLike[str]"]
@@ -36,7 +35,9 @@ LEAST_LIBRARY = (2, 34)  # the version of glibc that a released program needs
 # own, which is a tenth of the time of `tac step`. A variable that is set already holds.
 HEAP = {b"MALLOC_MMAP_THRESHOLD_": b"33554432", b"MALLOC_TRIM_THRESHOLD_": b"134217728",
         b"MALLOC_TOP_PAD_": b"16777216", b"MALLOC_ARENA_MAX": b"1"}
-STOPPING = (signal.SIGINT, signal.SIGTERM, signal.SIGHUP)
+# The signals that stop a script, as far as the system has them.
+STOPPING: Tuple[int, ...] = tuple(getattr(signal, name) for name in ("SIGINT", "SIGTERM", "SIGHUP")
+                                  if hasattr(signal, name))
 MEANINGS = {
     1: "the words are no command",
     2: "the game file is refused",
@@ -124,8 +125,11 @@ def find_runnable() -> str:
     """The file of tac, on a system whose C library is not too old for it.
 
     Raises:
-        ProgramError: There is no such file, it is no program, or it needs a later glibc.
+        ProgramError: There is no such file, it is no program, it needs a later glibc, or the system
+            runs no such programs.
     """
+    if not hasattr(os, "posix_spawn"):
+        raise ProgramError("tac runs on x86-64 Linux alone: host games there; agents run anywhere")
     file = find()
     name, number = library()
     if name == "glibc" and number < LEAST_LIBRARY:
@@ -188,7 +192,7 @@ def run(command: str, *words: Word, given: bytes = b"", allowed: Sequence[int] =
     return text
 
 
-def start(file: str, words: Sequence[str], moves: Moves, in_own_group: bool = False) -> int:
+def start(file: str, words: List[str], moves: Moves, in_own_group: bool = False) -> int:
     """Starts a process of tac, and gives its number.
 
     Args:
@@ -200,10 +204,8 @@ def start(file: str, words: Sequence[str], moves: Moves, in_own_group: bool = Fa
     Raises:
         OSError: It cannot be run.
     """
-    # Python would read each variable by itself from `os.environb`, which takes as long as the rest.
-    variables = {**HEAP, **getattr(os.environb, "_data", os.environb)}
     group: Any = {"setpgroup": 0} if in_own_group else {}
-    return os.posix_spawn(file, words, variables, file_actions=moves,
+    return os.posix_spawn(file, words, {**HEAP, **os.environb}, file_actions=moves,
                           setsigdef=[signal.SIGPIPE, signal.SIGXFSZ], **group)
 
 
@@ -261,11 +263,15 @@ def nameless_file(text: bytes = b"") -> int:
 
 
 def moved(number: int, least: int) -> int:
-    """A descriptor in place of another one, which is closed: the next free one from `least` on."""
+    """A descriptor of `least` or more in place of a lower one, which is closed."""
+    held = [number]
     try:
-        return fcntl.fcntl(number, fcntl.F_DUPFD_CLOEXEC, least)
+        while held[-1] < least:
+            held.append(os.dup(number))
+        return held.pop()
     finally:
-        os.close(number)
+        for each in held:
+            os.close(each)
 
 
 @contextlib.contextmanager

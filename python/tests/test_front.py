@@ -216,11 +216,13 @@ class Doctor(unittest.TestCase):
         for soft, is_due in ((255, False), (256, True), (-1, True)):
             with mock.patch("resource.getrlimit", return_value=(soft, soft)):
                 self.check(doctor._files, is_due, f"open files: {soft} at most")
-        for system, machine, is_due in (("Linux", "x86_64", True), ("Linux", "aarch64", False),
-                                        ("Darwin", "x86_64", False)):
+        for system, machine, count in (("Linux", "x86_64", 10), ("Linux", "aarch64", 4),
+                                       ("Darwin", "x86_64", 4)):
             with mock.patch("platform.system", return_value=system), \
                     mock.patch("platform.machine", return_value=machine):
-                self.check(doctor._system, is_due, f"platform: {system} {machine}")
+                text = self.tell(is_doctor=True)[1]
+            self.assertEqual((text.count("\n"), "agents run here" in text), (count, count == 4))
+            self.assertIn(f"ok   platform: {system} {machine}", text)
         for version, is_due in (((3, 8, 9), False), ((3, 9), True), ((4, 0), True)):
             with mock.patch("sys.version_info", version):
                 self.check(doctor._python, is_due, "Python: ")
@@ -229,7 +231,7 @@ class Doctor(unittest.TestCase):
                 self.check(doctor._folder, may_write,
                            f"this folder: {'' if may_write else 'not '}writable")
         with mock.patch("socket.socket.connect", side_effect=OSError):
-            self.check(doctor._addresses, False, "addresses: none but this machine's own")
+            self.check(doctor._addresses, True, "addresses: none but this machine's own")
         with mock.patch.dict(os.environ, {"TAC": str(self.place / "none")}):
             for look in (doctor._file, doctor._runs):
                 self.check(look, False, "program")
