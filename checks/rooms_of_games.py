@@ -111,9 +111,14 @@ class Trial:
                                 stdout=self._said, stderr=self._said, env=self._variables)
 
     def manifests(self) -> Dict[int, Dict[str, Any]]:
-        """The manifests, by the numbers of their games."""
-        return {int(file.stem): json.loads(file.read_bytes())
-                for file in self.room.glob("[0-9]*.json")}
+        """The manifests of finished games, by the numbers of these."""
+        games = [json.loads(file.read_bytes()) for file in self.room.glob("[0-9]*.json")]
+        return {game["number"]: game for game in games if game["is_judged"]}
+
+    def begun(self) -> int:
+        """How many games are finished, or will be once the room is started again."""
+        with contextlib.closing(Folder(self.room)) as folder:
+            return len(folder.finished) + len(folder.unjudged)
 
 
 def play(trial: Trial, games: int, kills: int, most: float) -> List[str]:
@@ -141,7 +146,7 @@ def play(trial: Trial, games: int, kills: int, most: float) -> List[str]:
             trial.kills += 1
             room.kill()
             room.wait()
-            room = trial.start(games - len(trial.manifests()))
+            room = trial.start(games - trial.begun())
 
 
 def compare(trial: Trial) -> List[str]:

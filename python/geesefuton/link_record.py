@@ -78,7 +78,7 @@ class LinkRecord:
             while rest:
                 rest = rest[file.write(rest):]
         except OSError as fault:
-            self._give_up(f"{file.name}: {why(fault)}")
+            self._give_up(f"{str(file.name)}: {why(fault)}")
         except ValueError:
             pass  # it was closed
 

@@ -171,11 +171,11 @@ class Children:
         self.close()
 
 
-def why(fault: OSError) -> str:
-    """A fault of the system in a few words, such as `No space left on device`."""
+def why(fault: Exception) -> str:
+    """A fault in a few words, as the system has them, such as `No space left on device`."""
     if isinstance(fault, BrokenPipeError):
         return "its reader has gone"
-    return fault.strerror or str(fault)
+    return fault.strerror or str(fault) if isinstance(fault, OSError) else str(fault)
 
 
 class Output:

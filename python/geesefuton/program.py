@@ -18,16 +18,16 @@ from pathlib import Path
 from typing import Any, Iterator, List, Optional, Sequence, Set, Tuple, Union
 
 __all__ = [
-    "INPUT", "LEAST_LIBRARY", "MEANINGS", "OK", "CLOCK", "STOPPING", "UNSOUND", "ProgramError",
-    "audit", "ended", "examples", "exit_status", "find", "find_runnable", "library", "make",
-    "moved", "nameless_file", "play", "run", "served_words", "show", "solve", "start", "table",
-    "top", "upgrade", "vouch", "why_not_run", "worth",
+    "INPUT", "LEAST_LIBRARY", "MEANINGS", "OK", "CLOCK", "REFUSED", "STOPPING", "UNSOUND",
+    "ProgramError", "audit", "ended", "examples", "exit_status", "find", "find_runnable",
+    "library", "make", "moved", "nameless_file", "play", "run", "served_words", "show", "solve",
+    "start", "table", "top", "upgrade", "vouch", "why_not_run", "worth",
 ]
 
 Word = Union[str, int, "os.PathLike[str]"]
 Moves = List[Tuple[Any, ...]]
 
-OK, CLOCK, UNSOUND = 0, 6, 9  # exit statuses
+OK, CLOCK, REFUSED, UNSOUND = 0, 6, 8, 9  # exit statuses
 INPUT = "/dev/stdin"  # the file that has what a command is given
 BUNDLED = Path(__file__).resolve().parent / "bin" / "tac"  # in a release
 LEAST_LIBRARY = (2, 34)  # the version of glibc that a released program needs

@@ -12,7 +12,7 @@ import time
 import unittest
 from fractions import Fraction
 from pathlib import Path
-from typing import Any, Callable, Dict, List, Sequence, Tuple
+from typing import Any, Callable, Dict, Iterator, List, Optional, Sequence, Tuple
 from unittest import mock
 
 from geesefuton import program
@@ -21,22 +21,23 @@ from geesefuton.practice import room as room_module
 from geesefuton.practice.board import Board
 from geesefuton.practice.folder import Finished, Folder, FolderError, digest_of, write_whole
 from geesefuton.practice.house import HouseServer
-from geesefuton.practice.room import Room, RoomSettings
+from geesefuton.practice.room import Room
 from geesefuton.practice.standings import standings_of
+from geesefuton.practice.table import TableSettings
 from geesefuton.practice.teams import TeamsError, keep_words, read_teams, slips_of
 from geesefuton.processes import Children, free_port
 from geesefuton.records.logs import read_scores
 from tests.helpers import TOP, needs_program, refusal, variables
 
 FIRST = (TOP / "examples" / "first.game").read_text()
-MOST = 120.0  # seconds that anything may take, on a machine that is busy with other work
+MOST = 600.0  # seconds that anything may take, on a machine that is busy with other work
 
 
 def game_of(number: int, players: Sequence[str], scores: Sequence[int]) -> Finished:
     """A finished game of so many seats; the others count for nobody."""
     free = 8 - len(players)
     return Finished(number, number, 1000, 1.0, 2.0, (*players, *[""] * free),
-                    (*scores, *[0] * free), "", {"game": "", "log": ""})
+                    {"game": "", "log": ""}, is_judged=True, scores=(*scores, *[0] * free))
 
 
 class Case(unittest.TestCase):
@@ -67,6 +68,7 @@ class Folders(Case):
         games = [game_of(number, ["red", "blue"], [5, -number]) for number in (1, 2)]
         for game in games:
             folder.keep(game, b"log")
+            folder.judge(game)
         folder.close()
         again = Folder(self.path)
         self.addCleanup(again.close)
@@ -87,7 +89,7 @@ class Folders(Case):
         with self.assertRaisesRegex(FolderError, "another room is using"):
             Folder(self.path)
         folder.close()
-        with self.assertRaisesRegex(FolderError, "whose first seed is 3, not 4"):
+        with self.assertRaisesRegex(FolderError, "with the first seed 3, not the first seed 4"):
             Folder(self.path, 4)
         (self.path / "0001.json").write_text('{"number": 1}')
         with self.assertRaisesRegex(FolderError, "0001.json is not the manifest"):
@@ -107,10 +109,24 @@ class Folders(Case):
             with mock.patch(f"os.{step}", side_effect=OSError(28, "No space left on device")), \
                     self.assertRaises(OSError):
                 folder.keep(game_of(1, ["red"], [5]), b"log")
-            self.assertEqual((sorted(os.listdir(self.path)), folder.finished),
-                             (["lock", "room.json"], []))
+            self.assertEqual((sorted(os.listdir(self.path)), folder.unjudged),
+                             (["lock", "room.json", "secret"], {}))
         folder.keep(game_of(1, ["red"], [5]), b"log")
-        self.assertEqual(len(folder.finished), 1)
+        self.assertEqual(len(folder.unjudged), 1)
+
+    def test_a_log_is_on_the_disk_before_the_manifest_that_counts_it(self) -> None:
+        folder, written = self.folder(), list[str]()
+        for fails in ("0001.log", "0001.json", ""):
+            def write(file: Path, data: bytes, fails: str = fails) -> None:
+                if file.name == fails:
+                    raise OSError(28, "No space left on device")
+                written.append(file.name)
+
+            with mock.patch("geesefuton.practice.folder.write_whole", write), \
+                    contextlib.suppress(OSError):
+                folder.keep(game_of(1, ["red"], [5]), b"log")
+            written.append("")
+        self.assertEqual(written, ["", "0001.log", "", "0001.log", "0001.json", ""])
 
     def test_the_command_refuses_in_a_line(self) -> None:
         (self.place / "run.json").write_text("{}")
@@ -141,7 +157,7 @@ class Standings(unittest.TestCase):
         self.assertIsNone(rows[2].half)  # two seats of one game
 
     def test_a_game_that_was_lost_counts_for_nobody(self) -> None:
-        lost = Finished(3, 3, 100, 1.0, 2.0, ("red",) * 8, (), "exit status 7", {})
+        lost = Finished(3, 3, 100, 1.0, 2.0, ("red",) * 8, {}, fault="exit status 7")
         self.assertEqual(standings_of([lost]), [])
 
 
@@ -225,6 +241,7 @@ class Games(Case):
         self.house.write_text(HOUSE)
         self.visitor.write_text(GUEST)
         self.port = free_port()
+        self.said: Optional[int] = None  # where a process prints to, instead of a file
         self.started: List["subprocess.Popen[bytes]"] = []
         self.addCleanup(self.end_all)
 
@@ -236,7 +253,8 @@ class Games(Case):
     def start(self, words: Sequence[object], **more: str) -> "subprocess.Popen[bytes]":
         with (self.place / "said").open("ab") as said:
             process = subprocess.Popen([sys.executable, *map(str, words)], env=variables(more),
-                                       stdin=subprocess.DEVNULL, stdout=said, stderr=said)
+                                       stdin=subprocess.DEVNULL, stdout=self.said or said,
+                                       stderr=self.said or said)
         self.started.append(process)
         return process
 
@@ -255,7 +273,9 @@ class Games(Case):
             time.sleep(0.02)
 
     def manifests(self) -> List[Dict[str, Any]]:
-        return [json.loads(file.read_bytes()) for file in sorted(self.path.glob("[0-9]*.json"))]
+        """Those of the games that are finished."""
+        games = [json.loads(file.read_bytes()) for file in sorted(self.path.glob("[0-9]*.json"))]
+        return [game for game in games if game["is_judged"]]
 
     def table(self) -> Dict[str, Fraction]:
         """The averages by a plain computation from the logs, for whom the manifests name."""
@@ -284,11 +304,13 @@ class Games(Case):
         room.wait()
         kept = self.manifests()
         hanging.kill()
-        again = self.room("--games", 5 - len(kept))
+        with contextlib.closing(Folder(self.path)) as folder:
+            left = 5 - len(kept) - len(folder.unjudged)
+        again = self.room("--games", left)
         self.until(lambda: again.poll() is not None)
         games = self.manifests()
         self.assertEqual((again.returncode, len(games), games[:len(kept)]), (0, 5, kept))
-        self.assertEqual([game["seed"] for game in games], [game["number"] for game in games])
+        self.assertEqual(len({game["seed"] for game in games}), 5)
         self.assertEqual({game["fault"] for game in games}, {""})
         self.assertEqual({game["players"][3] for game in games}, {"seat3"})
         self.assertEqual({game["players"][0] for game in games}, {"house mine"})
@@ -328,15 +350,14 @@ class Games(Case):
         with contextlib.closing(Folder(self.path)) as folder, Children() as children, \
                 mock.patch("geesefuton.hosting.teller.tell"), \
                 mock.patch.object(room_module, "AGAIN", 0.05):
-            room = Room(RoomSettings(self.port, 5, 0.1, 0.2, 1), folder,
-                        Board(children, None, 6, "here"), told.append)
+            room = Room(TableSettings(self.port, 5, 0.1, 0.2), folder,
+                        Board(children, None, 6, "here", told.append), told.append, games=1)
             self.guest("seat2")
-            tries = [OSError(28, "No space left on device")] * 3 + [None]
+            faults = [OSError(28, "No space left on device")] * 3
 
             def write(file: Path, data: bytes) -> None:
-                fault = tries.pop(0) if len(tries) > 1 else None
-                if fault:
-                    raise fault
+                if faults:
+                    raise faults.pop()
                 write_whole(file, data)
 
             with mock.patch("geesefuton.practice.folder.write_whole", write):
@@ -345,28 +366,56 @@ class Games(Case):
         self.assertEqual(len([text for text in told if "cannot keep game" in text]), 1)
         self.assertEqual(self.manifests()[0]["players"].count("seat2"), 1)
 
-    def test_the_page_has_the_standings_between_games_and_the_game_while_it_runs(self) -> None:
+    def test_the_page_has_the_standings_then_the_game_and_its_scores_before_the_room_ends(
+            self) -> None:
         page = free_port()
-        self.room("--page", page, "--games", 2, "--pace", 40)
+        room = self.room("--page", page, "--games", 2, "--pace", 40)
+        self.until(lambda: "waits for guests" in (self.place / "said").read_text())
         phases: List[str] = []
+        for state in self.states(page):
+            if not phases:
+                self.guest("seat1")
+            if phases[-1:] != [state["phase"]]:
+                phases.append(state["phase"])
+            if state["phase"] == "room" and state["table"]:
+                self.assertEqual({row[1] for row in state["table"]}, {"seat1", "house mine"})
+            if state["phase"] == "running":
+                self.assertIn("seat1", [agent["name"] for agent in state["agents"]])
+        self.assertEqual([phase for phase in phases if phase != "waiting"],
+                         ["room", "running", "over", "running", "over"])
+        self.assertEqual([agent["score"] for agent in state["agents"]], self.scores(2))
+        self.until(lambda: room.poll() is not None)
 
-        def look() -> bool:
-            with contextlib.suppress(OSError, ValueError, IndexError), \
-                    socket.create_connection(("127.0.0.1", page), timeout=MOST) as link:
-                link.sendall(b"GET /state HTTP/1.1\r\n\r\n")
-                state = json.loads(link.makefile("rb").read().split(b"\r\n\r\n", 1)[1])
-                if phases[-1:] != [state.get("phase")]:
-                    phases.append(state.get("phase"))
-                if state.get("phase") == "room" and state["table"]:
-                    self.assertEqual({row[1] for row in state["table"]}, {"seat1", "house mine"})
-                if state.get("phase") == "running":
-                    self.assertIn("seat1", [agent["name"] for agent in state["agents"]])
-            return "over" in phases
+    def states(self, page: int) -> Iterator[Dict[str, Any]]:
+        """The states that a screen is sent, to the end."""
+        link = socket.socket()
+        self.addCleanup(link.close)
+        link.settimeout(MOST)
+        self.until(lambda: not link.connect_ex(("127.0.0.1", page)))
+        link.sendall(b"GET /events HTTP/1.1\r\n\r\n")
+        with link.makefile("rb") as lines:
+            for line in lines:
+                if line.startswith(b"data: {"):
+                    yield json.loads(line[6:])
 
-        self.until(lambda: look() or phases == ["room"])
+    def scores(self, number: int) -> List[int]:
+        log = (self.path / f"{number:04}.log").read_bytes()
+        return [score.score for score in read_scores(log)]
+
+    def test_a_terminal_that_is_held_does_not_hold_the_room(self) -> None:
+        reading, writing = os.pipe()
+        self.addCleanup(os.close, reading)
+        os.set_blocking(writing, False)
+        with contextlib.suppress(BlockingIOError):
+            while True:
+                os.write(writing, b"." * 4096)
+        os.set_blocking(writing, True)
+        self.said = writing
+        self.room()
+        os.close(writing)
+        self.said = None
         self.guest("seat1")
-        self.until(look)
-        self.assertEqual([phase for phase in phases if phase], ["room", "running", "over"])
+        self.until(lambda: len(self.manifests()) >= 2)
 
     def test_ctrl_c_closes_the_room_after_its_game(self) -> None:
         room = self.room("--pace", 30)

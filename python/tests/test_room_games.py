@@ -4,7 +4,7 @@ what the host and the page are told, and what fails."""
 import json
 import unittest
 from types import SimpleNamespace
-from typing import Any, Callable, Dict, List
+from typing import Any, Callable, Dict, List, Optional, Sequence
 from unittest import mock
 
 from geesefuton import program
@@ -14,9 +14,10 @@ from geesefuton.hosting.events import Event
 from geesefuton.hosting.journal import Journal
 from geesefuton.hosting.lobby import LobbyError
 from geesefuton.hosting.relay import OWN
-from geesefuton.practice import room
-from geesefuton.practice.folder import Finished
-from geesefuton.practice.room import Room, RoomSettings
+from geesefuton.practice import room, table
+from geesefuton.practice.folder import Finished, digest_of
+from geesefuton.practice.room import Room
+from geesefuton.practice.table import TableSettings
 from geesefuton.practice.teams import Team
 from geesefuton.records.games import read_game
 from tests.helpers import SERVED_LOG, served_log
@@ -73,7 +74,7 @@ class Rooms(Case):
 
     def setUp(self) -> None:
         super().setUp()
-        self.lobbies = self.patch(room, "Lobby", Lobbies())
+        self.lobbies = self.patch(table, "Lobby", Lobbies())
         self.patch(room, "AGAIN", 0.01)
         self.make = self.patch(program, "make", mock.Mock(return_value=FIRST))
         self.audit = self.patch(program, "audit", mock.Mock(return_value="sound"))
@@ -81,17 +82,19 @@ class Rooms(Case):
         teller.start()
         self.addCleanup(teller.stop)
         self.kept, self.told = self.folder(seed=7), list[str]()
-        self.board = mock.Mock(show=mock.Mock(return_value=""))
+        self.board = mock.Mock()
 
-    def play(self, *plays: Any, **given: Any) -> Room:
+    def play(self, *plays: Any, games: int = 0, teams: Sequence[Team] = (), **given: Any) -> Room:
         """Plays these games."""
         self.lobbies.plays = list(plays)
-        made = self.room(**{"games": len(plays), **given})
+        made = self.room(games or len(plays), teams, **given)
         made.run()
         return made
 
-    def room(self, **given: Any) -> Room:
-        return Room(RoomSettings(0, **given), self.kept, self.board, self.told.append)
+    def room(self, games: Optional[int] = None, teams: Sequence[Team] = (),
+             **given: Any) -> Room:
+        return Room(TableSettings(0, **given), self.kept, self.board, self.told.append, teams,
+                    games)
 
     def shown(self) -> List[Dict[str, Any]]:
         """What the page was told of the room, in turn."""
@@ -135,24 +138,49 @@ class Rooms(Case):
         self.assertEqual([row[:2] + row[3:] for row in last["table"]],
                          [[1, "seat0", first, None, first, first],
                           [2, "seat1", second, None, second, second]])
+        self.assertEqual((last["commitment"], last["last"]), ("", [2, "8"]))
         self.assertEqual(self.told, [
-            "game 1 is kept; first of 1: seat0", "game 2 is kept; first of 2: seat0",
-            "game 3 is kept; first of 2: seat0"])
+            "game 1 of `tac make 7` counts; first of 1: seat0",
+            "game 2 of `tac make 8` counts; first of 2: seat0",
+            "game 3 of `tac make 9` counts; first of 2: seat0"])
+
+    def test_standings_are_made_once_a_game_however_many_come_and_go(self) -> None:
+        with mock.patch.object(room, "standings_of", return_value=[]) as made:
+            self.play(whole(*[event for _ in range(50)
+                              for event in (came(0), events.Departed(51.0, 0, "seat0"))]))
+        self.assertEqual(self.board.show.call_count, 101)
+        self.assertLessEqual(made.call_count, 2)
 
     # What is told of games that fail.
 
     def test_a_game_without_a_sound_log_is_lost_and_told(self) -> None:
-        self.audit.side_effect = ["unsound score 0", "sound", "sound",
-                                  program.ProgramError("no program")]
+        self.audit.side_effect = ["unsound score 0", "sound",
+                                  program.ProgramError("refused", program.REFUSED)]
         plays = [whole(came(0), events.Began(60.0, (0,)), status=status, log=log)
-                 for status, log in ((0, LOG), (7, b""), (0, b"taclog 1\nhey\n"), (0, LOG))]
+                 for status, log in ((0, LOG), (7, b""), (0, b"taclog 1\nhey\n"))]
         self.play(*plays, whole(came(0), events.Began(60.0, (0,)), status=program.CLOCK), games=4)
         faults = [game.fault for game in self.kept.finished]
         self.assertEqual(faults[:2], ["the audit says `unsound score 0`", "exit status 7"])
         self.assertTrue(all(fault.startswith("its log: ") for fault in faults[2:]), faults)
         self.assertEqual([game.scores for game in self.kept.finished], [()] * 4)
         self.assertIn("game 2 is lost: exit status 7", self.told)
-        self.assertEqual(self.told[-1], "game 4 is kept; nobody has a score")
+
+    def test_a_log_that_cannot_be_audited_now_is_kept_and_audited_again(self) -> None:
+        self.audit.side_effect = [program.ProgramError("memory was refused", 7), "sound", "sound"]
+        self.play(*[whole(came(seat), events.Began(60.0, (seat,))) for seat in (0, 1)])
+        self.assertEqual([(game.number, game.scores, game.fault) for game in self.kept.finished],
+                         [(1, SCORES, ""), (2, SCORES, "")])
+        self.assertEqual(self.told[0], "game 1 does not count yet: memory was refused; its log is "
+                         "kept, and audited again after the next game")
+
+    def test_a_game_that_was_not_judged_before_a_stop_is_judged_at_the_next_start(self) -> None:
+        self.audit.side_effect = program.ProgramError("no program")
+        self.play(whole(came(0), events.Began(60.0, (0,))))
+        self.assertEqual((self.kept.finished, set(self.kept.unjudged)), ([], {1}))
+        self.kept.close()
+        self.kept, self.audit.side_effect = self.folder(), None
+        self.room(games=0).run()
+        self.assertEqual([game.scores for game in self.kept.finished], [SCORES])
 
     def test_what_is_said_of_links_is_kept_and_a_game_that_is_not_vouched_for_is_lost(self) -> None:
         said = tuple(f"vouched {seat} whole 3" for seat in range(8))
@@ -169,6 +197,28 @@ class Rooms(Case):
         self.assertTrue(self.lobbies.made[0].settings.vouches)
         self.kept.close()
         self.assertEqual(self.folder().finished, games)
+
+    def test_a_game_that_has_its_log_counts_though_the_room_was_killed_before_it_was_told(
+            self) -> None:
+        class Killed(BaseException):
+            """What stands for a kill."""
+
+        def killed(lobby: Any, take: Callable[[Event], None]) -> int:
+            for event in (came(0), events.Began(60.0, (0,)), came(3, 61.0)):
+                take(event)
+            lobby.settings.journal.with_suffix(".log").write_bytes(LOG)
+            raise Killed
+
+        with self.assertRaises(Killed):
+            self.play(killed)
+        self.kept.close()
+        self.kept = self.folder()
+        self.room(games=0).run()
+        game, = self.kept.finished
+        self.assertEqual((game.number, game.seed, game.scores, game.fault), (1, 7, SCORES, ""))
+        self.assertEqual(game.players, ("seat0", "", "", "seat3", "", "", "", ""))
+        self.assertEqual(game.files["log"], digest_of(LOG))
+        self.assertEqual(self.kept.next_number(), (2, []))
 
     def test_a_game_in_which_ticks_lapsed_counts(self) -> None:
         self.play(whole(came(0), events.Began(60.0, (0,)), status=program.CLOCK))
@@ -204,11 +254,6 @@ class Rooms(Case):
             self.play(LobbyError("port 7000: Address already in use"), whole())
         self.assertEqual((self.told, self.kept.finished), ([], []))
 
-    def test_a_page_that_fails_is_told(self) -> None:
-        self.board.show.return_value = "the page ended"
-        self.play(whole(came(0)))
-        self.assertEqual(self.told[:2], ["the page ended"] * 2)
-
     # The end of a room.
 
     def test_what_closing_does_at_each_time(self) -> None:
@@ -237,6 +282,35 @@ class Rooms(Case):
         self.assertEqual(made.close(False), "")
         made.run()
         self.assertEqual(self.lobbies.made, [])
+
+    def test_a_room_that_is_closed_while_it_makes_a_game_plays_none(self) -> None:
+        for at_once in (False, True):
+            made = self.room()
+
+            def make(seed: int) -> str:
+                made.close(at_once)
+                return FIRST
+
+            def play(lobby: Any, take: Callable[[Event], None]) -> int:
+                lobby.interrupt.assert_called_once_with()
+                return STOPPED
+
+            self.make.side_effect, self.lobbies.plays = make, [play]
+            made.run()
+        self.assertEqual(self.kept.finished, [])
+
+    def test_while_the_page_shows_the_last_scores_the_first_ctrl_c_ends_the_room(self) -> None:
+        made = self.room(games=1)
+
+        def wait(is_stopped: Callable[[], bool]) -> None:
+            self.assertFalse(is_stopped())
+            made.close(False)
+            self.assertTrue(is_stopped())
+
+        self.board.close = mock.Mock(side_effect=wait)
+        self.lobbies.plays = [whole()]
+        made.run()
+        self.board.close.assert_called_once()
 
     def test_a_game_that_no_disk_takes_is_given_up_once_the_room_is_stopped(self) -> None:
         made = self.room()
@@ -288,7 +362,7 @@ class Rooms(Case):
         self.play(whole(came(seat), events.Began(60.0, (seat,))), whole(),
                   teams=[Team(*each) for each in self.TEAMS])
         self.assertEqual(self.kept.finished[0].players[seat], "redfoxes")
-        self.assertEqual(self.told[0], "game 1 is kept; first of 1: Red Foxes")
+        self.assertEqual(self.told[0], "game 1 of `tac make 7` counts; first of 1: Red Foxes")
         last = self.shown()[-1]
         self.assertEqual(last["table"][0][1], "Red Foxes")
         self.assertIn("Blue", [each["name"] for each in last["seats"]])

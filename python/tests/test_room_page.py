@@ -28,11 +28,13 @@ class Live:
         made: The journals and the views for which one was made.
         is_done: Whether the last one is over.
         fault: What its reading fails with.
+        fails: Whether its projections do.
     """
 
     made: List[Tuple[str, Any]] = []
     is_done = False
     fault: Optional[Exception] = None
+    fails = False
 
     def __init__(self, journal: Any, view: Any, player: Any, screens: Any, faults: Any) -> None:
         Live.made.append((Path(journal.name).name, view))
@@ -47,7 +49,10 @@ class Live:
         await asyncio.Event().wait()
 
     async def project(self) -> None:
-        await asyncio.Event().wait()
+        if Live.fails:
+            raise KeyError("hotel 9")
+        while not Live.is_done:
+            await asyncio.sleep(0.1)
 
 
 class Pages(unittest.TestCase):
@@ -59,8 +64,9 @@ class Pages(unittest.TestCase):
         self.steps: List[Step] = []
         self.screens = Screens(b"")
         self.until, sleep = 0.0, asyncio.sleep
+        self.last: List[int] = []  # which states were said to be the last one
         self.shown: List[Tuple[float, Dict[str, Any], bytes]] = []
-        Live.made, Live.fault = [], None
+        Live.made, Live.fault, Live.fails = [], None, False
 
         async def wait(seconds: float) -> None:
             self.now += seconds
@@ -72,7 +78,7 @@ class Pages(unittest.TestCase):
                 await sleep(0)
 
         async def show(viewers: Screens, state: bytes, is_final: bool) -> None:
-            self.assertFalse(is_final)  # no state is a screen's last
+            self.last += [len(self.shown)] * is_final
             self.shown.append((self.now - 1000.0, json.loads(state), viewers.page))
 
         for place_of, name, what in (
@@ -83,11 +89,11 @@ class Pages(unittest.TestCase):
             self.addCleanup(change.stop)
 
     def board(self, journal: Optional[str] = None, names: Sequence[str] = (),
-              begins: Optional[float] = None, **room: Any) -> None:
+              begins: Optional[float] = None, is_over: bool = False, **room: Any) -> None:
         """The room shows this."""
         file = self.place / (journal or "")
         (self.place / "board").write_text(json.dumps({
-            "journal": journal and str(file), "names": names,
+            "journal": journal and str(file), "names": names, "is_over": is_over,
             "room": {"phase": "room", "begins": begins, "port": 7000, "address": "10.0.0.1",
                      **room}}))
 
@@ -98,6 +104,12 @@ class Pages(unittest.TestCase):
                         Faults(self.told.append))
         with self.assertRaises(asyncio.CancelledError):
             asyncio.run(made.follow())
+
+    def run_to_its_end(self, *steps: Step) -> None:
+        """Runs the page until it ends by itself, while the steps happen."""
+        self.until, self.steps = 60.0, list(steps)
+        asyncio.run(RoomPage(self.place / "board", self.screens, mock.Mock(), 6,
+                             Faults(self.told.append)).follow())
 
     def journal(self, name: str) -> str:
         (self.place / name).touch()
@@ -182,6 +194,35 @@ class Pages(unittest.TestCase):
         self.assertEqual(self.told, [f"room: cannot show {self.place / '0001.journal'}: line 1 "
                                      "is not a journal line"])
         self.assertEqual([shown for *_, shown in self.shown], [ROOM])
+
+    def test_a_projection_that_fails_is_told_and_the_room_is_shown(self) -> None:
+        Live.fails = True
+        self.board(self.journal("0001.journal"))
+        self.run_it(4.0)
+        self.assertEqual(self.told, [f"room: cannot show {self.place / '0001.journal'}: "
+                                     "'hotel 9'"])
+        self.assertEqual([shown for *_, shown in self.shown], [ROOM])
+
+    def test_once_the_room_is_over_screens_get_the_last_scores_and_the_page_ends(self) -> None:
+        async def score() -> None:
+            await self.screens.show(b'{"phase":"over","agents":[]}', True)
+
+        def over() -> None:
+            asyncio.ensure_future(score())
+            Live.is_done = True
+
+        name = self.journal("0001.journal")
+        self.board(name)
+        self.run_to_its_end((3.0, lambda: self.board(name, is_over=True)), (4.0, over))
+        self.assertEqual([(state["phase"], shown) for _, state, shown in self.shown],
+                         [("over", LIVE)] * 2)
+        self.assertEqual(self.last, [1])
+        self.assertTrue(4.0 <= self.shown[-1][0] <= 4.8, self.shown)
+
+    def test_a_room_that_is_over_without_a_game_ends_its_page(self) -> None:
+        self.board()
+        self.run_to_its_end((2.0, lambda: self.board(is_over=True)))
+        self.assertEqual(([shown for *_, shown in self.shown], self.last), ([ROOM] * 2, [1]))
 
     def test_a_file_that_is_not_there_yet_is_told_and_waited_for(self) -> None:
         self.run_it(3.0, (1.0, self.board))

@@ -62,7 +62,7 @@ class Lobby:
         self._text = program.show(settings.game)
         self.words = self._text.split("\n")[1].split()[1:]
         _check_pages(settings)
-        self._listener = _listen(settings.port)
+        self._listener = settings.listener or _listen(settings.port)
         self.port: int = self._listener.getsockname()[1]
         self._control = Control()
         self._game: Optional[HostedGame] = None

@@ -2,6 +2,7 @@
 
 from __future__ import annotations
 
+import socket
 from dataclasses import dataclass
 from pathlib import Path
 from typing import Dict, Optional, TextIO
@@ -37,6 +38,7 @@ class LobbySettings:
         advice: Whether that page may ask the solver.
         orders: The host's commands.
         vouches: Whether the log is compared with the lobby's links after the game.
+        listener: Where the agents' links come in; None for a new listener at the port.
     """
 
     game: Path
@@ -59,6 +61,7 @@ class LobbySettings:
     advice: bool = True
     orders: Optional[TextIO] = None
     vouches: bool = False
+    listener: Optional[socket.socket] = None
 
     def longest_silence(self) -> float:
         """How many seconds an agent may say nothing and keep its seat from another link: agents

@@ -10,11 +10,17 @@ import json
 import os
 import subprocess
 import sys
+import time
 from pathlib import Path
-from typing import Any, Dict, List, Optional, Sequence
+from typing import Any, Callable, Dict, List, Optional, Sequence
 
+from geesefuton import program
 from geesefuton.experiments.entrants import PACKAGE
 from geesefuton.processes import Children, why
+
+LOOK = 0.05  # seconds between two looks at whether the page's process has ended
+STEADY = 5.0  # seconds after its start until it may be started again
+SHOWING = 60.0  # seconds that the page has to show the last scores
 
 
 class Board:
@@ -25,40 +31,67 @@ class Board:
         page: The port of the page; None for no page.
         late: By how many ticks the page shows later what agents cannot ask.
         address: The host's address, as guests are to use it.
+        tell: Is given a line for the host.
     """
 
-    def __init__(self, children: Children, page: Optional[int], late: int, address: str) -> None:
+    def __init__(self, children: Children, page: Optional[int], late: int, address: str,
+                 tell: Callable[[str], None]) -> None:
         self._children, self._page, self._late, self._address = children, page, late, address
+        self._tell, self._told = tell, ""
         self._file = children.folder("board") / "board"
         self._process: "Optional[subprocess.Popen[bytes]]" = None
+        self._started = float("-inf")
+        self._shown: Dict[str, Any] = {}
 
-    def show(self, journal: Optional[Path], names: Sequence[str], room: Dict[str, Any]) -> str:
-        """Shows the game of a journal, or the room while there is none. Gives what the host is to
-        be told; "" for nothing."""
+    def show(self, journal: Optional[Path], names: Sequence[str], room: Dict[str, Any]) -> None:
+        """Shows the game of a journal, or the room while there is none."""
+        self._shown = {"journal": None if journal is None else os.path.abspath(journal),
+                       "names": list(names), "room": {**room, "address": self._address},
+                       "is_over": False}
+        self._write()
+
+    def close(self, is_stopped: Callable[[], bool]) -> None:
+        """The room is over: waits until all screens have been sent what was shown last, for a while
+        and unless the room is stopped."""
+        if self._process is None:
+            return
+        self._shown["is_over"] = True
+        self._write()
+        deadline = time.monotonic() + SHOWING
+        while self._process.poll() is None and not is_stopped() and time.monotonic() < deadline:
+            time.sleep(LOOK)
+
+    def _write(self) -> None:
+        """Lets the page show what is to be shown, and starts its process if it does not run. A
+        fault is told, unless it was told last."""
         if self._page is None:
-            return ""
-        what = {"journal": None if journal is None else str(journal), "names": list(names),
-                "room": {**room, "address": self._address}}
+            return
         new = self._file.with_suffix(".new")
         try:
-            new.write_text(json.dumps(what), encoding="ascii")
+            new.write_text(json.dumps(self._shown), encoding="ascii")
             os.replace(new, self._file)
-            return self._start()
-        except OSError as fault:
-            return f"cannot update the page: {why(fault)}"
+            fault = self._start()
+        except (OSError, program.ProgramError) as failed:
+            fault = f"cannot show the page: {why(failed)}"
+        if fault and fault != self._told:
+            self._told = fault
+            self._tell(fault)
 
     def _start(self) -> str:
-        """Starts the page's process, if it does not run."""
+        """Starts the page's process, unless it runs, or was started a moment ago. Gives what the
+        host is to be told; "" for nothing."""
         process, told = self._process, ""
-        if process is not None and process.poll() is None:
+        if process is not None and process.poll() is None \
+                or time.monotonic() < self._started + STEADY:
             return ""
+        self._started = time.monotonic()
         if process is not None:
             self._children.end(process)
             told = f"the page ended with exit status {process.returncode}, and was restarted"
-        path = os.pathsep.join(filter(None, [str(PACKAGE), os.environ.get("PYTHONPATH")]))
+        # Python looks for modules in the current folder first: in this one are only the package's.
         self._process = self._children.start(
             page_words(self._file, self._page, self._late), stdin=subprocess.DEVNULL,
-            stdout=subprocess.DEVNULL, env={**os.environ, "PYTHONPATH": path})
+            stdout=subprocess.DEVNULL, cwd=PACKAGE, env={**os.environ, "TAC": program.find()})
         return told
 
 

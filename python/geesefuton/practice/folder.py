@@ -1,8 +1,13 @@
 """The folder of a practice room: the files of its games, and the outcome of each game.
 
-A game is finished once it has its manifest, `0001.json`: the room writes it last, under another
-name, and renames it atomically once the disk has it. So even if the room is killed, a game has a
-complete manifest or none.
+A game has a manifest, `0001.json`, from its beginning on, and then a log, `0001.log`. It counts
+once the manifest says that the log was audited. Files are written under another name, and renamed
+atomically once the disk has them. So if the room is killed, they are complete, and a game that has
+its log is audited when the room is started again.
+
+Games are drawn from a secret, which the folder keeps in a file that only its owner may read. Its
+SHA-256, to which the room commits, is known from the start; the secret itself once the room is over
+for good. Or they are those of consecutive seeds, which can be guessed.
 """
 
 from __future__ import annotations
@@ -12,15 +17,17 @@ import fcntl
 import hashlib
 import json
 import os
+import tempfile
 from dataclasses import asdict, dataclass
 from pathlib import Path
 from typing import Any, Dict, List, Optional, Tuple
 
 from geesefuton.hosting.journal import JournalError, read_journal
 from geesefuton.records.games import SEATS
+from geesefuton.records.secret_deals import commitment, deal_seed, new_secret, read_secret
 
-VERSION = 1  # of the form of a room's files
-ABOUT, LOCK, NEW = "room.json", "lock", ".new"
+VERSION = 2  # of the form of a room's files
+ABOUT, LOCK, NEW, SECRET = "room.json", "lock", ".new", "secret"
 
 
 class FolderError(Exception):
@@ -35,13 +42,14 @@ class Finished:
         number: Its number in the room, from 1.
         seed: What it was made from.
         pace: The milliseconds from tick to tick.
-        began: When it began, in seconds since 1970, and `over` when it was over.
+        began: When it began, in seconds since 1970, and `over` when it was over, 0 if it is not.
         players: For whom each seat counts; "" for nobody.
-        scores: The scores of the eight seats, in dollars; none if the game was lost.
-        fault: Why it was lost; "" if it was not.
-        files: The SHA-256 of its game file and of its log.
+        files: The SHA-256 of its game file, and of its log once it is judged.
         vouched: What `tac vouch` says of the log by the lobby's link of each seat; none if that is
             not known.
+        is_judged: Whether it is known if it counts.
+        scores: The scores of the eight seats, in dollars; none if it does not count.
+        fault: Why it is lost; "" if it is not.
     """
 
     number: int
@@ -50,28 +58,30 @@ class Finished:
     began: float
     over: float
     players: Tuple[str, ...]
-    scores: Tuple[int, ...]
-    fault: str
     files: Dict[str, str]
     vouched: Tuple[str, ...] = ()
+    is_judged: bool = False
+    scores: Tuple[int, ...] = ()
+    fault: str = ""
 
 
 def write_whole(file: Path, data: bytes) -> None:
-    """Writes a file so that it is there whole, and on the disk, or is as it was before.
+    """Writes a file that only its owner may read, so that it is there whole, and on the disk, or is
+    as it was before.
 
     Raises:
         OSError: The disk takes no more, for instance.
     """
-    new = file.with_name(f".{file.name}{NEW}")
+    number, new = tempfile.mkstemp(NEW, f".{file.name}.", file.parent)
     try:
-        with open(os.open(new, os.O_WRONLY | os.O_CREAT | os.O_TRUNC, 0o600), "wb") as out:
+        with open(number, "wb") as out:
             out.write(data)
             out.flush()
             os.fsync(out.fileno())
         os.replace(new, file)
     except OSError:
         with contextlib.suppress(OSError):
-            new.unlink()
+            os.unlink(new)
         raise
     folder = os.open(file.parent, os.O_RDONLY)
     try:
@@ -85,49 +95,73 @@ class Folder:
 
     Args:
         path: The folder. It is made if it is not there.
-        seed: The seed of the first game; None for that of the folder, and 1 for a new one.
+        seed: The seed of the first game; None for that of the folder, and a secret for a new one.
 
     Raises:
-        FolderError: The folder is another's, in use, or not as a room leaves it.
+        FolderError: The folder is another's, in use, over, or not as a room leaves it.
         OSError: It cannot be made, read or written.
 
     Attributes:
-        seed: The seed of the first game.
-        finished: The games that are finished, in their order.
+        seed: The seed of the first game; None if games are drawn from a secret.
+        commitment: The SHA-256 of the secret, in hexadecimal digits; "" for none.
+        finished: The games that are judged, in their order.
+        unjudged: Those that have a log and are not, by their numbers.
     """
 
     def __init__(self, path: Path, seed: Optional[int] = None) -> None:
-        self.path = path
+        self.path, self.seed, self._secret = path, seed, b""
         path.mkdir(parents=True, exist_ok=True)
-        names = {name for name in os.listdir(path) if name != LOCK and not name.endswith(NEW)}
+        names = {name for name in os.listdir(path)
+                 if name not in (LOCK, SECRET) and not name.endswith(NEW)}
         if names and ABOUT not in names:
             raise FolderError(f"{path} has files, but is not the folder of a practice room")
         self._lock = open(path / LOCK, "ab")
         try:
             fcntl.flock(self._lock, fcntl.LOCK_EX | fcntl.LOCK_NB)
-            self.seed = self._known_seed(seed) if names else 1 if seed is None else seed
-            if not names:
-                write_whole(path / ABOUT, _json({"room": VERSION, "seed": self.seed}))
-            self.finished = self._read_finished()
+            for rest in path.glob(f".*{NEW}"):  # half of it was written when the room was killed
+                rest.unlink()
+            if names:
+                self._resume(seed)
+            else:
+                self._found()
+            self.commitment = commitment(self._secret) if self._secret else ""
+            games = self._read_games()
         except BlockingIOError:
             self._lock.close()
             raise FolderError(f"another room is using {path}") from None
         except BaseException:
             self._lock.close()
             raise
+        self.finished = [game for game in games if game.is_judged]
+        self.unjudged = {game.number: game for game in games
+                         if not game.is_judged and self.file(game.number, "log").exists()}
 
     def close(self) -> None:
         """Lets another room use it."""
         self._lock.close()
+
+    def seed_of(self, number: int) -> int:
+        """What a game is made from."""
+        return deal_seed(self._secret, number) if self.seed is None else self.seed + number - 1
+
+    def end(self) -> str:
+        """Ends the room for good, and gives its secret, in hexadecimal digits; "" for none.
+
+        Raises:
+            OSError: The disk takes no more, for instance. Then the room goes on.
+        """
+        about = self._read(self.path / ABOUT)
+        write_whole(self.path / ABOUT, _json({**about, "secret": self._secret.hex()}))
+        return self._secret.hex()
 
     def file(self, number: int, kind: str) -> Path:
         """The file of a game, such as its `log`."""
         return self.path / f"{number:04}.{kind}"
 
     def next_number(self) -> Tuple[int, List[int]]:
-        """The number of the next game, and the numbers of games that had begun and are not
-        finished. What is left of a game that had not begun is removed."""
-        done = {game.number for game in self.finished}
+        """The number of the next game, and the numbers of games that had begun and have no log.
+        What is left of a game that had not begun is removed."""
+        done = {game.number for game in self.finished} | set(self.unjudged)
         begun = []
         for journal in sorted(self.path.glob("[0-9]*.journal")):
             number = int(journal.stem) if journal.stem.isdigit() else 0
@@ -139,32 +173,71 @@ class Folder:
                 journal.unlink()
         return max([0, *done, *begun]) + 1, begun
 
-    def keep(self, game: Finished, log: bytes) -> None:
-        """Writes a game's log, and then its manifest: then it is finished.
+    def write(self, game: Finished) -> None:
+        """Writes a game's manifest.
 
         Raises:
             OSError: The disk takes no more, for instance. It may be tried again.
         """
-        write_whole(self.file(game.number, "log"), log)
         write_whole(self.file(game.number, "json"), _json(asdict(game)))
+
+    def keep(self, game: Finished, log: bytes) -> None:
+        """Writes the log and the manifest of a game that is over.
+
+        Raises:
+            OSError: As `write`.
+        """
+        write_whole(self.file(game.number, "log"), log)
+        self.write(game)
+        self.unjudged[game.number] = game
+
+    def judge(self, game: Finished) -> None:
+        """Writes the manifest of a game that is judged: then it is finished.
+
+        Raises:
+            OSError: As `write`.
+        """
+        self.write(game)
+        del self.unjudged[game.number]
         self.finished.append(game)
 
-    def _known_seed(self, seed: Optional[int]) -> int:
-        about = self._read(self.path / ABOUT)
-        if about.get("room") != VERSION or not isinstance(about.get("seed"), int):
-            raise FolderError(f"{self.path / ABOUT} does not describe a practice room")
-        known: int = about["seed"]
-        if seed not in (None, known):
-            raise FolderError(f"{self.path} has a room whose first seed is {known}, not {seed}")
-        return known
+    def _found(self) -> None:
+        """Makes the files of a new room."""
+        about: Dict[str, Any] = {"room": VERSION, "seed": self.seed}
+        if self.seed is None:
+            self._secret = new_secret()
+            write_whole(self.path / SECRET, f"{self._secret.hex()}\n".encode("ascii"))
+            about = {"room": VERSION, "commitment": commitment(self._secret)}
+        write_whole(self.path / ABOUT, _json(about))
 
-    def _read_finished(self) -> List[Finished]:
+    def _resume(self, seed: Optional[int]) -> None:
+        """Takes over the seed or the secret of the room that the folder has."""
+        about = self._read(self.path / ABOUT)
+        self.seed, due = about.get("seed"), about.get("commitment")
+        if about.get("room") != VERSION or isinstance(self.seed, int) == isinstance(due, str):
+            raise FolderError(f"{self.path / ABOUT} does not describe a practice room")
+        if "secret" in about:
+            raise FolderError(f"the room of {self.path} is over: choose another folder")
+        if seed not in (None, self.seed):
+            known = "secret deals" if self.seed is None else f"the first seed {self.seed}"
+            raise FolderError(f"{self.path} has a room with {known}, not the first seed {seed}")
+        if self.seed is None:
+            file = self.path / SECRET
+            try:
+                self._secret = read_secret(file.read_text("ascii").strip())
+            except (FileNotFoundError, ValueError):
+                raise FolderError(f"{file} does not have the room's secret") from None
+            if commitment(self._secret) != due:
+                raise FolderError(f"{file} has another secret than that to which "
+                                  f"{self.path / ABOUT} commits")
+
+    def _read_games(self) -> List[Finished]:
         games = []
         for file in sorted(self.path.glob("[0-9]*.json")):
             try:
                 what = self._read(file)
                 for name in ("players", "scores", "vouched"):
-                    what[name] = tuple(what.get(name, ()))
+                    what[name] = tuple(what[name])
                 game = Finished(**what)
                 if len(game.players) != SEATS or len(game.scores) not in (0, SEATS):
                     raise ValueError

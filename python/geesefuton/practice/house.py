@@ -1,7 +1,9 @@
 """House agents: they take the empty seats when a game is about to begin.
 
 Each takes its seat by a word of its own, so a guest with the seat's word is never mistaken for it.
-Its process ends with the game.
+Other users of the host can read that word among the arguments of its process, so it holds for one
+link: from the start of the process until the seat has a link. If that link is a guest's, the agent
+is ended, so that it never waits for a guest's seat. Its process ends with the game.
 """
 
 from __future__ import annotations
@@ -9,15 +11,17 @@ from __future__ import annotations
 import subprocess
 import time
 from pathlib import Path
-from typing import List, NamedTuple, Sequence
+from typing import Dict, List, NamedTuple, Sequence
 
 from geesefuton import program
 from geesefuton.experiments.entrants import Entrant, environment
 from geesefuton.hosting.control import STOPPED
 from geesefuton.hosting.hosted_game import HostedGame
+from geesefuton.hosting.relay import OWN
 from geesefuton.hosting.seats import Seat
 from geesefuton.hosting.server import ClockServer
 from geesefuton.practice.teams import made_word
+from geesefuton.processes import why
 
 COMING = 15.0  # seconds that house agents have to take their seats
 LOOK = 0.05  # seconds between two looks at them
@@ -26,10 +30,12 @@ LIMITED = ["sh", "-c", f'ulimit -f {MOST_PRINTED}; exec "$@"', "agent"]
 
 
 class _Started(NamedTuple):
-    """A house agent that was started: its process, its seat, and the file that it prints to."""
+    """A house agent that was started: its process, its seat with its word, and the file that it
+    prints to."""
 
     process: "subprocess.Popen[bytes]"
     seat: Seat
+    word: str
     name: str
     printed: Path
 
@@ -42,10 +48,12 @@ class HouseServer:
 
     Attributes:
         port: The port of the lobby.
+        words: The words of those that are starting, each with the number of its seat.
     """
 
     def __init__(self, house: Sequence[Entrant]) -> None:
         self._house, self.port = house, 0
+        self.words: Dict[str, int] = {}
 
     def name_at(self, seat: int) -> str:
         """Who plays a seat for the house."""
@@ -61,39 +69,44 @@ class HouseServer:
         if not self._house:
             return []
         variables = environment(program.find(), game.folder)
-        started = []
+        self.words, started = game.relay.seats.own, []
         for seat in game.relay.seats.seats:
             if seat.holder is not None:
                 continue
-            word = made_word()
-            game.relay.seats.own[word] = seat.number
-            entrant = self._house[seat.number % len(self._house)]
+            word, entrant = made_word(), self._house[seat.number % len(self._house)]
             printed = game.folder / f"out.{seat.number}"
-            with printed.open("wb") as out:
-                process = game.children.start(
-                    [*LIMITED, *entrant.words, "localhost", str(self.port), word, "--pause",
-                     str(game.settings.pace / 1000)],
-                    stdin=subprocess.DEVNULL, stdout=out, stderr=subprocess.STDOUT, env=variables)
-            started.append(_Started(process, seat, entrant.name, printed))
+            self.words[word] = seat.number
+            try:
+                with printed.open("wb") as out:
+                    process = game.children.start(
+                        [*LIMITED, *entrant.words, "localhost", str(self.port), word, "--pause",
+                         str(game.settings.pace / 1000)], stdin=subprocess.DEVNULL, stdout=out,
+                        stderr=subprocess.STDOUT, env=variables)
+            except OSError as fault:  # such as too many processes
+                game.warn(f"cannot start the house agent {entrant.name}: {why(fault)}")
+                continue
+            started.append(_Started(process, seat, word, entrant.name, printed))
         return started
 
     def _wait(self, game: HostedGame, started: List[_Started]) -> None:
         """Waits until each has its seat, or has ended, for a while."""
         deadline = time.monotonic() + COMING
-        left = started
-        while left and not game.is_stopped:
+        while started and not game.is_stopped:
             game.turn(LOOK)
-            for agent in left:
-                if agent.seat.holder is None and agent.process.poll() is not None:
-                    game.warn(f"the house agent {agent.name} did not take {agent.seat.word}: "
-                              + (_last_line(agent.printed) or "it printed nothing"))
-            left = [agent for agent in left
-                    if agent.seat.holder is None and agent.process.poll() is None]
-            if time.monotonic() > deadline:
-                for agent in left:
-                    game.warn(f"the house agent {agent.name} did not take {agent.seat.word} "
-                              f"within {COMING:g} seconds")
-                return
+            is_late = time.monotonic() > deadline
+            for agent in started[:]:
+                has_ended = agent.process.poll() is not None
+                if agent.seat.holder is None and not has_ended and not is_late:
+                    continue
+                started.remove(agent)
+                del self.words[agent.word]
+                if agent.seat.holder is None:
+                    game.warn(f"the house agent {agent.name} did not take {agent.seat.word}"
+                              + (f": {_last_line(agent.printed) or 'it printed nothing'}"
+                                 if has_ended else f" within {COMING:g} seconds"))
+                holder = agent.seat.holder
+                if holder is None or game.relay.links[holder].source != OWN:
+                    game.children.end(agent.process)
 
 
 def _last_line(file: Path) -> str:

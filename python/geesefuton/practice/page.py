@@ -18,8 +18,7 @@ from typing import Any, Dict, List, Optional, Sequence
 
 from geesefuton.arguments import Parser, whole
 from geesefuton.hosting.handouts import Handouts
-from geesefuton.hosting.journal import JournalError
-from geesefuton.hosting.live import NICE, PAGE, Live
+from geesefuton.hosting.live import LINGER, NICE, PAGE, Live
 from geesefuton.hosting.projection import View
 from geesefuton.hosting.recovery import Player
 from geesefuton.hosting.viewers import Viewers
@@ -34,16 +33,26 @@ STOPPED = 3.0  # seconds for which a game stays that was stopped
 
 
 class Screens(Viewers):
-    """The screens of a room. No state is the last one, and seats are called by their players."""
+    """The screens of a room. No state of a game is the last one, and seats are called by their
+    players."""
 
     names: List[str] = []
+    last = b"{}"  # the state that was sent last
 
     async def show(self, state: bytes, is_final: bool) -> None:
         """Sends a new state to all screens."""
         what = json.loads(state)
         for agent, name in zip(what.get("agents", ()), self.names):
             agent["name"] = name
-        await super().show(json.dumps(what, separators=(",", ":")).encode("ascii"), False)
+        self.last = json.dumps(what, separators=(",", ":")).encode("ascii")
+        await super().show(self.last, False)
+
+    async def end(self) -> None:
+        """Sends what was shown last as the last state, for which screens have a while."""
+        await super().show(self.last, True)
+        deadline = time.monotonic() + LINGER
+        while self.count and time.monotonic() < deadline:
+            await asyncio.sleep(LOOK)
 
 
 class RoomPage:
@@ -65,15 +74,17 @@ class RoomPage:
         self._shown = b""
 
     async def follow(self) -> None:
-        """Shows what the room says, until it is cancelled."""
+        """Shows what the room says, until it is over and all screens have its last state."""
         shown: Optional[str] = None  # the journal that was shown last
         while True:
             what = self._read()
             if what is not None and what["journal"] not in (None, shown):
                 shown = what["journal"]
                 await self._play(what)
-            elif what is not None:
+            elif what is not None and not what["is_over"]:
                 await self._show_room(what)
+            elif what is not None:
+                return await self._screens.end()
             await asyncio.sleep(LOOK)
 
     def _read(self) -> Optional[Dict[str, Any]]:
@@ -99,7 +110,8 @@ class RoomPage:
             await self._screens.show(text, False)
 
     async def _play(self, what: Dict[str, Any]) -> None:
-        """Shows a game, until a while after its end, or until the room shows another one."""
+        """Shows a game, until a while after its end, or until the room shows another one or is
+        over."""
         journal, screens = what["journal"], self._screens
         screens.page, self._shown = self._live, b""
         try:
@@ -108,33 +120,31 @@ class RoomPage:
                 tasks = [asyncio.ensure_future(live.follow()),
                          asyncio.ensure_future(live.project())]
                 last = time.monotonic()  # when the game was going on
-                while what["journal"] in (None, journal):
+                while what["journal"] in (None, journal) and not _have_failed(tasks):
                     if what["journal"] is not None:
                         screens.names = what["names"]
-                    if what["journal"] is not None and not live.is_over():
-                        last = time.monotonic()
-                    if time.monotonic() > last + (STAY if live.is_over() else STOPPED):
+                        if not (what["is_over"] or live.is_over()):
+                            last = time.monotonic()
+                    if what["is_over"] and tasks[1].done() or \
+                            time.monotonic() > last + (STAY if live.is_over() else STOPPED):
                         break
-                    if tasks[0].done() and not live.is_over():
-                        break  # its journal is none
                     await asyncio.sleep(LOOK)
                     what = self._read() or what
                 await _end(tasks)
-        except (JournalError, OSError) as fault:
-            text = why(fault) if isinstance(fault, OSError) else str(fault)
-            self._faults.tell(f"room: cannot show {journal}", text)
+        except Exception as fault:  # it costs the screens this game, and not the room's page
+            self._faults.tell(f"room: cannot show {journal}", why(fault) or repr(fault))
+
+
+def _have_failed(tasks: "Sequence[asyncio.Future[None]]") -> bool:
+    return any(task.done() and task.exception() for task in tasks)
 
 
 async def _end(tasks: "Sequence[asyncio.Future[None]]") -> None:
-    """Cancels what is left of tasks, and raises what has failed.
-
-    Raises:
-        JournalError: The journal is none.
-    """
+    """Cancels what is left of tasks, and raises what one has failed with."""
     for task in tasks:
         task.cancel()
     for told in await asyncio.gather(*tasks, return_exceptions=True):
-        if isinstance(told, JournalError):
+        if isinstance(told, Exception):
             raise told
 
 
@@ -144,7 +154,9 @@ async def _run(given: argparse.Namespace, player: Player) -> None:
     page = RoomPage(given.board, screens, player, given.late, faults)
     with contextlib.closing(listen(given.port)) as listener:
         server = PageServer(screens.answer, page_gate(), faults)
-        await asyncio.gather(server.serve(listener), page.follow())
+        serving = asyncio.ensure_future(server.serve(listener))
+        await page.follow()
+        serving.cancel()
 
 
 def _main() -> int:

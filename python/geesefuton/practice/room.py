@@ -1,236 +1,213 @@
 """A practice room: game after game, each kept in a folder with its manifest.
 
 A game begins some seconds after its first guest, once house agents have the empty seats. After the
-game the room audits and keeps its log, and the next game waits for guests at the same port. A game
-counts once its manifest is written; a game that is stopped earlier leaves its journal, and the next
-game has another number.
+game the room keeps its log and audits it, and the next game waits for guests at the same port. A
+game that was stopped leaves its journal, and the next game has another number.
+
+With several tables, each game has a thread. Links come in at a door in the main thread, and a table
+gets the teams that have played fewest games.
 """
 
 from __future__ import annotations
 
-import io
+import contextlib
+import threading
 import time
-from dataclasses import dataclass
-from typing import Callable, Dict, List, Optional, Sequence, TextIO, Tuple
+from collections import Counter
+from dataclasses import replace
+from typing import Callable, Dict, List, Optional, Sequence
 
 from geesefuton import program
-from geesefuton.experiments.entrants import Entrant
-from geesefuton.hosting import events
-from geesefuton.hosting.control import STOPPED, Phase
-from geesefuton.hosting.events import Event
-from geesefuton.hosting.lobby import Lobby, LobbyError, recovery_line
-from geesefuton.hosting.relay import OWN
-from geesefuton.hosting.server_links import summary
-from geesefuton.hosting.settings import LobbySettings
-from geesefuton.hosting.teller import Teller
+from geesefuton.hosting.lobby import LobbyError, recovery_line
+from geesefuton.network.addresses import listen
 from geesefuton.practice.board import Board
+from geesefuton.practice.door import Door, Handed
 from geesefuton.practice.folder import Finished, Folder, digest_of
-from geesefuton.practice.house import HouseServer
 from geesefuton.practice.standings import standings_of
+from geesefuton.practice.table import Deal, Table, TableSettings
 from geesefuton.practice.teams import Team, keep_words
 from geesefuton.processes import why
-from geesefuton.records.games import SEATS, GameError, read_game
+from geesefuton.records.games import SEATS
 from geesefuton.records.logs import LogError, read_scores
 
 AGAIN = 5.0  # seconds until what failed is tried again
-
-
-@dataclass(frozen=True)
-class RoomSettings:
-    """What a room is told.
-
-    Attributes:
-        port: The port for agents; 0 takes a free one for each game.
-        pace: The milliseconds from tick to tick.
-        wait: The seconds from the first guest of a game to its beginning.
-        after: The seconds after the last tick until the links that are left are ended.
-        games: After how many games it ends; None for none.
-        house: The house agents.
-        teams: The teams; none if the seats are taken by `seat0` to `seat7`.
-        orders: The host's commands.
-    """
-
-    port: int
-    pace: int = 1000
-    wait: float = 30.0
-    after: float = 10.0
-    games: Optional[int] = None
-    house: Sequence[Entrant] = ()
-    teams: Sequence[Team] = ()
-    orders: Optional[TextIO] = None
-
-
-class _Guests:
-    """Who has which seat of a game, for whom it counts, and whether the log is right about it."""
-
-    def __init__(self, words: Sequence[str], house: HouseServer) -> None:
-        self._words, self._house = words, house
-        self._sources: Dict[int, str] = {}
-        self.players: Dict[int, str] = {}  # for whom each seat counts, once the game has begun
-        self.began: Optional[float] = None
-        self.first: Optional[float] = None  # when the first guest came, while there is one
-        self.vouched: Tuple[str, ...] = ()  # what is said of each seat's link once it is over
-
-    def take(self, event: Event) -> None:
-        """Takes an event of the lobby."""
-        if isinstance(event, (events.Arrived, events.Rejoined)):
-            self._sources[event.seat] = event.source
-            self.first = self.first or event.at
-            if self.began is not None:
-                self.players.setdefault(event.seat, self._player(event.seat))
-        elif isinstance(event, events.Departed):
-            self._sources.pop(event.seat, None)
-            self.first = self.first if self._sources else None
-        elif isinstance(event, events.Began):
-            self.began = event.at
-            self.players = {seat: self._player(seat) for seat in event.seats}
-        elif isinstance(event, events.Finished):
-            self.vouched = event.vouched
-
-    def _player(self, seat: int) -> str:
-        return self._house.name_at(seat) if self._sources[seat] == OWN else self._words[seat]
-
-    def names(self, shown: Dict[str, str]) -> List[str]:
-        """How the seats' players are called."""
-        return [shown.get(name, name) for name in
-                (self.players.get(seat, word) for seat, word in enumerate(self._words))]
-
-    def is_here(self, seat: int) -> bool:
-        """Whether a link has a seat."""
-        return seat in self._sources
+LOOK = 0.2  # seconds between two looks at tables
+SEATING = 1.0  # seconds that a table has to take the links that are handed to it
 
 
 class Room:
     """Plays game after game.
 
     Args:
-        settings: What it is told.
+        settings: What its table is told.
         folder: Where its games are kept.
         board: What its page shows.
         tell: Is given a line for the host.
+        teams: The teams; none if the seats are taken by `seat0` to `seat7`.
+        games: After how many games it ends; None for none.
+        tables: How many games it plays at once; teams are needed for more than one.
     """
 
-    def __init__(self, settings: RoomSettings, folder: Folder, board: Board,
-                 tell: Callable[[str], None]) -> None:
+    def __init__(self, settings: TableSettings, folder: Folder, board: Board,
+                 tell: Callable[[str], None], teams: Sequence[Team] = (),
+                 games: Optional[int] = None, tables: int = 1) -> None:
         self._given, self._folder, self._board, self._tell = settings, folder, board, tell
-        self._shown = {team.key: team.name for team in settings.teams}
-        self._lobby: Optional[Lobby] = None
-        self._is_closing = self._is_stopped = False
+        self._teams, self._games = teams, games
+        self._shown = {team.key: team.name for team in teams}
+        each = settings if tables == 1 else replace(settings, wait=SEATING, orders=None)
+        show = self._show if tables == 1 else self._note
+        self._tables = [Table(each, folder, show) for _ in range(tables)]
+        self._running: Dict[Table, threading.Thread] = {}
+        self._door: Optional[Door] = None
+        self._is_shown = False  # whether the page has what is known of the tables
+        self._keeping = threading.Lock()  # held while a game is kept and judged
+        self._rows = standings_of(folder.finished)
+        self._played = Counter(name for game in folder.finished for name in game.players)
+        self._again = 0.0  # when a game is tried again, by `time.monotonic`
+        self._is_closing = self._is_stopped = self._is_over = False
         self._left: List[int] = []  # games without a manifest, of which the host was told
 
     def run(self) -> None:
         """Plays until the host closes the room, or as many games as it is to play.
 
         Raises:
-            LobbyError: The first game cannot be hosted.
+            LobbyError: The first game cannot be hosted, or no link can come in.
             program.ProgramError: There is no program.
         """
-        count = 0
-        while not self._is_closing and count != self._given.games:
-            try:
-                count += self._play_next()
-            except (LobbyError, OSError, program.ProgramError) as fault:
-                if not count:
-                    raise
-                self._tell(f"{why(fault) if isinstance(fault, OSError) else fault}; trying the "
-                           f"next game again in {AGAIN:g} seconds")
-                self._pause()
+        self._judge_all()
+        if len(self._tables) > 1:
+            self._host_tables()
+        else:
+            self._host_table()
+        self._is_over = True
+        self._board.close(lambda: self._is_stopped)
 
     def close(self, at_once: bool) -> str:
         """Ends the room: before a game and after its last tick at once, and in a game after it, or
         with `at_once` without it. It may be called by a signal handler. Gives what the host is to
         be told."""
         self._is_closing = True
-        lobby = self._lobby
-        if lobby is None:
-            self._is_stopped = at_once
-            return ""
-        if lobby.phase is Phase.ENDING:
-            lobby.end_links()
-        elif lobby.phase is Phase.PLAYING and not at_once:
-            return "the room closes after this game; press ctrl-C again to stop the game now"
-        else:
-            self._is_stopped = True
-            lobby.interrupt()
-        return ""
+        self._is_stopped |= at_once or self._is_over
+        return max(table.close(at_once) for table in self._tables)
+
+    def _host_table(self) -> None:
+        """Plays game after game."""
+        count = 0
+        while not self._is_closing and count != self._games:
+            try:
+                count += self._play_next()
+            except (LobbyError, OSError, program.ProgramError) as fault:
+                if not count:
+                    raise
+                self._tell(f"{why(fault)}; trying the next game again in {AGAIN:g} seconds")
+                self._pause()
+
+    def _host_tables(self) -> None:
+        """Plays games at several tables, and takes the links of all."""
+        number, begun = self._next_number(), 0
+        try:
+            listener = listen(self._given.port)
+        except OSError as fault:
+            raise LobbyError(f"port {self._given.port}: {why(fault)}") from None
+        port, places = listener.getsockname()[1], list[str]()
+        self._tell(f"{len(self._tables)} tables wait for guests at port {port}")
+        with contextlib.closing(listener), \
+                contextlib.closing(Door(listener, self._teams, self._table_of)) as self._door:
+            while self._running or not self._is_closing and begun != self._games:
+                self._running = {table: thread for table, thread in self._running.items()
+                                 if thread.is_alive()}
+                free = [table for table in self._tables if table not in self._running]
+                if self._is_closing or begun == self._games or time.monotonic() < self._again:
+                    free = []
+                keys = self._door.next_teams(self._played, len(free), self._given.wait)
+                if keys:
+                    self._begin(free[0], number + begun, keys, port)
+                    begun += 1
+                now = self._door.places(self._played)
+                if now != places or not self._is_shown:
+                    places, self._is_shown = now, True
+                    self._show()
+                self._door.turn(0.0 if keys else LOOK)
+
+    def _begin(self, table: Table, number: int, keys: Sequence[str], port: int) -> None:
+        """Lets teams play a game at a table."""
+        teams, handed = [team for team in self._teams if team.key in keys], Handed(port)
+        words = self._words(number, teams)
+        table.deal = Deal(number, words, {team.word: words.index(team.key) for team in teams},
+                          handed)
+        self._played.update(keys)
+        assert self._door is not None
+        self._door.seat(keys, handed)
+        self._running[table] = threading.Thread(target=self._play_at, args=(table, handed))
+        self._running[table].start()
+
+    def _play_at(self, table: Table, handed: Handed) -> None:
+        """Plays a game at a table, in a thread of its own."""
+        try:
+            played = table.play(table.deal)
+            with self._keeping:
+                if played is not None:
+                    self._keep(*played)
+                    self._judge_all()
+        except (LobbyError, OSError, program.ProgramError) as fault:
+            self._again = time.monotonic() + AGAIN
+            self._tell(f"game {table.deal.number} cannot be played: {why(fault)}")
+        finally:
+            handed.close()
+
+    def _table_of(self, word: str) -> Optional[Handed]:
+        """Where the links of the table go whose house agent has a word."""
+        return next((table.deal.listener for table in self._running if word in table.house.words),
+                    None)
+
+    def _note(self) -> None:
+        """Lets the main thread show what is known of the tables."""
+        self._is_shown = False
 
     def _pause(self) -> None:
         deadline = time.monotonic() + AGAIN
         while not self._is_closing and time.monotonic() < deadline:
             time.sleep(0.1)
 
-    def _play_next(self) -> bool:
-        """Plays the next game, and tells whether it is finished."""
+    def _next_number(self) -> int:
+        """The number of the next game. Tells the host of games that were stopped."""
         number, left = self._folder.next_number()
         for lost in left:
             if lost not in self._left:
                 self._left.append(lost)
                 self._tell(f"game {lost} was stopped, and does not count; to make its log: "
                            f"{recovery_line(self._folder.file(lost, 'journal'))}")
-        seed, words, keys = self._folder.seed + number - 1, self._words(number), self._keys(number)
-        try:
-            game = read_game(program.make(seed)).named(words).text()
-        except GameError as fault:
-            raise program.ProgramError(f"the program did not make a game: {fault}") from None
-        file = self._folder.file(number, "game")
-        file.write_text(game, encoding="ascii")
-        log, house = io.BytesIO(), HouseServer(self._given.house)
-        self._lobby = Lobby(LobbySettings(
-            game=file, port=self._given.port, pace=self._given.pace, log=log,
-            wait=self._given.wait, keys=keys, linger=self._given.after,
-            journal=self._folder.file(number, "journal"), orders=self._given.orders,
-            vouches=True), house)
-        house.port = self._lobby.port
-        guests = _Guests(words, house)
-        status = self._host(number, guests, words)
-        self._keep_words(keys, number)
-        if status == STOPPED:
+        return number
+
+    def _play_next(self) -> bool:
+        """Plays the next game, and tells whether it is kept."""
+        number = self._next_number()
+        words = self._words(number, self._teams)
+        keys = {team.word: words.index(team.key) for team in self._teams} or {
+            word: seat for seat, word in enumerate(words)}
+        played = self._tables[0].play(Deal(number, words, keys))
+        self._keep_words(keys, words)
+        if played is None:
             return False
-        self._keep(self._finished(number, seed, guests, status, game, log.getvalue()),
-                   log.getvalue())
+        self._keep(*played)
+        self._judge_all()
         return True
 
-    def _host(self, number: int, guests: _Guests, words: Sequence[str]) -> int:
-        """Hosts a game, and gives the lobby's status."""
-        assert self._lobby is not None
-        teller = Teller(words)
-        teller.say(f"game {number} waits for guests at port {self._lobby.port}")
-
-        def take(event: Event) -> None:
-            guests.take(event)
-            teller.tell(event)
-            if isinstance(event, (events.Arrived, events.Departed, events.Began, events.Rejoined)):
-                self._show(number, guests)
-
-        self._show(number, guests)
-        try:
-            return self._lobby.run(take)
-        finally:
-            teller.close()
-            self._lobby = None
-
-    def _words(self, number: int) -> List[str]:
+    @staticmethod
+    def _words(number: int, teams: Sequence[Team]) -> List[str]:
         """The seat words of a game file, which anybody may see. From game to game teams move on by
         a seat."""
-        words = [team.key for team in self._given.teams]
+        words = [team.key for team in teams]
         spare = (f"{name}{seat}" for name in ("seat", "free") for seat in range(SEATS))
         while len(words) < SEATS:
             words.append(next(word for word in spare if word not in words))
-        first = number % SEATS if self._given.teams else 0
+        first = number % SEATS if teams else 0
         return words[first:] + words[:first]
 
-    def _keys(self, number: int) -> Dict[str, int]:
-        """The words by which agents take the seats of a game."""
-        words = self._words(number)
-        if not self._given.teams:
-            return {word: seat for seat, word in enumerate(words)}
-        return {team.word: words.index(team.key) for team in self._given.teams}
-
-    def _keep_words(self, keys: Dict[str, int], number: int) -> None:
+    def _keep_words(self, keys: Dict[str, int], words: Sequence[str]) -> None:
         """Keeps the words that the host has changed in a game."""
-        words = self._words(number)
         new = {words[seat]: word for word, seat in keys.items()}
-        changed = [team for team in self._given.teams if new.get(team.key, team.word) != team.word]
+        changed = [team for team in self._teams if new.get(team.key, team.word) != team.word]
         for team in changed:
             team.word = new[team.key]
         if changed:
@@ -239,37 +216,12 @@ class Room:
             except OSError as fault:
                 self._tell(f"cannot keep the new words: {why(fault)}")
 
-    def _finished(self, number: int, seed: int, guests: _Guests, status: int, game: str,
-                  log: bytes) -> Finished:
-        """What a game came to, by its audited log."""
-        fault, scores, words = "", list[int](), self._words(number)
-        try:
-            said = program.audit(self._folder.file(number, "game"), log)
-            if said != "sound" and status in (program.OK, program.CLOCK, program.UNSOUND):
-                fault = f"the audit says `{said}`"
-            elif status == program.UNSOUND:
-                fault = f"its log does not match each link: {summary(words, guests.vouched)}"
-            elif status not in (program.OK, program.CLOCK):
-                fault = f"exit status {status}"
-            else:
-                scores = [score.score for score in read_scores(log)]
-        except (LogError, program.ProgramError) as failed:
-            fault = f"its log: {failed}"
-        if fault:
-            self._tell(f"game {number} is lost: {fault}")
-        players = tuple(guests.players.get(seat, "") for seat in range(SEATS))
-        return Finished(number, seed, self._given.pace, guests.began or 0.0, time.time(), players,
-                        tuple(scores), fault,
-                        {"game": digest_of(game.encode("ascii")), "log": digest_of(log)},
-                        guests.vouched)
-
     def _keep(self, game: Finished, log: bytes) -> None:
         """Keeps a game, and tries so again and again while the disk takes no more."""
         told = ""
         while True:
             try:
-                self._folder.keep(game, log)
-                break
+                return self._folder.keep(game, log)
             except OSError as fault:
                 if told != why(fault):
                     told = why(fault)
@@ -278,26 +230,75 @@ class Room:
                 if self._is_stopped:
                     return
             time.sleep(AGAIN)
-        self._tell(f"game {game.number} is kept; {self._leader()}")
+
+    def _judge_all(self) -> None:
+        """Judges the games that are not. One whose log cannot be audited now, for instance for want
+        of memory, is tried again later."""
+        for game in list(self._folder.unjudged.values()):
+            try:
+                judged = self._judged(game)
+                self._folder.judge(judged)
+            except (OSError, program.ProgramError) as fault:
+                self._tell(f"game {game.number} does not count yet: {why(fault)}; its log is "
+                           "kept, and audited again after the next game")
+                continue
+            if judged.fault:
+                self._tell(f"game {game.number} is lost: {judged.fault}")
+            else:
+                self._rows = standings_of(self._folder.finished)
+                self._tell(f"game {game.number} of `tac make {game.seed}` counts; {self._leader()}")
+
+    def _judged(self, game: Finished) -> Finished:
+        """A game with its scores, by its audited log, or with what is wrong with it.
+
+        Raises:
+            OSError: The log cannot be read.
+            program.ProgramError: The log cannot be audited.
+        """
+        fault, log = game.fault, self._folder.file(game.number, "log").read_bytes()
+        scores: Sequence[int] = ()
+        try:
+            said = "sound" if fault else program.audit(self._folder.file(game.number, "game"), log)
+            if said != "sound":
+                fault = f"the audit says `{said}`"
+            elif not fault:
+                scores = [score.score for score in read_scores(log)]
+        except LogError as failed:
+            fault = f"its log: {failed}"
+        except program.ProgramError as failed:
+            if failed.status != program.REFUSED:
+                raise
+            fault = f"its log: {failed}"
+        return replace(game, is_judged=True, scores=tuple(scores), fault=fault,
+                       files={**game.files, "log": digest_of(log)})
 
     def _leader(self) -> str:
-        rows = standings_of(self._folder.finished)
-        leaders = [self._shown.get(row.name, row.name) for row in rows if row.rank == 1]
-        return f"first of {len(rows)}: {' and '.join(leaders)}" if rows else "nobody has a score"
+        leaders = self._named([row.name for row in self._rows if row.rank == 1])
+        return f"first of {len(self._rows)}: {' and '.join(leaders) or 'nobody'}"
 
-    def _show(self, number: int, guests: _Guests) -> None:
+    def _named(self, names: Sequence[str]) -> List[str]:
+        """How players are shown."""
+        return [self._shown.get(name, name) for name in names]
+
+    def _show(self) -> None:
         """Shows the state of the room on its page."""
-        lobby, given = self._lobby, self._given
-        assert lobby is not None
-        names = guests.names(self._shown)
-        begins = None if guests.first is None else guests.first + given.wait
+        given, finished, table = self._given, self._folder.finished, self._tables[0]
+        last = finished[-1] if finished else None
         rows = [[row.rank, self._shown.get(row.name, row.name), row.games, float(row.average),
-                 row.half, row.last, row.best] for row in standings_of(self._folder.finished)]
-        fault = self._board.show(
-            self._folder.file(number, "journal") if guests.began is not None else None, names,
-            {"phase": "room", "game": number, "port": lobby.port, "begins": begins,
-             "wait": given.wait, "table": rows, "played": len(self._folder.finished),
-             "seats": [{"name": name, "here": guests.is_here(seat)}
-                       for seat, name in enumerate(names)]})
-        if fault:
-            self._tell(fault)
+                 row.half, row.last, row.best] for row in self._rows]
+        state = {"phase": "room", "game": table.deal.number, "port": table.port,
+                 "wait": given.wait, "table": rows, "played": len(finished),
+                 "commitment": self._folder.commitment,
+                 "last": last and [last.number, str(last.seed)]}
+        if self._door is not None:
+            waiting = self._named(self._door.places(self._played))
+            tables = [[table.deal.number, self._named(table.guests.names())]
+                      for table in self._running]
+            return self._board.show(None, [], {**state, "begins": None, "seats": [],
+                                               "tables": tables, "waiting": waiting})
+        guests, names = table.guests, self._named(table.guests.names())
+        journal = self._folder.file(table.deal.number, "journal")
+        return self._board.show(None if guests.began is None else journal, names, {
+            **state, "begins": None if guests.first is None else guests.first + given.wait,
+            "seats": [{"name": name, "here": guests.is_here(seat)}
+                      for seat, name in enumerate(names)]})

@@ -6,6 +6,9 @@ asks again, as `--agent-- HOST PORT WORD --again` does. A game counts once its l
 its manifest is in the folder. After a stop at any moment, even by `kill -9`, the same command
 continues with the next game.
 
+Games are drawn from a secret, so nobody can guess them. The SHA-256 of the secret is shown from the
+start. The secret is shown, and the room is over, once this command is run with --end.
+
 The page shows the standings between games, and each game while it runs. ctrl-C closes the room
 after the current game, a second ctrl-C at once. `help` on the terminal lists commands.
 """
@@ -18,22 +21,23 @@ import os
 import signal
 import socket
 import sys
-import time
 from pathlib import Path
 from types import FrameType
-from typing import List, Optional
+from typing import Callable, List, Optional
 
 from geesefuton import program
 from geesefuton.arguments import Parser, seconds, whole
 from geesefuton.experiments.entrants import Entrant, EntrantError, read_entrants
 from geesefuton.hosting.lobby import LobbyError
+from geesefuton.hosting.teller import Teller
 from geesefuton.network.addresses import listen
 from geesefuton.practice.board import Board
 from geesefuton.practice.folder import Folder, FolderError, write_whole
-from geesefuton.practice.room import Room, RoomSettings
-from geesefuton.practice.teams import Team, TeamsError, keep_words, read_teams, slips_of
+from geesefuton.practice.room import Room
+from geesefuton.practice.table import TableSettings
+from geesefuton.practice.teams import MOST, Team, TeamsError, keep_words, read_teams, slips_of
 from geesefuton.processes import Children, command, tell, why
-from geesefuton.records.games import TICKS
+from geesefuton.records.games import SEATS, TICKS
 
 USUAL = "planner.py"  # of the examples
 
@@ -56,11 +60,17 @@ def _arguments() -> argparse.Namespace:
     add("--folder", type=Path, default=Path("room"),
         help="keep the games in this folder (default: room)")
     add("--seed", type=whole(0), metavar="NUMBER",
-        help="make the first game of a new folder from this seed (default: 1)")
+        help="make the first game of a new folder from this seed, and each next one from the next "
+             "(default: draw games from a secret)")
+    add("--end", action="store_true",
+        help="play no game, but end the room of the folder for good, and show its secret")
     add("--games", type=whole(1), metavar="NUMBER", help="end after this many games")
     add("--teams", type=Path, metavar="FILE",
         help="read the teams from this CSV file of lines NAME or NAME,WORD; missing words are made "
              "and kept")
+    add("--tables", type=whole(1, 8), default=1, metavar="NUMBER",
+        help="play this many games at once, for up to 64 teams: who has played fewest games comes "
+             "first (default: 1)")
     add("--slips", type=Path, metavar="FILE",
         help="write a slip for each team, with its word, as text or .html")
     add("--address",
@@ -68,8 +78,9 @@ def _arguments() -> argparse.Namespace:
     add("--late", type=whole(0, TICKS), default=6, metavar="TICKS",
         help="show what agents cannot ask this many ticks late (default: 6)")
     given = parser.parse_args()
-    if given.slips and not given.teams:
-        parser.error("--slips needs --teams")
+    for name in ("slips", "tables"):
+        if getattr(given, name) not in (None, 1) and not given.teams:
+            parser.error(f"--{name} needs --teams")
     if given.page == given.port:
         parser.error(f"port {given.page} is for the games: choose another for the page")
     return given
@@ -116,15 +127,11 @@ def _house(commands: Optional[List[str]]) -> List[Entrant]:
     return read_entrants(found)
 
 
-def _say(text: str) -> None:
-    tell(f"{time.strftime('%H:%M:%S')} {text}")
-
-
 def _make_teams(given: argparse.Namespace, address: str) -> List[Team]:
     """The teams, with their words kept and their slips written."""
     if given.teams is None:
         return []
-    teams = read_teams(given.teams, given.folder)
+    teams = read_teams(given.teams, given.folder, SEATS if given.tables == 1 else MOST)
     keep_words(given.folder, teams)
     if given.slips:
         text = slips_of(teams, address, given.port, given.slips.suffix in (".html", ".htm"))
@@ -135,10 +142,10 @@ def _make_teams(given: argparse.Namespace, address: str) -> List[Team]:
 class _Signals:
     """What signals do: ctrl-C closes the room after its game, a second one and others at once."""
 
-    def __init__(self, room: Room) -> None:
-        self._room, self._is_asked = room, False
+    def __init__(self, room: Room, say: Callable[[str], None]) -> None:
+        self._room, self._say, self._is_asked = room, say, False
         self.number = 0
-        for number in (signal.SIGINT, signal.SIGTERM, signal.SIGHUP):
+        for number in program.STOPPING:
             if signal.getsignal(number) is not signal.SIG_IGN:
                 signal.signal(number, self._take)
 
@@ -147,29 +154,44 @@ class _Signals:
         text = self._room.close(number != signal.SIGINT or self._is_asked)
         self._is_asked = True
         if text:
-            _say(f"ctrl-C: {text}")
+            self._say(f"ctrl-C: {text}")
+
+
+def _end(folder: Folder) -> str:
+    """Ends a room for good, and gives what is to be told."""
+    secret = folder.end()
+    return "the room is over; " + (f"its secret was {secret}" if secret else
+                                   f"its games were those of the seeds from {folder.seed} on")
 
 
 def _main() -> int:
     given = _arguments()
     program.find()
-    try:
-        house = _house(given.house)
-        with contextlib.closing(Folder(given.folder, given.seed)) as folder, \
-                Children() as children:
-            _check_port(given.page)
-            address = given.address or _own_address()
-            teams = _make_teams(given, address)
-            room = Room(RoomSettings(given.port, given.pace, given.wait, given.after, given.games,
-                                     house, teams, sys.stdin), folder,
-                        Board(children, given.page, given.late, address), _say)
-            signals = _Signals(room)
-            if not house:
-                _say("no house agents: empty seats stay empty")
-            room.run()
-    except (EntrantError, FolderError, LobbyError, TeamsError) as fault:
-        tell(f"room: {fault}")
-        return 1
+    with contextlib.closing(Teller(())) as teller:
+        try:
+            house = _house(given.house)
+            with contextlib.closing(Folder(given.folder, given.seed)) as folder, \
+                    Children() as children:
+                if given.end:
+                    teller.say(_end(folder))
+                    return 0
+                _check_port(given.page)
+                address = given.address or _own_address()
+                teams = _make_teams(given, address)
+                room = Room(TableSettings(given.port, given.pace, given.wait, given.after, house,
+                                          sys.stdin), folder,
+                            Board(children, given.page, given.late, address, teller.say),
+                            teller.say, teams, given.games, given.tables)
+                signals = _Signals(room, teller.say)
+                if not house:
+                    teller.say("no house agents: empty seats stay empty")
+                teller.say(f"games are drawn from a secret, whose SHA-256 is {folder.commitment}"
+                           if folder.commitment else "games can be guessed: they are those of the "
+                           f"seeds from {folder.seed} on")
+                room.run()
+        except (EntrantError, FolderError, LobbyError, TeamsError) as fault:
+            tell(f"room: {fault}")
+            return 1
     return 128 + signals.number if signals.number else 0
 
 

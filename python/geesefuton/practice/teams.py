@@ -16,6 +16,7 @@ from geesefuton.records.games import SEATS, is_seat_word
 
 LETTERS = "abcdefghijkmnpqrstuvwxyz23456789"  # without those that look like others
 LENGTH = 9  # letters of a word that is made
+MOST = 64  # teams of a room with several tables
 WORDS = "words.json"
 
 
@@ -43,9 +44,9 @@ def made_word() -> str:
     return "".join(secrets.choice(LETTERS) for _ in range(LENGTH))
 
 
-def read_teams(file: Path, folder: Path) -> List[Team]:
-    """The teams of a CSV file of lines `name` or `name,word`. A team without a word keeps that of
-    the room's folder, or gets a new one.
+def read_teams(file: Path, folder: Path, most: int = SEATS) -> List[Team]:
+    """The teams of a CSV file of lines `name` or `name,word`, so many at most. A team without a word
+    keeps that of the room's folder, or gets a new one.
 
     Raises:
         TeamsError: The file has no teams, too many, or a name or word that cannot be one.
@@ -66,8 +67,10 @@ def read_teams(file: Path, folder: Path) -> List[Team]:
             raise TeamsError(f"{file}: {','.join(row)!r} is not a team: give a name with letters a "
                              "to z or digits, and optionally a word of 1 to 16 of these")
         teams.append(Team(name, key, word or known.get(key) or made_word()))
-    if not 1 <= len(teams) <= SEATS:
-        raise TeamsError(f"{file} has {len(teams)} teams, but a game has 1 to {SEATS}")
+    if not 1 <= len(teams) <= most:
+        raise TeamsError(f"{file} has {len(teams)} teams, but " + (
+            f"a room has 1 to {most}" if most > SEATS else
+            f"a game has 1 to {SEATS}: with --tables a room has up to {MOST}"))
     for what, values in (("name", [team.key for team in teams]),
                          ("word", [team.word for team in teams])):
         if len(set(values)) < len(values):

@@ -1,0 +1,234 @@
+"""The door of a room with several tables: where links come in, and which teams play next.
+
+The first line of a link is looked at, but left in the link, which is handed on whole to the table
+where its team plays. Without such a table it waits. It is told nothing then: before its welcome an
+agent understands nothing but a refusal, which would end its link. The page shows its place.
+"""
+
+from __future__ import annotations
+
+import contextlib
+import select
+import socket
+import time
+from collections import deque
+from dataclasses import dataclass
+from functools import partial
+from typing import Any, Callable, Deque, Dict, List, Optional, Sequence, Tuple
+
+from geesefuton.hosting.links import tune
+from geesefuton.hosting.seats import GREETING
+from geesefuton.network.gate import Gate, Standing, Visit, most_links
+from geesefuton.practice.teams import Team
+from geesefuton.records.dialects import MOST_LINE
+from geesefuton.records.games import SEATS
+
+PATIENCE = 30.0  # seconds that a link has for its first line
+PARTING = 1.0  # seconds that a link has to end its side after it was refused
+MOST_LINKS, MOST_EACH, KEPT = 200, 32, 100  # links at a time, as a `Gate` counts them
+OTHERS = 200  # open files that the tables and the rest of the process may need
+REST = 0.05  # seconds until a link is taken after one could not be
+HAS_ENDED = select.EPOLLRDHUP | select.EPOLLHUP | select.EPOLLERR
+
+
+class Handed(socket.socket):
+    """A listener whose links are handed in."""
+
+    def __init__(self, port: int) -> None:
+        reading, self._writing = socket.socketpair()
+        super().__init__(fileno=reading.detach())
+        self._port, self._links = port, deque()  # type: int, Deque[Tuple[socket.socket, Any]]
+
+    def put(self, link: socket.socket, where: Any) -> None:
+        """Hands a link in, with the address that it comes from."""
+        self._links.append((link, where))
+        try:
+            self._writing.send(b".")
+        except OSError:  # its game is over
+            link.close()
+
+    def accept(self) -> Tuple[socket.socket, Any]:
+        """The next link, as of any listener."""
+        self.recv(1)
+        return self._links.popleft()
+
+    def getsockname(self) -> Any:
+        """The address by which agents come in, as far as it is known."""
+        return "", self._port
+
+    def close(self) -> None:
+        """Closes it, and the links that nobody took."""
+        super().close()
+        self._writing.close()
+        for link, _ in self._links:
+            link.close()
+
+
+@dataclass
+class Visitor:
+    """A link at the door.
+
+    Attributes:
+        link: Its socket.
+        where: The address that it comes from.
+        visit: What the gate knows of it.
+        due: When its first line is judged, once that is whole; None if it is not, or was.
+        parting: When it is closed, once it was refused.
+        since: When it began to wait for a table.
+    """
+
+    link: socket.socket
+    where: Any
+    visit: Visit
+    due: Optional[float] = None
+    parting: float = float("inf")
+    since: float = 0.0
+
+
+class Door:
+    """Takes the links of a room's agents.
+
+    Args:
+        listener: Where they come in; the door does not close it.
+        teams: Who may play.
+        table_of: Gives the table of a house agent's word; None if no house agent has the word.
+
+    Attributes:
+        waiting: The links of teams that wait, by their keys.
+    """
+
+    def __init__(self, listener: socket.socket, teams: Sequence[Team],
+                 table_of: Callable[[str], Optional[Handed]]) -> None:
+        self._listener, self._table_of = listener, table_of
+        self._keys = {team.word: team.key for team in teams}
+        self._tables: Dict[str, Handed] = {}  # where teams play or played last, by their keys
+        self.waiting: Dict[str, Visitor] = {}
+        self._visitors: Dict[int, Visitor] = {}
+        self._gate = Gate(time.monotonic, most_links(MOST_LINKS, OTHERS), MOST_EACH, KEPT, PATIENCE)
+        self._poll = select.epoll()
+        listener.setblocking(False)
+        self._poll.register(listener, select.EPOLLIN)
+
+    def turn(self, timeout: float) -> None:
+        """Looks at what has come, for which it waits some seconds at most."""
+        for number, mask in self._poll.poll(timeout):
+            if number == self._listener.fileno():
+                self._accept()
+            elif number in self._visitors:
+                self._look(self._visitors[number], bool(mask & HAS_ENDED))
+        now = time.monotonic()
+        for visitor in list(self._visitors.values()):
+            if now > min(visitor.visit.deadline, visitor.parting):
+                self._drop(visitor)
+            elif visitor.due is not None and now >= visitor.due:
+                self._judge(visitor)
+
+    def places(self, games: Dict[str, int]) -> List[str]:
+        """The teams that wait, in the order in which they play: first who has played fewest games,
+        and of these who waits longest."""
+        return sorted(self.waiting, key=lambda key: (games.get(key, 0), self.waiting[key].since))
+
+    def next_teams(self, games: Dict[str, int], free: int, wait: float) -> List[str]:
+        """The teams of the next game; none if it does not begin yet. It begins once the free tables
+        are full, or the first team has waited so many seconds: then they are filled evenly.
+
+        Args:
+            games: How many games each team has played.
+            free: The number of free tables.
+            wait: The seconds.
+        """
+        places, tables = self.places(games), min(free, -(-len(self.waiting) // SEATS))
+        if not tables or len(places) < SEATS * free and time.monotonic() < wait + min(
+                visitor.since for visitor in self.waiting.values()):
+            return []
+        return places[:min(SEATS, -(-len(places) // tables))]
+
+    def seat(self, keys: Sequence[str], table: Handed) -> None:
+        """Hands the links of teams over to their table."""
+        for key in keys:
+            visitor = self.waiting.pop(key)
+            self._tables[key] = table
+            self._hand_on(visitor, table)
+
+    def close(self) -> None:
+        """Closes all links that are here."""
+        for visitor in list(self._visitors.values()):
+            self._drop(visitor)
+        self._poll.close()
+
+    def _accept(self) -> None:
+        try:
+            link, where = self._listener.accept()
+        except (BlockingIOError, ConnectionError):
+            return None
+        except OSError:  # no more files may be opened
+            return time.sleep(REST)
+        visit = self._gate.arrive(where[0])
+        if visit is None:
+            return link.close()
+        link.setblocking(False)
+        tune(link)
+        visitor = self._visitors[link.fileno()] = Visitor(link, where, visit)
+        visit.end = partial(self._drop, visitor)
+        # What is left in a link would be told of again and again, but for this flag.
+        return self._poll.register(link, select.EPOLLIN | select.EPOLLRDHUP | select.EPOLLET)
+
+    def _look(self, visitor: Visitor, has_ended: bool) -> None:
+        """Looks at what a link has sent."""
+        said = self._said(visitor)
+        if has_ended or not said:
+            return self._drop(visitor)
+        if visitor.visit.standing is Standing.STRANGER and (
+                b"\n" in said or len(said) > MOST_LINE):
+            wait = visitor.visit.whole()
+            if wait is None:
+                return self._drop(visitor)
+            visitor.due = time.monotonic() + wait
+        return None
+
+    @staticmethod
+    def _said(visitor: Visitor) -> bytes:
+        """What a link has sent, which is left in it; nothing if it has failed."""
+        with contextlib.suppress(OSError):
+            return visitor.link.recv(MOST_LINE + 1, socket.MSG_PEEK)
+        return b""
+
+    def _judge(self, visitor: Visitor) -> None:
+        """Lets a link wait or play, or refuses it, by its first line."""
+        visitor.due = None
+        greeting = GREETING.fullmatch(self._said(visitor).split(b"\n", 1)[0])
+        if greeting is None:
+            return self._refuse(visitor, "syntax")
+        word = greeting[1].decode("ascii")
+        key = self._keys.get(word)
+        table = self._table_of(word) if key is None else self._tables.get(key)
+        if table is not None and table.fileno() >= 0:
+            return self._hand_on(visitor, table)
+        if key is None or key in self.waiting:
+            return self._refuse(visitor, "wrongword" if key is None else "taken")
+        visitor.visit.know(key)
+        visitor.since, self.waiting[key] = time.monotonic(), visitor
+        return None
+
+    def _refuse(self, visitor: Visitor, answer: str) -> None:
+        """Tells a link that it is refused. Its first line is taken, so that it gets the answer."""
+        if answer == "wrongword":
+            visitor.visit.refuse()
+        visitor.visit.part()
+        visitor.parting = time.monotonic() + PARTING
+        with contextlib.suppress(OSError):
+            visitor.link.recv(MOST_LINE + 1)
+            visitor.link.send(f"refused {answer}\n".encode("ascii"))
+            visitor.link.shutdown(socket.SHUT_WR)
+
+    def _hand_on(self, visitor: Visitor, table: Handed) -> None:
+        self._poll.unregister(visitor.link)
+        del self._visitors[visitor.link.fileno()]
+        visitor.visit.leave()
+        table.put(visitor.link, visitor.where)
+
+    def _drop(self, visitor: Visitor) -> None:
+        del self._visitors[visitor.link.fileno()]
+        visitor.visit.leave()
+        visitor.link.close()
+        self.waiting = {key: other for key, other in self.waiting.items() if other is not visitor}
