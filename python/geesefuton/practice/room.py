@@ -11,6 +11,7 @@ gets the teams that have played fewest games.
 from __future__ import annotations
 
 import contextlib
+import socket
 import threading
 import time
 from collections import Counter
@@ -104,11 +105,7 @@ class Room:
 
     def _host_tables(self) -> None:
         """Plays games at several tables, and takes the links of all."""
-        number, begun = self._next_number(), 0
-        try:
-            listener = listen(self._given.port)
-        except OSError as fault:
-            raise LobbyError(f"port {self._given.port}: {why(fault)}") from None
+        number, begun, listener = self._next_number(), 0, listener_at(self._given.port)
         port, places = listener.getsockname()[1], list[str]()
         self._tell(f"{len(self._tables)} tables wait for guests at port {port}")
         with contextlib.closing(listener), \
@@ -302,3 +299,15 @@ class Room:
             **state, "begins": None if guests.first is None else guests.first + given.wait,
             "seats": [{"name": name, "here": guests.is_here(seat)}
                       for seat, name in enumerate(names)]})
+
+
+def listener_at(port: int) -> socket.socket:
+    """A listening socket.
+
+    Raises:
+        LobbyError: The port is taken, for instance.
+    """
+    try:
+        return listen(port)
+    except OSError as fault:
+        raise LobbyError(f"port {port}: {why(fault)}") from None

@@ -30,13 +30,12 @@ from geesefuton.arguments import Parser, seconds, whole
 from geesefuton.experiments.entrants import Entrant, EntrantError, read_entrants
 from geesefuton.hosting.lobby import LobbyError
 from geesefuton.hosting.teller import Teller
-from geesefuton.network.addresses import listen
 from geesefuton.practice.board import Board
 from geesefuton.practice.folder import Folder, FolderError, write_whole
-from geesefuton.practice.room import Room
+from geesefuton.practice.room import Room, listener_at
 from geesefuton.practice.table import TableSettings
 from geesefuton.practice.teams import MOST, Team, TeamsError, keep_words, read_teams, slips_of
-from geesefuton.processes import Children, command, tell, why
+from geesefuton.processes import Children, command, tell
 from geesefuton.records.games import SEATS, TICKS
 
 USUAL = "planner.py"  # of the examples
@@ -92,20 +91,6 @@ def _own_address() -> str:
         probe.connect(("192.0.2.1", 9))  # sends nothing
         return str(probe.getsockname()[0])
     return socket.gethostname()
-
-
-def _check_port(page: Optional[int]) -> None:
-    """Tells whether the page's port is free.
-
-    Raises:
-        LobbyError: It is not.
-    """
-    if page is None:
-        return
-    try:
-        listen(page).close()
-    except OSError as fault:
-        raise LobbyError(f"port {page}: {why(fault)}") from None
 
 
 def _house(commands: Optional[List[str]]) -> List[Entrant]:
@@ -175,7 +160,8 @@ def _main() -> int:
                 if given.end:
                     teller.say(_end(folder))
                     return 0
-                _check_port(given.page)
+                if given.page is not None:
+                    listener_at(given.page).close()  # so that a port that is taken is told now
                 address = given.address or _own_address()
                 teams = _make_teams(given, address)
                 room = Room(TableSettings(given.port, given.pace, given.wait, given.after, house,

@@ -45,8 +45,8 @@ def made_word() -> str:
 
 
 def read_teams(file: Path, folder: Path, most: int = SEATS) -> List[Team]:
-    """The teams of a CSV file of lines `name` or `name,word`, so many at most. A team without a word
-    keeps that of the room's folder, or gets a new one.
+    """The teams of a CSV file of lines `name` or `name,word`, so many at most. A team without a
+    word keeps that of the room's folder, or gets a new one.
 
     Raises:
         TeamsError: The file has no teams, too many, or a name or word that cannot be one.
