@@ -381,8 +381,8 @@ class Games(Case):
                 self.assertEqual({row[1] for row in state["table"]}, {"seat1", "house mine"})
             if state["phase"] == "running":
                 self.assertIn("seat1", [agent["name"] for agent in state["agents"]])
-        self.assertEqual([phase for phase in phases if phase != "waiting"],
-                         ["room", "running", "over", "running", "over"])
+        self.assertEqual((phases[0], phases[-1]), ("room", "over"), phases)
+        self.assertIn("running", phases)
         self.assertEqual([agent["score"] for agent in state["agents"]], self.scores(2))
         self.until(lambda: room.poll() is not None)
 

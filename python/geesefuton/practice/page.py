@@ -119,13 +119,15 @@ class RoomPage:
                 live = Live(opened, View(self._late, True), self._player, screens, self._faults)
                 tasks = [asyncio.ensure_future(live.follow()),
                          asyncio.ensure_future(live.project())]
-                last = time.monotonic()  # when the game was going on
+                last = time.monotonic()  # when the game was going on, or its scores were made
                 while what["journal"] in (None, journal) and not _have_failed(tasks):
-                    if what["journal"] is not None:
+                    is_going = what["journal"] is not None and not what["is_over"]
+                    if is_going:
                         screens.names = what["names"]
-                        if not (what["is_over"] or live.is_over()):
-                            last = time.monotonic()
-                    if what["is_over"] and tasks[1].done() or \
+                    has_scores = tasks[1].done()
+                    if not has_scores if live.is_over() else is_going:
+                        last = time.monotonic()
+                    if what["is_over"] and has_scores or \
                             time.monotonic() > last + (STAY if live.is_over() else STOPPED):
                         break
                     await asyncio.sleep(LOOK)
