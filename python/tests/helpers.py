@@ -13,6 +13,7 @@ from typing import Any, Callable, Dict, List, Optional, Tuple, TypeVar, Union
 from unittest import mock
 
 from geesefuton import program
+from geesefuton.experiments import study
 from geesefuton.hosting.journal import Schedule
 from geesefuton.records.dialects import asked_by
 from geesefuton.records.games import CLOCK, GOODS, HOTELS, SEATS, Game, read_game
@@ -56,6 +57,12 @@ def needs_step(case: Decorated) -> Decorated:
     return unittest.skipUnless(has_step(), "there is no program of tac with the command step")(case)
 
 
+def needs_study(case: Decorated) -> Decorated:
+    """Skips tests where the libraries for research are missing."""
+    return unittest.skipIf(bool(study.missing("these tests")), "there is no numpy, scipy or pandas"
+                           )(case)
+
+
 def served_game() -> Game:
     """A game of version 2 with live quotes, one or two rooms a night, and seats 3 and 6 empty."""
     return read_game(SERVED_GAME.read_text())
@@ -85,7 +92,8 @@ def refusal(module: str, *words: object) -> Tuple[int, str]:
         patch(mock.patch("sys.argv", [module.rpartition(".")[2], *map(str, words)]))
         patch(mock.patch("geesefuton.processes.stop_on_signals"))
         for place in (module, "processes", "arguments"):
-            patch(mock.patch(f"geesefuton.{place}.tell", lambda text: told.append(text + "\n")))
+            patch(mock.patch(f"geesefuton.{place}.tell", lambda text: told.append(text + "\n"),
+                             create=True))
         return command.main(), "".join(told)
 
 

@@ -1,10 +1,17 @@
 import math
 import random
 import unittest
+from typing import List, Tuple
 
-from geesefuton.experiments.comparisons import (Estimate, adjusted, deals_to_detect, estimate,
-                                                half_at, holm_halves, incomplete_beta, mean_of,
-                                                student_p, student_quantile)
+from geesefuton.experiments import study
+from geesefuton.experiments.comparisons import (Estimate, bonferroni_halves, estimate, groups_of,
+                                                half_at, holm, incomplete_beta, mean_of, student_p,
+                                                student_quantile)
+from geesefuton.experiments.ranks import signed_rank_p
+from tests.helpers import needs_study
+
+if not study.missing("comparing with scipy"):
+    from scipy import stats
 
 # Bounds of Student's t for 95 %, from printed tables.
 TABLE = [(1, 12.7062), (2, 4.3027), (3, 3.1824), (4, 2.7764), (5, 2.5706), (9, 2.2622),
@@ -63,132 +70,76 @@ class Several(unittest.TestCase):
         self.assertIsNone(half_at(Estimate(7.0, None, 1), 0.99))
 
     def test_holm_by_hand(self) -> None:
-        # Probabilities of 0.01, 0.02 and 0.04 by 4 degrees: the first is below 5 % / 3, the second
-        # below 5 % / 2, the third below 5 %. With 0.03 in place of 0.02 Holm stops there.
-        def value(chance: float) -> Estimate:
-            return Estimate(student_quantile(4, 1.0 - chance), student_quantile(4), 5)
+        # The least of three counts three times, the next twice, and none less than one before it.
+        self.assertEqual(holm([0.04, None, 0.01, 0.02]), [0.04, None, 0.03, 0.04])
+        self.assertEqual(holm([0.03, 0.01, 0.03]), [0.06, 0.03, 0.06])
+        self.assertEqual(holm([0.9, 0.8, None]), [1.0, 1.0, None])
+        self.assertEqual(holm([None]), [None])
 
-        halves = holm_halves([value(0.04), None, value(0.01), value(0.02), Estimate(5.0, None, 1)])
-        due = [student_quantile(4, 1.0 - share) for share in (0.05, 0.05 / 3, 0.05 / 2)]
-        for half, bound in zip([halves[0], halves[2], halves[3]], due):
-            self.assertAlmostEqual(half or 0.0, bound, places=9)
-        self.assertEqual((halves[1], halves[4]), (None, None))
-        halves = holm_halves([value(0.04), value(0.01), value(0.03)])
-        due = [student_quantile(4, 1.0 - share) for share in (0.05 / 2, 0.05 / 3, 0.05 / 2)]
-        for half, bound in zip(halves, due):
-            self.assertAlmostEqual(half or 0.0, bound, places=9)
-
-    def test_one_pair_keeps_its_interval(self) -> None:
-        value = estimate([2.0, 4.0, 6.0])
-        self.assertAlmostEqual(holm_halves([value])[0] or 0.0, value.half or -1.0, places=9)
+    def test_intervals_for_all_by_hand(self) -> None:
+        value = Estimate(7.0, student_quantile(4), 5)
+        halves = bonferroni_halves([value, None, value, Estimate(5.0, None, 1), value])
+        self.assertEqual((halves[1], halves[3]), (None, None))
+        for place in (0, 2, 4):
+            self.assertAlmostEqual(halves[place] or 0.0, student_quantile(4, 1.0 - 0.05 / 3))
+        self.assertAlmostEqual(bonferroni_halves([value])[0] or 0.0, value.half or -1.0)
+        self.assertEqual(bonferroni_halves([Estimate(5.0, None, 1)]), [None])
 
     def test_differences_by_chance_are_told_in_few_of_many_experiments(self) -> None:
         """Ten comparisons without a difference, 400 times: at least one is told in 2 to 8 %."""
         source, told = random.Random(3), 0
         for _ in range(400):
             values = [estimate([source.gauss(0.0, 1.0) for _ in range(8)]) for _ in range(10)]
-            told += any(half is not None and abs(value.mean) > half
-                        for value, half in zip(values, holm_halves(values)))
+            told += min(chance or 0.0 for chance in holm(list(map(student_p, values)))) <= 0.05
         self.assertTrue(8 <= told <= 32, told)
 
+    def test_intervals_for_all_hold_together_where_all_differences_are_large(self) -> None:
+        """Ten comparisons, 400 times: in at least 93 % all intervals have their values."""
+        source, hold = random.Random(4), 0
+        for _ in range(400):
+            values = [estimate([source.gauss(50.0, 1.0) for _ in range(8)]) for _ in range(10)]
+            hold += all(half is not None and abs(value.mean - 50.0) <= half
+                        for value, half in zip(values, bonferroni_halves(values)))
+        self.assertGreaterEqual(hold, 372)
 
-class Adjustment(unittest.TestCase):
-    def test_points_on_a_line_are_adjusted_along_it(self) -> None:
-        got = adjusted([10.0, 12.0, 16.0], [[0.0, 1.0, 3.0]], [2.0])
-        assert got is not None and got.half is not None
-        self.assertAlmostEqual(got.mean, 14.0)
-        self.assertAlmostEqual(got.half, 0.0, places=6)
-        self.assertEqual(got.count, 3)
+    def test_groups_that_are_not_separated(self) -> None:
+        def groups(count: int, *apart: Tuple[int, int]) -> List[List[int]]:
+            return groups_of(count, set(map(frozenset, apart)))
 
-    def test_an_interval_by_hand(self) -> None:
-        # y = 1, 3, 2, 6 at x = 0, 1, 2, 3: slope 1.4, mean 3; at 1.5 the line has 3, and the
-        # residuals 0.1, 0.7, -1.7, 0.9 have the squares 4.2, so the error is sqrt(2.1 / 4).
-        got = adjusted([1.0, 3.0, 2.0, 6.0], [[0.0, 1.0, 2.0, 3.0]], [1.5])
-        assert got is not None and got.half is not None
-        self.assertAlmostEqual(got.mean, 3.0)
-        self.assertAlmostEqual(got.half, 4.30265 * math.sqrt(2.1 / 4), places=4)
-        got = adjusted([1.0, 3.0, 2.0, 6.0], [[0.0, 1.0, 2.0, 3.0]], [3.0])
-        assert got is not None and got.half is not None
-        self.assertAlmostEqual(got.mean, 5.1)
-        self.assertAlmostEqual(got.half, 4.30265 * math.sqrt(2.1 * (1 / 4 + 2.25 / 5)), places=4)
+        self.assertEqual(groups(3), [[0, 1, 2]])
+        self.assertEqual(groups(3, (0, 1), (0, 2), (1, 2)), [[0], [1], [2]])
+        self.assertEqual(groups(4, (0, 3), (0, 2)), [[0, 1], [1, 2, 3]])
+        self.assertEqual(groups(3, (0, 1)), [[0, 2], [1, 2]])
+        self.assertEqual(groups(0), [])
 
-    def test_points_on_a_plane_are_adjusted_along_it(self) -> None:
-        source = random.Random(4)
-        x, y = ([source.gauss(0.0, 1.0) for _ in range(12)] for _ in range(2))
-        z = [2.0 * a - 3.0 * b for a, b in zip(x, y)]
-        values = [5.0 + 2.0 * a - 3.0 * b for a, b in zip(x, y)]
-        for covariates, at in (([x, y], [1.0, 1.0]), ([y, x], [1.0, 1.0]),
-                               ([x, y, z], [1.0, 1.0, -1.0]), ([z], [-1.0]),
-                               ([[7.0] * 12, x, y], [7.0, 1.0, 1.0])):
-            got = adjusted(values, covariates, at)
-            assert got is not None and got.half is not None
-            self.assertAlmostEqual(got.mean, 4.0)
-            self.assertAlmostEqual(got.half, 0.0, places=6)
 
-    def test_two_covariates_by_hand(self) -> None:
-        # At right angles, so each slope is its own: y = 4 + 1 x - 2 z, with the rests +-1.
-        x, z = [1.0, 1.0, -1.0, -1.0] * 2, [1.0, -1.0] * 4
-        rest = [1.0, 1.0, 1.0, 1.0, -1.0, -1.0, -1.0, -1.0]
-        values = [4.0 + a - 2.0 * b + c for a, b, c in zip(x, z, rest)]
-        got = adjusted(values, [x, z], [1.0, 0.5])
-        assert got is not None and got.half is not None
-        self.assertAlmostEqual(got.mean, 4.0)
-        error = math.sqrt(8 / 5 * (1 / 8 + 1 / 8 + 0.25 / 8))
-        self.assertAlmostEqual(got.half, student_quantile(5) * error)
-
-    def test_few_units_use_few_covariates(self) -> None:
+@needs_study
+class BesideScipy(unittest.TestCase):
+    def test_means_and_probabilities(self) -> None:
         source = random.Random(5)
-        values, x, y = ([source.gauss(0.0, 1.0) for _ in range(8)] for _ in range(3))
-        for count, used in ((3, 1), (7, 1), (8, 2)):
-            got = adjusted(values[:count], [x[:count], y[:count], values[:count]], [0.1, 0.2, 9.0])
-            self.assertEqual(got, adjusted(values[:count], [x[:count], y[:count]][:used],
-                                           [0.1, 0.2][:used]))
+        for count in (2, 3, 5, 17, 60):
+            values = [source.gauss(30.0, 500.0) for _ in range(count)]
+            got, error = estimate(values), stats.sem(values)
+            low, high = stats.t.interval(0.95, count - 1, got.mean, error)
+            self.assertAlmostEqual((got.half or 0.0) / ((high - low) / 2), 1.0, places=8)
+            self.assertAlmostEqual(student_p(got) or 0.0, stats.ttest_1samp(values, 0.0).pvalue,
+                                   places=10)
 
-    def test_nothing_is_told_of_two_values_or_equal_covariates(self) -> None:
-        self.assertIsNone(adjusted([1.0, 2.0], [[0.0, 1.0]], [0.5]))
-        self.assertIsNone(adjusted([1.0, 2.0, 3.0], [[5.0, 5.0, 5.0]], [5.0]))
-        self.assertIsNone(adjusted([1.0, 2.0, 3.0], [], []))
-        self.assertIsNotNone(adjusted([1.0, 2.0, 4.0], [[5.0, 5.0, 6.0]], [5.0]))
+    def test_bounds(self) -> None:
+        for freedom in (1, 2, 10, 100, 1 << 20):
+            for level in (0.6, 0.95, 0.9999):
+                self.assertAlmostEqual(student_quantile(freedom, level)
+                                       / stats.t.ppf(0.5 + level / 2, freedom), 1.0, places=8)
 
-    def test_intervals_hold_their_level(self) -> None:
-        """1,000 experiments whose true mean is 100: 93 to 97 % of the intervals have it, and those
-        of the adjusted mean are narrower."""
+    def test_wilcoxon(self) -> None:
         source = random.Random(6)
-        hits, widths = [0, 0], [0.0, 0.0]
-        for _ in range(1000):
-            x, y = ([source.gauss(9.0, 1.0) for _ in range(16)] for _ in range(2))
-            values = [100.0 + 3.0 * (a - 9.0) - 2.0 * (b - 9.0) + source.gauss(0.0, 2.0)
-                      for a, b in zip(x, y)]
-            for place, got in enumerate((estimate(values), adjusted(values, [x, y], [9.0, 9.0]))):
-                assert got is not None and got.half is not None
-                hits[place] += abs(got.mean - 100.0) <= got.half
-                widths[place] += got.half
-        for count in hits:
-            self.assertTrue(930 <= count <= 970, hits)
-        self.assertLess(widths[1], 0.7 * widths[0])
-
-
-class Sizes(unittest.TestCase):
-    def test_how_many_values_tell_a_difference(self) -> None:
-        # From printed tables of the power of Student's test: a difference of one standard deviation
-        # needs 10 pairs, of half of one 34, of a fifth of one 199.
-        for deals in (3, 25):  # with a standard deviation of 1
-            value = Estimate(0.0, student_quantile(deals - 1) / math.sqrt(deals), deals)
-            for difference, count in ((1.0, 10), (0.5, 34), (0.2, 199)):
-                found = deals_to_detect(value, difference)
-                assert found is not None
-                self.assertLessEqual(abs(found - count), 1)
-        self.assertIsNone(deals_to_detect(Estimate(7.0, None, 1), 1.0))
-        self.assertEqual(deals_to_detect(estimate([3.0] * 4), 1.0), 2)
-
-    def test_the_power_is_that_of_experiments(self) -> None:
-        source, told = random.Random(7), 0
-        count = deals_to_detect(Estimate(0.0, student_quantile(24) / 5.0, 25), 0.6)
-        assert count is not None
-        for _ in range(1000):
-            got = estimate([source.gauss(0.6, 1.0) for _ in range(count)])
-            told += got.half is not None and got.mean > got.half
-        self.assertTrue(760 <= told <= 850, told)
+        for count in (5, 12, 40):
+            values = [source.gauss(0.3, 1.0) for _ in range(count)]
+            self.assertAlmostEqual(signed_rank_p(values) or 0.0,
+                                   stats.wilcoxon(values, mode="exact").pvalue, places=10)
+        ties = [float(source.randint(-4, 6)) for _ in range(80)]
+        self.assertAlmostEqual(signed_rank_p(ties) or 0.0, stats.wilcoxon(
+            ties, mode="approx", correction=True, zero_method="wilcox").pvalue, places=10)
 
 
 if __name__ == "__main__":

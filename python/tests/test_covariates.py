@@ -4,6 +4,7 @@ from itertools import combinations
 from typing import List, Tuple
 
 from geesefuton import program
+from geesefuton.experiments import luck
 from geesefuton.experiments.covariates import (MEAN_FIRST_PRICE, MEAN_LUCK, MEAN_NIGHTS, Covariates,
                                                covariates_of)
 from geesefuton.experiments.luck import best_trip, worths_of
@@ -20,6 +21,12 @@ class Drawn(unittest.TestCase):
         for drawn, clients in zip(found, game.clients):
             nights = sum(client.depart - client.arrive for client in clients) / 8
             self.assertEqual(drawn, Covariates(drawn.luck, nights, first_price))
+
+    def test_nothing_is_kept_of_the_clients_of_earlier_games(self) -> None:
+        for number in range(200):
+            best_trip(Client(1, 3, 50 + number % 100, (number, 1, 2)))
+        kept = [value for value in vars(luck).values() if isinstance(value, dict)]
+        self.assertFalse(any(isinstance(key, Client) for each in kept for key in each))
 
     def test_means_are_those_of_what_is_drawn(self) -> None:
         source = random.Random(1)

@@ -2,12 +2,20 @@ import csv
 import io
 import json
 import unittest
+from dataclasses import replace
+from typing import List
+from unittest import mock
 
-from geesefuton.experiments.comparisons import Estimate, deals_to_detect
+from geesefuton.experiments import study
+from geesefuton.experiments.comparisons import Estimate
 from geesefuton.experiments.forms import FORMS, as_csv, as_json, as_text, number_text
-from geesefuton.experiments.results import Kind, Outcome
+from geesefuton.experiments.results import Kind, Outcome, Row
 from geesefuton.experiments.summary import summarize
+from tests.helpers import needs_study
 from tests.test_summary import SWAPPED, row
+
+if not study.missing("these tests"):
+    from geesefuton.experiments.power import deals_to_detect
 
 
 class Texts(unittest.TestCase):
@@ -23,10 +31,10 @@ class Texts(unittest.TestCase):
         self.assertIn("c 7 +- ?* - 100 - 1 of 1: 1 absent", lines)
         self.assertIn("* includes seats that nobody took, with the scores of their logs", lines)
         self.assertNotIn("*", as_text(summarize(SWAPPED)))
-        self.assertIn("a less b 40 +- 254 - 2 0.295 0.500", lines)
-        self.assertNotIn("a less c", text)
+        self.assertIn("a less b, by clients 40 +- 254 +- 254 - 2 0.295 0.295 0.500", lines)
+        self.assertIn("a less c, by games 223 +- ? ? - 1 - - -", lines)
         self.assertNotIn("Holm", as_text(summarize(SWAPPED)))
-        self.assertIn("by clients that both had", text)
+        self.assertIn("difference, by clients that both had", as_text(summarize(SWAPPED)))
         self.assertEqual(lines[-1], "game 7.0 is lost: why")
         self.assertIn("1 game of 1 deal;", as_text(summarize(SWAPPED[:1])))
         self.assertIn("110 +- ?", as_text(summarize(SWAPPED[:1])))
@@ -58,6 +66,7 @@ class Texts(unittest.TestCase):
         self.assertEqual([line[end] for end in ("played", "absent", "crashed", "hung", "refused")],
                          ["1", "0", "1", "2", "1"])
 
+    @needs_study
     def test_all_columns(self) -> None:
         # Points on a line: at the mean luck of 8, a has 16 and b has 7.
         rows = [row(str(deal), 0, seat, agent, score, luck=luck)
@@ -76,8 +85,8 @@ class Texts(unittest.TestCase):
         self.assertEqual(list(first), ["what", "agent", "other", "mean", "half", "adjusted",
                                        "adjusted_half", "deals", "seats", "played", "absent",
                                        "crashed", "hung", "refused", "luck", "played_mean",
-                                       "played_half", "holm_half", "student_p", "wilcoxon_p",
-                                       "deals_needed"])
+                                       "played_half", "paired_by", "left_out", "all_pairs_half",
+                                       "student_p", "holm_p", "wilcoxon_p", "deals_needed"])
         self.assertEqual([first["luck"], second["luck"], second["mean"], second["adjusted"],
                           second["adjusted_half"]], ["10.67", "5.33", "6.33", "9.0", "0.0"])
         self.assertEqual((pair["seats"], pair["luck"], pair["mean"]), ("", "", "13.0"))
@@ -113,23 +122,29 @@ class Texts(unittest.TestCase):
                          "in turns in the former order, with seat 0 always first: 1 game that can "
                          "be repeated")
 
-    def test_several_pairs_have_a_column_by_holm(self) -> None:
+    def test_several_pairs_have_columns_that_allow_for_all(self) -> None:
         rows = [row(str(deal), 0, seat, agent, score + deal * (seat + 1) % 3)
-                for deal in range(4) for seat, (agent, score) in enumerate(zip("abc", (90, 50, 9)))]
+                for deal in range(4) for seat, (agent, score) in enumerate(zip("abc", (90, 50, 50)))]
         summary = summarize(rows)
         lines = [" ".join(line.split()) for line in as_text(summary).splitlines()]
-        self.assertEqual(lines[7], "difference, by games mean Holm adjusted for the draw deals p "
-                                   "(Student) p (Wilcoxon)")
-        self.assertRegex(lines[8], r"^a less b 40 \+- \d+ \+- \d+ - 4 0\.000 0\.125$")
-        self.assertEqual(lines[11], "Holm: intervals that allow for the 3 comparisons; one "
-                                    "without 0 shows a difference")
-        pair, value = summary.differences[0], json.loads(as_json(summary))["differences"][0]
-        self.assertEqual((value["holm_half"], value["student_p"], value["wilcoxon_p"]),
-                         (pair.holm, pair.student, pair.wilcoxon))
+        self.assertEqual(lines[7], "difference, by games mean all pairs adjusted for the draw deals "
+                                   "p (Student) p (Holm) p (Wilcoxon)")
+        self.assertRegex(lines[8], r"^a less b 40 \+- \d+ \+- \d+ - 4 0\.000 0\.000 0\.125$")
+        self.assertEqual(lines[11:13], [
+            "all pairs: intervals that together hold for all 3 comparisons (Bonferroni); p (Holm) "
+            "allows for all of them, too",
+            "not separated, with p (Holm) above 0.05: b, c"])
+        pair, value = summary.differences[0], json.loads(as_json(summary))
+        told = value["differences"][0]
+        self.assertEqual((told["all_pairs_half"], told["student_p"], told["holm_p"],
+                          told["wilcoxon_p"]),
+                         (pair.bonferroni, pair.student, pair.holm, pair.wilcoxon))
+        self.assertEqual(value["groups"], [["a"], ["b", "c"]])
         line = list(csv.DictReader(io.StringIO(as_csv(summary))))[3]
-        self.assertEqual((line["holm_half"], line["wilcoxon_p"]),
-                         (str(round(pair.holm or 0.0, 2)), "0.125"))
+        self.assertEqual((line["all_pairs_half"], line["wilcoxon_p"], line["holm_p"]),
+                         (str(round(pair.bonferroni or 0.0, 2)), "0.125", f"{pair.holm:.6g}"))
 
+    @needs_study
     def test_how_many_games_tell_a_difference(self) -> None:
         summary = summarize(SWAPPED, detect=100)
         pair = summary.differences[0]
@@ -139,12 +154,48 @@ class Texts(unittest.TestCase):
         self.assertTrue(lines[-3].endswith("p (Wilcoxon) games to detect 100"))
         self.assertTrue(lines[-2].endswith(f" 0.500 {2 * pair.needed}"))
         self.assertEqual(lines[-1], "with so many games, 80 % of experiments detect a difference "
-                                    "of 100 dollars, if scores vary as in these")
+                                    "of 100 dollars, for the largest spread that these games leave "
+                                    "possible (80 % upper limit)")
         self.assertEqual(json.loads(as_json(summary))["differences"][0]["deals_needed"],
                          pair.needed)
         self.assertEqual(list(csv.DictReader(io.StringIO(as_csv(summary))))[2]["deals_needed"],
                          str(pair.needed))
-        self.assertTrue(as_text(summarize(SWAPPED[:2], detect=100)).splitlines()[-2].endswith("?"))
+        self.assertRegex(as_text(summarize(SWAPPED[:2], detect=100)), r"(?m)^b less a .* - +\?$")
+
+    def test_what_the_games_do_not_tell_has_a_line_each(self) -> None:
+        def told(rows: List[Row]) -> List[str]:
+            lines = as_text(summarize(rows)).splitlines()
+            return [line for line in lines[lines.index("", 2) + 1:] if "numpy" not in line]
+
+        one = [row(deal, 0, 0, "a", 5) for deal in "12"]
+        self.assertIn("one agent: there is nothing to compare", told(one))
+        self.assertIn("one deal: there are no intervals", told(SWAPPED[:4]))
+        half = [replace(each, settings="rotations=2") for each in SWAPPED[2:]]
+        self.assertIn("1 deal not played whole: some clients count for some agents alone",
+                      told(half))
+        self.assertIn("a less b: 1 deal left out, without a client of both", told(half))
+        apart = [row("1", 0, 0, "a", 7), row("2", 0, 0, "b", 5)]
+        self.assertIn("a less b: no deal of both", told(apart))
+
+    def test_without_the_libraries_the_rest_is_there_and_a_line_tells_how_to_get_them(self) -> None:
+        with mock.patch("geesefuton.experiments.study.find_spec", return_value=None):
+            text = as_text(summarize(SWAPPED, detect=100))
+        self.assertIn("a less b", text)
+        last = text.splitlines()[-1]
+        self.assertIn("need numpy and scipy and pandas: install them by `apt-get", last)
+        self.assertIn("pip install", last)
+
+    def test_names_do_not_break_lines_or_cells(self) -> None:
+        names = ["a,b", "NA", "x\u2028y", "x\ny", "", "\x85", 'q"']
+        rows = [row(deal, 0, seat, name, 10 * seat + int(deal)) for deal in "12"
+                for seat, name in enumerate(names)]
+        summary = summarize(rows)
+        lines = as_text(summary).splitlines()
+        self.assertEqual(len(lines), len(as_text(summary).split("\n")) - 1)
+        self.assertIn("x\\u2028y", "".join(lines))
+        cells = list(csv.DictReader(io.StringIO(as_csv(summary), newline="")))
+        self.assertEqual(sorted(line["agent"] for line in cells if line["what"] == "mean"),
+                         sorted(names))
 
     def test_csv(self) -> None:
         rows = list(csv.DictReader(io.StringIO(as_csv(self.summary))))
@@ -163,7 +214,9 @@ class Texts(unittest.TestCase):
 
     def test_json(self) -> None:
         value = json.loads(as_json(self.summary))
-        self.assertEqual((value["games"], value["deals"], value["paired_by"]), (4, 2, "clients"))
+        self.assertEqual((value["games"], value["deals"]), (4, 2))
+        self.assertEqual([pair["paired_by"] for pair in value["differences"]],
+                         ["clients", "games", "games"])
         self.assertEqual(value["agents"][0]["score"]["mean"], 200.0)
         self.assertEqual(value["agents"][2]["ends"]["absent"], 1)
         self.assertEqual(value["agents"][0]["played"], value["agents"][0]["score"])
@@ -171,7 +224,6 @@ class Texts(unittest.TestCase):
                          (7.0, None))
         self.assertEqual(value["differences"][0]["score"]["deals"], 2)
         self.assertEqual(value["lost"], ["game 7.0 is lost: why"])
-        self.assertEqual(json.loads(as_json(summarize(SWAPPED[:2])))["paired_by"], "games")
 
     def test_nothing_played(self) -> None:
         for form in FORMS.values():

@@ -8,16 +8,21 @@ import signal
 import subprocess
 import tempfile
 import unittest
+from collections import Counter
 from pathlib import Path
 from typing import Dict, List, Set, Tuple
 from unittest import mock
 
-from geesefuton.experiments import equilibria, profiles
+from geesefuton.experiments import profiles, study
+from geesefuton.experiments.kept import games_of
 from geesefuton.experiments.messages import Result
 from geesefuton.experiments.results import Outcome
 from geesefuton.experiments.runs import read_scores
 from geesefuton.processes import Output, Stopped
-from tests.helpers import SERVED_GAME, STAND_IN, TOP, fake_program, refusal
+from tests.helpers import SERVED_GAME, STAND_IN, TOP, fake_program, needs_study, refusal
+
+if not study.missing("these tests"):
+    from geesefuton.experiments import equilibria
 
 # A stand-in for the process of a game of two strategies, whose words begin with `dove` and `hawk`:
 # a hawk has 0 for each other hawk and 7 for each dove, a dove 2 for a hawk and 6 for a dove, and
@@ -40,6 +45,7 @@ time.sleep(60)
 """
 
 
+@needs_study
 class Commands(unittest.TestCase):
     """The command with a stand-in for games and for the program."""
 
@@ -59,22 +65,23 @@ class Commands(unittest.TestCase):
         self.addCleanup(os.chdir, back)
         os.chdir(self.place)
 
-    def run_profiles(self, *words: str, status: int = 0, out: str = "printed", **more: str
+    def run_profiles(self, *words: str, status: int = 0, out: str = "printed",
+                     agents: Tuple[str, ...] = ("dove.py", "hawk.py"), **more: str
                      ) -> Tuple[str, str]:
         """Runs it on three deals; gives what it prints and tells."""
         told: List[str] = []
         find = functools.partial(equilibria.find, resamples=20)
         with contextlib.ExitStack() as stack:
             patch = stack.enter_context
-            patch(mock.patch("sys.argv", ["profiles", "dove.py", "hawk.py", "--games", "3",
+            patch(mock.patch("sys.argv", ["profiles", *agents, "--games", "3",
                                           "--at-once", "3", "--out", "study", *words]))
             patch(mock.patch("geesefuton.processes.stop_on_signals"))
             patch(mock.patch.dict(os.environ, {"TAC": self.tac, "PLACE": str(self.place), **more}))
             patch(mock.patch("geesefuton.experiments.tournament.PROGRAM", WORKER))
-            patch(mock.patch("geesefuton.experiments.profiles.find", find))
-            patch(mock.patch("geesefuton.experiments.profiles.Output", lambda target: Output(
+            patch(mock.patch("geesefuton.experiments.profile_study.find", find))
+            patch(mock.patch("geesefuton.experiments.profile_study.Output", lambda target: Output(
                 out if target == 1 else target, "standard output" if target == 1 else "")))
-            for module in ("experiments.profiles", "experiments.tournament", "processes"):
+            for module in ("experiments.profile_study", "experiments.tournament", "processes"):
                 patch(mock.patch(f"geesefuton.{module}.tell",
                                  lambda text: told.append(text + "\n")))
             got = profiles.main()
@@ -178,16 +185,13 @@ class Commands(unittest.TestCase):
 
     def test_a_single_deal_tells_no_equilibrium(self) -> None:
         text, told = self.run_profiles("--games", "1")
-        self.assertIn("A single deal cannot be resampled: play more.", text)
+        self.assertIn("NOT KNOWN: a single deal cannot be resampled; play more.", text)
         self.assertIn("+- ?", text)
 
     def test_what_does_not_belong_together_is_refused(self) -> None:
         self.run_profiles("--part", "1/2")
         self.refused("it has a run: continue it with --resume", "--part", "1/2")
-        self.refused("its run began differently: rotations is 9, not 4; players is 8, not 2",
-                     "--players", "8")
-        self.refused("its run began differently: agents is dove+owl, not dove+hawk",
-                     agents=("dove.py", "owl.py"))
+        self.refused("its run began differently: players is 8, not 2", "--players", "8")
         self.refused("turns is 40, not set", "--turns", "40")
         self.refused("there is no file owl2.py", agents=("dove.py", "owl2.py"))
         hawk = self.place / "hawk.py"
@@ -222,6 +226,55 @@ class Commands(unittest.TestCase):
             self.run_profiles("--part", "2/2")
         finally:
             os.close(number)
+
+    def test_another_strategy_plays_its_new_profiles_alone(self) -> None:
+        self.run_profiles("--games", "2")
+        before = self.begun()
+        text, _ = self.run_profiles("--games", "2", "--resume",
+                                    agents=("owl.py", "hawk.py", "dove.py"))
+        self.assertIn("2 deals of 9 profiles", text)
+        new = self.begun()[len(before):]
+        self.assertEqual((len(before), len(new), len(set(before + new))), (8, 10, 18))
+        rows = read_scores(self.out / "part-1-of-1").rows
+        for name in new:
+            self.assertIn("owl", {row.agent for row in rows if f"{row.deal}.{row.rotation}" == name})
+        # A stand-in plays as a dove unless it is called hawk, so an owl has what a dove has there.
+        # Each has 15 more in the mean of the deals: 42 among doves or owls.
+        self.assertRegex(text, r"\n0\+0\+8 +- +- +57 \+- 64\n")
+        record = json.loads((self.out / "part-1-of-1" / "run.json").read_text())
+        self.assertEqual([agent["name"] for agent in record["agents"]], ["dove", "hawk", "owl"])
+        less, _ = self.run_profiles("--games", "2", "--resume", agents=("dove.py", "owl.py"))
+        self.assertIn("2 deals of 4 profiles", less)
+        self.assertIn("NOT KNOWN: some strategies do exactly as well as others", less)
+        self.assertEqual(len(self.begun()), 18)
+
+    def test_a_search_goes_on_by_best_responses(self) -> None:
+        # A hawk gains beside doves, and then nobody does: the profiles with several owls are left.
+        text, told = self.run_profiles("--search", agents=("dove.py", "owl.py", "hawk.py"))
+        self.assertIn("profiles: hawk gains most", told)
+        self.assertIn("the others have only dove, hawk: equilibria with other strategies were not "
+                      "searched", text)
+        profiles = {tuple(sorted(Counter(row.agent for row in rows).items()))
+                    for rows in games_of(read_scores(self.out / "part-1-of-1").rows)}
+        self.assertEqual(profiles, {tuple(sorted(profile.items())) for profile in (
+            {"dove": 8}, {"dove": 7, "owl": 1}, {"dove": 7, "hawk": 1}, {"hawk": 8},
+            {"hawk": 7, "dove": 1}, {"hawk": 7, "owl": 1})})
+        self.assertEqual(len(self.begun()), 18)
+        value = json.loads((self.out / "payoffs.json").read_text())
+        self.assertEqual(value["strategies"], {"all": ["dove", "hawk"]})
+        again, _ = self.run_profiles("--search", "--resume",
+                                     agents=("dove.py", "owl.py", "hawk.py"))
+        self.assertEqual((again, len(self.begun())), (text, 18))
+        self.refused("leave --part out", "--search", "--part", "1/2")
+
+    def test_a_study_without_a_whole_deal_knows_nothing(self) -> None:
+        text, told = self.run_profiles("--games", "1", status=1, LOSE="1.1")
+        self.assertIn("NOT KNOWN: no deal has all of its profiles scored.", text)
+        self.assertFalse((self.out / "payoffs.csv").exists())
+
+    def test_without_the_libraries_it_tells_how_to_get_them(self) -> None:
+        with mock.patch("geesefuton.experiments.study.find_spec", return_value=None):
+            self.refused("payoffs and equilibria need numpy and scipy and pandas: install them by")
 
     def test_words_that_are_refused(self) -> None:
         for told, words in (("expected a part I/N", ["--part", "3/2"]),

@@ -3,12 +3,17 @@ import unittest
 from dataclasses import replace
 from typing import Any, List
 
-from geesefuton.experiments.comparisons import adjusted, estimate, holm_halves, student_p
+from geesefuton.experiments import study
+from geesefuton.experiments.comparisons import bonferroni_halves, estimate, holm, student_p
 from geesefuton.experiments.ranks import signed_rank_p
 from geesefuton.experiments.results import (FORMER_HEAD, HEAD, Kind, Outcome, ResultsError, Row,
                                             read_rows, text_of)
 from geesefuton.experiments.summary import summarize
 from geesefuton.records.tables import csv_of
+from tests.helpers import needs_study
+
+if not study.missing("these tests"):
+    from geesefuton.experiments.regression import adjusted
 
 
 def row(deal: str, rotation: int, seat: int, agent: str, score: int,
@@ -32,7 +37,7 @@ class Means(unittest.TestCase):
         self.assertEqual([standing.agent for standing in summary.standings], ["a", "b"])
         self.assertEqual(summary.standings[0].score, estimate([170.0, 230.0]))
         self.assertEqual(summary.standings[1].score, estimate([150.0, 170.0]))
-        self.assertEqual((summary.games, summary.deals, summary.swapped), (4, 2, True))
+        self.assertEqual((summary.games, summary.deals, summary.partial), (4, 2, 0))
         self.assertEqual(summary.standings[0].seats, 4)
 
     def test_every_seat_counts_and_those_that_played_beside_it(self) -> None:
@@ -92,14 +97,41 @@ class Differences(unittest.TestCase):
                 row("2", 0, 0, "b", 10), row("2", 0, 1, "b", 30), row("2", 0, 2, "a", 90),
                 row("3", 0, 0, "a", 7), row("4", 0, 1, "b", 9)]
         summary = summarize(rows)
-        self.assertFalse(summary.swapped)
-        self.assertEqual(summary.differences[0].score, estimate([150.0, 70.0]))
+        self.assertEqual((summary.differences[0].score, summary.differences[0].by_clients),
+                         (estimate([150.0, 70.0]), False))
 
-    def test_a_deal_without_clients_that_both_had_tells_nothing_of_a_pair(self) -> None:
-        rows = [row("1", 1, seat, agent, 0) for seat, agent in enumerate("ab")]
-        self.assertIsNone(summarize(rows[:1] + SWAPPED[1:2]).differences[0].score)
-        pair = summarize([*SWAPPED[:2], *SWAPPED[4:]]).differences[0]
-        self.assertEqual((pair.first, pair.second, pair.score), ("b", "a", estimate([-60.0])))
+    def test_clients_that_only_one_of_them_had_do_not_count_in_a_broken_deal(self) -> None:
+        # Three agents change their seats in three games a deal; of the third deal the last game is
+        # lost. There a and b have both had seats 1, 2, 4, 5 and 7, where a has 50 more, as in the
+        # other deals; at seats 0, 3 and 6 b alone had clients that are worth 900.
+        rows = []
+        for deal in "123":
+            for rotation in range(2 if deal == "3" else 3):
+                for seat in range(8):
+                    agent = "abc"[(seat + rotation + 1) % 3]
+                    score = {"a": 50, "b": 0, "c": -300}[agent] + (900 if seat % 3 == 0 else 0)
+                    rows.append(replace(row(deal, rotation, seat, agent, score),
+                                        settings="rotations=3"))
+        summary = summarize(rows)
+        pair = next(pair for pair in summary.differences if {pair.first, pair.second} == set("ab"))
+        assert pair.score is not None
+        self.assertEqual((pair.by_clients, abs(pair.score.mean), pair.score.half, pair.score.count),
+                         (True, 50.0, 0.0, 3))
+        self.assertEqual(summary.partial, 1)
+
+    def test_half_a_pair_is_left_out_and_told(self) -> None:
+        summary = summarize([*SWAPPED[:2], *SWAPPED[4:]])
+        pair = summary.differences[0]
+        self.assertEqual((pair.first, pair.second, pair.score, pair.left_out),
+                         ("b", "a", estimate([-60.0]), 1))
+
+    def test_one_deal_has_no_interval_and_no_probability(self) -> None:
+        rows = [row("1", rotation, seat, "ab"[(seat + rotation) % 2], 100 * seat + rotation)
+                for rotation in range(2) for seat in range(8)]
+        pair, = summarize(rows, detect=100).differences
+        assert pair.score is not None
+        self.assertEqual((pair.score.half, pair.student, pair.wilcoxon, pair.holm, pair.bonferroni,
+                          pair.needed), (None,) * 6)
 
     def test_every_pair_is_there_once_the_better_first(self) -> None:
         rows = [row("1", 0, seat, agent, score)
@@ -107,21 +139,26 @@ class Differences(unittest.TestCase):
         pairs = [(pair.first, pair.second) for pair in summarize(rows).differences]
         self.assertEqual(pairs, [("a", "b"), ("a", "c"), ("b", "c")])
 
-    def test_several_pairs_have_intervals_by_holm_and_two_probabilities(self) -> None:
+    def test_several_pairs_have_what_allows_for_all_of_them(self) -> None:
         scores = {"a": (9, 8, 9, 7), "b": (5, 5, 6, 4), "c": (5, 1, 7, 6)}
         rows = [row(str(deal), 0, seat, agent, scores[agent][deal])
                 for deal in range(4) for seat, agent in enumerate("abc")]
-        pairs = summarize(rows).differences
-        self.assertEqual([pair.holm for pair in pairs], holm_halves([pair.score for pair in pairs]))
+        summary = summarize(rows)
+        pairs = summary.differences
+        self.assertEqual([pair.bonferroni for pair in pairs],
+                         bonferroni_halves([pair.score for pair in pairs]))
+        self.assertEqual([pair.holm for pair in pairs], holm([pair.student for pair in pairs]))
         self.assertEqual(pairs[0].student, student_p(estimate([4.0, 3.0, 3.0, 3.0])))
         self.assertEqual(pairs[0].wilcoxon, signed_rank_p([4.0, 3.0, 3.0, 3.0]))
-        assert pairs[0].holm is not None and pairs[0].score and pairs[0].score.half
-        self.assertGreater(pairs[0].holm, pairs[0].score.half)
+        self.assertEqual([pair.is_shown for pair in pairs], [True, False, False])
+        self.assertEqual(summary.groups, [["a", "c"], ["b", "c"]])
         alone = summarize(SWAPPED).differences[0]
         assert alone.score and alone.score.half
-        self.assertAlmostEqual(alone.holm or 0.0, alone.score.half)
+        self.assertAlmostEqual(alone.bonferroni or 0.0, alone.score.half)
+        self.assertEqual(alone.holm, alone.student)
 
 
+@needs_study
 class Luck(unittest.TestCase):
     def test_means_are_adjusted_to_the_luck_of_all(self) -> None:
         scores = {"a": [100, 140, 210], "b": [50, 90, 20]}
@@ -172,6 +209,7 @@ class Luck(unittest.TestCase):
         self.assertEqual((first.luck, second.luck), (300.0, 1100.0))
 
 
+@needs_study
 class Draws(unittest.TestCase):
     """Rows with all covariates."""
 

@@ -1,5 +1,4 @@
-"""Means and differences with 95 % intervals (Student's, and Holm's for several at once), their
-adjustment by regression, and the number of values that a difference needs.
+"""Means and differences with 95 % intervals, and what many comparisons at once show.
 
 Intervals are Student's: they take values to be independent and approximately normal, as means over
 many seats are. Few values make a wide interval. Nothing is approximated by the normal distribution.
@@ -8,11 +7,10 @@ many seats are. Few values make a wide interval. Nothing is approximated by the 
 import functools
 import math
 from dataclasses import dataclass
-from typing import List, NamedTuple, Optional, Sequence
+from typing import FrozenSet, List, Optional, Sequence, Set
 
 LEVEL = 0.95
 POWER = 0.8  # how often a difference is to be told that is there
-UNITS = 4  # that there have to be for each covariate but the first
 
 
 @dataclass(frozen=True)
@@ -62,7 +60,7 @@ def incomplete_beta(a: float, b: float, x: float) -> float:
     return 1.0 - front * _beta_fraction(b, a, 1.0 - x) / b
 
 
-@functools.lru_cache(maxsize=None)
+@functools.lru_cache(maxsize=1024)
 def student_quantile(freedom: int, level: float = LEVEL) -> float:
     """The bound that Student's t stays within on both sides, with the probability `level`.
 
@@ -131,112 +129,44 @@ def student_p(value: Estimate) -> Optional[float]:
     return incomplete_beta(freedom / 2.0, 0.5, freedom / (freedom + bound * bound))
 
 
-def holm_halves(values: Sequence[Optional[Estimate]]) -> List[Optional[float]]:
-    """Half the widths of intervals that together exclude a true difference of 0 in at most 5 % of
-    experiments, by Holm's procedure.
+def holm(chances: Sequence[Optional[float]]) -> List[Optional[float]]:
+    """The probabilities of several comparisons, made larger so that all together show a difference
+    that is not there, by one below 5 %, in at most 5 % of experiments (Holm's procedure).
 
-    Holm tests the least likely of m values at 5 % / m, the next at 5 % / (m - 1), and so on until
-    one could be chance; that one and all after it keep its level. Each interval has the level of
-    its test, so it excludes 0 exactly where Holm finds a difference.
+    Args:
+        chances: That of each comparison; None is left out of the count.
+    """
+    places = sorted((place for place, chance in enumerate(chances) if chance is not None),
+                    key=lambda place: chances[place] or 0.0)
+    larger: List[Optional[float]] = [None] * len(chances)
+    least = 0.0
+    for rank, place in enumerate(places):
+        least = max(least, min(1.0, (len(places) - rank) * (chances[place] or 0.0)))
+        larger[place] = least
+    return larger
+
+
+def bonferroni_halves(values: Sequence[Optional[Estimate]]) -> List[Optional[float]]:
+    """Half the widths of intervals that all together have their true values in at least 95 % of
+    experiments.
 
     Args:
         values: What `estimate` gives; None, or no interval, is left out of the count.
     """
-    halves: List[Optional[float]] = [None] * len(values)
-    tests = []
-    for place, value in enumerate(values):
-        chance = None if value is None else student_p(value)
-        if chance is not None:
-            tests.append((chance, place))
-    share, is_chance = 1.0 - LEVEL, False
-    for rank, (chance, place) in enumerate(sorted(tests)):
-        if not is_chance:
-            share = (1.0 - LEVEL) / (len(tests) - rank)
-            is_chance = chance > share
-        value = values[place]
-        assert value is not None
-        halves[place] = half_at(value, 1.0 - share)
-    return halves
+    count = sum(value is not None and value.half is not None for value in values)
+    return [value and half_at(value, 1.0 - (1.0 - LEVEL) / count) for value in values] \
+        if count else [None] * len(values)
 
 
-def deals_to_detect(value: Estimate, difference: float) -> Optional[int]:
-    """How many values it takes, at the spread of these, to tell a difference from 0.
+def groups_of(count: int, apart: Set[FrozenSet[int]]) -> List[List[int]]:
+    """The largest groups of things of which no two are apart, in their order.
 
     Args:
-        value: What `estimate` gives.
-        difference: The true difference, above 0.
-
-    Returns:
-        The number with which 80 % of experiments find 0 outside the 95 % interval; None where
-        there is no interval.
+        count: How many things there are, numbered from 0.
+        apart: The pairs that are.
     """
-    if value.half is None:
-        return None
-    error = value.half / student_quantile(value.count - 1)
-    variance = error * error * value.count
-
-    def due(freedom: int) -> int:
-        bounds = student_quantile(freedom) + student_quantile(freedom, 2.0 * POWER - 1.0)
-        return math.ceil(bounds * bounds * variance / (difference * difference))
-
-    count = max(2, due(1 << 20))
-    while count < due(count - 1):
-        count += 1
-    return count
-
-
-def adjusted(values: Sequence[float], covariates: Sequence[Sequence[float]],
-             at: Sequence[float]) -> Optional[Estimate]:
-    """What the mean would be if covariates were as given, by a plane of least squares.
-
-    A covariate that is the same in all units, or a sum of multiples of those before it, is left
-    out, and so are the last ones where there are fewer than four units for each.
-
-    Args:
-        values: One value for each unit, such as a deal.
-        covariates: The covariates, each with its value of each unit, the most telling first.
-        at: The value of each covariate for which the mean is told.
-
-    Returns:
-        The estimate; None for fewer than three values, or where no covariate is left.
-    """
-    count = len(values)
-    if count < 3:
-        return None
-    axes = _axes(covariates, at, max(1, count // UNITS))
-    if not axes:
-        return None
-    mean = mean_of(values)
-    rest, there, room = [value - mean for value in values], mean, 1.0 / count
-    for axis in axes:
-        slope = math.fsum(x * y for x, y in zip(axis.parts, rest)) / axis.squares
-        rest = [y - slope * x for x, y in zip(axis.parts, rest)]
-        there, room = there + slope * axis.place, room + axis.place * axis.place / axis.squares
-    freedom = count - 1 - len(axes)
-    error = math.sqrt(math.fsum(y * y for y in rest) / freedom * room)
-    return Estimate(there, student_quantile(freedom) * error, count)
-
-
-class _Axis(NamedTuple):
-    """A covariate about its mean, at right angles to those before it: its values, the sum of their
-    squares, and where the mean is told."""
-
-    parts: List[float]
-    squares: float
-    place: float
-
-
-def _axes(covariates: Sequence[Sequence[float]], at: Sequence[float], most: int) -> List[_Axis]:
-    """The first covariates, at most so many, without those that tell nothing more."""
-    axes: List[_Axis] = []
-    for covariate, place in zip(covariates, at):
-        middle = mean_of(covariate)
-        parts, place = [value - middle for value in covariate], place - middle
-        for axis in axes:
-            share = math.fsum(x * y for x, y in zip(parts, axis.parts)) / axis.squares
-            parts = [x - share * y for x, y in zip(parts, axis.parts)]
-            place -= share * axis.place
-        squares = math.fsum(x * x for x in parts)
-        if squares > 1e-9 * math.fsum(max(1.0, value * value) for value in covariate):
-            axes.append(_Axis(parts, squares, place))
-    return axes[:most]
+    groups = {frozenset(range(count))}
+    for pair in apart:
+        split = {group - {one} for group in groups for one in (pair if pair <= group else [-1])}
+        groups = {group for group in split if not any(group < other for other in split)}
+    return sorted(sorted(group) for group in groups if group)

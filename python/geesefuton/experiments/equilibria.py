@@ -1,161 +1,150 @@
-"""Symmetric equilibria of symmetric games, from payoffs alone.
+"""Symmetric equilibria of symmetric games, from payoffs alone. It needs the extra `study`.
 
 In a symmetric game all players choose from the same strategies, and a player's payoff depends on
 its own choice and on how many of the others chose each strategy. A mixture gives each strategy a
 share. Its regret is the most that a player would gain by a single strategy while the others draw
-from the mixture; a mixture without regret is a symmetric equilibrium.
+from the mixture; a mixture without regret is a symmetric equilibrium. Each symmetric game has one.
 
 Payoffs come deal by deal: a sample is the payoffs of one deal, for each strategy a payoff against
-each of `counts_of(players - 1, strategies)`.
+each of `counts_of(players - 1, mixed)`, where rivals have only the first `mixed` strategies.
 """
 
 import math
 import random
+from collections import Counter
 from dataclasses import dataclass
 from functools import lru_cache
-from operator import mul
-from typing import Iterator, List, NamedTuple, Optional, Sequence, Tuple
+from itertools import combinations
+from typing import Any, List, Sequence, Tuple
 
-from geesefuton.experiments.comparisons import Estimate, estimate, mean_of, student_quantile
+import numpy as np
 
-Counts = Tuple[int, ...]  # how many players chose each strategy
+from geesefuton.experiments.comparisons import Estimate, estimate, student_quantile
+from geesefuton.experiments.reduction import counts_of, with_one
+
+Array = Any  # of numpy, whose old versions have no types
 Mixture = Tuple[float, ...]
-Sample = Sequence[Sequence[float]]
 
-STARTS = 20  # mixtures, at least, from which equilibria are searched
-STEPS = 40  # of the replicator dynamics
-LEAST_SHARE = 0.01  # a strategy with less is left out of the support
-NEWTON_STEPS, SHIFT = 20, 1e-7
+STARTS = 60  # mixtures for each strategy of a support, from which its equilibria are searched
+NEWTON_STEPS = 30
+FAR = 0.5  # how far outside of 0 to 1 a share may be on the way
 MOST_REGRET = 1e-7  # of an equilibrium, as a part of the spread of the payoffs
-APART = 0.01  # equilibria that are closer count as one
+TINY = 1e-9  # what is added where an equation has no single solution, beside payoffs of 0 to 1
+APART = 1e-4  # equilibria that are closer count as one
 NEAR = 0.1  # how far an equilibrium of other deals may be to count as the same
-RESAMPLES = 300
+RESAMPLES, AT_ONCE = 300, 50
 KNOWN = 0.95  # the part of resamples from which on an equilibrium is called known
 
 
-def counts_of(players: int, strategies: int) -> List[Counts]:
-    """All ways in which players may choose, those with most of the first strategy first."""
-    if strategies == 1:
-        return [(players,)]
-    return [(first, *rest) for first in range(players, -1, -1)
-            for rest in counts_of(players - first, strategies - 1)]
+class _Shape:
+    """The choices of rivals.
+
+    Attributes:
+        counts: For each choice how many of them have each strategy.
+        orders: In how many orders they can have chosen so.
+        raised: For each strategy and each choice of one rival less the number of the choice in
+            which one more has that strategy.
+    """
+
+    def __init__(self, rivals: int, strategies: int) -> None:
+        choices = counts_of(rivals, strategies)
+        self.counts = np.array(choices)
+        self.orders = np.array([math.factorial(rivals) / math.prod(map(math.factorial, counts))
+                                for counts in choices])
+        self.raised = [[choices.index(with_one(counts, strategy))
+                        for counts in counts_of(rivals - 1, strategies)]
+                       for strategy in range(strategies)] if rivals else []
+
+    def chances(self, mixtures: Array) -> Array:
+        """How likely rivals that draw from a mixture, or from each of many, make each choice."""
+        powers = np.asarray(mixtures)[..., None] ** np.arange(self.counts.max() + 1)
+        return self.orders * math.prod(powers[..., place, column]
+                                       for place, column in enumerate(self.counts.T))
 
 
-class _Shape(NamedTuple):
-    """The choices of a player's rivals: for each strategy how many chose it, and in how many orders
-    the rivals can have chosen so."""
-
-    columns: List[List[int]]
-    orders: List[float]
-
-
-@lru_cache(maxsize=None)
-def _shape(players: int, strategies: int) -> _Shape:
-    rivals = counts_of(players - 1, strategies)
-    orders = [math.factorial(players - 1) / math.prod(map(math.factorial, counts))
-              for counts in rivals]
-    return _Shape([list(column) for column in zip(*rivals)], orders)
+_shape = lru_cache(maxsize=64)(_Shape)
 
 
 class SymmetricGame:
-    """A symmetric game.
+    """A symmetric game, or many of the same size.
 
     Args:
         players: How many there are, 2 or more.
-        payoffs: For each strategy its payoff beside each of `counts_of(players - 1, strategies)`.
+        payoffs: For each game and strategy its payoff beside each choice of the rivals, as
+            `counts_of` has them.
+        mixed: How many of the strategies, the first, the rivals have; 0 for all.
     """
 
-    def __init__(self, players: int, payoffs: Sample) -> None:
-        self.players, self.payoffs = players, payoffs
-        self.strategies = len(payoffs)
-        self.spread = max(max(row) for row in payoffs) - min(min(row) for row in payoffs)
-        self._shape = _shape(players, self.strategies)
+    def __init__(self, players: int, payoffs: Array, mixed: int = 0) -> None:
+        self.players, self.payoffs = players, np.asarray(payoffs, dtype=float)
+        self.mixed = mixed or self.payoffs.shape[-2]
+        self.shape, self._fewer = (_shape(players - less, self.mixed) for less in (1, 2))
 
-    def values(self, mixture: Sequence[float]) -> List[float]:
-        """The payoff that each strategy has in the mean while the others draw from a mixture."""
-        weights: Sequence[float] = self._shape.orders
-        if self.players == 2:  # the choices of one rival, in their order, are the strategies
-            weights = mixture
-        else:
-            for share, column in zip(mixture, self._shape.columns):
-                powers = [share ** count for count in range(self.players)]
-                weights = list(map(mul, weights, map(powers.__getitem__, column)))
-        return [sum(map(mul, weights, row)) for row in self.payoffs]
+    def values(self, mixtures: Array) -> Array:
+        """The payoff that each strategy has in the mean while the others draw from a mixture, or
+        from each of many, which are rows."""
+        return self.shape.chances(mixtures) @ np.swapaxes(self.payoffs, -1, -2)
 
-    def regret(self, mixture: Mixture) -> float:
+    def slopes(self, mixtures: Array) -> Array:
+        """By how much the payoff of each strategy rises with the share of each."""
+        raised = self.payoffs[..., self.shape.raised]
+        rows = raised.reshape(*raised.shape[:-3], -1, raised.shape[-1])
+        slopes = (self.players - 1) * self._fewer.chances(mixtures) @ np.swapaxes(rows, -1, -2)
+        return slopes.reshape(*slopes.shape[:-1], *raised.shape[-3:-1])
+
+    def regrets(self, mixtures: Array) -> Array:
         """The most that a player gains by a single strategy while the others draw from it."""
-        values = self.values(mixture)
-        return max(values) - _mean(mixture, values)
+        values = self.values(mixtures)
+        return values.max(axis=-1) - (values[..., :self.mixed] * mixtures).sum(axis=-1)
+
+    def among(self, support: List[int]) -> "SymmetricGame":
+        """The game in which everybody has only these strategies."""
+        inside = self.shape.counts[:, support].sum(axis=1) == self.players - 1
+        return SymmetricGame(self.players, self.payoffs[..., support, :][..., inside])
 
 
-def _mean(mixture: Sequence[float], values: Sequence[float]) -> float:
-    """What a mixture has, by the values of its strategies."""
-    return sum(map(mul, mixture, values), 0.0)
+def _odds(gaps: Array) -> Array:
+    """The roots above 0 of a polynomial, padded by NaN."""
+    roots = np.roots(gaps / (abs(gaps).max() or 1.0))
+    roots = roots.real[(abs(roots.imag) < 1e-6 * abs(roots)) & (roots.real > 0.0)]
+    return np.pad(roots, (0, len(gaps) - 1 - len(roots)), constant_values=np.nan)
 
 
-def replicated(game: SymmetricGame, start: Mixture) -> Mixture:
-    """Where the replicator dynamics lead: a share grows by how much better its strategy does than
-    the mixture, and no strategy without a share gets one."""
-    rate, mixture = 2.0 / (game.players * (game.spread or 1.0)), start
-    for _ in range(STEPS):
-        values = game.values(mixture)
-        mean = _mean(mixture, values)
-        parts = [share * (1.0 + rate * (value - mean)) for share, value in zip(mixture, values)]
-        total = sum(parts)  # 1 but for rounding, which would grow from step to step
-        grown = tuple(part / total for part in parts)
-        if max(abs(new - old) for new, old in zip(grown, mixture)) < 1e-5:
+def _starts(game: SymmetricGame) -> Array:
+    """Mixtures of all strategies, each a row, from which those are searched in which all do equally
+    well: these themselves for two strategies, and otherwise random ones."""
+    if game.players == 2:  # the equations are linear, and one step leads to their solution
+        starts = np.ones((1, game.mixed))
+    elif game.mixed == 2:  # the strategies' odds are the roots of a polynomial
+        gaps = (game.payoffs[:, 0] - game.payoffs[:, 1]) * game.shape.orders
+        odds = np.array(list(map(_odds, gaps)))
+        starts = np.stack([odds, np.ones_like(odds)], axis=-1)
+    else:
+        source = random.Random(1)
+        starts = np.array([[source.expovariate(1.0) for _ in range(game.mixed)]
+                           for _ in range(STARTS * game.mixed)])
+    starts = starts / starts.sum(axis=-1, keepdims=True)
+    return np.zeros((len(game.payoffs), 1, 1)) + starts
+
+
+def _balanced(game: SymmetricGame) -> Array:
+    """Mixtures in which all strategies do equally well, by Newton's method from many, for each of
+    many games; NaN in place of those that leave the simplex."""
+    mixtures = _starts(game)
+    for _ in range(NEWTON_STEPS):
+        rows = np.insert(np.diff(game.slopes(mixtures), axis=-2), 0, 1.0, axis=-2)
+        wrong = np.insert(-np.diff(game.values(mixtures), axis=-1), 0, 0.0, axis=-1)
+        try:
+            steps = np.linalg.solve(rows, wrong[..., None])[..., 0]
+        except np.linalg.LinAlgError:  # one of them has no single solution
+            steps = np.linalg.solve(rows + TINY * np.eye(game.mixed), wrong[..., None])[..., 0]
+        mixtures = mixtures + steps
+        mixtures[(abs(mixtures - 0.5) > 0.5 + FAR).any(axis=-1)] = np.nan
+        if not (abs(steps) > 1e-12).any():
             break
-        mixture = grown
-    return mixture
-
-
-def _solution(rows: List[List[float]]) -> Optional[List[float]]:
-    """The solution of linear equations, each with its right side last; None if there is no single
-    one."""
-    size = len(rows)
-    for place in range(size):
-        best = max(range(place, size), key=lambda row: abs(rows[row][place]))
-        if abs(rows[best][place]) < 1e-12:
-            return None
-        rows[place], rows[best] = rows[best], rows[place]
-        pivot = [value / rows[place][place] for value in rows[place]]
-        rows = [pivot if row == place else
-                [value - other[place] * part for value, part in zip(other, pivot)]
-                for row, other in enumerate(rows)]
-    return [row[-1] for row in rows]
-
-
-def _balanced(game: SymmetricGame, start: Mixture) -> Optional[Mixture]:
-    """A mixture in which the strategies of a support do equally well, by Newton's method.
-
-    Args:
-        game: The game.
-        start: A mixture near to it, whose larger shares are the support.
-    """
-    support = [place for place, share in enumerate(start) if share > LEAST_SHARE]
-    total, scale = sum(start[place] for place in support), game.spread or 1.0
-    mixture = [start[place] / total if place in support else 0.0 for place in range(len(start))]
-    for _ in range(NEWTON_STEPS if len(support) > 1 else 0):
-        values = [value / scale for value in game.values(mixture)]
-        changes = []
-        for place in support:
-            moved = list(mixture)
-            moved[place] += SHIFT
-            changes.append([(value / scale - before) / SHIFT
-                            for value, before in zip(game.values(moved), values)])
-        first = support[0]
-        rows = [[change[place] - change[first] for change in changes]
-                + [values[first] - values[place]] for place in support[1:]]
-        step = _solution([*rows, [1.0] * len(support) + [1.0 - sum(mixture)]])
-        if step is None:
-            break
-        for place, part in zip(support, step):
-            mixture[place] += part
-        if max(mixture) > 2.0 or min(mixture) < -1.0:
-            return None
-        if all(abs(part) < 1e-12 for part in step):
-            break
-    return tuple(mixture) if min(mixture) >= 0.0 else None
+    mixtures[(mixtures < -1e-9).any(axis=-1)] = np.nan
+    mixtures = mixtures.clip(0.0)
+    return mixtures / mixtures.sum(axis=-1, keepdims=True)
 
 
 def distance(first: Mixture, other: Mixture) -> float:
@@ -163,67 +152,56 @@ def distance(first: Mixture, other: Mixture) -> float:
     return sum(abs(one - two) for one, two in zip(first, other)) / 2.0
 
 
-def equilibria(game: SymmetricGame) -> List[Mixture]:
-    """Symmetric equilibria, those with most of the first strategy first.
+def equilibria(games: SymmetricGame) -> List[List[Mixture]]:
+    """Symmetric equilibria of many games, for each those with most of the first strategy first.
 
-    From each of many mixtures, single strategies among them, the replicator dynamics lead to those
-    that attract; Newton's method from both ends also finds those that do not. Each is checked by
-    its regret. Single strategies come first, so none is missed; a mixture of several may be.
+    For each set of strategies it searches the mixtures of them in which they do equally well, and
+    takes those without regret. For two players, and for sets of one or two strategies, that finds
+    all, if there are finitely many; otherwise it begins at many random mixtures, and may miss one.
     """
-    steps = 2
-    while len(counts_of(steps, game.strategies)) < STARTS:
-        steps += 1
-    found: List[Mixture] = []
-    starts = sorted(counts_of(steps, game.strategies), key=lambda counts: -counts.count(0))
-    for counts in starts:
-        start = tuple(count / steps for count in counts)
-        for near in (start, replicated(game, start)):
-            mixture = _balanced(game, near)
-            if (mixture is not None and game.regret(mixture) <= MOST_REGRET * game.spread
-                    and all(distance(mixture, other) > APART for other in found)):
-                found.append(mixture)
-    return sorted(found, reverse=True)
+    found: List[List[Mixture]] = [[] for _ in games.payoffs]
+    least, spread = games.payoffs.min(axis=(1, 2)), np.ptp(games.payoffs, axis=(1, 2))
+    parts = (games.payoffs - least[:, None, None]) / np.where(spread, spread, 1.0)[:, None, None]
+    games = SymmetricGame(games.players, parts, games.mixed)
+    for size in range(1, games.mixed + 1):
+        for support in map(list, combinations(range(games.mixed), size)):
+            inner = _balanced(games.among(support)) if size > 1 else np.ones((len(found), 1, 1))
+            mixtures = np.zeros((*inner.shape[:2], games.mixed))
+            mixtures[..., support] = inner
+            are_good = games.regrets(mixtures) <= MOST_REGRET
+            for place, (each, is_good) in enumerate(zip(mixtures, are_good)):
+                for mixture in map(tuple, each[is_good].tolist()):
+                    if all(distance(mixture, other) > APART for other in found[place]):
+                        found[place].append(mixture)
+    return [sorted(each, reverse=True) for each in found]
 
 
-def gains(players: int, samples: Sequence[Sample], mixture: Mixture) -> List[Estimate]:
+def gains(players: int, samples: Array, mixture: Mixture) -> List[Estimate]:
     """What a player gains by each single strategy while the others draw from a mixture, in the mean
     over deals, with the interval of paired differences."""
-    by_deal = []
-    for sample in samples:
-        values = SymmetricGame(players, sample).values(mixture)
-        mean = _mean(mixture, values)
-        by_deal.append([value - mean for value in values])
-    return [estimate(values) for values in zip(*by_deal)]
+    values = SymmetricGame(players, samples, len(mixture)).values(mixture)
+    by_deal = values - (values[:, :len(mixture)] @ mixture)[:, None]
+    return [estimate(column) for column in by_deal.T.tolist()]
 
 
-def mean_game(players: int, samples: Sequence[Sample]) -> SymmetricGame:
-    """The game of the mean payoffs of one or more samples."""
-    return SymmetricGame(players, [[mean_of(cell) for cell in zip(*rows)]
-                                   for rows in zip(*samples)])
-
-
-def resampled(players: int, samples: Sequence[Sample], count: int,
-              source: random.Random) -> Iterator[SymmetricGame]:
-    """Games as other deals might have given: means over deals that are drawn from these again.
+def resampled(samples: Array, count: int) -> Array:
+    """Payoffs as other deals might have given them: means over deals that are drawn from these
+    again.
 
     Means of deals that are drawn again lie too close together, and the more so the fewer deals
     there are. So each one's distance from the mean of all is widened until a payoff scatters as
     wide as its interval by Student's t.
 
     Args:
-        players: How many there are.
         samples: Two or more.
-        count: How many games.
-        source: What deals are drawn from.
+        count: How many.
     """
-    size = len(samples)
+    size, source = len(samples), random.Random(1)
     wider = math.sqrt(size / (size - 1)) * student_quantile(size - 1) / student_quantile(1 << 20)
-    centre = mean_game(players, samples).payoffs
-    for _ in range(count):
-        drawn = mean_game(players, source.choices(samples, k=size)).payoffs
-        yield SymmetricGame(players, [
-            [middle + wider * (value - middle) for value, middle in zip(*rows)]
-            for rows in zip(drawn, centre)])
+    drawn = [Counter(source.choices(range(size), k=size)) for _ in range(count)]
+    parts = np.array([[counts[place] / size for place in range(size)] for counts in drawn])
+    centre = samples.mean(axis=0)
+    return centre + wider * (np.tensordot(parts, samples, 1) - centre)
 
 
 @dataclass(frozen=True)
@@ -231,14 +209,16 @@ class Equilibrium:
     """A symmetric equilibrium of the mean payoffs.
 
     Attributes:
-        mixture: The shares of the strategies.
+        mixture: The shares of the strategies that rivals have.
         gains: What a player gains by each strategy, with its interval.
         times: In how many resamples there is an equilibrium near to it.
+        is_single: Whether there are no others arbitrarily near, as where two strategies are alike.
     """
 
     mixture: Mixture
     gains: List[Estimate]
     times: int
+    is_single: bool
 
 
 @dataclass(frozen=True)
@@ -246,9 +226,10 @@ class Findings:
     """What payoffs tell of symmetric equilibria.
 
     Attributes:
-        equilibria: Those of the mean payoffs.
+        equilibria: Those of the mean payoffs; none where the search found none, though there is
+            one.
         resamples: How many resamples there were; 0 with a single deal.
-        others: In how many of them there is one that is near to none of these.
+        others: In how many of them there is one that is near to none of these, or none.
         shares: For each strategy the least and the most share that it has in the equilibria of
             resamples, without the outermost twentieth at each end; none without resamples.
     """
@@ -262,26 +243,45 @@ class Findings:
     def are_known(self) -> bool:
         """Whether other deals would most likely give the same equilibria and no others."""
         least = KNOWN * self.resamples
-        return (self.resamples > 0 and self.resamples - self.others >= least
-                and all(each.times >= least for each in self.equilibria))
+        return (self.resamples > 0 and len(self.equilibria) > 0
+                and self.resamples - self.others >= least
+                and all(each.is_single and each.times >= least for each in self.equilibria))
 
 
-def find(players: int, samples: Sequence[Sample], resamples: int = RESAMPLES) -> Findings:
-    """What the payoffs of one or more deals tell of symmetric equilibria."""
-    mixtures = equilibria(mean_game(players, samples))
-    times, others = [0] * len(mixtures), 0
-    found: List[Mixture] = []
-    count = resamples if len(samples) > 1 else 0
-    for game in resampled(players, samples, count, random.Random(1)) if count else ():
-        again = equilibria(game)
-        found += again
-        for place, mixture in enumerate(mixtures):
-            times[place] += any(distance(mixture, other) <= NEAR for other in again)
-        others += any(all(distance(mixture, other) > NEAR for mixture in mixtures)
-                      for other in again)
-    return Findings([Equilibrium(mixture, gains(players, samples, mixture), time)
-                     for mixture, time in zip(mixtures, times)], count, others,
-                    [_middle(sorted(shares)) for shares in zip(*found)])
+def find(players: int, samples: Array, mixed: int = 0, resamples: int = RESAMPLES) -> Findings:
+    """What the payoffs of one or more deals tell of symmetric equilibria.
+
+    Args:
+        players: How many there are.
+        samples: The payoffs of each deal.
+        mixed: How many of the strategies, the first, rivals have; 0 for all.
+        resamples: How often deals are drawn again.
+    """
+    samples = np.asarray(samples, dtype=float)
+    mean = SymmetricGame(players, samples.mean(axis=0)[None], mixed)
+    mixtures, again = equilibria(mean)[0], list[List[Mixture]]()
+    drawn = resampled(samples, resamples) if len(samples) > 1 else samples[:0]
+    for part in range(0, len(drawn), AT_ONCE):
+        again += equilibria(SymmetricGame(players, drawn[part:part + AT_ONCE], mixed))
+    others = sum(not found or any(_is_apart(mixture, mixtures) for mixture in found)
+                 for found in again)
+    return Findings(
+        [Equilibrium(mixture, gains(players, samples, mixture),
+                     sum(not _is_apart(mixture, found) for found in again),
+                     _is_single(mean, mixture)) for mixture in mixtures],
+        len(again), others,
+        [_middle(sorted(shares)) for shares in zip(*(each for found in again for each in found))])
+
+
+def _is_apart(mixture: Mixture, others: Sequence[Mixture]) -> bool:
+    return all(distance(mixture, other) > NEAR for other in others)
+
+
+def _is_single(game: SymmetricGame, mixture: Mixture) -> bool:
+    """Whether all strategies do worse than those of an equilibrium that it does not have."""
+    values = game.values(mixture)[0]
+    as_good = values >= values.max() - MOST_REGRET * np.ptp(game.payoffs)
+    return int(as_good.sum()) == sum(share > 0.0 for share in mixture)
 
 
 def _middle(values: Sequence[float]) -> Tuple[float, float]:

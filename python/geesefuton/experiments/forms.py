@@ -4,7 +4,7 @@ import json
 import math
 from typing import Any, Callable, Dict, List, Optional, Sequence
 
-from geesefuton.experiments.comparisons import POWER, Estimate
+from geesefuton.experiments.comparisons import LEVEL, POWER, Estimate
 from geesefuton.experiments.results import Kind, Outcome
 from geesefuton.experiments.summary import Difference, Standing, Summary
 from geesefuton.records.tables import csv_of
@@ -34,6 +34,11 @@ def count_text(number: int, what: str) -> str:
     return f"{number} {what}" if number == 1 else f"{number} {what}s"
 
 
+def shown(name: str) -> str:
+    """A name without what would break a line."""
+    return "".join(letter if letter.isprintable() else ascii(letter)[1:-1] for letter in name)
+
+
 def columns(rows: Sequence[Sequence[str]]) -> List[str]:
     """Lines with the cells of each column one below the other, the first aligned left."""
     widths = [max(map(len, column)) for column in zip(*rows)]
@@ -61,33 +66,71 @@ def _kinds(summary: Summary) -> List[str]:
     return lines
 
 
+def _way(pair: Difference) -> str:
+    return "clients" if pair.by_clients else "games"
+
+
 def _of_pairs(pairs: Sequence[Difference], summary: Summary) -> List[List[str]]:
     """The cells of the table of pairs, with its head."""
     are_many, detect = len(pairs) > 1, summary.detect
-    rows = [["difference, " + ("by clients that both had" if summary.swapped else "by games"),
-             "mean", *(["Holm"] if are_many else []), ADJUSTED, "deals", "p (Student)",
-             "p (Wilcoxon)", *([f"games to detect {detect:g}"] if detect else [])]]
+    ways = set(map(_way, pairs))
+    told = {"clients": ", by clients that both had", "games": ", by games"}
+    rows = [["difference" + (told[ways.pop()] if len(ways) == 1 else ""), "mean",
+             *(["all pairs"] if are_many else []), ADJUSTED, "deals", "p (Student)",
+             *(["p (Holm)"] if are_many else []), "p (Wilcoxon)",
+             *([f"games to detect {detect:g}"] if detect else [])]]
     for pair in pairs:
-        holm = "?" if pair.holm is None else f"+- {pair.holm:.0f}"
+        all_pairs = "?" if pair.bonferroni is None else f"+- {pair.bonferroni:.0f}"
         games = "?" if pair.needed is None else str(
             math.ceil(pair.needed * summary.games / summary.deals))
-        rows.append([f"{pair.first} less {pair.second}", number_text(pair.score),
-                     *([holm] if are_many else []), number_text(pair.adjusted),
+        rows.append([f"{shown(pair.first)} less {shown(pair.second)}"
+                     + (f", by {_way(pair)}" if ways else ""), number_text(pair.score),
+                     *([all_pairs] if are_many else []), number_text(pair.adjusted),
                      str(pair.score.count if pair.score else 0), _chance(pair.student),
-                     _chance(pair.wilcoxon), *([games] if detect else [])])
+                     *([_chance(pair.holm)] if are_many else []), _chance(pair.wilcoxon),
+                     *([games] if detect else [])])
     return rows
+
+
+def groups_text(summary: Summary) -> str:
+    """Which agents these games do not separate."""
+    return "; ".join(", ".join(map(shown, group)) for group in summary.groups
+                     if len(group) > 1) or "none"
 
 
 def _below_pairs(pairs: Sequence[Difference], summary: Summary) -> List[str]:
     """What is said below the table of pairs."""
     lines = []
     if len(pairs) > 1:
-        lines.append(f"Holm: intervals that allow for the {len(pairs)} comparisons; one without 0 "
-                     "shows a difference")
-    if summary.detect:
+        lines += [f"all pairs: intervals that together hold for all {len(pairs)} comparisons "
+                  "(Bonferroni); p (Holm) allows for all of them, too",
+                  f"not separated, with p (Holm) above 0.05: {groups_text(summary)}"]
+    if summary.detect and not summary.missing:
         lines.append(f"with so many games, {100 * POWER:g} % of experiments detect a difference of "
-                     f"{summary.detect:g} dollars, if scores vary as in these")
+                     f"{summary.detect:g} dollars, for the largest spread that these games leave "
+                     f"possible ({100 * POWER:g} % upper limit)")
     return lines
+
+
+def _undecided(summary: Summary) -> List[str]:
+    """What the games do not tell, each in a line."""
+    lines = []
+    if len(summary.standings) == 1:
+        lines.append("one agent: there is nothing to compare")
+    if summary.deals == 1:
+        lines.append("one deal: there are no intervals")
+    if summary.partial:
+        lines.append(f"{count_text(summary.partial, 'deal')} not played whole: some clients count "
+                     "for some agents alone")
+    for pair in summary.differences:
+        names = f"{shown(pair.first)} less {shown(pair.second)}"
+        if pair.score is None:
+            lines.append(f"{names}: no deal of both" + (" with a client of both"
+                                                       if pair.left_out else ""))
+        elif pair.left_out:
+            lines.append(f"{names}: {count_text(pair.left_out, 'deal')} left out, without a client "
+                         "of both")
+    return lines + ([summary.missing] if summary.missing else [])
 
 
 def as_text(summary: Summary) -> str:
@@ -96,7 +139,7 @@ def as_text(summary: Summary) -> str:
              "with 95 % intervals by deals (Student's t)", *_kinds(summary), ""]
     rows = [["agent", "mean", "of seats that played", "luck", f"mean {ADJUSTED}",
              "did not play"]]
-    rows += [[standing.agent, _marked(standing), number_text(standing.played),
+    rows += [[shown(standing.agent), _marked(standing), number_text(standing.played),
               f"{standing.luck:.0f}", number_text(standing.adjusted), _reasons(standing)]
              for standing in summary.standings]
     lines += columns(rows)
@@ -105,8 +148,8 @@ def as_text(summary: Summary) -> str:
     pairs = [pair for pair in summary.differences if pair.score]
     if pairs:
         lines += ["", *columns(_of_pairs(pairs, summary)), *_below_pairs(pairs, summary)]
-    lines += ["", *summary.lost] if summary.lost else []
-    return "\n".join(lines) + "\n"
+    told = [*_undecided(summary), *summary.lost]
+    return "\n".join([*lines, *([""] if told else []), *told]) + "\n"
 
 
 def _cells(value: Optional[Estimate]) -> List[Any]:
@@ -120,7 +163,8 @@ def as_csv(summary: Summary) -> str:
     """The summary as CSV: a line for each agent, and one for each pair."""
     head = ["what", "agent", "other", "mean", "half", "adjusted", "adjusted_half", "deals", "seats",
             *(end.value for end in Outcome), "luck", "played_mean", "played_half",
-            "holm_half", "student_p", "wilcoxon_p", "deals_needed"]
+            "paired_by", "left_out", "all_pairs_half", "student_p", "holm_p", "wilcoxon_p",
+            "deals_needed"]
     lines: List[List[Any]] = [head]
     for standing in summary.standings:
         lines.append(["mean", standing.agent, "", *_cells(standing.score),
@@ -130,9 +174,10 @@ def as_csv(summary: Summary) -> str:
     for pair in summary.differences:
         lines.append(["difference", pair.first, pair.second, *_cells(pair.score),
                       *_cells(pair.adjusted), pair.score.count if pair.score else 0,
-                      *[""] * (len(Outcome) + 4), "" if pair.holm is None else round(pair.holm, 2),
+                      *[""] * (len(Outcome) + 4), _way(pair) if pair.score else "", pair.left_out,
+                      "" if pair.bonferroni is None else round(pair.bonferroni, 2),
                       *("" if chance is None else f"{chance:.6g}"
-                        for chance in (pair.student, pair.wilcoxon)),
+                        for chance in (pair.student, pair.holm, pair.wilcoxon)),
                       "" if pair.needed is None else pair.needed])
     return csv_of(line + [""] * (len(head) - len(line)) for line in lines)
 
@@ -148,14 +193,15 @@ def as_json(summary: Summary) -> str:
                "score": of(standing.score), "played": of(standing.played), "luck": standing.luck,
                "adjusted": of(standing.adjusted)} for standing in summary.standings]
     pairs = [{"first": pair.first, "second": pair.second, "score": of(pair.score),
-              "adjusted": of(pair.adjusted), "holm_half": pair.holm, "student_p": pair.student,
-              "wilcoxon_p": pair.wilcoxon, "deals_needed": pair.needed}
+              "adjusted": of(pair.adjusted), "paired_by": _way(pair) if pair.score else None,
+              "left_out": pair.left_out, "all_pairs_half": pair.bonferroni,
+              "student_p": pair.student, "holm_p": pair.holm, "wilcoxon_p": pair.wilcoxon,
+              "deals_needed": pair.needed}
              for pair in summary.differences]
-    value = {"games": summary.games, "deals": summary.deals, "level": 0.95,
+    value = {"games": summary.games, "deals": summary.deals, "level": LEVEL,
              "kinds": {kind.value: count for kind, count in summary.kinds.items()},
-             "paired_by": "clients" if summary.swapped else "games", "detect": summary.detect,
-             "agents": agents,
-             "differences": pairs, "lost": summary.lost}
+             "detect": summary.detect, "agents": agents, "differences": pairs,
+             "groups": summary.groups, "undecided": _undecided(summary), "lost": summary.lost}
     return json.dumps(value, indent=1) + "\n"
 
 

@@ -4,7 +4,7 @@ It is computed from the game file alone, so that no agent can change it. A tourn
 show how much of a mean is due to the clients that an agent happened to get.
 """
 
-from typing import Dict, List, Tuple
+from typing import List, Tuple
 
 from geesefuton.records.games import FLIGHTS, HOTELS, PACKAGES, TICKETS, Client, Game
 
@@ -15,7 +15,6 @@ PRICES: Tuple[int, ...] = ((SEAT,) * len(FLIGHTS) + (SHANTIES,) * 4 + (TOWERS,) 
 assert len(PRICES) == HOTELS.stop + len(TICKETS)
 
 _COSTS = [sum(PRICES[good] for good in package.goods()) for package in PACKAGES]
-_KNOWN: Dict[Client, int] = {}
 
 
 def best_trip(client: Client) -> int:
@@ -23,21 +22,13 @@ def best_trip(client: Client) -> int:
 
     It is 0 where no trip is worth what it costs.
     """
-    if client not in _KNOWN:
-        gains = (client.worth(package) - cost for package, cost in zip(PACKAGES, _COSTS))
-        _KNOWN[client] = max(0, *gains)
-    return _KNOWN[client]
+    return max(0, *(client.worth(package) - cost for package, cost in zip(PACKAGES, _COSTS)))
 
 
-def worth_of(game: Game, agent: int) -> int:
-    """What the best trips of a seat's clients are worth, in dollars.
+def worths_of(game: Game) -> List[int]:
+    """What the best trips of each seat's clients are worth, in dollars.
 
     The tickets that a seat begins with are not counted: among small agents, which hardly trade
     them, they foretold nothing of the scores.
     """
-    return sum(map(best_trip, game.clients[agent]))
-
-
-def worths_of(game: Game) -> List[int]:
-    """The worth of each of the eight seats."""
-    return [worth_of(game, agent) for agent in range(len(game.clients))]
+    return [sum(map(best_trip, clients)) for clients in game.clients]

@@ -1,57 +1,29 @@
-"""The payoffs of strategies in games of eight seats, and the files that hold them.
+"""The payoffs of strategies in games of eight seats, and the files that hold them. It needs the
+extra `study`.
 
-A profile says how many of the seats have each strategy. In the full game a strategy's payoff
-against seven opponents is its payoff in the profile of all eight. In the deviation-preserving
-reduction there are 2 or 4 players: a player is one seat, and its 1 or 3 opponents stand for seven
-seats, in the same shares. So a single seat gains as much by another strategy as in the full game.
+Some seats have better clients than others. How much better a seat of a deal is shows in the games
+in which all seats have the same strategy. So a strategy's payoff is the mean over its seats of the
+score less what the seat had more than the mean there, where each rival's strategy counts by its
+share. A single seat that leaves a profile of one strategy is thus compared with the same seat.
 """
 
 import json
-from collections import defaultdict
+import math
+from collections import Counter, defaultdict
 from itertools import product
-from typing import Callable, Dict, Iterable, List, Mapping, Optional, Sequence, Set, Tuple
+from typing import Any, Callable, Dict, Iterable, List, Optional, Sequence, Set, Tuple
+
+import numpy as np
 
 from geesefuton.experiments.comparisons import Estimate, estimate, mean_of
-from geesefuton.experiments.equilibria import Counts, Sample, counts_of
-from geesefuton.experiments.results import Row
+from geesefuton.experiments.reduction import (Counts, counts_of, needed_profiles, profiles_of,
+                                              text_of_profile, with_one)
+from geesefuton.experiments.results import Outcome, Row
 from geesefuton.records.games import SEATS
 from geesefuton.records.tables import csv_of
 
-PLAYERS = (2, 4, SEATS)  # of the two reductions, and of the full game
 MOST_OUTCOMES = 1 << 16  # of a game in Gambit's form
 ROLE = "all"
-
-
-def expanded(rivals: Counts) -> Counts:
-    """Seven rivals in the shares of fewer, rounded: those with the largest rests get one more, at
-    equal rests the strategy that is named first."""
-    players, seats = sum(rivals), SEATS - 1
-    counts = [count * seats // players for count in rivals]
-    by_rest = sorted(range(len(rivals)), key=lambda place: -(rivals[place] * seats % players))
-    for place in by_rest[:seats - sum(counts)]:
-        counts[place] += 1
-    return tuple(counts)
-
-
-def _with_one(rivals: Counts, strategy: int) -> Counts:
-    return tuple(count + (place == strategy) for place, count in enumerate(rivals))
-
-
-def profile_of(strategy: int, rivals: Counts) -> Counts:
-    """The profile of eight seats that gives a strategy its payoff beside rivals."""
-    return _with_one(expanded(rivals), strategy)
-
-
-def profiles_of(strategies: int, players: int) -> List[Counts]:
-    """The profiles that give all payoffs, those with most of the first strategy first."""
-    needed: Set[Counts] = {profile_of(strategy, rivals) for strategy in range(strategies)
-                           for rivals in counts_of(players - 1, strategies)}
-    return sorted(needed, reverse=True)
-
-
-def text_of_profile(profile: Counts) -> str:
-    """A profile as a word, such as `7+1`."""
-    return "+".join(map(str, profile))
 
 
 class Payoffs:
@@ -60,80 +32,116 @@ class Payoffs:
     Attributes:
         names: The strategies.
         players: How many there are in the game, full or reduced.
-        profiles: Those that are played; the number of one is the rotation of its games.
-        deals: The deals whose profiles were all scored.
+        mixed: How many of the strategies, the first, rivals have.
+        profiles: Those that are needed.
+        deals: The deals whose needed profiles were all scored.
         incomplete: Those with only some.
+        failed: How many seats of each strategy did not play to the end.
 
     Args:
-        rows: Of games whose rotation is the number of their profile.
+        rows: Of whole games; those of other strategies are left out.
+        mixed: As the attribute; 0 for all.
     """
 
-    def __init__(self, names: Sequence[str], players: int, rows: Iterable[Row]) -> None:
-        self.names, self.players = names, players
-        self.profiles = profiles_of(len(names), players)
-        scores: Dict[Tuple[str, int, str], List[int]] = defaultdict(list)
+    def __init__(self, names: Sequence[str], players: int, rows: Iterable[Row],
+                 mixed: int = 0) -> None:
+        self.names, self.players, self.mixed = names, players, mixed or len(names)
+        self.profiles = needed_profiles(len(names), players, mixed)
+        by_game: Dict[object, List[Row]] = defaultdict(list)
         for row in rows:
-            if row.rotation < len(self.profiles):
-                scores[row.deal, row.rotation, row.agent].append(row.score)
-        self._means = {key: mean_of(values) for key, values in scores.items()}
-        played: Dict[str, Set[int]] = defaultdict(set)
-        for deal, number, _ in scores:
-            played[deal].add(number)
-        self.deals = [deal for deal, numbers in played.items()
-                      if len(numbers) == len(self.profiles)]
+            by_game[row.game].append(row)
+        self._games: Dict[Tuple[str, Counts], List[Row]] = {}
+        self.failed: Counter[str] = Counter()
+        played: Dict[str, Set[Counts]] = defaultdict(set)
+        for game in by_game.values():
+            counts = Counter(row.agent for row in game)
+            profile = tuple(counts[name] for name in names)
+            if sum(profile) == SEATS:
+                self._games[game[0].deal, profile] = sorted(game, key=lambda row: row.seat)
+                played[game[0].deal].add(profile)
+                self.failed.update(row.agent for row in game if row.end is not Outcome.PLAYED)
+        self.deals = [deal for deal in played if played[deal].issuperset(self.profiles)]
         self.incomplete = [deal for deal in played if deal not in set(self.deals)]
+        self._luck = {deal: np.array([self._luck_of(deal, place) for place in range(len(names))])
+                      for deal in played}
 
-    def values(self, profile: Counts, strategy: int) -> List[float]:
-        """The payoff of a strategy in a profile, for each deal in dollars."""
-        number = self.profiles.index(profile)
-        return [self._means[deal, number, self.names[strategy]] for deal in self.deals]
+    def _luck_of(self, deal: str, strategy: int) -> List[float]:
+        """How much more each seat has than the mean where all have a strategy; NaN where that was
+        not played."""
+        profile = with_one([0] * len(self.names), strategy)
+        rows = self._games.get((deal, tuple(SEATS * count for count in profile)))
+        if rows is None:
+            return [math.nan] * SEATS
+        mean = mean_of([row.score for row in rows])
+        return [row.score - mean for row in rows]
 
-    def samples(self) -> List[Sample]:
+    def _scores(self, deal: str, profile: Counts, strategy: int) -> Dict[int, int]:
+        """The scores of a strategy in a game, by their seats."""
+        return {row.seat: row.score for row in self._games[deal, profile]
+                if row.agent == self.names[strategy]}
+
+    def _mean(self, deal: str, profile: Counts, strategy: int) -> float:
+        return mean_of(list(self._scores(deal, profile, strategy).values()))
+
+    def _by_seat(self, deal: str, profile: Counts, strategy: int) -> float:
+        """A strategy's payoff in a game by its seats; NaN where that cannot be told."""
+        rivals = np.array(profile) - np.eye(len(profile))[strategy]
+        luck = rivals[rivals > 0] @ self._luck[deal][rivals > 0] / (SEATS - 1)
+        return mean_of([score - float(luck[seat]) for seat, score in
+                        self._scores(deal, profile, strategy).items()])
+
+    def samples(self) -> Any:
         """The payoffs of each deal, as `equilibria` takes them."""
-        rivals = counts_of(self.players - 1, len(self.names))
-        cells = [[self.values(profile_of(strategy, each), strategy) for each in rivals]
-                 for strategy in range(len(self.names))]
-        return [[[values[place] for values in row] for row in cells]
-                for place in range(len(self.deals))]
+        fill = (0,) * (len(self.names) - self.mixed)
+        return np.array([[[
+            mean_of([self._by_seat(deal, profile, strategy)
+                     for profile in profiles_of(strategy, rivals + fill)])
+            for rivals in counts_of(self.players - 1, self.mixed)]
+            for strategy in range(len(self.names))] for deal in self.deals])
 
     def estimates(self) -> List[List[Optional[Estimate]]]:
-        """For each profile the mean of each strategy over deals; None where nobody plays it."""
-        return [[estimate(self.values(profile, strategy)) if count else None
+        """For each profile the mean score of each strategy over deals; None where nobody plays
+        it."""
+        return [[estimate([self._mean(deal, profile, strategy) for deal in self.deals])
+                 if count else None
                  for strategy, count in enumerate(profile)] for profile in self.profiles]
 
-    def _reduced(self) -> Mapping[Tuple[int, Counts], float]:
-        """The mean payoff of each strategy, by the counts of all players."""
-        return {(strategy, _with_one(rivals, strategy)):
-                mean_of(self.values(profile_of(strategy, rivals), strategy))
-                for strategy in range(len(self.names))
-                for rivals in counts_of(self.players - 1, len(self.names))}
+    def _mean_payoffs(self) -> Dict[Tuple[int, Counts], float]:
+        """The mean payoff of each strategy that rivals have, by the counts of all players."""
+        means = self.samples().mean(axis=0)
+        return {(strategy, with_one(rivals, strategy)): means[strategy][place]
+                for strategy in range(self.mixed)
+                for place, rivals in enumerate(counts_of(self.players - 1, self.mixed))}
 
     def as_csv(self) -> str:
         """Every game that was scored: a line for each strategy in it."""
-        lines = [[deal, text_of_profile(self.profiles[number]), name,
-                  self.profiles[number][self.names.index(name)], f"{mean:g}"]
-                 for (deal, number, name), mean in self._means.items()]
-        return csv_of([["deal", "profile", "strategy", "seats", "payoff"], *lines])
+        lines = [[deal, text_of_profile(profile), self.names[strategy], count,
+                  *("" if math.isnan(value) else f"{value:.10g}" for value in
+                    (self._mean(deal, profile, strategy), self._by_seat(deal, profile, strategy)))]
+                 for deal, profile in self._games
+                 for strategy, count in enumerate(profile) if count]
+        return csv_of([["deal", "profile", "strategy", "seats", "payoff", "by_seat"], *lines])
 
     def as_json(self) -> str:
         """The game of the mean payoffs, as the gameanalysis tools read it."""
-        payoffs = self._reduced()
-        profiles = [{ROLE: [[self.names[place], count, round(payoffs[place, counts], 4)]
+        payoffs, names = self._mean_payoffs(), self.names[:self.mixed]
+        profiles = [{ROLE: [[names[place], count, round(payoffs[place, counts], 4)]
                             for place, count in enumerate(counts) if count]}
-                    for counts in counts_of(self.players, len(self.names))]
-        return json.dumps({"players": {ROLE: self.players}, "strategies": {ROLE: self.names},
+                    for counts in counts_of(self.players, self.mixed)]
+        return json.dumps({"players": {ROLE: self.players}, "strategies": {ROLE: names},
                            "profiles": profiles, "type": "game.1"}, indent=1) + "\n"
 
     def as_nfg(self) -> str:
         """The same as a strategic game of Gambit; "" if it has too many outcomes."""
-        if len(self.names) ** self.players > MOST_OUTCOMES:
+        if self.mixed ** self.players > MOST_OUTCOMES:
             return ""
-        payoffs, title = self._reduced(), "; ".join(self.names).replace('"', "'")
+        payoffs = self._mean_payoffs()
+        title = json.dumps("; ".join(self.names[:self.mixed]).replace('"', "'"))
         players = " ".join(f'"{player + 1}"' for player in range(self.players))
-        lines = [f'NFG 1 R "{title}"', f"{{ {players} }}",
-                 f"{{ {' '.join([str(len(self.names))] * self.players)} }}", ""]
-        for choices in product(range(len(self.names)), repeat=self.players):
-            counts = tuple(map(choices.count, range(len(self.names))))
+        lines = [f"NFG 1 R {title}", f"{{ {players} }}",
+                 f"{{ {' '.join([str(self.mixed)] * self.players)} }}", ""]
+        for choices in product(range(self.mixed), repeat=self.players):
+            counts = tuple(map(choices.count, range(self.mixed)))
             lines.append(" ".join(f"{payoffs[choice, counts]:.4f}" for choice in choices[::-1]))
         return "\n".join(lines) + "\n"
 

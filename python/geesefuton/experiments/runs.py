@@ -157,6 +157,9 @@ class RunFolder:
         try:  # another may have begun it meanwhile
             is_begun = self._is_begun(plan.is_resumed)
             self._value = compare(self._folder, plan) if is_begun else _record(plan)
+            known = {agent["name"] for agent in self._value["agents"]}
+            self._value["agents"] += [agent for agent in _agents(plan.agents)
+                                      if agent["name"] not in known]
             self._begin(arguments)
         except BaseException:
             os.close(self.lock)

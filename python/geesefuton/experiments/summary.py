@@ -9,11 +9,13 @@ games of one deal are alike: an agent's value for a deal is the mean over its se
 from collections import Counter, defaultdict
 from dataclasses import dataclass, replace
 from itertools import combinations
-from typing import Callable, Dict, List, Mapping, Optional, Sequence, Tuple
+from typing import Callable, Dict, List, Mapping, Optional, Sequence, Set, Tuple
 
-from geesefuton.experiments.comparisons import (Estimate, adjusted, deals_to_detect, estimate,
-                                                holm_halves, mean_of, student_p)
+from geesefuton.experiments import study
+from geesefuton.experiments.comparisons import (LEVEL, Estimate, bonferroni_halves, estimate,
+                                                groups_of, holm, mean_of, student_p)
 from geesefuton.experiments.covariates import MEAN_FIRST_PRICE, MEAN_LUCK, MEAN_NIGHTS
+from geesefuton.experiments.provenance import read_settings
 from geesefuton.experiments.ranks import signed_rank_p
 from geesefuton.experiments.results import Kind, Outcome, Row
 
@@ -63,24 +65,36 @@ class Difference:
     Attributes:
         first: The agent with the higher mean.
         second: The other.
-        score: The mean difference; None if there is no deal that both had.
+        by_clients: Whether they are compared by clients that both had, and otherwise by games.
+        left_out: In how many deals both played, but without a client that both had.
+        score: The mean difference; None if there is no deal in which they can be compared.
         adjusted: The difference that there would be with equal draws that are as those of all made
             games in the mean; None where it cannot be told.
-        student: The probability by Student's t of such a difference if there is none.
+        student: The probability by Student's t of such a difference if there is none; None without
+            an interval.
         wilcoxon: The same by Wilcoxon's signed ranks.
-        holm: Half the width of an interval that allows for all pairs (`holm_halves`).
+        holm: `student`, made larger so that it allows for all pairs.
+        bonferroni: Half the width of an interval that allows for all pairs.
         needed: How many deals tell a difference of the size that was asked for; None if none was,
             or it cannot be told.
     """
 
     first: str
     second: str
+    by_clients: bool
+    left_out: int
     score: Optional[Estimate]
     adjusted: Optional[Estimate] = None
     student: Optional[float] = None
     wilcoxon: Optional[float] = None
     holm: Optional[float] = None
+    bonferroni: Optional[float] = None
     needed: Optional[int] = None
+
+    @property
+    def is_shown(self) -> bool:
+        """Whether these games show that the agents differ, also if one allows for all pairs."""
+        return self.holm is not None and self.holm <= 1.0 - LEVEL
 
 
 @dataclass(frozen=True)
@@ -90,24 +104,28 @@ class Summary:
     Attributes:
         standings: One for each agent.
         differences: One for each pair.
+        groups: The agents of which no two are shown to differ, in the order of the standings.
         games: How many games were scored.
         deals: How many deals they had.
+        partial: How many of these lack games that were planned.
         kinds: How many of the games were played how.
-        swapped: Whether deals were played with swapped seats: pairs are then compared by clients
-            that both agents had, and otherwise by games.
         lost: What was lost or could not be written, each in a line.
         detect: The size of a difference, in dollars, of which is told how many deals tell it; None
             if that was not asked.
+        missing: Why there are no adjusted figures, and none of what tells a difference; "" if there
+            are.
     """
 
     standings: List[Standing]
     differences: List[Difference]
+    groups: List[List[str]]
     games: int
     deals: int
+    partial: int
     kinds: Dict[Kind, int]
-    swapped: bool
     lost: List[str]
     detect: Optional[float] = None
+    missing: str = ""
 
 
 def summarize(rows: Sequence[Row], lost: Sequence[str] = (),
@@ -119,20 +137,32 @@ def summarize(rows: Sequence[Row], lost: Sequence[str] = (),
         lost: What was lost, each in a line.
         detect: A difference in dollars, of which is told how many deals tell it.
     """
-    swapped = any(row.rotation > 0 for row in rows)
     by_agent: Dict[str, List[Row]] = defaultdict(list)
     for row in rows:
         by_agent[row.agent].append(row)
-    centre = _centre(rows)
-    standings = [_standing(agent, own, centre) for agent, own in by_agent.items()]
+    draws = _Draws(rows)
+    standings = [_standing(agent, own, draws) for agent, own in by_agent.items()]
     standings.sort(key=lambda standing: (standing.untaken == standing.seats, -standing.score.mean))
+    names = [standing.agent for standing in standings]
     cells = {agent: _cells_of(own) for agent, own in by_agent.items()}
-    differences = _with_holm([
-        _difference(first.agent, second.agent, cells, swapped, centre, detect)
-        for first, second in combinations(standings, 2)])
-    kinds = Counter({(row.deal, row.rotation): row.kind for row in rows}.values())
-    return Summary(standings, differences, sum(kinds.values()), len({row.deal for row in rows}),
-                   dict(kinds), swapped, list(lost), detect)
+    differences = _together([_difference(first, second, cells[first], cells[second], draws, detect)
+                             for first, second in combinations(names, 2)])
+    apart = {frozenset((names.index(pair.first), names.index(pair.second)))
+             for pair in differences if pair.is_shown}
+    kinds = Counter({row.game: row.kind for row in rows}.values())
+    return Summary(standings, differences,
+                   [[names[place] for place in group] for group in groups_of(len(names), apart)],
+                   sum(kinds.values()), len({row.deal for row in rows}), _partial(rows),
+                   dict(kinds), list(lost), detect, draws.missing)
+
+
+def _partial(rows: Sequence[Row]) -> int:
+    """How many deals lack games that were planned for them."""
+    games: Dict[Tuple[str, str], Set[object]] = defaultdict(set)
+    for row in rows:
+        games[row.deal, row.settings].add(row.game)
+    return len({deal for (deal, settings), played in games.items()
+                if len(played) < int(read_settings(settings).get("rotations", 1))})
 
 
 def _cells_of(rows: Sequence[Row]) -> Cells:
@@ -166,55 +196,83 @@ def _first_price(row: Row) -> float:
     return 0.0 if row.first_price is None else row.first_price
 
 
-COVARIATES = (_luck, _nights, _first_price)  # rows of earlier versions have the first alone
+COVARIATES = (_luck, _nights, _first_price)
 
 
-def _centre(rows: Sequence[Row]) -> List[float]:
-    """The covariates for which means are adjusted."""
-    if not rows:
-        return [0.0] * len(COVARIATES)
-    if all(row.deal.rpartition(":")[2].isdigit() and row.nights is not None for row in rows):
-        return [MEAN_LUCK, MEAN_NIGHTS, MEAN_FIRST_PRICE]
-    return [mean_of([value(row) for row in rows]) for value in COVARIATES]
+class _Draws:
+    """The adjustment of figures to the draws of all made games, or for other games to the draws of
+    all their seats, where the libraries for it are there."""
+
+    def __init__(self, rows: Sequence[Row]) -> None:
+        self.missing = study.missing("figures that are adjusted for the draw")
+        self._centre = [0.0] * len(COVARIATES)
+        if all(row.deal.rpartition(":")[2].isdigit() and row.nights is not None for row in rows):
+            self._centre = [MEAN_LUCK, MEAN_NIGHTS, MEAN_FIRST_PRICE]
+        elif rows:
+            self._centre = [mean_of([value(row) for row in rows]) for value in COVARIATES]
+
+    def mean(self, scores: Sequence[float], drawn: Sequence[Sequence[float]]
+             ) -> Optional[Estimate]:
+        """A mean, by the covariates of an agent's deals."""
+        return self._adjusted(scores, drawn, self._centre)
+
+    def difference(self, scores: Sequence[float], sides: Sequence[Tuple[Seats, Seats]]
+                   ) -> Optional[Estimate]:
+        """A difference, by the two sides of each deal that are compared."""
+        luck, nights, first_price = (
+            [[_mean_of_seats(side, value) for side in both] for both in sides]
+            for value in COVARIATES)
+        drawn = [[ours - theirs for ours, theirs in luck],
+                 [ours - theirs for ours, theirs in nights],
+                 *[[(ours + theirs) / 2.0 for ours, theirs in value]
+                   for value in (first_price, nights, luck)]]
+        return self._adjusted(scores, drawn, [0.0, 0.0, *self._centre[::-1]])
+
+    def needed(self, score: Estimate, detect: Optional[float]) -> Optional[int]:
+        """How many deals tell a difference; None if that was not asked, or cannot be told."""
+        if not detect or self.missing:
+            return None
+        from geesefuton.experiments.power import deals_to_detect
+        return deals_to_detect(score, detect)
+
+    def _adjusted(self, values: Sequence[float], drawn: Sequence[Sequence[float]],
+                  at: Sequence[float]) -> Optional[Estimate]:
+        if self.missing:
+            return None
+        from geesefuton.experiments.regression import adjusted
+        return adjusted(values, drawn, at)
 
 
-def _standing(agent: str, rows: Sequence[Row], centre: Sequence[float]) -> Standing:
+def _standing(agent: str, rows: Sequence[Row], draws: _Draws) -> Standing:
     ends = dict(Counter(row.end for row in rows))
     scores = _by_deal(rows, _score)
     drawn = [_by_deal(rows, value) for value in COVARIATES]
     played = _by_deal([row for row in rows if row.end is Outcome.PLAYED], _score)
     return Standing(agent, len(rows), ends, estimate(scores), estimate(played) if played else None,
-                    mean_of(drawn[0]), adjusted(scores, drawn, centre))
+                    mean_of(drawn[0]), draws.mean(scores, drawn))
 
 
-def _difference(first: str, second: str, cells: Dict[str, Cells], swapped: bool,
-                centre: Sequence[float], detect: Optional[float]) -> Difference:
-    sides = []  # of each deal, the rows of the two that are compared
-    for deal in cells[first]:
-        if deal in cells[second]:
-            sides += _sides(cells[first][deal], cells[second][deal], swapped)
+def _difference(first: str, second: str, ours: Cells, theirs: Cells, draws: _Draws,
+                detect: Optional[float]) -> Difference:
+    """The difference of two agents. Those that had the same clients in most deals that both had, as
+    with swapped seats, are compared by such clients alone: others may be worth more or less."""
+    deals = [deal for deal in ours if deal in theirs]
+    shared = {deal: [seat for seat in ours[deal] if seat in theirs[deal]] for deal in deals}
+    by_clients = 2 * sum(map(bool, shared.values())) >= max(1, len(deals))
+    if by_clients:
+        sides = [({seat: ours[deal][seat] for seat in seats},
+                  {seat: theirs[deal][seat] for seat in seats})
+                 for deal, seats in shared.items() if seats]
+    else:
+        sides = [(ours[deal], theirs[deal]) for deal in deals]
+    left_out = len(deals) - len(sides)
     if not sides:
-        return Difference(first, second, None)
-    scores = [_mean_of_seats(ours, _score) - _mean_of_seats(theirs, _score)
-              for ours, theirs in sides]
-    luck, nights, first_price = (
-        [[_mean_of_seats(side, value) for side in both] for both in sides] for value in COVARIATES)
-    drawn = [[ours - theirs for ours, theirs in luck], [ours - theirs for ours, theirs in nights],
-             *[[(ours + theirs) / 2.0 for ours, theirs in value]
-               for value in (first_price, nights, luck)]]
+        return Difference(first, second, False, left_out, None)
+    scores = [_mean_of_seats(our, _score) - _mean_of_seats(their, _score) for our, their in sides]
     score = estimate(scores)
-    return Difference(first, second, score, adjusted(scores, drawn, [0.0, 0.0, *centre[::-1]]),
-                      student_p(score), signed_rank_p(scores),
-                      needed=deals_to_detect(score, detect) if detect else None)
-
-
-def _sides(ours: Seats, theirs: Seats, swapped: bool) -> List[Tuple[Seats, Seats]]:
-    """What is compared of a deal, if anything is: with swapped seats those that both had."""
-    if not swapped:
-        return [(ours, theirs)]
-    both = [seat for seat in ours if seat in theirs]
-    return [({seat: ours[seat] for seat in both}, {seat: theirs[seat] for seat in both})] \
-        if both else []
+    return Difference(first, second, by_clients, left_out, score, draws.difference(scores, sides),
+                      student_p(score), signed_rank_p(scores) if score.half is not None else None,
+                      needed=draws.needed(score, detect))
 
 
 def _mean_of_seats(seats: Seats, value: Callable[[Row], float]) -> float:
@@ -222,6 +280,9 @@ def _mean_of_seats(seats: Seats, value: Callable[[Row], float]) -> float:
     return mean_of([mean_of([value(row) for row in rows]) for rows in seats.values()])
 
 
-def _with_holm(differences: Sequence[Difference]) -> List[Difference]:
-    halves = holm_halves([difference.score for difference in differences])
-    return [replace(difference, holm=half) for difference, half in zip(differences, halves)]
+def _together(differences: Sequence[Difference]) -> List[Difference]:
+    """With what allows for all pairs."""
+    chances = holm([difference.student for difference in differences])
+    halves = bonferroni_halves([difference.score for difference in differences])
+    return [replace(difference, holm=chance, bonferroni=half)
+            for difference, chance, half in zip(differences, chances, halves)]
