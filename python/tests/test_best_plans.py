@@ -1,7 +1,6 @@
 import random
 import unittest
-from itertools import product
-from typing import List, Optional, Sequence
+from typing import List, Optional, Sequence, Tuple
 from unittest import mock
 
 from geesefuton import program
@@ -25,23 +24,38 @@ def held(*goods: int) -> List[int]:
     return units
 
 
-def plainly(clients: Sequence[Client], units: Sequence[int],
+def counted(clients: Sequence[Client], units: Sequence[int],
             prices: Sequence[Optional[int]]) -> int:
-    """The best value over all pairs of trips of two clients."""
-    trips = [None, *PACKAGES]
-    goods = [tuple(trip.goods()) if trip else () for trip in trips]
+    """The best value over all trips of clients: for each client in turn, by what is left of the
+    units that are held."""
     costs = [best_plans.NEVER if price is None else price for price in prices]
-    best = 0
-    for one, other in product(range(len(trips)), repeat=2):
-        value = clients[0].worth(trips[one]) + clients[1].worth(trips[other])
-        left = list(units)
-        for good in goods[one] + goods[other]:
-            if left[good] > 0:
-                left[good] -= 1
-            else:
-                value -= costs[good]
-        best = max(best, value)
-    return best
+    left = {tuple(units): 0}
+    for client in clients:
+        trips = [(client.worth(trip), trip.goods()) for trip in PACKAGES]
+        after = dict(left)
+        for before, value in left.items():
+            for worth, goods in trips:
+                rest, gain = list(before), value + worth
+                for good in goods:
+                    if rest[good] > 0:
+                        rest[good] -= 1
+                    else:
+                        gain -= costs[good]
+                key = tuple(rest)
+                if gain > after.get(key, -1):
+                    after[key] = gain
+        left = after
+    return max(left.values())
+
+
+def small_case(seed: int) -> Tuple[List[Client], List[int], Prices]:
+    """Three clients who share a few units."""
+    draw = random.Random(seed)
+    clients = [Client(*sorted(draw.sample(range(1, 6), 2)), draw.randint(50, 150),
+                      (draw.randint(0, 200), draw.randint(0, 200), draw.randint(0, 200)))
+               for _ in range(3)]
+    prices: Prices = [draw.choice([None, draw.randrange(10, 400)]) for _ in GOODS]
+    return clients, held(*draw.choices(GOODS, k=5)), prices
 
 
 class Plans(unittest.TestCase):
@@ -74,14 +88,11 @@ class Plans(unittest.TestCase):
             rest = best_plan([CLIENT], [0] * 28, prices).value
             self.assertEqual((plan.value, plan.bound), (rest - due,) * 2)
 
-    def test_no_pair_of_trips_is_better(self) -> None:
-        draw = random.Random(7)
-        for _ in range(2):
-            clients = draw.sample(GAME.clients[draw.randrange(8)], 2)
-            units = held(*draw.choices(GOODS, k=9))
-            prices: Prices = [draw.choice([None, draw.randrange(10, 400)]) for _ in GOODS]
+    def test_no_trips_are_better(self) -> None:
+        for seed in range(8):
+            clients, units, prices = small_case(seed)
             plan = best_plan(clients, units, prices)
-            self.assertEqual((plan.value, plan.bound), (plainly(clients, units, prices),) * 2)
+            self.assertEqual((plan.value, plan.bound), (counted(clients, units, prices),) * 2)
 
     def test_the_trips_are_worth_what_is_said(self) -> None:
         draw = random.Random(3)

@@ -25,10 +25,15 @@ def best_trip(client: Client) -> int:
     return max(0, *(client.worth(package) - cost for package, cost in zip(PACKAGES, _COSTS)))
 
 
-def worths_of(game: Game) -> List[int]:
-    """What the best trips of each seat's clients are worth, in dollars.
+def worth_of(game: Game, agent: int) -> int:
+    """What the best trips of a seat's clients are worth, in dollars.
 
     The tickets that a seat begins with are not counted: among small agents, which hardly trade
     them, they foretold nothing of the scores.
     """
-    return [sum(map(best_trip, clients)) for clients in game.clients]
+    return sum(map(best_trip, game.clients[agent]))
+
+
+def worths_of(game: Game) -> List[int]:
+    """The worth of each of the eight seats."""
+    return [worth_of(game, agent) for agent in range(len(game.clients))]
