@@ -7,7 +7,7 @@ from geesefuton.records.best_plans import best_plan
 from geesefuton.records.games import GOODS, TICKETS
 from geesefuton.records.made_games import made_game
 from tests.helpers import needs_study
-from tests.test_best_plans import counted, small_case
+from tests.test_best_plans import OPTIMA, counted, small_case, tight_case
 
 if not study.missing("these tests"):
     from geesefuton.experiments.allocations import best_allocation
@@ -20,6 +20,10 @@ class Allocations(unittest.TestCase):
             clients, held, prices = small_case(seed)
             due = counted(clients, held, prices)
             self.assertEqual(best_allocation(clients, held, prices), (due, due))
+
+    def test_no_trips_are_worth_a_dollar_more(self) -> None:
+        for seed, due in OPTIMA.items():
+            self.assertEqual(best_allocation(*tight_case(seed)), (due, due))
 
     def test_eight_clients_have_what_the_search_of_plans_finds(self) -> None:
         draw = random.Random(8)

@@ -1,6 +1,6 @@
 import random
 import unittest
-from typing import List, Optional, Sequence, Tuple
+from typing import Dict, List, Optional, Sequence, Tuple
 from unittest import mock
 
 from geesefuton import program
@@ -58,6 +58,20 @@ def small_case(seed: int) -> Tuple[List[Client], List[int], Prices]:
     return clients, held(*draw.choices(GOODS, k=5)), prices
 
 
+# What the trips of `tight_case` are worth, found as a program in whole numbers (test_allocations.py).
+OPTIMA: Dict[int, int] = {17: 3960, 25: 3762, 47: 3157}
+
+
+def tight_case(seed: int) -> Tuple[List[Client], List[int], Prices]:
+    """Six clients who share what there is, where the best trips are often worth one dollar more
+    than others."""
+    draw = random.Random(seed)
+    clients = [Client(*sorted(draw.sample(range(1, 6), 2)), 50 + draw.randint(0, 2),
+                      (draw.randint(0, 2), draw.randint(0, 2), draw.randint(0, 2)))
+               for _ in range(6)]
+    return clients, held(*draw.choices(GOODS, k=40)), [None] * len(GOODS)
+
+
 class Plans(unittest.TestCase):
     def test_what_is_missing_is_bought(self) -> None:
         plan = best_plan([CLIENT], held(inbound(2), room(0, 2)), OPEN)
@@ -93,6 +107,11 @@ class Plans(unittest.TestCase):
             clients, units, prices = small_case(seed)
             plan = best_plan(clients, units, prices)
             self.assertEqual((plan.value, plan.bound), (counted(clients, units, prices),) * 2)
+
+    def test_the_last_dollar_is_found(self) -> None:
+        for seed, due in OPTIMA.items():
+            plan = best_plan(*tight_case(seed))
+            self.assertEqual((plan.value, plan.bound), (due, due), seed)
 
     def test_the_trips_are_worth_what_is_said(self) -> None:
         draw = random.Random(3)

@@ -112,7 +112,7 @@ def _below_pairs(pairs: Sequence[Difference], summary: Summary) -> List[str]:
     return lines
 
 
-def _undecided(summary: Summary) -> List[str]:
+def undecided(summary: Summary) -> List[str]:
     """What the games do not tell, each in a line."""
     lines = []
     if len(summary.standings) == 1:
@@ -148,7 +148,7 @@ def as_text(summary: Summary) -> str:
     pairs = [pair for pair in summary.differences if pair.score]
     if pairs:
         lines += ["", *columns(_of_pairs(pairs, summary)), *_below_pairs(pairs, summary)]
-    told = [*_undecided(summary), *summary.lost]
+    told = [*undecided(summary), *summary.lost]
     return "\n".join([*lines, *([""] if told else []), *told]) + "\n"
 
 
@@ -201,7 +201,7 @@ def as_json(summary: Summary) -> str:
     value = {"games": summary.games, "deals": summary.deals, "level": LEVEL,
              "kinds": {kind.value: count for kind, count in summary.kinds.items()},
              "detect": summary.detect, "agents": agents, "differences": pairs,
-             "groups": summary.groups, "undecided": _undecided(summary), "lost": summary.lost}
+             "groups": summary.groups, "undecided": undecided(summary), "lost": summary.lost}
     return json.dumps(value, indent=1) + "\n"
 
 

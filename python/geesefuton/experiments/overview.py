@@ -2,12 +2,12 @@
 units that agents asked for they got, and how far the scores are from the best possible ones."""
 
 from collections import defaultdict
-from statistics import mean
-from typing import Dict, Iterable, List, NamedTuple, Optional, Sequence, Tuple
+from statistics import mean, quantiles
+from typing import Dict, Iterable, List, NamedTuple, Optional, Sequence, Set, Tuple
 
+from geesefuton.experiments.allocations import Optimum, best_allocation
 from geesefuton.experiments.kept import KeptGame
 from geesefuton.records.accounts import gains_of
-from geesefuton.records.best_plans import best_plan
 from geesefuton.records.games import FLIGHTS, GOODS, HOTELS, SEATS, TICKETS, TICKS, Game
 from geesefuton.records.logs import Entry, Log
 from geesefuton.records.replies import No
@@ -54,13 +54,6 @@ class Efficiency(NamedTuple):
     bound: int
 
 
-class Optimum(NamedTuple):
-    """The most that is known that the 64 clients of a deal might have, and a bound."""
-
-    value: int
-    bound: int
-
-
 class GamePrices(NamedTuple):
     """The prices of a flight or a hotel night in a game of a deal, in dollars at the ticks 0 to 54,
     and the tick at which it closes."""
@@ -70,12 +63,37 @@ class GamePrices(NamedTuple):
     prices: Sequence[int]
 
 
+class Figures(NamedTuple):
+    """The figures of a game.
+
+    Attributes:
+        deal: The name of its deal.
+        agents: The agents of its seats.
+        parts: Those of each seat.
+        distances: By how many dollars each seat's score is less than its best plan at the game's
+            closing prices.
+        fills: Of each seat, for some of SIDES.
+        paths: The prices of each flight and hotel night.
+        trades: For each ticket its trades, each units and dollars.
+        efficiency: That of the game.
+    """
+
+    deal: str
+    agents: Sequence[str]
+    parts: Sequence[Parts]
+    distances: Sequence[int]
+    fills: Sequence[Tuple[int, str, Fill]]
+    paths: Sequence[GamePrices]
+    trades: Sequence[Sequence[Tuple[int, int]]]
+    efficiency: Efficiency
+
+
 class Overview:
     """The figures of a run, game by game.
 
     Attributes:
         games: How many games were added.
-        deals: The optimum of each deal.
+        deals: The names of their deals.
         parts: For each agent those of its seats.
         distances: For each agent by how many dollars its seats' scores are less than their best
             plans at the games' closing prices.
@@ -87,7 +105,7 @@ class Overview:
 
     def __init__(self) -> None:
         self.games = 0
-        self.deals: Dict[str, Optimum] = {}
+        self.deals: Set[str] = set()
         self.parts: Dict[str, List[Parts]] = defaultdict(list)
         self.distances: Dict[str, List[int]] = defaultdict(list)
         self.fills: Dict[str, Dict[str, Fill]] = defaultdict(dict)
@@ -95,35 +113,22 @@ class Overview:
         self.trades: Dict[int, List[Tuple[int, int]]] = {good: [] for good in TICKETS}
         self.efficiencies: Dict[str, List[Efficiency]] = defaultdict(list)
 
-    def add(self, kept: KeptGame) -> None:
-        """Adds a game."""
-        game, log, agents = kept.game, kept.log, kept.agents
+    def add(self, figures: Figures) -> None:
+        """Adds those of a game."""
         self.games += 1
-        deal = kept.rows[0].deal
-        if deal not in self.deals:
-            self.deals[deal] = optimum(game)
-        for agent, score, gains in zip(agents, log.scores, gains_of(log)):
-            self.parts[agent].append(Parts(score.best, *gains, -PENALTY * score.short))
-        self._add_fills(agents, log)
-        boards = boards_by_tick(game, log, kept.ticks)
-        for good, paths in self.paths.items():
-            closes = game.hotels[good - HOTELS.start].closes if good in HOTELS else TICKS
-            paths.append(GamePrices(deal, closes, [board[good][1] for board in boards]))
-        closing: List[Optional[int]] = [paths[-1].prices[-1] for paths in self.paths.values()]
-        for good in TICKETS:
-            trades = [(trade.units, trade.price) for entry in log.histories[good]
-                      for trade in entry.trades]
+        self.deals.add(figures.deal)
+        for agent, parts, distance in zip(figures.agents, figures.parts, figures.distances):
+            self.parts[agent].append(parts)
+            self.distances[agent].append(distance)
+        for seat, side, fill in figures.fills:
+            sides = self.fills[figures.agents[seat]]
+            before = sides.get(side, Fill())
+            sides[side] = Fill(before.asked + fill.asked, before.filled + fill.filled)
+        for good, path in enumerate(figures.paths):
+            self.paths[good].append(path)
+        for good, trades in zip(TICKETS, figures.trades):
             self.trades[good] += trades
-            units = sum(count for count, _ in trades)
-            closing.append(round(sum(count * price for count, price in trades) / units)
-                           if units else None)
-        for seat, (agent, score) in enumerate(zip(agents, log.scores)):
-            plan = best_plan(game.clients[seat], [0] * TICKETS.start + list(game.endow[seat]),
-                             closing)
-            self.distances[agent].append(plan.value - score.score)
-        had = sum(score.best - PENALTY * score.short for score in log.scores)
-        had -= _seats_at_first_prices(game, log)
-        self.efficiencies[table_of(agents)].append(Efficiency(had, *self.deals[deal]))
+        self.efficiencies[table_of(figures.agents)].append(figures.efficiency)
 
     def order(self) -> List[str]:
         """The agents, the one with the greatest mean score first."""
@@ -152,13 +157,53 @@ class Overview:
         return {predictor: [mean(each) if each else None for each in by_tick]
                 for predictor, by_tick in errors.items()}
 
-    def _add_fills(self, agents: Sequence[str], log: Log) -> None:
-        for good in GOODS:
-            for (seat, is_selling), fill in fills_of(log.histories[good]).items():
-                side = SIDES[2 + is_selling if good in TICKETS else int(good in HOTELS)]
-                sides = self.fills[agents[seat]]
-                before = sides.get(side, Fill())
-                sides[side] = Fill(before.asked + fill.asked, before.filled + fill.filled)
+    def quartiles(self, good: int) -> List[Tuple[float, float, float]]:
+        """The lower quartile, the median and the upper quartile of a good's prices at each tick."""
+        return [_quartiles(at) for at in zip(*(path.prices for path in self.paths[good]))]
+
+    def rates(self, agent: str) -> List[Optional[float]]:
+        """For each of SIDES what part of the units that an agent asked for traded, in %."""
+        fills = [self.fills[agent].get(side, Fill()) for side in SIDES]
+        return [100 * fill.filled / fill.asked if fill.asked else None for fill in fills]
+
+
+def _quartiles(values: Sequence[float]) -> Tuple[float, float, float]:
+    if len(values) == 1:
+        return values[0], values[0], values[0]
+    first, second, third = quantiles(values, n=4, method="inclusive")
+    return first, second, third
+
+
+def figures_of(kept: KeptGame, best: Optimum) -> Figures:
+    """The figures of a game.
+
+    Args:
+        kept: The game.
+        best: The optimum of its deal.
+    """
+    game, log = kept.game, kept.log
+    deal = kept.rows[0].deal
+    boards = boards_by_tick(game, log, kept.ticks)
+    paths = [GamePrices(deal, game.hotels[good - HOTELS.start].closes if good in HOTELS else TICKS,
+                        [board[good][1] for board in boards]) for good in range(HOTELS.stop)]
+    trades = [[(trade.units, trade.price) for entry in log.histories[good]
+               for trade in entry.trades] for good in TICKETS]
+    closing: List[Optional[int]] = [path.prices[-1] for path in paths]
+    for each in trades:
+        units = sum(count for count, _ in each)
+        closing.append(round(sum(count * price for count, price in each) / units)
+                       if units else None)
+    plans = [best_allocation(clients, [0] * TICKETS.start + list(endow), closing)
+             for clients, endow in zip(game.clients, game.endow)]
+    fills = [(seat, SIDES[2 + is_selling if good in TICKETS else int(good in HOTELS)], fill)
+             for good in GOODS for (seat, is_selling), fill in fills_of(log.histories[good]).items()]
+    had = sum(score.best - PENALTY * score.short for score in log.scores)
+    return Figures(
+        deal, kept.agents,
+        [Parts(score.best, *gains, -PENALTY * score.short)
+         for score, gains in zip(log.scores, gains_of(log))],
+        [plan.value - score.score for plan, score in zip(plans, log.scores)], fills, paths, trades,
+        Efficiency(had - _seats_at_first_prices(game, log), *best))
 
 
 def fills_of(history: Iterable[Entry]) -> Dict[Tuple[int, bool], Fill]:
@@ -193,8 +238,7 @@ def optimum(game: Game) -> Optimum:
     clients = [client for clients in game.clients for client in clients]
     held = [0] * len(FLIGHTS) + list(game.rooms) + list(map(sum, zip(*game.endow)))
     prices: List[Optional[int]] = [flight.first for flight in game.flights]
-    plan = best_plan(clients, held, prices + [None] * (len(GOODS) - len(FLIGHTS)))
-    return Optimum(plan.value, plan.bound)
+    return best_allocation(clients, held, prices + [None] * (len(GOODS) - len(FLIGHTS)))
 
 
 def _seats_at_first_prices(game: Game, log: Log) -> int:

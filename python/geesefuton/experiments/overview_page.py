@@ -1,13 +1,17 @@
 """The page of the games of a run: HTML that stands alone, as the report of a game."""
 
 import html
-from statistics import mean, median, quantiles
-from typing import Dict, Iterator, List, Optional, Sequence, Tuple
+from statistics import mean, median
+from string import ascii_uppercase
+from typing import Dict, Iterator, List, Optional, Sequence
 
+from geesefuton.experiments.forms import undecided
 from geesefuton.experiments.joining import WAYS
 from geesefuton.experiments.overview import (MINUTES, PREDICTORS, SIDES, Efficiency, Fill, Overview,
                                              Parts)
+from geesefuton.experiments.power import deals_to_detect
 from geesefuton.experiments.results import Row
+from geesefuton.experiments.summary import Difference, Summary
 from geesefuton.records.games import AUCTIONS, FLIGHTS, HOTELS, TICKETS, TICKS, name_of
 from geesefuton.records.report_page import STYLE, Cell, bar, chart, round_up, table
 
@@ -15,13 +19,14 @@ SHOWN = range(0, TICKS + 1, 6)  # the ticks of a table of prices
 KINDS = ("trips", "flights", "rooms", "tickets", "penalties")  # the parts of a score
 
 
-def page(overview: Overview, name: str, row: Row) -> str:
+def page(overview: Overview, name: str, row: Row, summary: Summary) -> str:
     """The page of a run.
 
     Args:
         overview: Its figures.
         name: The name of its folder.
         row: One of its rows.
+        summary: The summary of its rows.
     """
     agents = [html.escape(agent) for agent in overview.order()]
     title = html.escape(name)
@@ -33,8 +38,73 @@ def page(overview: Overview, name: str, row: Row) -> str:
         f"<h1>Games of {', '.join(agents)}</h1><p>The folder {title}: {_games(overview.games)} of "
         f"{_count(len(overview.deals), 'deal')}, played {WAYS[row.kind]}. All amounts are in "
         "dollars.</p>",
-        *_parts(overview), *_prices(overview), *_tickets(overview), *_fills(overview),
-        *_errors(overview), *_distances(overview), *_efficiencies(overview)]) + "</html>\n"
+        *_ranking(summary), *_differences(summary), *_errors(overview), *_parts(overview),
+        *_prices(overview), *_tickets(overview), *_fills(overview), *_distances(overview),
+        *_efficiencies(overview)]) + "</html>\n"
+
+
+def _ranking(summary: Summary) -> Iterator[str]:
+    yield ("<h2>Ranking</h2><p>Mean scores with 95 % intervals (Student's t, by deals). These games "
+           "do not separate agents that have a letter in common: Holm's test over all pairs finds "
+           "no difference.</p>")
+    told = [(standing, standing.score.half or 0.0) for standing in summary.standings]
+    low = min((standing.score.mean - half for standing, half in told), default=0.0)
+    high = max((standing.score.mean + half for standing, half in told), default=1.0)
+    rows: List[List[Cell]] = []
+    for number, (standing, half) in enumerate(told, 1):
+        letters = "".join(letter for letter, group in zip(ascii_uppercase, summary.groups)
+                          if standing.agent in group)
+        rows.append([number, html.escape(standing.agent), f"<b>{standing.score.mean:.0f}</b>",
+                     "?" if standing.score.half is None else f"± {half:.0f}",
+                     _interval(standing.score.mean, half, low, high), letters, standing.seats,
+                     standing.failed or "–"])
+    yield table(["", "agent", "mean", "", f"{low:.0f} to {high:.0f}", "groups", "seats",
+                 "not played<br>to the end"], rows, (1, 5))
+
+
+def _interval(mean_score: float, half: float, low: float, high: float) -> str:
+    """A picture of a mean with its interval, on a scale of at least a dollar."""
+    scale = 100 / max(1.0, high - low)
+    return (f'<span class="bar"><i class="fill" style="left:{(mean_score - half - low) * scale:.1f}%;'
+            f'width:{2 * half * scale:.1f}%"></i>'
+            f'<i class="zero" style="left:{(mean_score - low) * scale:.1f}%"></i></span>')
+
+
+def _differences(summary: Summary) -> Iterator[str]:
+    yield ("<h2>Differences</h2><p>How much more an agent scored than another, with its 95 % "
+           "interval, the interval that allows for all pairs (Bonferroni), and the probability of "
+           "such a difference by chance, which also allows for all pairs (Holm). For neighbours in "
+           "the ranking: how many deals more would show such a difference in 80 % of studies, for "
+           "the largest spread that these games leave possible.</p>")
+    names = [standing.agent for standing in summary.standings]
+    neighbours, others = list[List[Cell]](), list[List[Cell]]()
+    for pair in summary.differences:
+        near = names.index(pair.second) - names.index(pair.first) == 1
+        cells: List[Cell] = [html.escape(f"{pair.first} less {pair.second}")]
+        if pair.score is None:
+            cells += ["not compared", "", "", "", 0]
+        else:
+            cells += [f"<b>{pair.score.mean:.0f}</b>", *(
+                "?" if half is None else f"± {half:.0f}"
+                for half in (pair.score.half, pair.bonferroni)),
+                "?" if pair.holm is None else f"{pair.holm:.3f}", pair.score.count]
+        (neighbours if near else others).append(cells + ([_more_deals(pair)] if near else []))
+    heads = ["", "mean", "", "all pairs", "p (Holm)", "deals"]
+    if neighbours:
+        yield table([*heads, "deals more"], neighbours, (0,))
+    if others:
+        yield f"<details><summary>All other pairs</summary>{table(heads, others, (0,))}</details>"
+    told = undecided(summary)
+    yield "".join(f"<p>{html.escape(line)}.</p>" for line in told)
+
+
+def _more_deals(pair: Difference) -> Cell:
+    """How many deals more would separate two neighbours."""
+    if pair.is_shown:
+        return "separated"
+    if pair.score is None or pair.score.half is None or not pair.score.mean:
+        return "?"
+    return max(1, (deals_to_detect(pair.score, abs(pair.score.mean)) or 0) - pair.score.count)
 
 
 def _count(number: int, what: str) -> str:
@@ -70,9 +140,7 @@ def _prices(overview: Overview) -> Iterator[str]:
     yield ("<h2>Prices</h2><p>The median of all games at each tick, 0 at the left to 54, in the "
            "band of the middle half of the games. A night that is closed keeps its price.</p>")
     for goods, step in ((FLIGHTS, 50), (HOTELS, 100)):
-        bands = {good: [_quartiles(at) for at in zip(*(path.prices
-                                                       for path in overview.paths[good]))]
-                 for good in goods}
+        bands = {good: overview.quartiles(good) for good in goods}
         high = round_up(max([step, *(top for band in bands.values() for _, _, top in band)]), step)
         low = 0
         if goods is FLIGHTS:
@@ -90,14 +158,6 @@ def _prices(overview: Overview) -> Iterator[str]:
             yield table(["median at tick", *map(str, SHOWN)],
                         [[name_of(good), *(f"{bands[good][tick][1]:.0f}" for tick in SHOWN)]
                          for good in group], (0,))
-
-
-def _quartiles(values: Sequence[float]) -> Tuple[float, float, float]:
-    """The lower quartile, the median and the upper quartile."""
-    if len(values) == 1:
-        return values[0], values[0], values[0]
-    first, second, third = quantiles(values, n=4, method="inclusive")
-    return first, second, third
 
 
 def _tickets(overview: Overview) -> Iterator[str]:
@@ -124,12 +184,12 @@ def _fills(overview: Overview) -> Iterator[str]:
            "agent's standing units there. The bars show what share of them traded.</p>")
     rates, rows = {}, []
     for agent in overview.order():
-        fills = [overview.fills[agent].get(side, Fill()) for side in SIDES]
-        rates[agent] = [100 * fill.filled / fill.asked if fill.asked else 0 for fill in fills]
+        rates[agent] = [rate or 0 for rate in overview.rates(agent)]
         seats = len(overview.parts[agent])
-        for side, fill, rate in zip(SIDES, fills, rates[agent]):
+        for side, rate in zip(SIDES, overview.rates(agent)):
+            fill = overview.fills[agent].get(side, Fill())
             rows.append([html.escape(agent), side, f"{fill.asked / seats:.1f}",
-                         f"{fill.filled / seats:.1f}", f"{rate:.0f} %" if fill.asked else "–"])
+                         f"{fill.filled / seats:.1f}", "–" if rate is None else f"{rate:.0f} %"])
     yield _bars(rates, SIDES)
     yield table(["agent", "", "asked for<br>a seat", "got<br>a seat", "rate"], rows, (0, 1))
 
@@ -141,14 +201,13 @@ def _errors(overview: Overview) -> Iterator[str]:
            "deals, and the quote plus its mean rise in those games.</p>")
     errors = overview.errors()
     most = max([1.0, *(error for each in errors.values() for error in each if error is not None)])
-    high, charts = round_up(most, 50), []
-    for predictor in PREDICTORS:
-        points = [(tick, error) for tick, error in zip(MINUTES, errors[predictor])
-                  if error is not None]
-        if points:
-            charts.append(chart(f"{predictor}: <b>{points[0][1]:.0f} to {points[-1][1]:.0f}</b>",
-                                points, 0, high, False))
-    yield f'<div class="charts">{"".join(charts)}</div>'
+    paths = {f"{predictor} ({line})": [(tick, error) for tick, error in zip(
+        MINUTES, errors[predictor]) if error is not None]
+        for predictor, line in zip(PREDICTORS, ("line", "dashed", "dotted"))}
+    title = "; ".join(f"{name}: <b>{path[0][1]:.0f} to {path[-1][1]:.0f}</b>"
+                      for name, path in paths.items() if path)
+    first, *more = filter(None, paths.values())
+    yield chart(title, first, 0, round_up(most, 50), False, more=more)
     yield table(["mean error at tick", *map(str, MINUTES)],
                 [[predictor, *map(_whole, errors[predictor])] for predictor in PREDICTORS], (0,))
 

@@ -21,22 +21,22 @@ closing, `trade` the units that an agent bought (above 0) or sold (below 0), wit
 each unit, and `score` a score. A log has no times: a call has the tick of the clock's last call in
 its auction, so trades of tickets have none.
 
-With --over the page has the parts of the agents' scores, prices over the ticks, how many of the
-units that they asked for they got, and how far they were from the best plans. This takes a second
-or two for each deal.
+With --over the page has the agents' ranking, which of them the games do not separate, the parts of
+their scores, prices over the ticks, how many of the units that they asked for they got, and how far
+they were from the best plans. It needs numpy, scipy and pandas, and takes part of a second a game.
+With --figures FOLDER the pictures are written for a paper, too, which needs matplotlib.
 """
 
 import sys
 import time
 from pathlib import Path
-from typing import List, Tuple
+from typing import List, Optional, Tuple
 
 from geesefuton import program
 from geesefuton.arguments import Parser
-from geesefuton.experiments import overview_page
+from geesefuton.experiments import study
 from geesefuton.experiments.joining import read_source
-from geesefuton.experiments.kept import read_games
-from geesefuton.experiments.overview import Overview
+from geesefuton.experiments.summary import summarize
 from geesefuton.processes import Output, command, tell
 from geesefuton.records.games import Game, GameError, read_game
 from geesefuton.records.hindsight import stories
@@ -104,17 +104,29 @@ def csv_text(game: Game, log: Log) -> str:
     return csv_of([*lines, *scores])
 
 
-def _over(folder: Path) -> Tuple[str, List[str]]:
-    """The page of a folder, "" if it has no games, and its faults, each in a line."""
-    if not folder.is_dir():
-        return "", [f"{folder} is not a folder"]
+def _over(folder: Path, figures: Optional[Path]) -> Tuple[str, List[str]]:
+    """The page of a folder, "" if it has no games, and its faults, each in a line.
+
+    Args:
+        folder: The folder of a run.
+        figures: A folder that gets the page's pictures; None for none.
+    """
+    missing = study.missing("pages and pictures of a run")
+    if missing or not folder.is_dir():
+        return "", [missing or f"{folder} is not a folder"]
     source, told = read_source(folder)
     if source is None:
         return "", told
-    overview = Overview()
-    for kept in read_games(folder, source.rows, told):
-        overview.add(kept)
-    return overview_page.page(overview, folder.name, source.rows[0]) if overview.games else "", told
+    from geesefuton.experiments import overview_page  # which needs the libraries
+    from geesefuton.experiments.overview_work import gathered
+    overview, faults = gathered(folder, source.rows)
+    if not overview.games:
+        return "", told + faults
+    summary = summarize(source.rows)
+    if figures is not None:
+        from geesefuton.experiments.figures import write_figures
+        faults += write_figures(figures, overview, summary)
+    return overview_page.page(overview, folder.name, source.rows[0], summary), told + faults
 
 
 def _main() -> int:
@@ -128,15 +140,20 @@ def _main() -> int:
                         help="show agents by their seat words, which are passwords")
     parser.add_argument("--over", type=Path, metavar="FOLDER",
                         help="show an overview of the games of a tournament's run")
+    parser.add_argument("--figures", type=Path, metavar="FOLDER",
+                        help="with --over: also write its pictures to this folder, as SVG and PDF, "
+                             "each with its CSV")
     parser.add_argument("game", type=Path, nargs="?", help="the game file")
     parser.add_argument("log", type=Path, nargs="?", help="the log")
     given = parser.parse_args()
     if given.over is not None and (given.game or given.csv or given.why):
         parser.error("--over takes only a folder")
+    if given.figures is not None and given.over is None:
+        parser.error("--figures needs --over")
     if given.over is None and given.log is None:
         parser.error("give a game file and a log, or --over and a folder")
     if given.over is not None:
-        return _write(*_over(given.over))
+        return _write(*_over(given.over, given.figures))
     try:
         game, log, text = read_both(given.game, given.log)
         warning = "This log was not audited." if given.unaudited else ""

@@ -164,7 +164,7 @@ def round_up(number: float, step: int) -> int:
 
 
 def chart(title: str, points: PricePath, low: int, high: int, steps: bool,
-          band: Tuple[PricePath, PricePath] = ([], [])) -> str:
+          band: Tuple[PricePath, PricePath] = ([], []), more: Sequence[PricePath] = ()) -> str:
     """A small chart of one price over the ticks, with its labels in HTML, so that they keep their
     size.
 
@@ -174,13 +174,17 @@ def chart(title: str, points: PricePath, low: int, high: int, steps: bool,
         low: The least dollars that are shown, and `high` the most.
         steps: Whether a price holds until the next point, and the last point has a dot.
         band: Points below and above between which the chart is shaded.
+        more: Up to two further lines, the first dashed, the second dotted.
     """
     def y(dollars: float) -> float:
         return 100 - 100 * (dollars - low) / (high - low)
 
-    path = f"M{points[0][0]} {y(points[0][1]):.1f}"
-    for tick, dollars in points[1:]:
-        path += f"H{tick}V{y(dollars):.1f}" if steps else f"L{tick} {y(dollars):.1f}"
+    def line(points: PricePath) -> str:
+        path = f"M{points[0][0]} {y(points[0][1]):.1f}"
+        for tick, dollars in points[1:]:
+            path += f"H{tick}V{y(dollars):.1f}" if steps else f"L{tick} {y(dollars):.1f}"
+        return f'<path class="line" d="{path}"/>'
+
     corners = " ".join(f"{tick} {y(dollars):.1f}" for tick, dollars in [*band[0], *band[1][::-1]])
     shade = f'<path class="band" d="M{corners}Z"/>' if corners else ""
     grid = "".join(f"M0 {level}H{TICKS}" for level in (0, 50, 100))
@@ -190,7 +194,7 @@ def chart(title: str, points: PricePath, low: int, high: int, steps: bool,
            if steps else "")
     return (f'<figure><figcaption>{title}</figcaption><div class="plot">'
             f'<svg viewBox="0 0 {TICKS} 100" preserveAspectRatio="none" aria-hidden="true">'
-            f'{shade}<path class="grid" d="{grid}"/><path class="line" d="{path}"/></svg>{dot}'
+            f'{shade}<path class="grid" d="{grid}"/>{"".join(map(line, [points, *more]))}</svg>{dot}'
             f'<span class="top">{high}</span><span class="low">{low}</span></div></figure>')
 
 
