@@ -1,7 +1,7 @@
 #!/usr/bin/env python3
 """What a seat's place costs in games in turns, by the folder of a run of eight agents of one kind.
 
-    tools/tournament --turns 40 --games 64 --no-swap --seed 8001 --out runs/1 planner.py
+    tools/tournament --turns 40 --games 64 --seed 8001 --out runs/1 planner.py
     bench/seat_slope.py runs/1
 
 A score is taken less what the seat's luck tells of it within its game, by least squares. The slope

@@ -11,6 +11,4 @@
 #SBATCH --mem=2G
 #SBATCH --time=00:30:00
 #SBATCH --requeue
-games=20 # in each task, of 10 deals where seats are swapped
-seed=$((SLURM_ARRAY_TASK_ID * games + 1))
-exec tools/tournament --turns 40 --games "$games" --seed "$seed" --out "runs/$seed" --resume "$@"
+exec tools/tournament --turns 40 --games 20 --out "runs/$SLURM_ARRAY_TASK_ID" --resume "$@"

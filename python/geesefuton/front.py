@@ -43,6 +43,8 @@ PROGRAMS: Dict[str, Program] = {
                           "plays many games between agents, and compares them"),
     "profiles": Program("geesefuton.experiments.profiles",
                         "plays every profile of some strategies"),
+    "deals": Program("geesefuton.experiments.deals_command",
+                     "makes the games of a run again from its secret"),
     "data": Program("geesefuton.experiments.data_command",
                     "writes a tournament's games as tables"),
     "doctor": Program("geesefuton.doctor", "checks that this machine has what is needed"),

@@ -47,14 +47,15 @@ class Case(unittest.TestCase):
         self.addCleanup(place.cleanup)
         self.folder, self.out = Path(place.name, "run"), Path(place.name, "tables")
         (self.folder / "games").mkdir(parents=True)
-        (self.folder / "run.json").write_text("{}")
+        (self.folder / "run.json").write_text(json.dumps({
+            "tournament": 2, "settings": {}, "deals": {"seed": 1}, "agents": [], "runs": []}))
         rows: List[Row] = []
-        for deal, texts in TEXTS.items():
+        for number, (deal, texts) in enumerate(TEXTS.items(), 9):
             for suffix, text in texts.items():
-                (self.folder / "games" / f"{deal}.0.{suffix}").write_text(text)
+                (self.folder / "games" / f"{number}.0.{suffix}").write_text(text)
             scores = [score[-1] for score in numbers("score", texts["log"])]
-            rows += [Row(deal, 0, seat, NAMES[seat], scores[seat], Outcome.PLAYED, 700, nights=2.5)
-                     for seat in (3, 1, 0, 2, 7, 5, 4, 6)]
+            rows += [Row(deal, 0, seat, NAMES[seat], scores[seat], Outcome.PLAYED, 700, nights=2.5,
+                         number=number) for seat in (3, 1, 0, 2, 7, 5, 4, 6)]
         (self.folder / "scores.csv").write_text(csv_of([HEAD]) + text_of(rows))
 
     def data(self) -> Tuple[int, str]:
@@ -69,7 +70,7 @@ class Sums(Case):
     def test_they_are_those_of_the_logs(self) -> None:
         tables = self.tables()
         self.assertEqual([(row["name"], row["ticks"]) for row in tables["games"]],
-                         [("9.0", "log"), ("10.0", "journal"), ("first-1.0", "script")])
+                         [("9.0", "log"), ("10.0", "journal"), ("11.0", "script")])
         for number, text in enumerate((texts["log"] for texts in TEXTS.values()), 1):
             rows = {name: [row for row in each if row.get("game") == number]
                     for name, each in tables.items()}
@@ -211,23 +212,23 @@ class Refusals(Case):
     def test_games_that_cannot_be_read_are_named_and_the_others_go_on(self) -> None:
         games = self.folder / "games"
         (games / "9.0.log").unlink()
-        script = (games / "first-1.0.script").read_text()
-        (games / "first-1.0.script").write_text(script.replace("1 bid 13 ((2 80))\n", ""))
+        script = (games / "11.0.script").read_text()
+        (games / "11.0.script").write_text(script.replace("1 bid 13 ((2 80))\n", ""))
         status, text = self.data()
         self.assertEqual(status, 1)
         self.assertEqual(text, f"data: {games}/9.0.log: No such file or directory\n"
-                               f"data: {games}/first-1.0.script: good 13 has no call of the clock "
+                               f"data: {games}/11.0.script: good 13 has no call of the clock "
                                "at tick 6\n")
         self.assertEqual([row["name"] for row in read_data(self.out)["games"]], ["10.0"])
 
     def test_files_that_do_not_belong_together(self) -> None:
         games = self.folder / "games"
         (games / "10.0.log").write_text(TEXTS["9"]["log"])
-        (games / "first-1.0.script").write_text("tick\n" * 3)
+        (games / "11.0.script").write_text("tick\n" * 3)
         status, text = self.data()
         self.assertEqual(status, 1)
         self.assertIn("10.0.log: its scores differ from the run's rows\n", text)
-        self.assertIn("first-1.0.script: good 1 has no call of the clock at tick 1\n", text)
+        self.assertIn("11.0.script: good 1 has no call of the clock at tick 1\n", text)
 
     def test_a_journal_without_a_call_of_the_log(self) -> None:
         file = self.folder / "games" / "10.0.journal"

@@ -12,7 +12,7 @@ from unittest import mock
 
 from geesefuton.experiments import match
 from geesefuton.experiments.entrants import Entrant
-from geesefuton.experiments.match import Exit, Match, outcome_of, repeated
+from geesefuton.experiments.match import Exit, Match, outcome_of
 from geesefuton.experiments.messages import Job, Message, Note, Result
 from geesefuton.experiments.results import Kind, Outcome
 from geesefuton.hosting import events
@@ -132,8 +132,8 @@ class Matches(unittest.TestCase):
         all_scripts = [*scripts, *["exit 0"] * (8 - len(scripts))]
         entrants = tuple(Entrant("", ("sh", "-c", script), f"agent{seat}", "")
                          for seat, script in enumerate(all_scripts))
-        job = Job("7.0", self.place, SERVED_GAME.read_text(), entrants, tuple(words), pace=20,
-                  **more)
+        job = Job("7.0", self.place, SERVED_GAME.read_text(), entrants, tuple(words),
+                  tuple(range(70, 78)), pace=20, **more)
         with Children() as children:
             return Match(job, children, self.sent.append).play()
 
@@ -148,14 +148,15 @@ class Matches(unittest.TestCase):
     def test_what_was_asked_is_kept_with_the_other_files(self) -> None:
         script, journal = self.place / "7.0.script", self.place / "7.0.journal"
         self.play(turns=3)
-        self.assertEqual((script.exists(), Lobby.last.journal), (False, None))
-        self.play(turns=3, is_kept=True)
         self.assertEqual((script.read_text(), Lobby.last.journal), ("0 own 1\ntick\n", None))
         script.unlink()
-        self.play(is_kept=True)
-        self.assertEqual((script.exists(), Lobby.last.journal), (False, journal))
         self.play()
-        self.assertIsNone(Lobby.last.journal)
+        self.assertEqual((script.exists(), Lobby.last.journal), (False, journal))
+
+    def test_the_ticks_that_an_agent_missed_are_those_that_it_tells(self) -> None:
+        result = self.play("echo missed 9 of 54 ticks; echo score 5, missed 45 of 54 ticks",
+                           "echo missed", "echo missed 0 of 54 ticks")
+        self.assertEqual(result.missed, (45, None, 0, *[None] * 5))
 
     def test_a_game_with_its_scores(self) -> None:
         result = self.play()
@@ -180,7 +181,7 @@ class Matches(unittest.TestCase):
                          ("words", 3.0, 30.0))
 
     def test_a_job_that_cannot_be_played_is_lost(self) -> None:
-        job = Job("7.0", self.place / "none", "", (), ())
+        job = Job("7.0", self.place / "none", "", (), (), ())
         ours, theirs = Pipe()
         with ours, mock.patch("sys.argv", ["match", str(os.dup(theirs.fileno()))]):
             theirs.close()
@@ -188,13 +189,6 @@ class Matches(unittest.TestCase):
             self.assertEqual(match._main(), 0)
             self.assertEqual(ours.recv(), Result(
                 fault=f"{self.place / 'none' / '7.0.events'}: No such file or directory"))
-
-    def test_agents_draw_otherwise_in_each_game_and_the_same_again(self) -> None:
-        names = ["7.0 0", "7.0 1", "7.1 0", "8.0 0"]
-        seeds = [repeated(name)["AGENT_SEED"] for name in names]
-        self.assertEqual(len(set(seeds)), 4)
-        self.assertEqual(seeds, [repeated(name)["AGENT_SEED"] for name in names])
-        self.assertTrue(all(0 <= int(seed) < 1 << 32 for seed in seeds))
 
     def test_agents_get_their_words_and_variables(self) -> None:
         self.play('echo "$@" $PYTHONPATH', "echo oops >&2", "cat; echo $AGENT_SEED.$TAC; pwd",
@@ -246,10 +240,8 @@ class Matches(unittest.TestCase):
         self.assertEqual((result.kind, len(result.scores)), (Kind.TURNS, 8))
         self.assertEqual((tuple(Turns.given), self.notes()), ((30, 2.5), ""))
         printed = (self.place / "7.0.out.red0").read_text().split()
-        self.assertEqual(printed[:4] + printed[5:], ["4321", "red0", "--pause", "0", "0", "0"])
-        self.assertTrue(printed[4].isdigit())
-        self.assertNotEqual((self.place / "7.0.out.red1").read_text(), printed[4] + "\n")
-        self.assertEqual(repeated("7.0 0")["AGENT_SEED"], printed[4])
+        self.assertEqual(printed, ["4321", "red0", "--pause", "0", "70", "0", "0"])
+        self.assertEqual((self.place / "7.0.out.red1").read_text(), "71\n")
         self.assertIs(self.play().kind, Kind.SERVED)
 
     def test_an_agent_that_was_passed_over_marks_its_game(self) -> None:

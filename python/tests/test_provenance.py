@@ -2,9 +2,11 @@ import os
 import sys
 import tempfile
 import unittest
+from dataclasses import replace
 from pathlib import Path
+from unittest import mock
 
-from geesefuton.experiments.entrants import read_entrant
+from geesefuton.experiments.entrants import EntrantError, read_entrant
 from geesefuton.experiments.provenance import (agent_of, commit, digest_of, machine, names_text,
                                                package_digest, read_settings, settings_text, unlike)
 
@@ -22,22 +24,60 @@ class Agents(unittest.TestCase):
     def digest(self, words: str = "") -> str:
         return agent_of(read_entrant(f"{self.place / 'mine.py'} {words}")).digest
 
-    def test_files_are_those_of_the_command_and_what_they_import_from_beside(self) -> None:
+    def test_files_are_those_of_the_folder_and_those_below(self) -> None:
+        for folder, name in (("strategy", "__init__.py"), (".git", "x"), ("__pycache__", "x.pyc"),
+                             ("runs/1", "run.json"), ("venv", "pyvenv.cfg")):
+            (self.place / folder).mkdir(parents=True)
+            (self.place / folder / name).write_text("1")
         agent = agent_of(read_entrant(str(self.place / "mine.py")))
-        self.assertEqual(sorted(agent.files), ["deep.py", "helper.py", "mine.py"])
+        self.assertEqual(sorted(agent.files), ["deep.py", "helper.py", "mine.py", "other.py",
+                                               "strategy/__init__.py"])
         self.assertEqual(agent.files["deep.py"], digest_of(self.place / "deep.py"))
         self.assertEqual((agent.name, list(agent.words)), ("mine", ["mine.py"]))
 
     def test_each_file_and_each_word_changes_the_digest(self) -> None:
+        (self.place / "strategy").mkdir()
+        (self.place / "strategy" / "__init__.py").write_text("SHADE = 300\n")
+        (self.place / "weights.json").write_text("[1]")
         first = self.digest()
         self.assertEqual(self.digest(), first)
-        (self.place / "other.py").write_text("x = 2\n")
-        self.assertEqual(self.digest(), first)
         self.assertNotEqual(self.digest("--shade 1"), self.digest("--shade 2"))
-        (self.place / "deep.py").write_text("x = 2\n")
-        self.assertNotEqual(self.digest(), first)
+        for name in ("strategy/__init__.py", "weights.json", "deep.py"):
+            before = self.digest()
+            (self.place / name).write_text("9000\n")
+            self.assertNotEqual(self.digest(), before, name)
 
-    def test_the_folder_changes_nothing(self) -> None:
+    def test_files_and_folders_that_words_name(self) -> None:
+        with tempfile.TemporaryDirectory() as folder:
+            place = Path(folder)
+            (place / "model").write_text("1")
+            (place / "nets").mkdir()
+            (place / "nets" / "a").write_text("1")
+            for words, file in ((str(place / "model"), "model"),
+                                (f"--model={place / 'model'}", "model"),
+                                (str(place / "nets"), "nets/a")):
+                before = self.digest(words)
+                (place / file).write_text((place / file).read_text() + "2")
+                self.assertNotEqual(self.digest(words), before, words)
+            agent = agent_of(read_entrant(f"{self.place / 'mine.py'} --model={place / 'model'}"))
+            self.assertEqual(list(agent.words), ["mine.py", "--model=model"])
+
+    def test_files_may_be_narrowed_and_widened(self) -> None:
+        entrant = read_entrant(str(self.place / "mine.py"))
+        (self.place / "notes.txt").write_text("x")
+        self.assertEqual(sorted(agent_of(entrant, ["h*.py"]).files), ["helper.py", "mine.py"])
+        with tempfile.TemporaryDirectory() as folder:
+            (Path(folder) / "more").write_text("1")
+            one = agent_of(entrant, ["*.py"], [Path(folder)]).digest
+            (Path(folder) / "more").write_text("2")
+            self.assertNotEqual(agent_of(entrant, ["*.py"], [Path(folder)]).digest, one)
+            with self.assertRaisesRegex(EntrantError, "there is no file or folder"):
+                agent_of(entrant, [], [Path(folder, "none")])
+        with mock.patch("geesefuton.experiments.provenance.MOST_FILES", 3), \
+                self.assertRaisesRegex(EntrantError, "more than 3 files"):
+            agent_of(entrant)
+
+    def test_the_place_of_the_folder_changes_nothing(self) -> None:
         first = self.digest()
         moved = self.place.with_name(self.place.name + ".moved")
         os.rename(self.place, moved)
@@ -45,20 +85,31 @@ class Agents(unittest.TestCase):
         self.addCleanup(os.rename, moved, str(moved)[:-len(".moved")])
         self.assertEqual(self.digest(), first)
 
-    def test_programs_of_the_machine_are_no_files_of_an_agent(self) -> None:
+    def test_a_program_that_is_found_by_its_name_is_one_file_of_an_agent(self) -> None:
         agent = agent_of(read_entrant(f"sh {self.place / 'mine.py'}"))
-        self.assertEqual(sorted(agent.files), ["deep.py", "helper.py", "mine.py"])
+        self.assertEqual(sorted(agent.files), ["deep.py", "helper.py", "mine.py", "other.py", "sh"])
         self.assertEqual(list(agent.words), ["sh", "mine.py"])
-        self.assertEqual(agent_of(read_entrant("sh")).files, {})
-        own = self.place / "bot"
+        (self.place / "bin").mkdir()
+        own = self.place / "bin" / "bot"
         own.write_text("#!/bin/sh\n")
         own.chmod(0o755)
-        self.assertEqual(sorted(agent_of(read_entrant(str(own))).files), ["bot"])
+        with mock.patch.dict(os.environ, {"PATH": f"{own.parent}:{os.environ['PATH']}"}):
+            first = agent_of(read_entrant("bot"))
+            self.assertEqual(sorted(first.files), ["bot"])
+            own.write_text("#!/bin/sh\n# another version\n")
+            self.assertNotEqual(agent_of(read_entrant("bot")).digest, first.digest)
+
+    def test_versions_of_imported_libraries_are_told(self) -> None:
+        (self.place / "mine.py").write_text("import numbers_of_pi, os\nfrom . import helper\n")
+        with mock.patch("geesefuton.experiments.provenance._installed", lambda: {
+                "numbers_of_pi": [("pi", "3.14")], "unused": [("other", "1")]}):
+            agent = agent_of(read_entrant(str(self.place / "mine.py")))
+        self.assertEqual(agent.libraries, {"pi": "3.14"})
+        self.assertNotEqual(agent.digest, replace(agent, libraries={"pi": "3.15"}).digest)
 
     def test_a_file_that_cannot_be_read_as_python(self) -> None:
         (self.place / "mine.py").write_bytes(b"def \xff(")
-        self.assertEqual(sorted(agent_of(read_entrant(str(self.place / "mine.py"))).files),
-                         ["mine.py"])
+        self.assertIn("mine.py", agent_of(read_entrant(str(self.place / "mine.py"))).files)
 
 
 class Settings(unittest.TestCase):

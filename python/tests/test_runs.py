@@ -1,8 +1,10 @@
+import errno
 import json
 import os
 import pickle
 import random
 import signal
+import socket
 import sys
 import tempfile
 import time
@@ -19,17 +21,20 @@ from geesefuton.experiments.deals import Rule
 from geesefuton.experiments.messages import Result
 from geesefuton.experiments.plan import Plan
 from geesefuton.experiments.provenance import Agent
-from geesefuton.experiments.results import HEAD, Outcome, Row, text_of
-from geesefuton.experiments.runs import RunError, RunFolder, is_run, read_scores
+from geesefuton.experiments.results import (HEAD, Outcome, ResultsError, Row, read_rows,
+                                            text_of)
+from geesefuton.experiments.runs import (RunError, RunFolder, is_being_written, is_run,
+                                         read_scores)
+from geesefuton.experiments.seating import Seating
 from geesefuton.records.tables import csv_of
 from tests.helpers import SERVED_GAME, STAND_IN, fake_program, refusal
 
 MINE = Agent("mine", "mine.py", ["mine.py"], {"mine.py": "00"})
 
 
-def rows_of(*games: Tuple[str, int]) -> List[Row]:
-    return [Row(deal, rotation, seat, "mine", 100 + seat, Outcome.PLAYED, 5, run=1, settings="x=1",
-                files="0123") for deal, rotation in games for seat in range(8)]
+def rows_of(*games: Tuple[int, int]) -> List[Row]:
+    return [Row("0a1b", rotation, seat, "mine", 100 + seat, Outcome.PLAYED, 5, settings="x=1",
+                files="0123", number=number) for number, rotation in games for seat in range(8)]
 
 
 class Folders(unittest.TestCase):
@@ -49,8 +54,8 @@ class Folders(unittest.TestCase):
         self.addCleanup(patch.stop)
 
     def plan(self, **more: Any) -> Plan:
-        plan = Plan([], Rule(), 4, 1, 1, 7, 0, 0.1, "words", 1.5, 2.5, None, [], self.out,
-                    settings={"turns": 40, "rooms": "16..16"}, agents={"mine": MINE})
+        plan = Plan([], Rule(seed=1), 4, 1, 1, 7, 0, 0.1, "words", 1.5, 2.5, [], self.out,
+                    Seating(1), settings={"turns": 40, "rooms": "16..16"}, agents={"mine": MINE})
         return replace(plan, **more)
 
     def begin(self, **more: Any) -> RunFolder:
@@ -72,13 +77,14 @@ class Folders(unittest.TestCase):
         run = self.begin()
         self.assertEqual((run.number, run.rows, run.told, run.finished), (1, [], [], set()))
         self.assertEqual(read_scores(self.out).rows, [])
-        run.out.write(text_of(rows_of(("1", 0))))
+        run.out.write(text_of(rows_of((1, 0))))
         value = self.value()
         self.assertEqual((value["tournament"], value["settings"]),
-                         (1, {"turns": 40, "rooms": "16..16"}))
+                         (2, {"turns": 40, "rooms": "16..16"}))
         self.assertEqual((len(value["tac"]), len(value["package"])), (64, 64))
         self.assertEqual(value["agents"], [{"name": "mine", "command": "mine.py", "words":
-                         ["mine.py"], "files": {"mine.py": "00"}, "digest": MINE.digest}])
+                         ["mine.py"], "files": {"mine.py": "00"}, "libraries": {},
+                          "digest": MINE.digest}])
         begun = value["runs"][0]
         self.assertEqual((begun["run"], begun["arguments"], begun["ended"]),
                          (1, ["--games", "4"], None))
@@ -88,20 +94,20 @@ class Folders(unittest.TestCase):
         self.assertEqual((ended["status"], ended["games"], ended["lost"]),
                          (1, 1, ["game 2.0 is lost: why"]))
         self.assertIsNotNone(ended["ended"])
-        self.assertEqual(read_scores(self.out).rows, rows_of(("1", 0)))
+        self.assertEqual(read_scores(self.out).rows, rows_of((1, 0)))
         self.assertTrue(is_run(self.out))
         self.assertFalse(is_run(self.place))
 
     def test_a_run_goes_on(self) -> None:
         first = self.begin()
-        first.out.write(text_of(rows_of(("1", 0), ("2", 0))))
+        first.out.write(text_of(rows_of((1, 0), (2, 0))))
         first.end(143, 2, [])
         second = self.begin(is_resumed=True)
         self.assertEqual((second.number, second.finished, second.told),
-                         (2, {("1", 0), ("2", 0)}, []))
-        second.out.write(text_of(rows_of(("3", 0))))
+                         (2, {(1, 0), (2, 0)}, []))
+        second.out.write(text_of(rows_of((3, 0))))
         second.end(0, 1, [])
-        self.assertEqual(read_scores(self.out).rows, rows_of(("1", 0), ("2", 0), ("3", 0)))
+        self.assertEqual(read_scores(self.out).rows, rows_of((1, 0), (2, 0), (3, 0)))
         runs = self.value()["runs"]
         self.assertEqual([(run["run"], run["status"], run["games"]) for run in runs],
                          [(1, 143, 2), (2, 0, 1)])
@@ -109,13 +115,13 @@ class Folders(unittest.TestCase):
 
     def test_what_is_half_written_is_told_and_taken_out(self) -> None:
         self.begin().end(0, 0, [])
-        whole = csv_of([HEAD]) + text_of(rows_of(("1", 0), ("2", 0)))
-        cases: List[Tuple[str, List[str], List[Tuple[str, int]]]] = [
-                (whole[:-5], ["was half written", "game 2.0 has 7 rows"], [("1", 0)]),
-                (whole + "3,0,0,mi", ["was half written"], [("1", 0), ("2", 0)]),
-                (whole.replace("2,0,3,mine,103", "2,0,3,mine,?"),
-                 ["is not a row", "2.0 has 7 rows"], [("1", 0)]),
-                (whole + text_of(rows_of(("2", 0))), ["2.0 has 16 rows"], [("1", 0)]),
+        whole = csv_of([HEAD]) + text_of(rows_of((1, 0), (2, 0)))
+        cases: List[Tuple[str, List[str], List[Tuple[int, int]]]] = [
+                (whole[:-5], ["was half written", "game 2.0 has 7 rows"], [(1, 0)]),
+                (whole + "3,0,0,mi", ["was half written"], [(1, 0), (2, 0)]),
+                (whole.replace("mine,103", "mine,?", 2).replace("mine,?", "mine,103", 1),
+                 ["is not a row", "2.0 has 7 rows"], [(1, 0)]),
+                (whole + text_of(rows_of((2, 0))), ["2.0 has 16 rows"], [(1, 0)]),
                 ("deal,rota", [], []), ("", [], [])]
         for text, told, left in cases:
             (self.out / "scores.csv").write_text(text)
@@ -130,10 +136,10 @@ class Folders(unittest.TestCase):
 
     def test_files_of_games_that_were_not_finished_are_removed(self) -> None:
         run = self.begin()
-        run.out.write(text_of(rows_of(("1", 0), ("my.v2-1", 1))))
+        run.out.write(text_of(rows_of((1, 0), (12, 1))))
         run.end(0, 2, [])
-        kept = ["1.0.game", "1.0.out.red", "my.v2-1.1.log", "notes.txt"]
-        for name in [*kept, "1.1.game", "2.0.log", "2.0.out.game", "my.v2-1.0.events"]:
+        kept = ["1.0.game", "1.0.out.red", "12.1.log", "notes.txt"]
+        for name in [*kept, "1.1.game", "2.0.log", "2.0.out.game", "12.0.events"]:
             (self.out / "games" / name).write_text("x")
         self.begin(is_resumed=True).end(0, 0, [])
         self.assertEqual(sorted(os.listdir(self.out / "games")), kept)
@@ -147,9 +153,13 @@ class Folders(unittest.TestCase):
         self.refused("its run began differently: turns is 20, not 40", is_resumed=True,
                      settings={"turns": 20, "rooms": "16..16"})
         other = replace(MINE, files={"mine.py": "01"})
-        self.refused("began differently: the files or words of mine differ", is_resumed=True,
-                     agents={"mine": other})
-        self.refused("turns is 41, not 40; the files or words of mine differ",
+        self.refused("began differently: the files, libraries or words of mine differ (mine.py)",
+                     is_resumed=True, agents={"mine": other})
+        self.refused("its deals are of the seed 1, not of the seed 1001", is_resumed=True,
+                     rule=Rule(seed=1001))
+        self.refused("the files, libraries or words of mine differ", is_resumed=True,
+                     agents={"mine": replace(MINE, libraries={"numpy": "2.0"})})
+        self.refused("turns is 41, not 40; the files, libraries or words of mine differ",
                      is_resumed=True, agents={"mine": replace(MINE, words=["mine.py", "-x"])},
                      settings={"turns": 41, "rooms": "16..16"})
 
@@ -160,9 +170,9 @@ class Folders(unittest.TestCase):
             self.refused("it is not the folder of a tournament: it has thesis.txt",
                          is_resumed=is_resumed)
         (self.out / "run.json").write_text("{}")
-        self.refused("its run.json is not of a tournament", is_resumed=True)
+        self.refused("run.json is not of a tournament of this version", is_resumed=True)
         (self.out / "run.json").write_text("no JSON")
-        self.refused("its run.json is not of a tournament", is_resumed=True)
+        self.refused("run.json is not of a tournament of this version", is_resumed=True)
         for file in self.out.iterdir():
             file.unlink()
         self.begin().end(0, 0, [])
@@ -174,6 +184,42 @@ class Folders(unittest.TestCase):
         self.refused("another tournament is writing to it", is_resumed=True)
         run.end(0, 0, [])
         self.begin(is_resumed=True).end(0, 0, [])
+
+    def test_where_a_file_system_has_no_locks_a_file_stands_for_one(self) -> None:
+        with mock.patch("fcntl.flock", side_effect=OSError(errno.ENOLCK, "No locks available")):
+            run = self.begin()
+            run.out.write(text_of(rows_of((1, 0))))
+            (self.out / "games" / "2.0.log").write_text("being played")
+            self.assertTrue(is_being_written(self.out))
+            self.refused(f"writing to it, process {os.getpid()} of {socket.gethostname()}",
+                         is_resumed=True)
+            run.end(0, 1, [])
+            self.assertFalse(is_being_written(self.out))
+            ended = get_context("fork").Process(target=int)
+            ended.start()
+            ended.join()
+            (self.out / ".lock").write_text(f"{socket.gethostname()} {ended.pid}")
+            self.begin(is_resumed=True).end(0, 0, [])
+            (self.out / ".lock").write_text("elsewhere 1")
+            self.refused("process 1 of elsewhere; if that has ended, remove", is_resumed=True)
+
+    def test_rows_are_sorted_at_the_end(self) -> None:
+        run = self.begin()
+        run.out.write(text_of(rows_of((10, 0), (2, 1), (2, 0))))
+        run.end(0, 3, [])
+        self.assertEqual(read_scores(self.out).rows, rows_of((2, 0), (2, 1), (10, 0)))
+
+    def test_names_with_separators_of_lines_are_read_back(self) -> None:
+        for name in ("a,b", "x\u2028y", "x\x0by", "x\x85y", 'a "b"'):
+            rows = [replace(row, agent=name) for row in rows_of((1, 0))]
+            self.assertEqual(read_rows(csv_of([HEAD]) + text_of(rows)).rows, rows)
+
+    def test_files_of_another_version_are_refused_with_a_line(self) -> None:
+        for head in ("deal,rotation,seat,agent,score,end,luck,kind",
+                     "deal,rotation,seat,agent,score,end,luck,kind,nights,first_price,run,settings,"
+                     "files"):
+            with self.assertRaisesRegex(ResultsError, "of this version"):
+                read_rows(head + "\n")
 
     def test_a_folder_that_cannot_be_made(self) -> None:
         self.out = SERVED_GAME / "x"
@@ -234,7 +280,7 @@ class Killed(unittest.TestCase):
         return (self.place / "printed").read_text()
 
     def finished(self) -> Set[str]:
-        return {f"{row.deal}.{row.rotation}" for row in read_scores(self.out).rows}
+        return {f"{row.number}.{row.rotation}" for row in read_scores(self.out).rows}
 
     def scores(self) -> str:
         file = self.out / "scores.csv"
@@ -273,7 +319,7 @@ class Killed(unittest.TestCase):
         self.assertFalse(finished & set(self.begun_games()[begun:]))
         rows = read_scores(self.out)
         self.assertEqual(rows.told, [])
-        self.assertEqual(sorted((int(row.deal), row.rotation, row.seat) for row in rows.rows),
+        self.assertEqual([(row.number, row.rotation, row.seat) for row in rows.rows],
                          [(deal, rotation, seat) for deal in range(1, self.GAMES // 2 + 1)
                           for rotation in range(2) for seat in range(8)])
         runs = json.loads((self.out / "run.json").read_text())["runs"]
@@ -284,8 +330,8 @@ class Killed(unittest.TestCase):
 
     def test_words_that_do_not_go_together(self) -> None:
         with mock.patch.dict(os.environ, {"TAC": self.tac}):
-            for told, words in (("--resume needs --out", ["--resume"]),
-                                ("leave --keep out", ["--out", str(self.out), "--keep", "x"]),
+            for told, words in (("name a new folder for the run with --out", ["--resume"]),
+                                ("--partial needs --join", ["--partial"]),
                                 ("--pool needs --join", ["--pool"])):
                 status, text = refusal("experiments.tournament", *words, "sh")
                 self.assertEqual((status, text.count("\n")), (2, 1))

@@ -7,7 +7,8 @@ import tempfile
 import unittest
 from pathlib import Path
 
-from geesefuton.experiments.results import Outcome, read_rows
+from geesefuton.experiments.results import Outcome
+from geesefuton.experiments.runs import read_scores
 from tests.helpers import PACKAGE, TOP, needs_program, needs_step, run
 
 # An agent that buys the trip of its first client, and one that fails in each of several ways.
@@ -69,7 +70,7 @@ class InTurns(unittest.TestCase):
             for name in ("plays.py", "quits.py"):
                 (Path(folder) / name).write_text(SEAT_BUYER.replace("{dear}", "325"))
             done = run("experiments.tournament", "plays.py", "quits.py", "--games", "4", "--turns",
-                       "2", "--summary", "s.json", cwd=folder)
+                       "2", "--seed", "1", "--out", "run", "--summary", "s.json", cwd=folder)
             self.assertEqual(done.returncode, 0, done.stderr)
             value = json.loads((Path(folder) / "s.json").read_text())
         by_name = {agent["agent"]: agent for agent in value["agents"]}
@@ -87,27 +88,39 @@ class Real(unittest.TestCase):
             place = Path(folder)
             (place / "buyer.py").write_text(BUYER)
             (place / "failing.py").write_text(FAILING)
-            # The first five seats of seed 1 are those of the failing agent but one.
-            agents = ["failing.py", "failing.py", "failing.py", "failing.py", "failing.py",
-                      "buyer.py", "buyer.py", "buyer.py"]
-            done = run("experiments.tournament", *agents, "--games", "1", "--pace", "25", "--start",
-                       "4", "--after", "0.5", "--keep", "kept", "--summary", "s.json", cwd=folder)
+            # Each of two has four seats, whose words end with nothing, `b`, `c` and `d`.
+            done = run("experiments.tournament", "failing.py", "buyer.py", "--games", "2", "--pace",
+                       "25", "--start", "4", "--after", "0.5", "--out", "run", "--summary",
+                       "s.json", cwd=folder)
             self.assertEqual(done.returncode, 0, done.stderr)
-            rows = read_rows(done.stdout, "scores")
+            rows = read_scores(place / "run").rows
             ends = sorted(row.end.value for row in rows if row.agent == "failing")
-            self.assertEqual(ends, ["absent", "crashed", "crashed", "hung", "refused"], done.stderr)
+            self.assertEqual(ends, sorted(2 * ["absent", "crashed", "crashed", "refused"]),
+                             done.stderr)
             for row in rows:
                 if row.agent == "buyer":
                     self.assertIs(row.end, Outcome.PLAYED)
                     self.assertNotEqual(row.score, 0)
             value = json.loads((place / "s.json").read_text())
             self.assertEqual(value["agents"][0]["agent"], "buyer")
-            self.assertEqual(value["agents"][1]["ends"], {"played": 0, "absent": 1, "crashed": 2,
-                                                          "hung": 1, "refused": 1})
-            self.assertTrue((place / "kept" / "1.0.log").read_text().startswith("taclog 1\n"))
+            self.assertEqual(value["agents"][1]["ends"], {"played": 0, "absent": 2, "crashed": 4,
+                                                          "hung": 0, "refused": 2})
+            log = place / "run" / "games" / "1.0.log"
+            self.assertTrue(log.read_text().startswith("taclog 1\n"))
             self.assertTrue(re.search("failing at seat [0-7] .failingb. counts as crashed: ended "
                                       "with status 1; its last line: ValueError: before the game",
                                       done.stderr))
+            made = run("experiments.deals_command", place / "run")
+            self.assertEqual((made.returncode, made.stdout, made.stderr),
+                             (0, "2 of 2 games are those of the secret\n", ""))
+            game = place / "run" / "games" / "1.1.game"
+            text = game.read_text()
+            first = next(line for line in text.split("\n") if line.startswith("endow 3"))
+            game.write_text(text.replace(first, f"endow 3 {'0 ' * 11}1"))
+            made = run("experiments.deals_command", place / "run")
+            self.assertEqual((made.returncode, made.stdout, made.stderr), (
+                1, "1 of 2 games are those of the secret\n",
+                f"deals: {game}: it is not the game of the secret\n"))
 
     def test_it_runs_from_a_clone(self) -> None:
         done = subprocess.run([str(TOP / "tools" / "tournament"), "--help"], check=False,

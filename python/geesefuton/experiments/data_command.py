@@ -152,11 +152,7 @@ def _scores(kept: KeptGame) -> Iterator[Cells]:
     for row, score, gains in zip(kept.rows, kept.log.scores, gains_of(kept.log)):
         yield (row.seat, row.agent, score.best, gains.flights, gains.hotels, gains.tickets,
                score.short, PENALTY * score.short, score.cash, score.score, row.end.value, row.luck,
-               _number(row.nights), _number(row.first_price), row.files)
-
-
-def _number(value: object) -> object:
-    return "" if value is None else value
+               row.nights, row.first_price, row.files)
 
 
 def _trips(kept: KeptGame) -> Iterator[Cells]:

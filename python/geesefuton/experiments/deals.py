@@ -1,19 +1,25 @@
-"""The deals of a tournament, and which agent has which seat.
+"""The deals of a tournament: what is fixed before a game, which are clients, tickets, flights, and
+the order of the hotels.
 
-A deal is what is fixed before a game: clients, tickets, flights, and the order of the hotels. If
-seats are swapped, each deal is played once for each agent, and each time every seat has the next
-agent. So each agent plays each client of the deal once.
+A run draws its deals from a secret (`records.secret_deals`), or from seeds that are known, or it
+has the one deal of a game file. Deals with the same text are the same deal, in whatever run.
 """
 
+import hashlib
+import json
+import os
 from dataclasses import dataclass
+from functools import cached_property
 from pathlib import Path
-from typing import Container, Iterator, List, Optional, Sequence, Tuple, TypeVar
+from typing import Container, Dict, Iterator, Optional, Tuple
 
 from geesefuton import program
 from geesefuton.records.drawing import classic_endowments, drawn_rooms
-from geesefuton.records.games import MOST_ROOMS, SEATS, Game, GameError, read_game
+from geesefuton.records.games import MOST_ROOMS, Game, GameError, read_game
+from geesefuton.records.secret_deals import commitment, deal_seed, new_secret, read_secret
 
-Item = TypeVar("Item")
+SHORT = 12  # digits of a digest in a row
+RUN, SECRET = "run.json", "secret"  # files in the folder of a run
 
 
 class DealError(Exception):
@@ -25,18 +31,30 @@ class Rule:
     """How the deals are made.
 
     Attributes:
-        seed: The seed of the first one.
+        secret: What deals and agents' seeds are drawn from.
+        seed: The seed of the first deal, if the seeds are known; then each has the next one.
         file: A game file that is played each time in place of made games.
         rooms: The least and the most rooms of a hotel night; None for 16.
         live: Whether each admitted bid publishes a hotel's price.
         is_clumped: Whether tickets are endowed as in the original game (`classic_endowments`).
     """
 
-    seed: int = 1
+    secret: bytes = bytes(32)
+    seed: Optional[int] = None
     file: Optional[Path] = None
     rooms: Optional[Tuple[int, int]] = None
     live: bool = False
     is_clumped: bool = False
+
+    @property
+    def drawn(self) -> Dict[str, object]:
+        """What is told from the start of how deals are drawn: their seed, or the secret's
+        commitment."""
+        return {"commitment": commitment(self.secret)} if self.seed is None else {"seed": self.seed}
+
+    def seed_of(self, number: int) -> int:
+        """The seed of the deal of a number, from 1."""
+        return deal_seed(self.secret, number) if self.seed is None else self.seed + number - 1
 
 
 @dataclass(frozen=True)
@@ -44,14 +62,19 @@ class Deal:
     """A deal.
 
     Attributes:
-        name: Its seed, or the name of its file and a number.
-        shift: By how many places the agents are shifted in its first game.
+        number: Its number in the run, from 1.
         game: Its game, with the seat words of the file or of made games.
     """
 
-    name: str
-    shift: int
+    number: int
     game: Game
+
+    @cached_property
+    def name(self) -> str:
+        """The first digits of the SHA-256 of its canonical text without the line of words."""
+        lines = self.game.text().split("\n")
+        text = "\n".join(line for line in lines if not line.startswith("words "))
+        return hashlib.sha256(text.encode()).hexdigest()[:SHORT]
 
 
 @dataclass(frozen=True)
@@ -64,7 +87,7 @@ class Table:
     @property
     def name(self) -> str:
         """A name for its files."""
-        return f"{self.deal.name}.{self.rotation}"
+        return f"{self.deal.number}.{self.rotation}"
 
 
 def read_rooms(text: str) -> Tuple[int, int]:
@@ -82,29 +105,23 @@ def read_rooms(text: str) -> Tuple[int, int]:
     return low, high
 
 
-def name_of_deal(rule: Rule, number: int) -> str:
-    """The name of the deal of a number, from 0."""
-    return str(rule.seed + number) if rule.file is None else f"{rule.file.stem}-{number + 1}"
-
-
 def made_deal(rule: Rule, number: int) -> Deal:
-    """The deal of a number, from 0.
+    """The deal of a number, from 1.
 
     Raises:
         DealError: The file cannot be read, or is no game file.
         ProgramError: `tac make` refused.
     """
-    name = name_of_deal(rule, number)
     if rule.file is not None:
-        return Deal(name, number, _read(rule.file))
-    seed = rule.seed + number
+        return Deal(number, _read(rule.file))
+    seed = rule.seed_of(number)
     game = read_game(program.make(seed))
     if rule.rooms is not None or rule.live:
         rooms = drawn_rooms(seed, *rule.rooms) if rule.rooms else game.rooms
         game = game.with_rooms(rooms, rule.live)
     if rule.is_clumped:
         game = game.with_endowments(classic_endowments(seed))
-    return Deal(name, seed, game)
+    return Deal(number, game)
 
 
 def _read(file: Path) -> Game:
@@ -116,26 +133,77 @@ def _read(file: Path) -> Game:
         raise DealError(f"{file}: {fault}") from None
 
 
+def place_of(rule: Rule, number: int, rotations: int) -> Tuple[int, int]:
+    """The number of the deal, and the rotation, of the game of a number, from 0. All games of a
+    file are of one deal.
+
+    Args:
+        rule: How the deals are made.
+        number: Which game it is.
+        rotations: How many there are of each deal.
+    """
+    return (1, number) if rule.file else (number // rotations + 1, number % rotations)
+
+
 def tables(rule: Rule, games: int, rotations: int,
-           finished: Container[Tuple[str, int]] = ()) -> Iterator[Table]:
+           finished: Container[Tuple[int, int]] = ()) -> Iterator[Table]:
     """The games of a tournament in order, all games of a deal one after the other.
 
     Args:
         rule: How the deals are made.
         games: How many games there are in all.
         rotations: How many there are of each deal.
-        finished: Those that are left out, by the names of their deals and their rotations.
+        finished: Those that are left out, by the numbers of their deals and their rotations.
     """
     deal: Optional[Deal] = None
-    for number in range(games):
-        name, rotation = name_of_deal(rule, number // rotations), number % rotations
-        if (name, rotation) not in finished:
-            if deal is None or deal.name != name:
-                deal = made_deal(rule, number // rotations)
+    for game in range(games):
+        number, rotation = place_of(rule, game, rotations)
+        if (number, rotation) not in finished:
+            if deal is None or deal.number != number:
+                deal = made_deal(rule, number)
             yield Table(deal, rotation)
 
 
-def seated(items: Sequence[Item], table: Table) -> List[Item]:
-    """Which of the agents has each of the eight seats."""
-    shift = table.deal.shift + table.rotation
-    return [items[(shift + seat) % len(items)] for seat in range(SEATS)]
+def shared_secret(file: Path) -> bytes:
+    """The secret that a file has, which nobody else can read; it is made where there is none.
+
+    Raises:
+        DealError: The file has something else.
+        OSError: It cannot be read or written.
+    """
+    file.parent.mkdir(parents=True, exist_ok=True)
+    new = file.with_name(f".{file.name}.{os.getpid()}")
+    with open(new, "x", encoding="ascii",
+              opener=lambda name, how: os.open(name, how, 0o600)) as text:
+        text.write(new_secret().hex() + "\n")
+        text.flush()
+        os.fsync(text.fileno())
+    try:
+        os.link(new, file)  # so that it is there whole, and of two that make it the first one counts
+    except FileExistsError:
+        pass
+    finally:
+        new.unlink()
+    return _read_secret(file)
+
+
+def kept_secret(folder: Path) -> Optional[bytes]:
+    """The secret of a run that is in a folder; None if it has none.
+
+    Raises:
+        DealError: A file has something else.
+        OSError: A file cannot be read.
+    """
+    if (folder / SECRET).exists():
+        return _read_secret(folder / SECRET)
+    try:
+        return read_secret(json.loads((folder / RUN).read_bytes())["deals"][SECRET])
+    except (FileNotFoundError, ValueError, LookupError, TypeError):
+        return None
+
+
+def _read_secret(file: Path) -> bytes:
+    try:
+        return read_secret(file.read_text(encoding="ascii").strip())
+    except ValueError:
+        raise DealError(f"{file}: it has no secret of a run") from None

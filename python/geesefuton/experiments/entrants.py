@@ -12,6 +12,7 @@ from string import ascii_lowercase
 from typing import Dict, List, Sequence, Tuple
 
 PACKAGE = Path(__file__).resolve().parents[2]  # the folder that the package is imported from
+MISSING = {"NA", "N/A", "NULL", "null", "None", "nan", "NaN", "n/a", "<NA>"}  # as tables are read
 
 
 class EntrantError(Exception):
@@ -63,6 +64,8 @@ def read_entrant(command: str) -> Entrant:
     files = [word for word in words[1:] if Path(word).is_file()]  # as in `java -jar mine.jar -x 5`
     stem = Path(first if first.endswith(".py") else (files or words)[-1]).stem
     root = re.sub("[^a-z0-9]", "", stem.lower())[:12] or "agent"
+    if not command.isprintable():
+        raise EntrantError(f"{command!r} has characters that cannot be printed in a table")
     return Entrant(command, tuple(run + words[1:]), stem, root)
 
 
@@ -77,7 +80,7 @@ def read_entrants(commands: Sequence[str]) -> List[Entrant]:
     to it, and their commands as names where these are the same.
 
     Raises:
-        EntrantError: One of them cannot be run.
+        EntrantError: One of them cannot be run, or its name would read as a missing value.
     """
     entrants = [read_entrant(command) for command in commands]
     different = {entrant.command: entrant for entrant in entrants}  # one may be given twice
@@ -94,8 +97,25 @@ def read_entrants(commands: Sequence[str]) -> List[Entrant]:
         if names[name] > 1:
             name = _variant(entrant)
             name = entrant.command if variants[name] > 1 else name
+        if name in MISSING:
+            raise EntrantError(f"an agent called {name} reads as missing in a table: rename it")
         apart.append(replace(entrant, name=name, root=root))
     return apart
+
+
+def refuse_twins(entrants: Sequence[Entrant]) -> None:
+    """Refuses an agent that is given twice.
+
+    Raises:
+        EntrantError: Two agents have the same name, or are run by the same words.
+    """
+    seen: Dict[Tuple[str, ...], str] = {}
+    for entrant in entrants:
+        for key in (entrant.words, (entrant.name,)):
+            if key in seen:
+                raise EntrantError(f"{seen[key]} and {entrant.command} are the same agent: name "
+                                   "each once (--against fills the other seats)")
+        seen.update({entrant.words: entrant.command, (entrant.name,): entrant.command})
 
 
 def seat_words(entrants: Sequence[Entrant]) -> List[str]:

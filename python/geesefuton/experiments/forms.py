@@ -7,10 +7,12 @@ from typing import Any, Callable, Dict, List, Optional, Sequence
 from geesefuton.experiments.comparisons import LEVEL, POWER, Estimate
 from geesefuton.experiments.results import Kind, Outcome
 from geesefuton.experiments.summary import Difference, Standing, Summary
+from geesefuton.records.games import TICKS
 from geesefuton.records.tables import csv_of
 
 MARK = "*"  # at a mean with seats that nobody took
 ADJUSTED = "adjusted for the draw"
+MOST_MISSED = 0.1  # of the ticks, without a warning
 
 
 def number_text(value: Optional[Estimate]) -> str:
@@ -55,15 +57,10 @@ def _reasons(standing: Standing) -> str:
 
 def _kinds(summary: Summary) -> List[str]:
     """How the games were played, if some of them were in turns."""
-    lines = []
-    for name, kinds in (("in turns", (Kind.TURNS, Kind.UNREPEATABLE)),
-                        ("in turns in the former order, with seat 0 always first",
-                         (Kind.FORMER_TURNS, Kind.FORMER_UNREPEATABLE))):
-        turns, broken = (summary.kinds.get(kind, 0) for kind in kinds)
-        if turns + broken:
-            lines.append(f"{name}: {count_text(turns, 'game')} that can be repeated" +
-                         (f", and {broken} in which an agent was passed over" if broken else ""))
-    return lines
+    turns, broken = (summary.kinds.get(kind, 0) for kind in (Kind.TURNS, Kind.UNREPEATABLE))
+    told = f"in turns: {count_text(turns, 'game')} that can be repeated"
+    told += f", and {broken} in which an agent was passed over" if broken else ""
+    return [told] if turns + broken else []
 
 
 def _way(pair: Difference) -> str:
@@ -115,6 +112,12 @@ def _below_pairs(pairs: Sequence[Difference], summary: Summary) -> List[str]:
 def undecided(summary: Summary) -> List[str]:
     """What the games do not tell, each in a line."""
     lines = []
+    if summary.games < summary.planned:
+        lines.append(f"{summary.games} of {summary.planned} planned games were played"
+                     + (": the run was stopped" if summary.is_stopped else ""))
+    lines += [f"{shown(standing.agent)} missed {standing.missed:.0f} of {TICKS} ticks in the mean: "
+              "it had too few turns, or too little time" for standing in summary.standings
+              if standing.missed is not None and standing.missed > MOST_MISSED * TICKS]
     if len(summary.standings) == 1:
         lines.append("one agent: there is nothing to compare")
     if summary.deals == 1:
@@ -191,14 +194,16 @@ def as_json(summary: Summary) -> str:
     agents = [{"agent": standing.agent, "seats": standing.seats,
                "ends": {end.value: standing.ends.get(end, 0) for end in Outcome},
                "score": of(standing.score), "played": of(standing.played), "luck": standing.luck,
-               "adjusted": of(standing.adjusted)} for standing in summary.standings]
+               "adjusted": of(standing.adjusted), "missed_ticks": standing.missed}
+              for standing in summary.standings]
     pairs = [{"first": pair.first, "second": pair.second, "score": of(pair.score),
               "adjusted": of(pair.adjusted), "paired_by": _way(pair) if pair.score else None,
               "left_out": pair.left_out, "all_pairs_half": pair.bonferroni,
               "student_p": pair.student, "holm_p": pair.holm, "wilcoxon_p": pair.wilcoxon,
               "deals_needed": pair.needed}
              for pair in summary.differences]
-    value = {"games": summary.games, "deals": summary.deals, "level": LEVEL,
+    value = {"planned": summary.planned or summary.games, "stopped": summary.is_stopped,
+             "games": summary.games, "deals": summary.deals, "level": LEVEL,
              "kinds": {kind.value: count for kind, count in summary.kinds.items()},
              "detect": summary.detect, "agents": agents, "differences": pairs,
              "groups": summary.groups, "undecided": undecided(summary), "lost": summary.lost}

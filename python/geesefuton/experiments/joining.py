@@ -2,76 +2,106 @@
 
 Results belong together if their games were played in the same way, with the same settings, by the
 same agents with the same files, and no game occurs twice. Otherwise the differences are reported,
-and nothing is summarized; as pools, each group that belongs together has a name of its own.
+and nothing is summarized; as pools, each group that belongs together has a name of its own. A run
+that lacks games is refused, too, unless its whole deals are enough.
 """
 
 from collections import Counter
 from dataclasses import dataclass, replace
 from pathlib import Path
-from typing import Dict, FrozenSet, List, Mapping, Optional, Sequence, Set, Tuple
+from typing import Dict, List, Optional, Sequence, Set, Tuple
 
 from geesefuton.experiments.provenance import read_settings, unlike
-from geesefuton.experiments.results import Kind, ResultsError, Row, read_rows
-from geesefuton.experiments.runs import SCORES, RunError, is_run, read_scores
+from geesefuton.experiments.results import Kind, Row
+from geesefuton.experiments.runs import (SCORES, RunError, is_run, read_record, read_scores)
 from geesefuton.processes import why
 
-WAYS = {Kind.SERVED: "by the clock", Kind.TURNS: "in turns", Kind.UNREPEATABLE: "in turns",
-        Kind.FORMER_TURNS: "in turns in the former order",
-        Kind.FORMER_UNREPEATABLE: "in turns in the former order"}
-OF_DEALS = ("game", "rooms", "live", "endow")  # the settings that make a seed's deal another
+WAYS = {Kind.SERVED: "by the clock", Kind.TURNS: "in turns", Kind.UNREPEATABLE: "in turns"}
 
 
 @dataclass(frozen=True)
 class Source:
-    """What one file or folder has.
+    """What one folder has.
 
     Attributes:
         name: As it was given.
         rows: Its rows, one or more.
+        planned: How many games it was to have.
+        stopped: Whether its last run did not end by itself.
+        lost: What its last run lost, each in a line.
     """
 
     name: str
     rows: Sequence[Row]
+    planned: int = 0
+    is_stopped: bool = False
+    lost: Sequence[str] = ()
 
     @property
     def label(self) -> str:
-        """A short name: the folder's, or the file's without its suffix."""
-        path = Path(self.name)
-        return path.stem if path.suffix == ".csv" else path.name or self.name
+        """A short name: the folder's."""
+        return Path(self.name).name or self.name
+
+    @property
+    def played(self) -> int:
+        """How many games it has."""
+        return len({row.place for row in self.rows})
 
 
 def read_source(path: Path) -> Tuple[Optional[Source], List[str]]:
-    """Reads a CSV, or the folder of a run.
+    """Reads the folder of a run.
 
     Returns:
         What it has, None if that is nothing, and what is to be told, each in a line.
     """
     try:
-        if path.is_dir():
-            if not is_run(path):
-                within = sorted(each.name for each in path.iterdir() if is_run(each))
-                hint = f", but contains {', '.join(within)}"
-                return None, [f"{path}: it is not the folder of a tournament's run"
-                              f"{hint if within else ''}"]
-            found = read_scores(path)
-            rows, told = found.rows, [f"{path / SCORES}: {text}; its game is left out"
-                                      for text in found.told]
-        else:
-            text = path.read_text(encoding="utf-8", errors="replace")
-            rows, told = read_rows(text, str(path)), []
-    except (ResultsError, RunError) as fault:
+        if not is_run(path):
+            within = sorted(each.name for each in path.iterdir() if is_run(each)) \
+                if path.is_dir() else []
+            return None, [f"{path}: it is not the folder of a tournament's run"
+                          + (f", but contains {', '.join(within)}" if within else "")]
+        record, found = read_record(path), read_scores(path)
+    except RunError as fault:
         return None, [str(fault)]
     except OSError as fault:
         return None, [f"{path}: {why(fault)}"]
-    if not rows:
+    told = [f"{path / SCORES}: {text}; its game is left out" for text in found.told]
+    if not found.rows:
         return None, [*told, f"{path}: it has no games"]
-    return Source(str(path), rows), told
+    last = record["runs"][-1] if record["runs"] else {}
+    return Source(str(path), found.rows, int(record.get("planned", 0)),
+                  last.get("ended") is None or last.get("status", 0) > 128,
+                  last.get("lost", [])), told
+
+
+def missing(source: Source) -> str:
+    """What a source lacks of its plan; "" if it has all."""
+    if source.played >= source.planned and not source.lost:
+        return ""
+    how = "it was stopped" if source.is_stopped else f"{len(source.lost)} were lost"
+    return f"{source.name}: {source.played} of {source.planned} games were played ({how})"
+
+
+def whole_deals(source: Source) -> Tuple[Source, int]:
+    """A source with the deals alone of which it has all games, and how many it has only in part."""
+    settings = read_settings(source.rows[0].settings)
+    size = int(settings.get("rotations", 1))
+
+    def deal_of(row: Row) -> Tuple[int, int]:
+        return (row.number, row.rotation // size) if "game" in settings else (row.number, 0)
+
+    games: Dict[Tuple[int, int], Set[int]] = {}
+    for row in source.rows:
+        games.setdefault(deal_of(row), set()).add(row.rotation)
+    whole = {deal for deal, rotations in games.items() if len(rotations) == size}
+    return replace(source, rows=[row for row in source.rows if deal_of(row) in whole]), \
+        len(games) - len(whole)
 
 
 def differences(first: Source, other: Source) -> List[str]:
     """Why the rows of two sources do not belong together, each in a line; none if they do."""
     texts = [*_unlike_kinds(first, other), *_unlike_settings(first, other),
-             *_unlike_agents(first, other), *_unlike_files(first, other)]
+             *_unlike_files(first, other)]
     return [f"{other.name} does not belong to {first.name}: {text}" for text in texts]
 
 
@@ -84,43 +114,15 @@ def _unlike_kinds(first: Source, other: Source) -> List[str]:
 
 def _unlike_settings(first: Source, other: Source) -> List[str]:
     ours, theirs = ({row.settings for row in source.rows} for source in (first, other))
-    for our in sorted(ours):
-        for their in sorted(theirs):
-            if our != their and not (our and their):
-                return ["the settings of one of them are unknown, as in files of earlier versions"]
-            if our != their:
-                return unlike(read_settings(our), read_settings(their))
-    return []
-
-
-def _seats(source: Source) -> Set[FrozenSet[Tuple[str, int]]]:
-    """How many seats each agent has in a game, for each game."""
-    games: Dict[Tuple[str, int], Dict[str, int]] = {}
-    for row in source.rows:
-        games.setdefault(row.game, Counter())[row.agent] += 1
-    return {frozenset(counts.items()) for counts in games.values()}
-
-
-def _unlike_agents(first: Source, other: Source) -> List[str]:
-    """What differs in the agents, by the rows alone; settings have them in their order."""
-    if any(row.settings for row in [*first.rows, *other.rows]):
-        return []
-    ours, theirs = ({row.agent for row in source.rows} for source in (first, other))
-    if ours != theirs:
-        return [f"its agents are {', '.join(sorted(theirs))}, not {', '.join(sorted(ours))}"]
-    ours_seats, their_seats = _seats(first), _seats(other)
-    if len(ours_seats) == len(their_seats) == 1 and ours_seats != their_seats:
-        own, their = (", ".join(f"{count} of {agent}" for agent, count in sorted(next(iter(seats))))
-                      for seats in (ours_seats, their_seats))
-        return [f"its games have {their}, not {own}"]
-    return []
+    return next((unlike(read_settings(our), read_settings(their)) for our in sorted(ours)
+                 for their in sorted(theirs) if our != their), [])
 
 
 def _unlike_files(first: Source, other: Source) -> List[str]:
     files: Dict[str, Set[str]] = {}
     for row in [*first.rows, *other.rows]:
         files.setdefault(row.agent, set()).add(row.files)
-    return [f"the files or words of {agent} differ" for agent, digests in files.items()
+    return [f"the files, libraries or words of {agent} differ" for agent, digests in files.items()
             if len(digests) > 1]
 
 
@@ -130,9 +132,10 @@ def twice(sources: Sequence[Source]) -> List[str]:
     told: Dict[Tuple[str, str], List[str]] = {}
     for source in sources:
         for row in source.rows:
-            key = (*row.game, row.seat)
+            key = (row.deal, row.rotation, row.seat)
             if key in seen:
-                told.setdefault((seen[key], source.name), []).append(f"{row.deal}.{row.rotation}")
+                told.setdefault((seen[key], source.name), []).append(
+                    f"{row.number}.{row.rotation}")
             seen.setdefault(key, source.name)
     lines = []
     for (first, other), games in told.items():
@@ -154,7 +157,7 @@ def pooled(sources: Sequence[Source]) -> Tuple[List[Row], List[str]]:
     """The rows of sources as pools, and what is there twice in one of them.
 
     What belongs together is one pool, called by its first source; agents are called by their pools,
-    too. Deals of pools whose games are made otherwise are told apart.
+    too, and the games of each pool are its own.
     """
     pools: List[List[Source]] = []
     for source in sources:
@@ -164,14 +167,9 @@ def pooled(sources: Sequence[Source]) -> Tuple[List[Row], List[str]]:
             pools.append([source])
         else:
             pool.append(source)
-    labels = _labels([pool[0] for pool in pools])
-    makings = [_making(read_settings(pool[0].rows[0].settings)) for pool in pools]
-    rows: List[Row] = []
-    for pool, label, making in zip(pools, labels, makings):
-        first = makings.index(making)
-        mark = f"{labels[first]}:" if first else ""
-        rows += [replace(row, agent=f"{row.agent} in {label}", deal=mark + row.deal)
-                 for source in pool for row in source.rows]
+    rows = [replace(row, agent=f"{row.agent} in {label}", source=label)
+            for pool, label in zip(pools, _labels([pool[0] for pool in pools]))
+            for source in pool for row in source.rows]
     return rows, [line for pool in pools for line in twice(pool)]
 
 
@@ -179,7 +177,3 @@ def _labels(sources: Sequence[Source]) -> List[str]:
     """Short names of sources, or their whole ones where short ones are alike."""
     counts = Counter(source.label for source in sources)
     return [source.label if counts[source.label] == 1 else source.name for source in sources]
-
-
-def _making(settings: Mapping[str, str]) -> List[Optional[str]]:
-    return [settings.get(name) for name in OF_DEALS]

@@ -57,16 +57,15 @@ class KeptGame:
 
 def name_of(rows: Sequence[Row]) -> str:
     """The name of a game's files."""
-    return f"{rows[0].deal}.{rows[0].rotation}"
+    return f"{rows[0].number}.{rows[0].rotation}"
 
 
 def games_of(rows: Iterable[Row]) -> List[List[Row]]:
     """The rows of each game by seat, the games in the order of their deals and rotations."""
-    games: Dict[Tuple[str, int], List[Row]] = defaultdict(list)
+    games: Dict[Tuple[int, int], List[Row]] = defaultdict(list)
     for row in rows:
-        games[row.game].append(row)
-    return [sorted(games[game], key=lambda row: row.seat) for game in sorted(
-        games, key=lambda game: (not game[0].isdigit(), len(game[0]), game))]
+        games[row.place].append(row)
+    return [sorted(games[place], key=lambda row: row.seat) for place in sorted(games)]
 
 
 def read_games(folder: Path, rows: Iterable[Row], told: List[str]) -> Iterator[KeptGame]:

@@ -6,7 +6,6 @@ sends back events of the lobby, notes, and at the end a `Result`. It hosts the g
 not outlive it.
 """
 
-import hashlib
 import os
 import re
 import subprocess
@@ -88,13 +87,11 @@ def _how(exited: Exit, reason: Optional[End]) -> str:
     return "ended without taking its seat" if reason is End.ABSENT else ""
 
 
-def repeated(name: str) -> Dict[str, str]:
+def repeated(seed: int) -> Dict[str, str]:
     """The variables of an agent that is to do the same each time: the number from which it draws,
-    `AGENT_SEED`, made from a name, the order in which Python goes over a set, and that no reply
-    comes too late, however long the others think."""
-    digest = hashlib.sha256(name.encode()).digest()
-    return {"AGENT_SEED": str(int.from_bytes(digest[:4], "big")), "PYTHONHASHSEED": "0",
-            "AGENT_LIMIT": "0"}
+    the order in which Python goes over a set, and that no reply comes too late, however long the
+    others think."""
+    return {"AGENT_SEED": str(seed), "PYTHONHASHSEED": "0", "AGENT_LIMIT": "0"}
 
 
 class Match:
@@ -127,7 +124,7 @@ class Match:
                 settings = LobbySettings(
                     game=self._game, port=0, pace=job.pace, log=self._log, form=job.form,
                     start=job.start, linger=job.linger, patience=max(job.start, PATIENCE),
-                    journal=journal if job.is_kept and not job.turns else None, orders=orders)
+                    journal=None if job.turns else journal, orders=orders)
                 turns = TurnServer(job.turns, job.patience) if job.turns else None
                 lobby = Lobby(settings, turns)
                 self._start_agents(lobby.port)
@@ -139,7 +136,7 @@ class Match:
                 finally:
                     over.set()
                     watcher.join()
-                if turns and job.is_kept:
+                if turns:
                     script = b"".join(turns.script)
                     (job.folder / f"{job.name}.script").write_bytes(script)
             except (LobbyError, program.ProgramError) as fault:
@@ -167,7 +164,7 @@ class Match:
         for seat, (entrant, word) in enumerate(zip(job.entrants, job.words)):
             words = [*limited, *entrant.words, "localhost", str(port), word, "--pause", str(pause)]
             if job.turns:
-                variables.update(repeated(f"{job.name} {seat}"))
+                variables.update(repeated(job.seeds[seat]))
             with self._printed(seat).open("wb") as out:
                 self._running[seat] = self._children.start(
                     words, stdin=subprocess.DEVNULL, stdout=out, stderr=subprocess.STDOUT,
@@ -219,21 +216,22 @@ class Match:
             scores = tuple(score.score for score in read_scores(text))
         except (LogError, program.ProgramError) as fault:
             return Result(fault=f"its log: {fault}")
-        outcomes = []
+        outcomes, missed = [], []
         for seat in range(len(job.words)):
             reason, exited = self._ends.get(seat, End.ABSENT), self._exits[seat]
             outcomes.append(outcome_of(reason, exited, self._was_refused(seat),
                                        self._was_asking(seat)))
             self._tell(seat, exited, reason, outcomes[-1])
+            missed.append(self._missed(seat))
             self._shorten(seat)
         if passed is None:
-            return Result(scores, tuple(outcomes))
+            return Result(scores, tuple(outcomes), missed=tuple(missed))
         for seat, count in enumerate(passed):
             if count:
                 self._send(Note(f"{self._name(seat)} was passed over in {count} turns, so the game "
                                 "cannot be repeated"))
         kind = Kind.UNREPEATABLE if any(passed) else Kind.TURNS
-        return Result(scores, tuple(outcomes), kind=kind)
+        return Result(scores, tuple(outcomes), kind=kind, missed=tuple(missed))
 
     def _name(self, seat: int) -> str:
         return f"{self._job.entrants[seat].name} at seat {seat} ({self._job.words[seat]})"
@@ -260,9 +258,17 @@ class Match:
         text = f"{self._name(seat)} "
         told = [f"counts as {outcome.value}" if outcome is not Outcome.PLAYED else "", how]
         text += ": ".join(part for part in told if part)
-        printed = self._printed(seat).read_bytes()[-2000:].decode("utf-8", "replace").strip()
-        last = printed.split("\n")[-1][:120]
+        last = self._last_printed(seat).split("\n")[-1][:120]
         self._send(Note(text + (f"; its last line: {last}" if last else "")))
+
+    def _last_printed(self, seat: int) -> str:
+        """The end of what an agent printed."""
+        return self._printed(seat).read_bytes()[-2000:].decode("utf-8", "replace").strip()
+
+    def _missed(self, seat: int) -> Optional[int]:
+        """In how many ticks an agent could not act in time, by what it printed last."""
+        told = re.findall(r"missed ([0-9]{1,2}) of [0-9]+ ticks", self._last_printed(seat))
+        return int(told[-1]) if told else None
 
     def _shorten(self, seat: int) -> None:
         """Keeps only the last bytes of what an agent printed, if it is much."""

@@ -8,11 +8,12 @@ from __future__ import annotations
 
 from dataclasses import dataclass
 from pathlib import Path
-from typing import Tuple, Union
+from typing import Optional, Tuple, Union
 
 from geesefuton.experiments.entrants import Entrant
 from geesefuton.experiments.results import Kind, Outcome
 from geesefuton.hosting import events
+from geesefuton.records.games import SEATS
 
 PATIENCE = 30.0  # seconds for the first line of a link, and in turns for each line
 
@@ -28,17 +29,17 @@ class Job:
     Attributes:
         name: The name of its files.
         folder: Where they are written: NAME.game, NAME.log, NAME.events, NAME.out.WORD with what
-            an agent printed, and if all is kept NAME.script in turns or NAME.journal by the clock.
+            an agent printed, and NAME.script in turns or NAME.journal by the clock.
         game: The text of the game file.
         entrants: The agents of the eight seats.
         words: Their seat words.
+        seeds: What they draw from in a game in turns.
         form: What they speak, `words` or `json`.
         pace: The milliseconds from tick to tick.
         start: The seconds that the game waits for its agents.
         linger: The seconds after the last tick until the links that are left are ended.
         turns: How many turns each agent has between two ticks; 0 for a game by the clock.
         patience: In turns: the seconds without a word after which an agent is passed over.
-        is_kept: Whether the files are kept, and so all that was asked is written.
     """
 
     name: str
@@ -46,13 +47,13 @@ class Job:
     game: str
     entrants: Tuple[Entrant, ...]
     words: Tuple[str, ...]
+    seeds: Tuple[int, ...]
     form: str = "words"
     pace: int = 100
     start: float = 20.0
     linger: float = 5.0
     turns: int = 0
     patience: float = PATIENCE
-    is_kept: bool = False
 
 
 @dataclass(frozen=True)
@@ -71,12 +72,14 @@ class Result:
         outcomes: How each seat's game went.
         fault: Why the game was lost; "" if it was not.
         kind: How it was played.
+        missed: In how many ticks each agent says that it could not act; None where it does not say.
     """
 
     scores: Tuple[int, ...] = ()
     outcomes: Tuple[Outcome, ...] = ()
     fault: str = ""
     kind: Kind = Kind.SERVED
+    missed: Tuple[Optional[int], ...] = (None,) * SEATS
 
 
 Message = Union[events.Event, Note, Result]

@@ -1,26 +1,29 @@
 """The plan of a tournament, read from its command line."""
 
 import argparse
-import hashlib
+import os
+import platform
 from dataclasses import dataclass, field, replace
 from pathlib import Path
 from typing import Dict, List, Mapping, Optional, Sequence, Tuple
 
 from geesefuton import program
 from geesefuton.arguments import Parser, seconds, whole
-from geesefuton.experiments.deals import DealError, Rule, Table, read_rooms, seated, tables
-from geesefuton.experiments.entrants import Entrant, EntrantError, read_entrants
+from geesefuton.experiments.deals import (SHORT, DealError, Rule, Table, kept_secret, made_deal,
+                                          read_rooms, shared_secret)
+from geesefuton.experiments.entrants import Entrant, EntrantError, read_entrants, refuse_twins
 from geesefuton.experiments.forms import FORMS
 from geesefuton.experiments.messages import PATIENCE
-from geesefuton.experiments.provenance import (SHORT, Agent, agent_of, digest_of, names_text,
+from geesefuton.experiments.provenance import (Agent, agent_of, digest_of, names_text,
                                                package_digest)
+from geesefuton.experiments.seating import MOST, Seating
 from geesefuton.experiments.turns import MOST_TURNS
-from geesefuton.processes import tell
+from geesefuton.processes import tell, why
 from geesefuton.records.drawing import MOST_SEED
-from geesefuton.records.games import ROOMS, SEATS, TICKS, Game
+from geesefuton.records.games import ROOMS, SEATS, TICKS
+from geesefuton.records.secret_deals import new_secret
 
 AGENTS = ("planner", "trader", "watcher")  # those of examples/agents that play by default
-SEAT_WORDS = [f"seat{seat}" for seat in range(SEATS)]
 CLASSIC = "classic"
 MARGIN = 300.0  # seconds that a game may take beyond what it is given, on a machine that is full
 PACE = 100  # milliseconds
@@ -32,7 +35,7 @@ class Plan:
     """The plan of a tournament.
 
     Attributes:
-        entrants: The agents.
+        entrants: The agents, and after them those of the pool.
         rule: How deals are made.
         games: How many games are played.
         rotations: How many of each deal.
@@ -43,14 +46,14 @@ class Plan:
         form: What agents speak, `words` or `json`.
         start: The seconds that a game waits for its agents.
         linger: The seconds after the last tick until links are ended.
-        keep: Where files are kept; None if they are not.
         summaries: The files that the summary is written to.
-        out: The folder that the run stands in; None if rows go to standard output.
+        out: The folder that the run stands in.
+        seating: Who sits where, by the numbers of the agents.
         is_resumed: Whether it goes on with what is there.
         settings: What else decides what can be compared.
         agents: What the agents are, by their names.
         detect: The difference of which the summary tells how many games tell it.
-        lineups: The agents of the eight seats in each game of a deal, where these are not the same;
+        lineups: The agents of the eight seats in each game of a deal, where these are no seating;
             each deal moves them on.
     """
 
@@ -65,9 +68,9 @@ class Plan:
     form: str
     start: float
     linger: float
-    keep: Optional[Path]
     summaries: Sequence[Path]
-    out: Optional[Path] = None
+    out: Path
+    seating: Seating
     is_resumed: bool = False
     settings: Mapping[str, object] = field(default_factory=dict)
     agents: Mapping[str, Agent] = field(default_factory=dict)
@@ -76,9 +79,13 @@ class Plan:
 
     def seated(self, table: Table) -> List[Entrant]:
         """The agents of the eight seats of a game."""
-        if not self.lineups:
-            return seated(self.entrants, table)
-        return seated(self.lineups[table.rotation], replace(table, rotation=0))
+        deal, rotation = table.deal.number - 1, table.rotation
+        if self.rule.file:
+            deal, rotation = divmod(rotation, self.rotations)
+        if self.lineups:
+            lineup = self.lineups[rotation]
+            return [lineup[(deal + seat) % SEATS] for seat in range(SEATS)]
+        return [self.entrants[number] for number in self.seating.game(deal, rotation)]
 
     def seconds(self) -> float:
         """The seconds that a game may take, and in turns those until it has its next tick."""
@@ -101,17 +108,19 @@ def _summary_file(text: str) -> Path:
     return Path(text)
 
 
-def add_playing(parser: Parser, games: str) -> None:
+def add_playing(parser: Parser, games: str, default: Optional[int] = None) -> None:
     """Adds the words that say which games are played, and how.
 
     Args:
         parser: The parser of a command.
         games: What the number of games counts.
+        default: How many there are where none are given.
     """
     add = parser.add_argument
-    add("--games", type=whole(1), default=4, metavar="N", help=games)
-    add("--seed", type=whole(0, MOST_SEED), default=1, metavar="N",
-        help="make the first deal from this seed (default: 1)")
+    add("--games", type=whole(1), default=default, metavar="N", help=games)
+    add("--seed", type=whole(0, MOST_SEED), metavar="N",
+        help="make the deals from the seeds N, N + 1, .., which can be guessed (default: draw them "
+             "from a secret)")
     add("--rooms", type=_rooms, metavar="N..M",
         help="draw the rooms of each hotel night from this range, such as 3..6 (default: 16)")
     add("--live", action="store_true", help="let hotel prices move with each bid")
@@ -119,8 +128,8 @@ def add_playing(parser: Parser, games: str) -> None:
         help="endow tickets in clumps, as in the original game (docs/GAME.md; default: 0 to 2 of "
              "each)")
     add("--game", type=Path, metavar="FILE", help="play this game file instead of made games")
-    add("--at-once", type=whole(1), default=2, metavar="N",
-        help="play this many games at a time (default: 2)")
+    add("--at-once", type=whole(1), default=os.cpu_count() or 1, metavar="N",
+        help="play this many games at a time (default: one for each processor)")
     add("--pace", type=whole(1, 60000), metavar="MILLISECONDS",
         help=f"the time from tick to tick (default: {PACE})")
     add("--turns", type=whole(1, MOST_TURNS), default=0, metavar="R",
@@ -135,8 +144,15 @@ def add_playing(parser: Parser, games: str) -> None:
     add("--after", type=seconds, metavar="SECONDS",
         help=f"close the remaining links this long after the last tick (default: {LINGER:g}, in "
              f"turns {LINGER_IN_TURNS:g})")
+    add("--files", action="append", default=[], metavar="PATTERN",
+        help="count only files with such names, like '*.py', as an agent's own (default: all in "
+             "its folder); may be repeated")
+    add("--also", type=Path, action="append", default=[], metavar="FILE",
+        help="count this file or folder as each agent's own, too; may be repeated")
     add("--resume", action="store_true",
-        help="with --out: play what FOLDER lacks, if its run began with the same words and files")
+        help="play what FOLDER lacks, if its run began with the same words and files")
+    parser.set_defaults(secret=None, against=[], plan=False, summary=[], detect=None, pool=False,
+                        partial=False)
 
 
 def make_parser(description: Optional[str]) -> Parser:
@@ -146,25 +162,25 @@ def make_parser(description: Optional[str]) -> Parser:
     add("agents", nargs="*", metavar="AGENT",
         help="a Python file, a program, or a command in quotes (default in a clone: planner, "
              "trader and watcher of examples/agents)")
-    add_playing(parser, "play this many games, with swapped seats a multiple of the number of "
-                        "agents (default: 4)")
-    add("--swap", action=argparse.BooleanOptionalAction, default=None,
-        help="play each deal once for each agent, with other seats each time (default for two "
-             "agents)")
-    add("--keep", type=Path, metavar="FOLDER",
-        help="keep game files, logs, scripts or journals, the agents' output and events here")
+    add_playing(parser, "play this many games, and more where a deal would lack some (default: a "
+                        "round in which all is equal, at least 4)")
+    add("--against", action="append", default=[], metavar="AGENT",
+        help="play each agent alone among agents of this pool, in each seat; may be repeated")
+    add("--plan", action="store_true", help="only print who would sit where, and how fair it is")
     add("--out", type=Path, metavar="FOLDER",
-        help="keep the run here: run.json with the settings and files, scores.csv with the lines "
-             "of each game as it ends, and the files of the games")
+        help="keep the run here, in a new folder: run.json with the settings and files, scores.csv "
+             "with the lines of each game as it ends, grades.csv, and the files of the games")
     add("--summary", type=_summary_file, action="append", default=[], metavar="FILE",
         help="also write the summary to this file, .txt, .csv or .json; may be repeated")
     add("--detect", type=whole(1), metavar="DOLLARS",
         help="estimate how many games detect such a difference between two agents")
-    add("--join", type=Path, nargs="+", metavar="FOLDER",
-        help="play nothing, and summarize the folders or CSV files of earlier tournaments, if they "
+    add("--join", action="store_true",
+        help="play nothing: AGENT .. are the folders of runs, which are summarized together if they "
              "belong together")
     add("--pool", action="store_true",
-        help="with --join: compare results that do not belong together, each pool by its own name")
+        help="with --join: compare runs that do not belong together, each pool by its own name")
+    add("--partial", action="store_true",
+        help="with --join: take the deals that were played whole, where games are missing")
     return parser
 
 
@@ -175,53 +191,102 @@ def _default_agents(parser: Parser) -> List[str]:
     return [f"'{clone / 'examples' / 'agents' / name}.py'" for name in AGENTS]
 
 
-def read_plan(parser: Parser, given: argparse.Namespace) -> Plan:
-    """The plan of a command line. Ends with status 2 where there is none."""
+def _entrants(parser: Parser, given: argparse.Namespace) -> Tuple[List[Entrant], int]:
+    """The agents with those of the pool, and how many of them are in it."""
+    commands = given.agents or _default_agents(parser)
+    entrants = read_entrants([*commands, *given.against])
+    own, pool = entrants[:len(commands)], entrants[len(commands):]
+    refuse_twins(own)
+    if len(own) > MOST:
+        parser.error(f"{len(own)} agents: at most {MOST} play in a tournament")
+    return [*own, *(replace(each, name=f"{each.name} (pool)") for each in pool)], len(pool)
+
+
+def _rule(given: argparse.Namespace) -> Rule:
+    """How deals are made."""
+    if given.seed is not None:
+        secret = str(given.seed).encode()
+    elif given.secret is not None:
+        secret = shared_secret(given.secret)
+    else:
+        kept = kept_secret(given.out) if given.resume and given.out else None
+        secret = new_secret() if kept is None else kept
+    return Rule(secret, given.seed, given.game, given.rooms, given.live, given.endow == CLASSIC)
+
+
+def read_plan(parser: Parser, given: argparse.Namespace, are_deals: bool = False) -> Plan:
+    """The plan of a command line. Ends with status 2 where there is none.
+
+    Args:
+        parser: The parser of the command.
+        given: Its words.
+        are_deals: Whether the number of games is one of deals, with one game each.
+    """
     _refuse(parser, given)
     try:
-        entrants = read_entrants(given.agents or _default_agents(parser))
-        rule = Rule(given.seed, given.game, given.rooms, given.live, given.endow == CLASSIC)
-        first = next(tables(rule, 1, 1)).deal.game  # tells whether deals can be made
+        entrants, pool = _entrants(parser, given)
+        rule = _rule(given)
+        first = made_deal(rule, 1)  # tells whether deals can be made
         tac = digest_of(Path(program.find()))
-        agents = {entrant.name: agent_of(entrant) for entrant in entrants}
+        agents = {entrant.name: agent_of(entrant, given.files, given.also) for entrant in entrants}
     except (EntrantError, DealError, program.ProgramError) as fault:
         parser.error(str(fault))
-    swap = len(entrants) == 2 if given.swap is None else given.swap
-    rotations = len(entrants) if swap else 1
-    games = -(-given.games // rotations) * rotations
-    if games != given.games:
+    except OSError as fault:
+        parser.error(f"{fault.filename}: {why(fault)}")
+    seating = Seating(len(entrants) - pool, pool)
+    rotations = 1 if are_deals else seating.games
+    games = given.games or max(4, rotations * seating.round)
+    if games % rotations:
+        games += rotations - games % rotations
         tell(f"playing {games} games, so that each deal is played {rotations} times")
-    if given.seed + games // rotations - 1 > MOST_SEED:
+    if given.seed is not None and given.seed + games // rotations - 1 > MOST_SEED:
         parser.error(f"seeds are at most {MOST_SEED}")
     linger = LINGER_IN_TURNS if given.turns else LINGER
     plan = Plan(entrants, rule, games, rotations, given.at_once, given.pace or PACE, given.turns,
                 PATIENCE if given.patience is None else given.patience,
                 "json" if given.json else "words", given.start,
-                linger if given.after is None else given.after,
-                given.out / "games" if given.out else given.keep, given.summary, given.out,
-                given.resume, {}, agents, given.detect)
-    return replace(plan, settings=_settings(plan, first, tac))
+                linger if given.after is None else given.after, given.summary,
+                given.out or Path(), seating, given.resume, {}, agents, given.detect)
+    return replace(plan, settings=_settings(plan, pool, first.name, tac))
 
 
-def _settings(plan: Plan, first: Game, tac: str) -> Dict[str, object]:
-    """What decides, beside the seeds, what can be compared with the plan's results.
+def _settings(plan: Plan, pool: int, first: str, tac: str) -> Dict[str, object]:
+    """What decides, beside the deals, what can be compared with the plan's results.
 
     Args:
         plan: The plan.
-        first: The game of its first deal.
+        pool: How many of its agents are in the pool.
+        first: The name of its first deal.
         tac: The digest of the program.
     """
     rule = plan.rule
-    pace = {"turns": plan.turns, "patience": f"{plan.patience:g}"} if plan.turns else {
-        "pace": plan.pace}
-    game = {"game": hashlib.sha256(first.named(SEAT_WORDS).text().encode()).hexdigest()[:SHORT]}
+    names = [entrant.name for entrant in plan.entrants]
+    pace = {"turns": plan.turns} if plan.turns else {"pace": plan.pace}
     low, high = rule.rooms or (ROOMS, ROOMS)
-    rooms = {"rooms": f"{low}..{high}", "live": str(rule.live).lower(),
-             **({"endow": CLASSIC} if rule.is_clumped else {})}
-    return {"agents": names_text([entrant.name for entrant in plan.entrants]),
+    rooms: Dict[str, object] = {"rooms": f"{low}..{high}", "live": str(rule.live).lower(),
+                                **({"endow": CLASSIC} if rule.is_clumped else {})}
+    game: Dict[str, object] = {"game": first}
+    return {"agents": names_text(names[:len(names) - pool]),
+            **({"against": names_text(names[-pool:])} if pool else {}),
             "rotations": plan.rotations, **pace, **(game if rule.file else rooms),
             "form": plan.form, "start": f"{plan.start:g}", "after": f"{plan.linger:g}",
+            "python": ".".join(platform.python_version_tuple()[:2]),
             "tac": tac[:SHORT], "package": package_digest()[:SHORT]}
+
+
+def text_of(plan: Plan) -> str:
+    """Who would sit where in a plan, and how equal that is."""
+    seating, deals = plan.seating, plan.games // plan.rotations
+    lines = [" ".join([f"{deal + 1}.{rotation}", *(
+        plan.entrants[number].name.replace(" ", "_") for number in seating.game(deal, rotation))])
+             for deal in range(deals) for rotation in range(plan.rotations)]
+    lines.append(f"{plan.games} games of {deals} deals")
+    lines += [f"{what}: {least}" + (f" to {most}" if most > least else "")
+              for what, (least, most) in seating.counts(deals).items()]
+    if deals % seating.round:
+        lines.append(f"all is as equal as it can be after each {seating.round * plan.rotations} "
+                     "games")
+    return "\n".join(lines) + "\n"
 
 
 def _refuse(parser: Parser, given: argparse.Namespace) -> None:
@@ -232,9 +297,8 @@ def _refuse(parser: Parser, given: argparse.Namespace) -> None:
         parser.error("--pace is for games with a clock, and --turns for games without one")
     if given.patience is not None and not given.turns:
         parser.error("--patience needs --turns")
-    if given.resume and not given.out:
-        parser.error("--resume needs --out")
-    if given.out and given.keep:
-        parser.error("--out already keeps the games' files: leave --keep out")
-    if given.pool:
-        parser.error("--pool needs --join")
+    for word in ("pool", "partial"):
+        if getattr(given, word):
+            parser.error(f"--{word} needs --join")
+    if not given.out and not given.plan:
+        parser.error("name a new folder for the run with --out")

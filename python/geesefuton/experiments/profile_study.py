@@ -12,7 +12,7 @@ import numpy as np
 
 from geesefuton.arguments import Parser
 from geesefuton.experiments.comparisons import Estimate
-from geesefuton.experiments.deals import name_of_deal
+from geesefuton.experiments.deals import RUN, SECRET, place_of
 from geesefuton.experiments.entrants import Entrant
 from geesefuton.experiments.equilibria import NEAR, SymmetricGame, equilibria, find, gains
 from geesefuton.experiments.forms import columns, count_text, number_text, shown
@@ -21,7 +21,7 @@ from geesefuton.experiments.payoffs import FILES, Payoffs
 from geesefuton.experiments.plan import Plan, read_plan
 from geesefuton.experiments.reduction import Counts, needed_profiles, text_of_profile
 from geesefuton.experiments.results import Row
-from geesefuton.experiments.runs import RUN, RunError, compare, is_being_written, is_run
+from geesefuton.experiments.runs import RunError, compare, is_being_written, is_run
 from geesefuton.experiments.tournament import play_in_folder
 from geesefuton.processes import Output, tell, why
 from geesefuton.records.games import SEATS
@@ -48,8 +48,9 @@ class Study:
     def __init__(self, parser: Parser, given: argparse.Namespace) -> None:
         self._parser, self._folder, self.players = parser, given.out, given.players
         self._part, self._parts = given.part or (1, 1)
+        given.secret = given.out / SECRET
         given.out = given.out / f"part-{self._part}-of-{self._parts}"
-        plan = read_plan(parser, given)
+        plan = read_plan(parser, given, are_deals=True)
         if len(plan.agents) < max(2, len(plan.entrants)):
             parser.error("name two or more strategies, each once")
         self.names = [entrant.name for entrant in plan.entrants]
@@ -75,7 +76,7 @@ class Study:
     def _part_folders(self) -> List[Path]:
         """The folders of parts that have games. Refuses a folder of something else."""
         names = sorted(os.listdir(self._folder)) if self._folder.is_dir() else []
-        for name in (name for name in names if name[0] != "." and name not in FILES):
+        for name in (name for name in names if name[0] != "." and name not in (*FILES, SECRET)):
             if not PART.fullmatch(name):
                 self._parser.error(
                     f"--out {self._folder}: it is not a folder of profiles: it has {name}")
@@ -101,7 +102,6 @@ class Study:
     def _sources(self, folders: Sequence[Path]) -> List[Source]:
         """What the folders of parts have, but for the plan's own. Refuses what does not belong
         there, and, where the plan shares no games with it, what is still being written."""
-        assert self.plan.out is not None
         own, sources = self.plan.out.name, []
         for folder in folders:
             try:
@@ -136,8 +136,8 @@ class Study:
             counts = dict(zip(places, profile))
             due.add(tuple(counts.get(place, 0) for place in range(len(self._profiles[0]))))
         plan = self.plan
-        elsewhere = {row.game for row in self._others} | {
-            (name_of_deal(plan.rule, number // plan.rotations), number % plan.rotations)
+        elsewhere = {row.place for row in self._others} | {
+            place_of(plan.rule, number, plan.rotations)
             for number in range(plan.games)
             if number % self._parts != self._part - 1
             or self._profiles[number % plan.rotations] not in due}

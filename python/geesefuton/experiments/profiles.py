@@ -45,14 +45,13 @@ def _make_parser() -> Parser:
     add = parser.add_argument
     add("agents", nargs="+", metavar="AGENT", help="the strategies, two or more")
     add_playing(parser, "play each profile this many times, on a deal of its own each time "
-                        "(default: 4)")
+                        "(default: 4)", 4)
     add("--players", type=int, choices=PLAYERS, default=PLAYERS[0],
         help="8 for all profiles, fewer for the reduced game (default: 2)")
     add("--out", type=Path, required=True, metavar="FOLDER", help="keep the games in this folder")
     add("--search", action="store_true",
         help="play only the profiles that lead to one equilibrium by best responses")
     add("--part", type=_part, metavar="I/N", help="play only this part of the games")
-    parser.set_defaults(swap=False, keep=None, summary=[], detect=None, pool=False)
     return parser
 
 

@@ -1,26 +1,29 @@
 """The provenance of results: the settings and files that decide whether they can be compared.
 
-Results of two tournaments belong together only if their settings, the program, the package and the
-files of each agent are the same. So each row has its settings as a text, and the first digits of
-the SHA-256 of its agent's files.
+Results of two tournaments belong together only if their settings, the program, the package, and
+what each agent is are the same. So each row has its settings as a text, and the first digits of the
+SHA-256 of its agent's files.
 """
 
 import ast
+import fnmatch
 import hashlib
 import os
 import platform
-import shutil
 import subprocess
 import sys
-from collections import Counter
-from dataclasses import dataclass
+from dataclasses import dataclass, field
+from functools import lru_cache
+from importlib import metadata
 from pathlib import Path
-from typing import Any, Dict, Iterable, List, Mapping, Sequence, Set
+from typing import Any, Dict, Iterable, Iterator, List, Mapping, Sequence, Set, Tuple
 from urllib.parse import quote
 
-from geesefuton.experiments.entrants import PACKAGE, Entrant
+from geesefuton.experiments.deals import SHORT
+from geesefuton.experiments.entrants import PACKAGE, Entrant, EntrantError
 
-SHORT = 12  # digits of a digest in a row
+MOST_FILES, MOST_BYTES = 2000, 1 << 30  # of an agent
+NOT_OURS = ("run.json", "pyvenv.cfg", "schema.json")  # a folder with one has no files of an agent
 
 
 def digest_of(file: Path) -> str:
@@ -54,57 +57,107 @@ class Agent:
         command: As it was given.
         words: The words of its command but for the Python that runs it, files by their names alone.
         files: The digests of its files, by their names.
+        libraries: The versions of the installed libraries that its Python files import.
     """
 
     name: str
     command: str
     words: Sequence[str]
     files: Mapping[str, str]
+    libraries: Mapping[str, str] = field(default_factory=dict)
 
     @property
     def digest(self) -> str:
-        """One digest of its words and files."""
-        return digest_of_all({**self.files, "": "\0".join(self.words)})
+        """One digest of its words, files and libraries."""
+        return digest_of_all({**self.files, "": "\0".join(self.words),
+                              **{f"library {name}": each for name, each in self.libraries.items()}})
 
 
-def agent_of(entrant: Entrant) -> Agent:
+def agent_of(entrant: Entrant, patterns: Sequence[str] = (), also: Sequence[Path] = ()) -> Agent:
     """What an agent is.
 
-    Its files are those that its command names, and the Python files beside these that they import.
-    A program that is found by its name alone, such as `java`, belongs to the machine.
+    Its files are those of the folder of the first file that its command names, and of the folders
+    below: all that it may import or read. Left out are hidden files, what Python has compiled, and
+    folders of runs, of tables and of virtual environments. Further files that its command names,
+    after a `=`, too, and the program that runs it belong to it by themselves, and a folder with
+    what is in it.
+
+    Args:
+        entrant: The agent.
+        patterns: If there are any, the files of its folder are those whose names match one.
+        also: Further files and folders.
 
     Raises:
+        EntrantError: They are too many for an agent, or something is not there.
         OSError: A file cannot be read.
     """
     words = [word for word in entrant.words if word != sys.executable]
-    named = {word for word in words if os.path.isfile(word)}
-    files: Set[Path] = set()
-    waiting = [Path(word) for word in named if shutil.which(os.path.basename(word)) != word]
-    while waiting:
-        file = waiting.pop()
-        if file not in files:
-            files.add(file)
-            waiting += _imported(file)
-    alike = Counter(file.name for file in files)
+    named = {word: Path(word.rpartition("=")[2]) for word in words if word.rpartition("=")[2]}
+    named = {word: path for word, path in named.items() if path.exists()}
+    by_name = set() if "/" in entrant.command.split()[0] else {entrant.words[0]}  # such as `java`
+    files: Dict[str, Path] = {}
+    folder = None
+    for word, path in named.items():
+        if folder is None and path.is_file() and word not in by_name:
+            folder = path.resolve().parent
+            files.update({str(file.relative_to(folder)): file for file in _within(folder)
+                          if not patterns or any(fnmatch.fnmatch(file.name, each)
+                                                 for each in patterns)})
+    for path in [*named.values(), *also]:
+        if path.is_dir():
+            files.update({f"{path.name}/{file.relative_to(path)}": file for file in _within(path)})
+        elif not path.exists():
+            raise EntrantError(f"there is no file or folder {path}")
+        elif path.resolve() not in files.values():
+            files[str(path) if path.name in files else path.name] = path.resolve()
+    if len(files) > MOST_FILES or sum(file.stat().st_size for file in files.values()) > MOST_BYTES:
+        raise EntrantError(f"{entrant.name}: its folder {folder} has more than {MOST_FILES} files, "
+                           "or a gigabyte: give it a folder of its own, or name its files by "
+                           "--files '*.py'")
     return Agent(entrant.name, entrant.command,
-                 [os.path.basename(word) if word in named else word for word in words],
-                 {file.name if alike[file.name] == 1 else str(file): digest_of(file)
-                  for file in files})
+                 ["".join([*word.rpartition("=")[:2], named[word].name]) if word in named else word
+                  for word in words],
+                 {name: digest_of(file) for name, file in sorted(files.items())},
+                 _libraries(files.values()))
 
 
-def _imported(file: Path) -> List[Path]:
-    """The Python files beside a Python file that it imports."""
-    if file.suffix != ".py":
-        return []
-    try:
-        tree = ast.parse(file.read_bytes())
-    except (SyntaxError, ValueError):
-        return []  # which its agent will tell
-    names = [alias.name for node in ast.walk(tree) if isinstance(node, ast.Import)
-             for alias in node.names]
-    names += [node.module or "" for node in ast.walk(tree) if isinstance(node, ast.ImportFrom)]
-    beside = (file.with_name(f"{name.split('.')[0]}.py") for name in names if name)
-    return [other for other in beside if other.is_file()]
+def _within(folder: Path) -> Iterator[Path]:
+    """The files of a folder, and of those below, that may be an agent's."""
+    for file in sorted(folder.iterdir()):
+        if file.name[0] == "." or file.name == "__pycache__":
+            continue
+        if file.is_file():
+            yield file
+        elif file.is_dir() and not any((file / name).exists() for name in NOT_OURS):
+            yield from _within(file)
+
+
+def _libraries(files: Iterable[Path]) -> Dict[str, str]:
+    """The versions of the installed libraries that Python files import."""
+    names: Set[str] = set()
+    for file in files:
+        if file.suffix == ".py":
+            try:
+                tree = ast.parse(file.read_bytes())
+            except (SyntaxError, ValueError):
+                continue  # which its agent will tell
+            for node in ast.walk(tree):
+                if isinstance(node, ast.Import):
+                    names.update(alias.name.split(".")[0] for alias in node.names)
+                elif isinstance(node, ast.ImportFrom) and not node.level and node.module:
+                    names.add(node.module.split(".")[0])
+    return dict(sorted(version for name in names for version in _installed().get(name, ())))
+
+
+@lru_cache(maxsize=1)
+def _installed() -> Dict[str, List[Tuple[str, str]]]:
+    """The names and versions of the installed libraries, by what is imported of them."""
+    found: Dict[str, List[Tuple[str, str]]] = {}
+    for each in metadata.distributions():
+        name = each.metadata["Name"] or ""
+        for top in (each.read_text("top_level.txt") or name.replace("-", "_")).split():
+            found.setdefault(top, []).append((name, each.version))
+    return found
 
 
 def names_text(names: Sequence[str]) -> str:

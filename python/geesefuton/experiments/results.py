@@ -2,23 +2,20 @@
 
 import csv
 import enum
-from dataclasses import astuple, dataclass, fields, replace
-from typing import Iterable, List, Optional, Sequence, Tuple
+import io
+from dataclasses import astuple, dataclass, field, fields
+from typing import Dict, Iterable, List, Optional, Sequence, Tuple
 
+from geesefuton.records.games import SEATS
 from geesefuton.records.tables import csv_of
 
 
 class Kind(enum.Enum):
-    """How a game was played.
-
-    In former games in turns seat 0 came first in each turn, so low seats had an advantage.
-    """
+    """How a game was played."""
 
     SERVED = "served"  # by a clock
     TURNS = "turns2"  # in turns, without a clock
     UNREPEATABLE = "unrepeatable2"  # in turns, of which some were passed over
-    FORMER_TURNS = "turns"
-    FORMER_UNREPEATABLE = "unrepeatable"
 
 
 class Outcome(enum.Enum):
@@ -36,8 +33,9 @@ class Row:
     """What a seat of a game came to.
 
     Attributes:
-        deal: The seed of the made game, or the name of the game's file and a number.
-        rotation: Which of the deal's games it is, from 0; in each the agents have other seats.
+        deal: The beginning of the SHA-256 of what was dealt (`deals.Deal.name`). Games with the same
+            deal are alike, wherever they were played.
+        rotation: Which of the deal's games it is, from 0.
         seat: The seat, 0 to 7.
         agent: The agent's name.
         score: In dollars.
@@ -46,11 +44,13 @@ class Row:
         kind: How the game was played.
         nights: How many nights the seat's clients want to stay, in the mean.
         first_price: The mean of the flights' first prices, in dollars.
-        run: The number of the run that played it, in a folder that has several; else 1.
+        run: The number of the run that played it, from 1, in a folder that has several.
         settings: What else decides what can be compared (`provenance.settings_text`).
         files: The beginning of the SHA-256 of the agent's files.
-
-    Rows of earlier versions end with `kind`; the others are None, or "" and 0, there.
+        missed: In how many ticks the agent says that it could not act in time; None if it says
+            nothing.
+        number: The number of the deal in its run, from 1.
+        source: The folder that it comes from, where several are compared; not in the CSV.
     """
 
     deal: str
@@ -61,74 +61,97 @@ class Row:
     end: Outcome
     luck: int
     kind: Kind = Kind.SERVED
-    nights: Optional[float] = None
-    first_price: Optional[float] = None
-    run: int = 0
+    nights: float = 0.0
+    first_price: float = 0.0
+    run: int = 1
     settings: str = ""
     files: str = ""
+    missed: Optional[int] = None
+    number: int = 1
+    source: str = ""
 
     @property
-    def game(self) -> Tuple[str, int]:
-        """The deal and the rotation."""
-        return self.deal, self.rotation
+    def place(self) -> Tuple[int, int]:
+        """Which game of its run it is: the number of the deal, and the rotation."""
+        return self.number, self.rotation
+
+    @property
+    def game(self) -> Tuple[str, str, int]:
+        """Which game it is of all that are compared: its source, its deal and the rotation."""
+        return self.source, self.deal, self.rotation
 
 
-HEAD = [field.name for field in fields(Row)]
-FORMER_HEAD = HEAD[:HEAD.index("kind") + 1]
+HEAD = [each.name for each in fields(Row)][:-1]
 
 
 class ResultsError(Exception):
     """A text that has no rows of a tournament."""
 
 
+@dataclass
+class Found:
+    """What a CSV has.
+
+    Attributes:
+        rows: Of games that have all eight.
+        told: What was left out, each in a line.
+    """
+
+    rows: List[Row] = field(default_factory=list)
+    told: List[str] = field(default_factory=list)
+
+
 def text_of(rows: Iterable[Row]) -> str:
     """The rows as lines of CSV, without a head."""
-    return csv_of([*astuple(row)[:5], row.end.value, row.luck, row.kind.value,
-                   "" if row.nights is None else f"{row.nights:g}",
-                   "" if row.first_price is None else f"{row.first_price:g}",
-                   row.run, row.settings, row.files] for row in rows)
+    def cell(value: object) -> object:
+        if isinstance(value, float):
+            return f"{value:g}"
+        return value.value if isinstance(value, enum.Enum) else value
+
+    return csv_of(list(map(cell, astuple(row)[:-1])) for row in rows)
 
 
-def read_row(words: Sequence[str]) -> Row:
-    """Reads the cells of a row, of this version or of earlier ones.
+def _read_row(words: Sequence[str]) -> Row:
+    """Reads the cells of a row.
 
     Raises:
         ValueError: They are no row.
     """
-    deal, rotation, seat, agent, score, end, luck, kind, *more = words
-    row = Row(deal, int(rotation), int(seat), agent, int(score), Outcome(end), int(luck),
-              Kind(kind))
-    if not more:
-        return row
-    nights, first_price, run, settings, files = more
-    return replace(row, nights=float(nights) if nights else None, run=int(run), settings=settings,
-                   first_price=float(first_price) if first_price else None, files=files)
+    if len(words) != len(HEAD):
+        raise ValueError
+    (deal, rotation, seat, agent, score, end, luck, kind, nights, first_price, run, settings, files,
+     missed, number) = words
+    return Row(deal, int(rotation), int(seat), agent, int(score), Outcome(end), int(luck),
+               Kind(kind), float(nights), float(first_price), int(run), settings, files,
+               int(missed) if missed else None, int(number))
 
 
-def read_rows(text: str, name: str) -> List[Row]:
-    """Reads the CSV of one or more tournaments, each with its head.
-
-    Args:
-        text: The text.
-        name: What it is called in an error, such as the name of its file.
+def read_rows(text: str) -> Found:
+    """Reads the text of a scores.csv, which may lack its end.
 
     Raises:
-        ResultsError: A line is neither a head nor a row.
+        ResultsError: It begins otherwise.
     """
-    rows: List[Row] = []
-    lines = list(csv.reader(text.splitlines()))
-    if not lines or lines[0] not in (HEAD, FORMER_HEAD):
-        raise ResultsError(f"{name}: line 1 is not the head of a tournament's CSV")
-    head = lines[0]
-    for number, words in enumerate(lines, 1):
-        if words in (HEAD, FORMER_HEAD):
-            head = words
-            continue
+    whole, _, half = text.rpartition("\n")
+    if not whole and csv_of([HEAD]).startswith(half):
+        return Found()
+    lines = csv.reader(io.StringIO(whole, newline="\n"))
+    if next(lines, None) != HEAD:
+        raise ResultsError("line 1 is not the head of a tournament's CSV of this version")
+    found = Found()
+    games: Dict[Tuple[str, int, int], List[Row]] = {}
+    for words in lines:
         try:
-            if len(words) != len(head):
-                raise ValueError
-            rows.append(read_row(words))
+            row = _read_row(words)
         except ValueError:
-            raise ResultsError(f"{name}: line {number} is not a row: {','.join(words)[:60]!r}") \
-                from None
-    return rows
+            found.told.append(f"line {lines.line_num} is not a row: {','.join(words)[:60]!r}")
+        else:
+            games.setdefault((row.deal, *row.place), []).append(row)
+    if half:
+        found.told.append(f"line {lines.line_num + 1} was half written: {half[:60]!r}")
+    for (_, number, rotation), rows in games.items():
+        if sorted(row.seat for row in rows) == list(range(SEATS)):
+            found.rows += rows
+        else:
+            found.told.append(f"game {number}.{rotation} has {len(rows)} rows, not {SEATS}")
+    return found

@@ -1,53 +1,43 @@
 """The folder of a run that can be stopped at any time and resumed.
 
-FOLDER/run.json has the settings, the SHA-256 of the program, the package and each agent's files,
-and for each run its words, machine, load and times. FOLDER/scores.csv has the rows of each game,
-appended as it ends; FOLDER/games has the games' files. A resumed run plays the games that
-scores.csv lacks. A row that was half written, as on a full disk, is reported and removed with its
-game, and the game is played again.
+FOLDER/run.json has the settings, how the deals are drawn, the SHA-256 of the program, the package
+and each agent's files, and for each run its words, machine, load and times. FOLDER/scores.csv has
+the rows of each game, appended as it ends, and sorted at the end; FOLDER/games has the games'
+files, and FOLDER/secret what the deals are drawn from, until all games are scored. A resumed run
+plays the games that scores.csv lacks. A row that was half written, as on a full disk, is reported
+and removed with its game, and the game is played again.
 """
 
-import csv
+import contextlib
 import fcntl
 import json
 import os
 import re
+import socket
 import time
-from dataclasses import asdict, dataclass, field
+from dataclasses import asdict
 from datetime import datetime, timezone
 from pathlib import Path
 from typing import Any, Dict, List, Mapping, Sequence, Set, Tuple
 
+from geesefuton.experiments.deals import RUN, SECRET
 from geesefuton.experiments.plan import Plan
 from geesefuton.experiments.provenance import (Agent, commit, digest_of, machine, package_digest,
                                                unlike)
-from geesefuton.experiments.results import HEAD, Row, read_row, text_of
+from geesefuton.experiments.results import HEAD, Found, ResultsError, read_rows, text_of
 from geesefuton.processes import Output, why
 from geesefuton.program import find
-from geesefuton.records.games import SEATS
+from geesefuton.records.secret_deals import commitment, read_secret
 from geesefuton.records.tables import csv_of
 
-FORM = 1  # of run.json
+FORM = 2  # of run.json
 MOST_WAIT = 10.0  # seconds for the games of an earlier run to end
-RUN, SCORES, GAMES = "run.json", "scores.csv", "games"
+SCORES, GAMES, LOCK = "scores.csv", "games", ".lock"
 FILE = re.compile(r"(.+)\.(?:game|log|events|script|journal|out\.[a-z0-9]+)")
 
 
 class RunError(Exception):
     """A folder that is no run's, or cannot be gone on with."""
-
-
-@dataclass
-class Found:
-    """What a folder's scores.csv has.
-
-    Attributes:
-        rows: Of games that have all eight.
-        told: What was left out, each in a line.
-    """
-
-    rows: List[Row] = field(default_factory=list)
-    told: List[str] = field(default_factory=list)
 
 
 def is_run(folder: Path) -> bool:
@@ -64,7 +54,7 @@ def is_being_written(folder: Path) -> bool:
     except BlockingIOError:
         return True
     except OSError:
-        return False  # a file system that has no locks
+        return (folder / LOCK).exists()  # a file system that has no locks
     finally:
         os.close(number)
 
@@ -76,35 +66,37 @@ def read_scores(folder: Path) -> Found:
         RunError: It cannot be read, or is none.
     """
     try:
-        text = (folder / SCORES).read_text(encoding="utf-8", errors="replace")
+        with open(folder / SCORES, encoding="utf-8", errors="replace", newline="") as file:
+            return read_rows(file.read())
     except FileNotFoundError:
         return Found()
+    except ResultsError as fault:
+        raise RunError(f"{folder / SCORES}: {fault}") from None
     except OSError as fault:
         raise RunError(f"{folder / SCORES}: {why(fault)}") from None
-    whole, _, half = text.rpartition("\n")
-    head = csv_of([HEAD])
-    if not whole and head.startswith(half):
-        return Found()
-    lines = list(csv.reader(whole.splitlines()))
-    if lines[:1] != [HEAD]:
-        raise RunError(f"{folder / SCORES}: line 1 is not the head of a tournament's CSV")
-    found = Found(told=[f"line {len(lines) + 1} was half written: {half[:60]!r}"] if half else [])
-    games: Dict[Tuple[str, int], List[Row]] = {}
-    for number, words in enumerate(lines[1:], 2):
-        try:
-            if len(words) != len(HEAD):
+
+
+def read_record(folder: Path) -> Dict[str, Any]:
+    """What the run.json of a folder says.
+
+    Raises:
+        RunError: It is none, or that of another version.
+        OSError: It cannot be read.
+    """
+    try:
+        value = dict(json.loads((folder / RUN).read_bytes()))
+        runs = value["runs"]
+        for key, kind in (("settings", dict), ("deals", dict), ("agents", list), ("runs", list)):
+            if not isinstance(value[key], kind):
                 raise ValueError
-            row = read_row(words)
-        except ValueError:
-            found.told.append(f"line {number} is not a row: {','.join(words)[:60]!r}")
-        else:
-            games.setdefault(row.game, []).append(row)
-    for (deal, rotation), rows in games.items():
-        if sorted(row.seat for row in rows) == list(range(SEATS)):
-            found.rows += rows
-        else:
-            found.told.append(f"game {deal}.{rotation} has {len(rows)} rows, not {SEATS}")
-    return found
+        if value["tournament"] != FORM or not all(isinstance(run, dict) for run in runs):
+            raise ValueError
+        if not all(isinstance(agent["files"], dict) and agent["name"] + agent["digest"]
+                   for agent in value["agents"]):
+            raise ValueError
+    except (ValueError, LookupError, TypeError):
+        raise RunError(f"{folder / RUN} is not of a tournament of this version") from None
+    return value
 
 
 def compare(folder: Path, plan: Plan) -> Dict[str, Any]:
@@ -117,17 +109,21 @@ def compare(folder: Path, plan: Plan) -> Dict[str, Any]:
         RunError: It says nothing, or something else than the plan.
         OSError: It cannot be read.
     """
-    try:
-        value = dict(json.loads((folder / RUN).read_bytes()))
-        if value["tournament"] != FORM or not isinstance(value["runs"], list):
-            raise ValueError
-        settings, digests = value["settings"], {agent["name"]: agent["digest"]
-                                                for agent in value["agents"]}
-        differences = unlike(settings, plan.settings)
-    except (ValueError, LookupError, TypeError, AttributeError):
-        raise RunError(f"its {RUN} is not of a tournament of this version") from None
-    differences += [f"the files or words of {name} differ" for name, agent in
-                    plan.agents.items() if digests.get(name, agent.digest) != agent.digest]
+    value = read_record(folder)
+    differences = unlike(value["settings"], plan.settings)
+    drawn = {name: each for name, each in value["deals"].items() if name != SECRET}
+    if drawn != plan.rule.drawn:
+        told = [" ".join(map(str, pair)) for deals in (drawn, plan.rule.drawn)
+                for pair in deals.items()]
+        differences.append(f"its deals are of the {told[0]}, not of the {told[1]}")
+    for agent in value["agents"]:
+        ours = plan.agents.get(agent["name"])
+        if ours and ours.digest != agent["digest"]:
+            names = sorted(name for name in {*ours.files, *agent["files"]}
+                           if ours.files.get(name) != agent["files"].get(name))
+            more = f" and {len(names) - 3} more" if len(names) > 3 else ""
+            differences.append(f"the files, libraries or words of {ours.name} differ"
+                               + (f" ({', '.join(names[:3])}{more})" if names else ""))
     if differences:
         raise RunError("its run began differently: " + "; ".join(differences))
     return value
@@ -149,10 +145,10 @@ class RunFolder:
     """
 
     def __init__(self, plan: Plan, arguments: Sequence[str]) -> None:
-        assert plan.out is not None
-        self._folder = plan.out
+        self._folder, self._plan = plan.out, plan
         self._is_begun(plan.is_resumed)
         self._folder.mkdir(parents=True, exist_ok=True)
+        self._has_file = False
         self.lock = self._locked()
         try:  # another may have begun it meanwhile
             is_begun = self._is_begun(plan.is_resumed)
@@ -162,7 +158,7 @@ class RunFolder:
                                       if agent["name"] not in known]
             self._begin(arguments)
         except BaseException:
-            os.close(self.lock)
+            self._unlock()
             raise
 
     def _begin(self, arguments: Sequence[str]) -> None:
@@ -175,6 +171,10 @@ class RunFolder:
         self._value["runs"].append({
             "run": self.number, "arguments": list(arguments), "began": _now(), "commit": commit(),
             **machine(), "ended": None})
+        if self._plan.rule.seed is None and SECRET not in self._value["deals"]:
+            self._replace(SECRET, self._plan.rule.secret.hex() + "\n", 0o600)
+        if SECRET in self._value["deals"]:
+            self.told.append("the secret has been told: who read it can know the deals to come")
         self._write_record()
         if found.told or not self.rows:
             self._replace(SCORES, csv_of([HEAD]) + text_of(self.rows))
@@ -184,23 +184,44 @@ class RunFolder:
         self.out = Output(self._scores, str(self._folder / SCORES))
 
     @property
-    def finished(self) -> Set[Tuple[str, int]]:
-        """The deals and rotations that earlier runs finished."""
-        return {row.game for row in self.rows}
+    def finished(self) -> Set[Tuple[int, int]]:
+        """The numbers of deals and rotations that earlier runs finished."""
+        return {row.place for row in self.rows}
 
-    def end(self, status: int, scored: int, lost: Sequence[str]) -> None:
-        """Writes how this run ended.
+    def plan_games(self, planned: int) -> None:
+        """Writes how many games the folder is to have.
 
         Raises:
             OSError: It cannot be written.
         """
+        self._value["planned"] = planned
+        self._write_record()
+
+    def end(self, status: int, scored: int, lost: Sequence[str]) -> None:
+        """Writes how this run ended, and sorts the rows. Once all games are scored, the secret is
+        told.
+
+        Raises:
+            OSError: It cannot be written.
+            RunError: The rows cannot be read.
+        """
         self._value["runs"][-1].update(ended=_now(), status=status, games=scored, lost=list(lost),
                                        load_at_end=machine()["load"])
         try:
+            found = read_scores(self._folder)
+            if not found.told:
+                self._replace(SCORES, csv_of([HEAD]) + text_of(sorted(
+                    found.rows, key=lambda row: (row.place, row.seat))))
+            is_over = len({row.place for row in found.rows}) >= self._value.get("planned", 0)
+            if is_over and not status and self._plan.rule.seed is None:
+                self._value["deals"][SECRET] = self._plan.rule.secret.hex()
             self._write_record()
+            if SECRET in self._value["deals"]:
+                with contextlib.suppress(FileNotFoundError):
+                    (self._folder / SECRET).unlink()
         finally:
             os.close(self._scores)
-            os.close(self.lock)
+            self._unlock()
 
     def _is_begun(self, is_resumed: bool) -> bool:
         """Whether the folder has a run, which is refused unless it is to be gone on with."""
@@ -217,25 +238,52 @@ class RunFolder:
     def _locked(self) -> int:
         """Locks the folder, and gives the number of its open file.
 
-        Games hold the lock, too, so those of a run that was killed have ended when it is had.
+        Games hold the lock, too, so those of a run that was killed have ended when it is had. Where
+        a file system has no locks, a file stands for it, which has the host and the process.
         """
         number = os.open(self._folder, os.O_RDONLY)
         deadline = time.monotonic() + MOST_WAIT
-        while True:
-            try:
-                fcntl.flock(number, fcntl.LOCK_EX | fcntl.LOCK_NB)
-                return number
-            except BlockingIOError:
-                if time.monotonic() > deadline:
-                    os.close(number)
-                    raise RunError("another tournament is writing to it") from None
-                time.sleep(0.1)
-            except OSError:
-                return number  # a file system that has no locks
+        try:
+            while True:
+                try:
+                    fcntl.flock(number, fcntl.LOCK_EX | fcntl.LOCK_NB)
+                    return number
+                except BlockingIOError:
+                    if time.monotonic() > deadline:
+                        raise RunError("another tournament is writing to it") from None
+                    time.sleep(0.1)
+                except OSError:
+                    self._make_lock()
+                    return number
+        except BaseException:
+            os.close(number)
+            raise
+
+    def _make_lock(self) -> None:
+        """Makes the file that stands for a lock."""
+        file, ours = self._folder / LOCK, f"{socket.gethostname()} {os.getpid()}"
+        try:
+            text = os.open(file, os.O_CREAT | os.O_EXCL | os.O_WRONLY)
+        except FileExistsError:
+            host, _, process = file.read_text(encoding="utf-8", errors="replace").partition(" ")
+            if host == socket.gethostname() and process.isdigit() and not _is_running(int(process)):
+                file.unlink()
+                self._make_lock()
+                return
+            raise RunError(f"another tournament is writing to it, process {process} of {host}; if "
+                           f"that has ended, remove {file}") from None
+        os.write(text, ours.encode())
+        os.close(text)
+        self._has_file = True
+
+    def _unlock(self) -> None:
+        if self._has_file:
+            (self._folder / LOCK).unlink()
+        os.close(self.lock)
 
     def _clear(self) -> None:
         """Removes the files of games that were not finished."""
-        finished = {f"{deal}.{rotation}" for deal, rotation in self.finished}
+        finished = {f"{number}.{rotation}" for number, rotation in self.finished}
         for file in (self._folder / GAMES).iterdir():
             match = FILE.fullmatch(file.name)
             if match and match[1] not in finished:
@@ -244,20 +292,54 @@ class RunFolder:
     def _write_record(self) -> None:
         self._replace(RUN, json.dumps(self._value, indent=1) + "\n")
 
-    def _replace(self, name: str, text: str) -> None:
+    def _replace(self, name: str, text: str, mode: int = 0o666) -> None:
         """Writes a file so that it is there whole, or as it was."""
         new = self._folder / f".{name}.new"
-        with open(new, "w", encoding="utf-8") as file:
+        with contextlib.suppress(FileNotFoundError):
+            new.unlink()
+        with open(new, "w", encoding="utf-8",
+                  opener=lambda path, how: os.open(path, how | os.O_EXCL, mode)) as file:
             file.write(text)
             file.flush()
             os.fsync(file.fileno())
         os.replace(new, self._folder / name)
 
 
+def secret_of(folder: Path) -> bytes:
+    """The secret of a run that is over.
+
+    Raises:
+        RunError: It has none, it is not over, or the secret is not the one of its commitment.
+        OSError: Its run.json cannot be read.
+    """
+    deals = read_record(folder)["deals"]
+    if "commitment" not in deals:
+        raise RunError(f"{folder}: its deals are of the seed {deals.get('seed')}")
+    if SECRET not in deals:
+        raise RunError(f"{folder}: its secret is told when all of its games are scored")
+    try:
+        secret = read_secret(deals[SECRET])
+    except (ValueError, TypeError, AttributeError):
+        raise RunError(f"{folder / RUN}: its secret is none") from None
+    if commitment(secret) != deals["commitment"]:
+        raise RunError(f"{folder / RUN}: its secret is not the one of its commitment")
+    return secret
+
+
+def _is_running(process: int) -> bool:
+    try:
+        os.kill(process, 0)
+    except ProcessLookupError:
+        return False
+    except PermissionError:
+        pass
+    return True
+
+
 def _record(plan: Plan) -> Dict[str, Any]:
     """What run.json says of a plan."""
-    return {"tournament": FORM, "settings": dict(plan.settings), "tac": digest_of(Path(find())),
-            "package": package_digest(), "agents": _agents(plan.agents), "runs": []}
+    return {"tournament": FORM, "settings": dict(plan.settings), "deals": plan.rule.drawn,
+            "tac": digest_of(Path(find())), "package": package_digest(), "agents": [], "runs": []}
 
 
 def _agents(agents: Mapping[str, Agent]) -> List[Dict[str, Any]]:

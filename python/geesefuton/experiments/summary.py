@@ -37,6 +37,8 @@ class Standing:
         luck: The mean of the luck of its draws in dollars.
         adjusted: The mean that it would have with draws that are as those of all made games in the
             mean, or of all agents for other games; None where it cannot be told.
+        missed: In how many ticks it could not act, by what it tells, in the mean; None if it tells
+            nothing.
     """
 
     agent: str
@@ -46,6 +48,7 @@ class Standing:
     played: Optional[Estimate]
     luck: float
     adjusted: Optional[Estimate]
+    missed: Optional[float] = None
 
     @property
     def failed(self) -> int:
@@ -114,6 +117,8 @@ class Summary:
             if that was not asked.
         missing: Why there are no adjusted figures, and none of what tells a difference; "" if there
             are.
+        planned: How many games there were to be; 0 if that is not known.
+        is_stopped: Whether a run was stopped before it had played them.
     """
 
     standings: List[Standing]
@@ -126,16 +131,20 @@ class Summary:
     lost: List[str]
     detect: Optional[float] = None
     missing: str = ""
+    planned: int = 0
+    is_stopped: bool = False
 
 
-def summarize(rows: Sequence[Row], lost: Sequence[str] = (),
-              detect: Optional[float] = None) -> Summary:
+def summarize(rows: Sequence[Row], lost: Sequence[str] = (), detect: Optional[float] = None,
+              planned: int = 0, is_stopped: bool = False) -> Summary:
     """The summary of rows, of one tournament or of several with different deals.
 
     Args:
         rows: The rows.
         lost: What was lost, each in a line.
         detect: A difference in dollars, of which is told how many deals tell it.
+        planned: How many games there were to be; 0 if that is not known.
+        is_stopped: Whether a run was stopped before it had played them.
     """
     by_agent: Dict[str, List[Row]] = defaultdict(list)
     for row in rows:
@@ -153,7 +162,7 @@ def summarize(rows: Sequence[Row], lost: Sequence[str] = (),
     return Summary(standings, differences,
                    [[names[place] for place in group] for group in groups_of(len(names), apart)],
                    sum(kinds.values()), len({row.deal for row in rows}), _partial(rows),
-                   dict(kinds), list(lost), detect, draws.missing)
+                   dict(kinds), list(lost), detect, draws.missing, planned, is_stopped)
 
 
 def _partial(rows: Sequence[Row]) -> int:
@@ -189,11 +198,11 @@ def _luck(row: Row) -> float:
 
 
 def _nights(row: Row) -> float:
-    return 0.0 if row.nights is None else row.nights
+    return row.nights
 
 
 def _first_price(row: Row) -> float:
-    return 0.0 if row.first_price is None else row.first_price
+    return row.first_price
 
 
 COVARIATES = (_luck, _nights, _first_price)
@@ -206,7 +215,7 @@ class _Draws:
     def __init__(self, rows: Sequence[Row]) -> None:
         self.missing = study.missing("figures that are adjusted for the draw")
         self._centre = [0.0] * len(COVARIATES)
-        if all(row.deal.rpartition(":")[2].isdigit() and row.nights is not None for row in rows):
+        if not any("game" in read_settings(text) for text in {row.settings for row in rows}):
             self._centre = [MEAN_LUCK, MEAN_NIGHTS, MEAN_FIRST_PRICE]
         elif rows:
             self._centre = [mean_of([value(row) for row in rows]) for value in COVARIATES]
@@ -248,8 +257,10 @@ def _standing(agent: str, rows: Sequence[Row], draws: _Draws) -> Standing:
     scores = _by_deal(rows, _score)
     drawn = [_by_deal(rows, value) for value in COVARIATES]
     played = _by_deal([row for row in rows if row.end is Outcome.PLAYED], _score)
+    missed = [row.missed for row in rows if row.missed is not None]
     return Standing(agent, len(rows), ends, estimate(scores), estimate(played) if played else None,
-                    mean_of(drawn[0]), draws.mean(scores, drawn))
+                    mean_of(drawn[0]), draws.mean(scores, drawn),
+                    mean_of(missed) if missed else None)
 
 
 def _difference(first: str, second: str, ours: Cells, theirs: Cells, draws: _Draws,

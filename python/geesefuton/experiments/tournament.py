@@ -1,6 +1,6 @@
-"""Plays games between agents, several at once, and writes a line of CSV for each seat.
+"""Plays games between agents, several at once, and compares the agents.
 
-    tournament --games 20 --keep games mine.py examples/agents/planner.py > scores.csv
+    tournament --games 20 --out FOLDER mine.py examples/agents/planner.py
 
 An agent is a Python file, a program, or a command in quotes, such as 'java -jar theirs.jar'. The
 command runs it with the words HOST PORT WORD --pause SECONDS, like the agents of examples/agents.
@@ -8,34 +8,39 @@ Each game goes through a lobby, so an agent that fails or hangs costs only its o
 
 With --turns R there is no clock: in each turn an agent gets one request answered, and each agent
 has R turns between two ticks. So agents whose requests depend only on what they received, such as
-those of examples/agents, play the same games for the same seed on any machine, busy or not. They
+those of examples/agents, play the same games for the same secret on any machine, busy or not. They
 run with --pause 0, and draw random numbers from the seed in the variable AGENT_SEED. An agent that
 is silent for --patience seconds is passed over, and its game is marked as `unrepeatable2`.
 
-A deal has the clients, the tickets, the flights and the order of the hotels of a game. Two agents
-play each deal twice, with swapped seats, so that both have the same clients; with --swap any number
-of agents play each deal once for each of them.
+A deal has the clients, the tickets, the flights and the order of the hotels of a game. Up to 64
+agents play equally often, meet and follow one another equally often, and have each seat equally
+often; --plan shows it before anything is played. With --against AGENT each agent plays alone among
+the agents of a pool, on the same deals and seats as the others.
+
+Deals are drawn from a secret: run.json has its SHA-256 from the start and the secret itself when
+all games are scored, and `geesefuton deals FOLDER` makes each game again. --seed N repeats games,
+which agents can guess.
+
+FOLDER has scores.csv, which gains the rows of each game as the game ends, grades.csv at the end,
+run.json with the settings, the agents and their files, and the files of the games. With --resume
+the run continues after any stop, and plays the missing games. --join FOLDER .. summarizes several
+runs, if they were played in the same way by the same agents.
 
 The line of a seat says how its game went: `played`, or `absent`, `crashed`, `hung`, `refused`. The
-summary at the end has each agent's mean over all its seats with a 95 % interval, the mean over the
-seats that played to the end, how many did not, and the difference of each pair. Failures are
-reported as they happen.
-
-With --out FOLDER the run is kept in a folder: scores.csv gains the rows of each game as the game
-ends, and run.json has the settings, the agents and their files. With --resume the run continues
-after any stop, and plays the missing games. --join FOLDER .. summarizes several runs, if they were
-played in the same way by the same agents.
+summary has each agent's mean over all its seats with a 95 % interval, the mean over the seats that
+played to the end, how many did not, and the difference of each pair. Failures are reported as they
+happen.
 
 The exit status is 0 if every game was scored and everything was written, 1 if not, and 128 plus
 the signal's number if a signal stopped it.
 """
 
+import argparse
 import os
-import shutil
 import subprocess
 import sys
 import time
-from dataclasses import dataclass, field, replace
+from dataclasses import dataclass, field
 from multiprocessing.connection import Connection, Pipe, wait
 from pathlib import Path
 from typing import AbstractSet, Dict, Iterator, List, Optional, Sequence, Tuple
@@ -43,22 +48,24 @@ from typing import AbstractSet, Dict, Iterator, List, Optional, Sequence, Tuple
 from geesefuton import program
 from geesefuton.arguments import Parser
 from geesefuton.experiments.covariates import covariates_of
-from geesefuton.experiments.deals import DealError, Table, name_of_deal, tables
+from geesefuton.experiments.deals import SHORT, DealError, Table, place_of, tables
 from geesefuton.experiments.entrants import PACKAGE, Entrant, seat_words
 from geesefuton.experiments.forms import FORMS, as_text
-from geesefuton.experiments.joining import joined, pooled, read_source
+from geesefuton.experiments.grades import as_grades
+from geesefuton.experiments.joining import joined, missing, pooled, read_source, whole_deals
 from geesefuton.experiments.messages import PROGRAM, Job, Note, Result
-from geesefuton.experiments.plan import Plan, make_parser, read_plan
-from geesefuton.experiments.provenance import SHORT, read_settings, settings_text
+from geesefuton.experiments.plan import Plan, make_parser, read_plan, text_of
+from geesefuton.experiments.provenance import read_settings, settings_text
 from geesefuton.experiments.results import Row
-from geesefuton.experiments.runs import RunError, RunFolder
+from geesefuton.experiments.results import text_of as csv_text
+from geesefuton.experiments.runs import GAMES, RunError, RunFolder
 from geesefuton.experiments.summary import Summary, summarize
-from geesefuton.experiments.writers import AppendedRows, OrderedRows
 from geesefuton.hosting import events
 from geesefuton.processes import Children, Output, Stopped, command, tell, why
+from geesefuton.records.secret_deals import agent_seed
 
 LEAVE = 5.0  # seconds that a game has to end its agents
-SUFFIXES = (".game", ".log", ".events", ".script", ".journal")
+GRADES = "grades.csv"
 
 
 @dataclass
@@ -68,7 +75,6 @@ class Running:
     number: int
     table: Table
     entrants: List[Entrant]
-    folder: Path
     connection: Connection
     process: "subprocess.Popen[bytes]"
     deadline: float
@@ -102,29 +108,31 @@ class Tournament:
 
     Args:
         plan: The plan.
-        writer: What takes the rows of each game.
-        finished: The games that are not played again, by the names of their deals and their
+        out: What takes the rows of each game.
+        finished: The games that are not played again, by the numbers of their deals and their
             rotations.
         run: The number of the run.
         held: The numbers of open files that games' processes hold until they end.
+
+    Attributes:
+        report: What was played so far, and what was lost.
+        games: How many games are to be played.
     """
 
-    def __init__(self, plan: Plan, writer: AppendedRows,
-                 finished: AbstractSet[Tuple[str, int]] = frozenset(), run: int = 1,
+    def __init__(self, plan: Plan, out: Output,
+                 finished: AbstractSet[Tuple[int, int]] = frozenset(), run: int = 1,
                  held: Sequence[int] = ()) -> None:
-        self._plan, self._writer, self._finished, self._run = plan, writer, finished, run
+        self._plan, self._out, self._finished, self._run = plan, out, finished, run
         self._held = held
         self.report = Report()
-        self._games = plan.games - sum(
-            (name_of_deal(plan.rule, number // plan.rotations), number % plan.rotations) in finished
-            for number in range(plan.games))
+        self.games = plan.games - sum(place_of(plan.rule, number, plan.rotations) in finished
+                                      for number in range(plan.games))
         self._done = 0
         self._began = time.monotonic()
 
     def play(self, children: Children) -> None:
         """Plays all games."""
         plan = self._plan
-        self._writer.begin()
         waiting = tables(plan.rule, plan.games, plan.rotations, self._finished)
         running: List[Running] = []
         number, are_all_begun = 0, False
@@ -141,10 +149,7 @@ class Tournament:
                     children.end(game.process)
                     game.connection.close()
                     self._finish(game)
-                    if plan.keep is None:
-                        shutil.rmtree(game.folder, ignore_errors=True)
         finally:
-            self._writer.end()
             _end_all(running, children)
 
     def _begin_next(self, children: Children, number: int,
@@ -163,10 +168,11 @@ class Tournament:
         plan = self._plan
         entrants = plan.seated(table)
         words = seat_words(entrants)
-        folder = plan.keep or children.folder("game")
-        job = Job(table.name, folder, table.deal.game.named(words).text(), tuple(entrants),
-                  tuple(words), plan.form, plan.pace, plan.start, plan.linger, plan.turns,
-                  plan.patience, plan.keep is not None)
+        seeds = [agent_seed(plan.rule.secret, table.name, f"{seat} {entrant.name}")
+                 for seat, entrant in enumerate(entrants)]
+        job = Job(table.name, plan.out / GAMES, table.deal.game.named(words).text(),
+                  tuple(entrants), tuple(words), tuple(seeds), plan.form, plan.pace, plan.start,
+                  plan.linger, plan.turns, plan.patience)
         ours, theirs = Pipe()
         path = os.pathsep.join(filter(None, [str(PACKAGE), os.environ.get("PYTHONPATH")]))
         process = children.start(
@@ -178,8 +184,7 @@ class Tournament:
             ours.send(job)
         except OSError:
             pass  # it has ended, which is seen when its messages are read
-        return Running(number, table, entrants, folder, ours, process,
-                       time.monotonic() + plan.seconds())
+        return Running(number, table, entrants, ours, process, time.monotonic() + plan.seconds())
 
     def _hear(self, running: Sequence[Running]) -> None:
         """Takes the messages that the games send."""
@@ -225,10 +230,12 @@ class Tournament:
             rows = self._rows(game, result)
         self.report.rows[game.number] = rows
         each = (time.monotonic() - self._began) / self._done
-        left = round(each * (self._games - self._done))
-        tell(f"game {self._done} of {self._games} ({table.name}): "
+        left = round(each * (self.games - self._done))
+        tell(f"game {self._done} of {self.games} ({table.name}): "
              f"{'scored' if rows else 'lost'}; {left // 60}:{left % 60:02} left")
-        self._writer.put(game.number, rows)
+        if rows and not self._out.write(csv_text(rows)):
+            self.report.lose(f"game {table.name} is lost: {self._out.name}: {self._out.fault}")
+            self.report.rows[game.number] = []
 
     def _rows(self, game: Running, result: Result) -> List[Row]:
         """The rows of a game that was scored."""
@@ -240,7 +247,8 @@ class Tournament:
             rows.append(Row(deal.name, game.table.rotation, seat, entrant.name, result.scores[seat],
                             result.outcomes[seat], drawn.luck, result.kind, drawn.nights,
                             drawn.first_price, self._run, settings,
-                            agent.digest[:SHORT] if agent else ""))
+                            agent.digest[:SHORT] if agent else "", result.missed[seat],
+                            deal.number))
         return rows
 
 
@@ -269,23 +277,32 @@ def _write_summary(summary: Summary, files: Sequence[Path]) -> List[str]:
     return failed
 
 
-def _join(names: Sequence[Path], are_pools: bool, summaries: Sequence[Path],
-          detect: Optional[int]) -> int:
-    """Summarizes what earlier tournaments wrote."""
+def _join(given: argparse.Namespace) -> int:
+    """Summarizes earlier tournaments."""
     sources, told = [], []
-    for name in names:
-        source, lines = read_source(name)
-        if source and "players" in read_settings(source.rows[0].settings):
-            source = None
-            lines.append(f"{name}: it has the games of profiles: use the command profiles")
-        sources += [source] if source else []
+    for name in given.agents:
+        source, lines = read_source(Path(name))
         told += lines
-    rows, refused = (pooled if are_pools else joined)(sources)
+        if source and "players" in read_settings(source.rows[0].settings):
+            told.append(f"{name}: it has the games of profiles: use the command profiles")
+        elif source and missing(source):
+            told.append(missing(source))
+            source, parts = whole_deals(source)
+            if given.partial:
+                tell(f"tournament: {name}: {len({row.deal for row in source.rows})} deals were "
+                     f"played whole; {parts} are left out")
+                sources += [source] if source.rows else []
+        else:
+            sources += [source] if source else []
+    rows, refused = (pooled if given.pool else joined)(sources)
     for text in told + refused:
         tell(f"tournament: {text}")
-    if refused or not rows:
+    if refused or not rows or told and not given.partial:
         return 1
-    return 1 if _print_summary(summarize(rows, detect=detect), summaries) or told else 0
+    summary = summarize(rows, detect=given.detect, is_stopped=any(
+        source.is_stopped for source in sources), planned=sum(
+            source.planned for source in sources))
+    return 1 if _print_summary(summary, given.summary) or told else 0
 
 
 def _print_summary(summary: Summary, summaries: Sequence[Path]) -> bool:
@@ -300,56 +317,36 @@ def _print_summary(summary: Summary, summaries: Sequence[Path]) -> bool:
     return bool(failed)
 
 
-def _open_folder(parser: Parser, folder: Path) -> None:
-    """Makes the folder for what is kept. Files of earlier games are never written over."""
-    try:
-        folder.mkdir(parents=True, exist_ok=True)
-        old = sorted(file.name for file in folder.iterdir() if file.suffix in SUFFIXES)
-    except OSError as fault:
-        parser.error(f"--keep {folder}: {why(fault)}")
-    if old:
-        parser.error(f"--keep {folder}: it has files of earlier games, such as {old[0]}: "
-                     "name another folder")
-
-
 def _main() -> int:
     parser = make_parser(__doc__)
     given = parser.parse_args()
     if given.join:
-        return _join(given.join, given.pool, given.summary, given.detect)
+        if not given.agents:
+            parser.error("--join needs the folders of runs")
+        return _join(given)
     plan = read_plan(parser, given)
-    return _play_in_folder(parser, plan) if plan.out else _play_to_output(parser, plan)
-
-
-def _play_to_output(parser: Parser, plan: Plan) -> int:
-    """Plays, with the rows on standard output and the summary on standard error."""
-    if plan.keep:
-        _open_folder(parser, plan.keep)
-    writer = OrderedRows(Output(1), plan.keep or Path())
-    tournament = Tournament(plan, writer)
-    status = _play(parser, tournament, writer)
-    report = tournament.report
-    summary = summarize(report.all_rows(), report.lost, plan.detect)
-    for text in _write_summary(summary, plan.summaries):
-        report.lose(text)
-    tell("\n" + as_text(replace(summary, lost=report.lost)))
-    return status or (1 if report.lost else 0)
-
-
-def _play_in_folder(parser: Parser, plan: Plan) -> int:
-    """Plays what a folder lacks, with the rows there and the summary on standard output."""
+    if given.plan:
+        out = Output(1)
+        out.write(text_of(plan))
+        return 1 if out.fault else 0
     status, rows, lost = play_in_folder(parser, plan)
-    failed = _print_summary(summarize(rows, lost, plan.detect), plan.summaries)
-    return status or (1 if failed else 0)
+    summary = summarize(rows, lost, plan.detect, plan.games, status > 128)
+    failed = _print_summary(summary, plan.summaries)
+    grades = Output(plan.out / GRADES)
+    grades.write(as_grades(summary))
+    grades.close()
+    if grades.fault:
+        tell(f"tournament: {grades.name}: {grades.fault}")
+    return status or (1 if failed or grades.fault else 0)
 
 
-def play_in_folder(parser: Parser, plan: Plan, elsewhere: AbstractSet[Tuple[str, int]] = frozenset()
+def play_in_folder(parser: Parser, plan: Plan, elsewhere: AbstractSet[Tuple[int, int]] = frozenset()
                    ) -> Tuple[int, List[Row], List[str]]:
     """Plays what the folder of a plan lacks.
 
     Args:
         parser: What refuses the folder if it is another's.
-        plan: The plan, with a folder.
+        plan: The plan.
         elsewhere: The games that are not played here either.
 
     Returns:
@@ -361,25 +358,14 @@ def play_in_folder(parser: Parser, plan: Plan, elsewhere: AbstractSet[Tuple[str,
         parser.error(f"--out {plan.out}: {fault}")
     for text in folder.told:
         tell(f"{parser.prog}: {text}")
+    for what, value in plan.rule.drawn.items():
+        tell(f"the deals are of the {what} {value}"
+             + (", and agents can guess them" if what == "seed" else ""))
     if folder.finished:
         tell(f"{len(folder.finished)} games were finished by earlier runs")
-    writer = AppendedRows(folder.out)
-    tournament = Tournament(plan, writer, folder.finished | elsewhere, folder.number,
+    tournament = Tournament(plan, folder.out, folder.finished | elsewhere, folder.number,
                             [folder.lock])
-    status = _play(parser, tournament, writer)
-    report = tournament.report
-    status = status or (1 if report.lost else 0)
-    scored = sum(bool(rows) for rows in report.rows.values())
-    try:
-        folder.end(status, scored, report.lost)
-    except OSError as fault:
-        report.lose(f"{plan.out}: cannot write how the run ended: {why(fault)}")
-        status = status or 1
-    return status, folder.rows + report.all_rows(), report.lost
-
-
-def _play(parser: Parser, tournament: Tournament, writer: AppendedRows) -> int:
-    """Plays, and returns the status of a signal that stopped it, or 0."""
+    folder.plan_games(len(folder.finished) + tournament.games)
     status = 0
     with Children() as children:
         try:
@@ -387,10 +373,17 @@ def _play(parser: Parser, tournament: Tournament, writer: AppendedRows) -> int:
         except Stopped as stopped:
             status = stopped.status
             tell(f"{parser.prog}: stopped")
-    lost = writer.rescue()
-    if lost:
-        tournament.report.lose(lost)
-    return status
+    report = tournament.report
+    rows = folder.rows + report.all_rows()
+    scored = sum(bool(game) for game in report.rows.values())
+    status = status or (1 if report.lost else 0)
+    try:
+        folder.end(status, scored, report.lost)
+    except (OSError, RunError) as fault:
+        report.lose(f"{plan.out}: cannot write how the run ended: "
+                    f"{why(fault) if isinstance(fault, OSError) else fault}")
+        status = status or 1
+    return status, rows, report.lost
 
 
 def main() -> int:

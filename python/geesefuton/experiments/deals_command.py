@@ -1,0 +1,73 @@
+"""Makes the games of a run again from its secret, and compares them byte for byte.
+
+    deals FOLDER
+
+FOLDER is the folder of a run (`tournament --out`) that is over. The secret in its run.json has to
+be the one of the commitment that the run began with. The exit status is 0 if all games are those of
+the secret.
+"""
+
+import sys
+from pathlib import Path
+from typing import List
+
+from geesefuton.arguments import Parser
+from geesefuton.experiments.deals import DealError, Rule, made_deal, read_rooms
+from geesefuton.experiments.runs import GAMES, RunError, read_record, secret_of
+from geesefuton.processes import Output, command, tell, why
+from geesefuton.records.games import GameError, read_game
+
+
+def _flaws(folder: Path) -> List[str]:
+    """What differs in the games of a run, each in a line; what was compared is told.
+
+    Raises:
+        RunError: It is no run, or its secret is not known.
+        OSError: A file cannot be read.
+        ProgramError: `tac make` refused.
+    """
+    settings = read_record(folder)["settings"]
+    if "game" in settings:
+        raise RunError(f"{folder}: its games are those of a file")
+    rule = Rule(secret_of(folder), rooms=read_rooms(str(settings["rooms"])),
+                live=settings["live"] == "true", is_clumped="endow" in settings)
+    if settings["rooms"] == "16..16" and not rule.live:
+        rule = Rule(rule.secret, is_clumped=rule.is_clumped)
+    flaws, files = [], sorted((folder / GAMES).glob("*.game"))
+    for file in files:
+        try:
+            text = file.read_bytes().decode("latin-1")
+            words = read_game(text).words
+            made = made_deal(rule, int(file.name.split(".")[0])).game.named(words).text()
+        except (GameError, ValueError) as fault:
+            flaws.append(f"{file}: {fault}")
+        else:
+            flaws += [f"{file}: it is not the game of the secret"] if made != text else []
+    if not files:
+        raise RunError(f"{folder}: it has no games")
+    Output(1).write(f"{len(files) - len(flaws)} of {len(files)} games are those of the secret\n")
+    return flaws
+
+
+def _main() -> int:
+    parser = Parser("deals", __doc__)
+    parser.add_argument("folder", type=Path, metavar="FOLDER", help="the folder of a run")
+    folder = parser.parse_args().folder
+    try:
+        flaws = _flaws(folder)
+    except (RunError, DealError) as fault:
+        flaws = [str(fault)]
+    except OSError as fault:
+        flaws = [f"{fault.filename}: {why(fault)}"]
+    for text in flaws:
+        tell(f"deals: {text}")
+    return 1 if flaws else 0
+
+
+def main() -> int:
+    """The command `deals`."""
+    return command("deals", _main)
+
+
+if __name__ == "__main__":
+    sys.exit(main())

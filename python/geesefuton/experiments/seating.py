@@ -1,0 +1,245 @@
+"""Who sits where: plans in which all agents play, meet, sit and follow one another equally often.
+
+Agents are numbers. With up to eight of them a deal has one game for each, and everybody has each
+seat once; with more it has as many games as it takes until everybody has played. Games are made
+from base games by adding the same number, modulo the number of agents, to all of its agents. Over a
+round, which has each such sum once, each agent has each seat equally often, and two agents meet or
+follow one another as often as their difference stands in the base games. These are searched so
+that each difference stands there equally often, up to one where that is found. (With as many agents
+as seats this is Williams' design.) Who follows whom matters: agents take turns in the order of
+seats. For 64 agents the games are the lines of the affine plane of order 8: two meet once a round.
+
+Against a pool each entrant plays alone with the same agents of the pool, in each deal at the same
+seat, over eight deals at each.
+"""
+
+import math
+from collections import Counter
+from random import Random
+from typing import Callable, Dict, Hashable, Iterable, Iterator, List, Tuple
+
+from geesefuton.records.games import SEATS
+
+MOST = SEATS * SEATS  # agents
+ROUNDS = 8  # after so many the base games come again
+TRIES, STEPS, HEAT = 3, 5000, 12.0  # of a search; what a step may cost at first
+SALT = 7  # with which searches find what they should for twenty and thirty agents
+SAME = 1000  # what it costs that an agent meets or follows itself
+
+Game = List[int]  # the agent at each seat
+Search = Callable[[List[Game], List[int], Random], None]
+
+
+class Seating:
+    """The seats of all games of a tournament.
+
+    Args:
+        entrants: How many agents there are, 1 to `MOST`.
+        pool: How many agents more are in a pool, numbered after these; 0 if there is none.
+
+    Attributes:
+        games: How many games a deal has.
+        round: After how many deals everything is equal.
+    """
+
+    def __init__(self, entrants: int, pool: int = 0) -> None:
+        self._entrants, self._pool = entrants, pool
+        is_small = entrants <= SEATS or pool > 0
+        self.games = entrants if is_small else -(-entrants // SEATS)
+        self.round = SEATS * pool if pool else 1 if is_small else \
+            SEATS + 1 if entrants == MOST else entrants
+        self._rest, self._bases = _bases(entrants), [[list(range(SEATS))]][:0]
+
+    def game(self, deal: int, rotation: int) -> Game:
+        """The agents of a game.
+
+        Args:
+            deal: The number of the deal, from 0.
+            rotation: Which of its games it is, from 0.
+        """
+        if self._pool:
+            own = deal % SEATS
+            return [rotation if seat == own else
+                    self._entrants + (seat + deal + deal // SEATS) % self._pool
+                    for seat in range(SEATS)]
+        if self._entrants == MOST:
+            return _line(deal % self.round, rotation)
+        number = deal // self.round % ROUNDS
+        while len(self._bases) <= number:
+            self._bases.append(next(self._rest))
+        base, add = self._bases[number], rotation
+        if self.round > 1:
+            base, add = base[rotation:], deal * _stride(self._entrants)
+        return [(agent + add) % self._entrants for agent in base[0]]
+
+    def counts(self, deals: int) -> Dict[str, Tuple[int, int]]:
+        """The least and the most, over all agents, of what is to be equal in a number of deals."""
+        played: Counter[Hashable] = Counter()
+        met, sat, followed = Counter(played), Counter(played), Counter(played)
+        for deal in range(deals):
+            for rotation in range(self.games):
+                game = self.game(deal, rotation)
+                played.update(set(game))
+                met.update((one, other) for one in set(game) for other in set(game))
+                sat.update(zip(game, range(SEATS)))
+                followed.update(zip(game, game[1:] + game[:1]))
+        everybody = range(self._entrants)
+        pairs = [(one, other) for one in everybody for other in everybody if one != other]
+
+        def ends(counter: "Counter[Hashable]", keys: Iterable[Hashable]) -> Tuple[int, int]:
+            counts = [counter[key] for key in keys] or [0]
+            return min(counts), max(counts)
+
+        told = {"games of an agent": ends(played, everybody),
+                "times at each seat": ends(sat, ((one, seat) for one in everybody
+                                                 for seat in range(SEATS)))}
+        if not self._pool:
+            told.update({"games in which two agents meet": ends(met, pairs),
+                         "times that one follows another": ends(followed, pairs)})
+        return told
+
+
+def _stride(agents: int) -> int:
+    """A step by which all numbers are reached, and soon far ones: near the golden section."""
+    return min((step for step in range(1, agents + 1) if math.gcd(step, agents) == 1),
+               key=lambda step: abs(step - agents * 0.618))
+
+
+def _line(slope: int, shift: int) -> Game:
+    """A line of the affine plane of order 8: a game of agents 8 x + y.
+
+    Args:
+        slope: 0 to 7; 8 for the lines of equal x.
+        shift: Which of these lines, 0 to 7.
+    """
+    if slope == SEATS:
+        return [SEATS * shift + y for y in range(SEATS)]
+    return [SEATS * (seat ^ slope) + (_product(slope, seat ^ slope) ^ shift)
+            for seat in range(SEATS)]
+
+
+def _product(one: int, other: int) -> int:
+    """The product in the field of 8 numbers."""
+    product = 0
+    for bit in range(3):
+        product ^= (one << bit) * (other >> bit & 1)
+    for bit in (4, 3):
+        product ^= (0b1011 << bit - 3) * (product >> bit & 1)
+    return product
+
+
+def _bases(agents: int) -> Iterator[List[Game]]:
+    """The base games of one round after the other."""
+    games = -(-agents // SEATS)
+    more = SEATS * games - agents  # seats that are left when everybody has one
+    everybody = [*range(agents), *(place * agents // max(1, more) % agents
+                                   for place in range(more))]
+    met, followed, drawn = [0] * agents, [0] * agents, Random(agents + SALT)
+    while True:
+        base = [everybody[number::games] for number in range(games)]
+        if games > 1:
+            base = _searched(base, met, _mix, drawn)
+        base = _searched(base, followed, _order, drawn)
+        yield base
+
+
+def _unlike(counts: List[int]) -> int:
+    """By how much more the commonest difference occurs than the rarest; many if 0 does."""
+    return max(counts[1:], default=0) - min(counts[1:], default=0) + SAME * counts[0]
+
+
+def _searched(base: List[Game], counts: List[int], search: Search, drawn: Random) -> List[Game]:
+    """The games of the best of some searches, which begin with these; counts are replaced by those
+    with its games."""
+    found = []
+    for number in range(TRIES):
+        games, tried = [list(game) for game in base], list(counts)
+        search(games, tried, drawn)
+        found.append((_unlike(tried), number, games, tried))
+        if len(counts) == 1 or _unlike(tried) <= 1:
+            break
+    _, _, games, counts[:] = min(found)
+    return games
+
+
+def _mix(base: List[Game], met: List[int], drawn: Random) -> None:
+    """Exchanges agents of different games, and who has two seats in all, until all differences of
+    agents that meet occur equally often.
+
+    Args:
+        base: The games.
+        met: How often each difference occurred so far; gains those of the games.
+        drawn: What is tried.
+    """
+    def put(game: Game, seat: int, agent: int, sign: int) -> int:
+        """Puts an agent to a seat, or takes it away; gives what that costs."""
+        cost = 0
+        for place, other in enumerate(game):
+            if place != seat:
+                for difference in (agent - other, other - agent):
+                    cost += 2 * sign * met[difference] + 1 if difference else sign * SAME
+                    met[difference] += sign
+        return cost
+
+    for game in base:
+        for at, agent in enumerate(game):
+            for there in game[:at]:
+                met[agent - there] += 1
+                met[there - agent] += 1
+    seats = Counter(agent for game in base for agent in game)
+    for step in range(STEPS):
+        if _unlike(met) <= 1:
+            break
+        one, other = [base[int(drawn.random() * len(base))] for _ in range(2)]
+        seat, place = [int(drawn.random() * SEATS) for _ in range(2)]
+        old, new = one[seat], other[place]
+        is_exchange = seats[old] == 1 or seats[new] > 1
+        if old == new or is_exchange and one is other:
+            continue
+        moves: List[Tuple[Game, int, int, int]] = [(one, seat, old, new)]
+        moves += [(other, place, new, old)] if is_exchange else []
+        cost = 0
+        for game, at, gone, come in moves:
+            cost += put(game, at, gone, -1) + put(game, at, come, 1)
+            game[at] = come
+        if cost > HEAT * (1 - step / STEPS) * drawn.random():
+            for game, at, gone, come in moves[::-1]:
+                put(game, at, come, -1)
+                put(game, at, gone, 1)
+                game[at] = gone
+        elif not is_exchange:
+            seats[old], seats[new] = 1, 2
+
+
+def _order(base: List[Game], followed: List[int], drawn: Random) -> None:
+    """Exchanges seats within games until all differences of agents that follow one another occur
+    equally often.
+
+    Args:
+        base: The games.
+        followed: How often each difference occurred so far; gains those of the games.
+        drawn: What is tried.
+    """
+    def count(game: Game, sign: int) -> int:
+        """Counts a game, or no more; gives what that costs."""
+        cost, before = 0, game[-1]
+        for agent in game:
+            difference = agent - before
+            cost += 2 * sign * followed[difference] + 1 if difference else sign * SAME
+            followed[difference] += sign
+            before = agent
+        return cost
+
+    for game in base:
+        count(game, 1)
+    for step in range(STEPS):
+        if _unlike(followed) <= 1:
+            break
+        game = base[int(drawn.random() * len(base))]
+        one, other = (int(drawn.random() * SEATS) for _ in range(2))
+        cost = count(game, -1)
+        game[one], game[other] = game[other], game[one]
+        if cost + count(game, 1) > HEAT * (1 - step / STEPS) * drawn.random():
+            count(game, -1)
+            game[one], game[other] = game[other], game[one]
+            count(game, 1)
