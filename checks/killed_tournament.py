@@ -50,7 +50,7 @@ class Killed:
     def finished(self) -> Games:
         """The games that have all their rows."""
         rows = read_scores(self.out).rows if self.out.exists() else []
-        return {f"{row.deal}.{row.rotation}": (row.run, self.log(f"{row.deal}.{row.rotation}")
+        return {f"{row.number}.{row.rotation}": (row.run, self.log(f"{row.number}.{row.rotation}")
                                                .stat().st_mtime_ns) for row in rows}
 
     def log(self, game: str) -> Path:
@@ -91,7 +91,7 @@ class Killed:
                         before.items() if now.get(name) != game]
         scores: Dict[str, List[int]] = {}
         for row in sorted(found.rows, key=lambda row: row.seat):
-            scores.setdefault(f"{row.deal}.{row.rotation}", []).append(row.score)
+            scores.setdefault(f"{row.number}.{row.rotation}", []).append(row.score)
         for name, rows in scores.items():
             log = self.log(name)
             if program.audit(log.with_suffix(".game"), log) != "sound":

@@ -106,10 +106,10 @@ def scripts(hanger: str, browser: str, record: str) -> Iterator[Script]:
     lobby = ["tools/lobby", game, "PORT", "100", "--after", "1"]
     yield Script("quick start", ["tools/quickstart"])
     yield Script("tournament", ["tools/tournament", "--games", "3", "--pace", "40", "--after", "1",
-                                hanger, str(TOP / planner)])
+                                "--out", "clock", hanger, str(TOP / planner)])
     yield Script("tournament in turns", ["tools/tournament", "--games", "3", "--turns", "10",
-                                         "--patience", "1", "--after", "1", hanger,
-                                         str(TOP / planner)])
+                                         "--patience", "1", "--after", "1", "--out", "turns",
+                                         hanger, str(TOP / planner)])
     yield Script("profiles", ["tools/profiles", "--games", "1", "--turns", "10", "--patience", "1",
                               "--after", "1", "--out", "study", hanger, str(TOP / planner)])
     yield Script("lobby, waiting", [*lobby, "--start", "4"])

@@ -179,6 +179,18 @@ class Folders(unittest.TestCase):
         (self.out / "scores.csv").write_text("a,b\n1,2\n")
         self.refused("line 1 is not the head", is_resumed=True)
 
+    def test_a_run_that_was_killed_when_it_had_only_its_secret(self) -> None:
+        rule = Rule(bytes(range(32)))
+        self.out.mkdir(parents=True)
+        (self.out / "secret").write_text("mine\n")
+        self.refused("it has secret, but no run.json", is_resumed=True, rule=rule)
+        (self.out / "secret").write_text(rule.secret.hex() + "\n")
+        self.refused("it has secret, but no run.json", is_resumed=True, rule=Rule(bytes(32)))
+        run = self.begin(is_resumed=True, rule=rule)
+        run.plan_games(1)
+        run.end(143, 0, [])
+        self.assertEqual(self.value()["deals"], rule.drawn)
+
     def test_two_at_once_are_refused(self) -> None:
         run = self.begin()
         self.refused("another tournament is writing to it", is_resumed=True)

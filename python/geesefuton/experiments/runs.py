@@ -20,7 +20,7 @@ from datetime import datetime, timezone
 from pathlib import Path
 from typing import Any, Dict, List, Mapping, Sequence, Set, Tuple
 
-from geesefuton.experiments.deals import RUN, SECRET
+from geesefuton.experiments.deals import RUN, SECRET, DealError, kept_secret
 from geesefuton.experiments.plan import Plan
 from geesefuton.experiments.provenance import (Agent, commit, digest_of, machine, package_digest,
                                                unlike)
@@ -229,6 +229,9 @@ class RunFolder:
             names = [name for name in sorted(os.listdir(self._folder)) if name[0] != "."]
         except FileNotFoundError:
             return False
+        with contextlib.suppress(DealError):
+            if names == [SECRET] and kept_secret(self._folder) == self._plan.rule.secret:
+                return False  # a run was killed when there was nothing else
         if names and RUN not in names:
             raise RunError(f"it is not the folder of a tournament: it has {names[0]}, but no {RUN}")
         if names and not is_resumed:
