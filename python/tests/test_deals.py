@@ -150,13 +150,15 @@ class Secrets(unittest.TestCase):
     def test_a_secret_is_made_once_and_is_private(self) -> None:
         with tempfile.TemporaryDirectory() as folder:
             file = Path(folder, "study", "secret")
-            secret = shared_secret(file)
-            self.assertEqual((shared_secret(file), kept_secret(file.parent)), (secret, secret))
+            secret = bytes(range(32))
+            self.assertEqual(shared_secret(file, secret), secret)
+            self.assertEqual(shared_secret(file, bytes(32)), secret)
+            self.assertEqual(kept_secret(file.parent), secret)
             self.assertEqual(stat.S_IMODE(file.stat().st_mode), 0o600)
             self.assertEqual([each.name for each in file.parent.iterdir()], ["secret"])
             file.write_text("12\n")
             with self.assertRaisesRegex(DealError, "it has no secret of a run"):
-                shared_secret(file)
+                shared_secret(file, secret)
             self.assertIsNone(kept_secret(Path(folder)))
 
 

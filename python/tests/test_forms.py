@@ -117,10 +117,6 @@ class Texts(unittest.TestCase):
         self.assertNotIn("in turns", as_text(self.summary))
         self.assertEqual(json.loads(as_json(summary))["kinds"],
                          {"turns2": 2, "unrepeatable2": 1, "served": 1})
-        former = [row("1", 0, 0, "a", 5, kind=Kind.FORMER_TURNS)]
-        self.assertEqual(as_text(summarize(former)).split("\n")[1],
-                         "in turns in the former order, with seat 0 always first: 1 game that can "
-                         "be repeated")
 
     def test_several_pairs_have_columns_that_allow_for_all(self) -> None:
         rows = [row(str(deal), 0, seat, agent, score + deal * (seat + 1) % 3)

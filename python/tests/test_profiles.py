@@ -43,6 +43,7 @@ for seat, hawk in enumerate(hawks):
 give(text)
 time.sleep(60)
 """
+WORDS = ["--games", "3", "--seed", "1", "--files", "*.py", "--out", "study"]
 
 
 @needs_study
@@ -59,7 +60,9 @@ class Commands(unittest.TestCase):
             result = Result(tuple(range(9000, 9008)), (end,) * 8)
             (self.place / name).write_bytes(pickle.dumps(result, 0))
         (self.place / "lost").write_bytes(pickle.dumps(Result(fault="why"), 0))
-        self.tac = fake_program(self.place, f"cat '{SERVED_GAME}'")
+        price = '$((250 + $(echo "$2" | cut -c1-2)))'  # another one for each deal
+        self.tac = fake_program(
+            self.place, f'sed "s/^flight 0 [0-9]*/flight 0 {price}/" {SERVED_GAME}')
         self.out = self.place / "study"
         back = os.getcwd()
         self.addCleanup(os.chdir, back)
@@ -73,8 +76,7 @@ class Commands(unittest.TestCase):
         find = functools.partial(equilibria.find, resamples=20)
         with contextlib.ExitStack() as stack:
             patch = stack.enter_context
-            patch(mock.patch("sys.argv", ["profiles", *agents, "--games", "3",
-                                          "--at-once", "3", "--out", "study", *words]))
+            patch(mock.patch("sys.argv", ["profiles", *agents, *WORDS, "--at-once", "3", *words]))
             patch(mock.patch("geesefuton.processes.stop_on_signals"))
             patch(mock.patch.dict(os.environ, {"TAC": self.tac, "PLACE": str(self.place), **more}))
             patch(mock.patch("geesefuton.experiments.tournament.PROGRAM", WORKER))
@@ -102,8 +104,7 @@ class Commands(unittest.TestCase):
         """It is refused in one line, and no file changes."""
         before = self.files()
         with mock.patch.dict(os.environ, {"TAC": self.tac}):
-            status, text = refusal("experiments.profiles", *agents, "--games", "3", "--out",
-                                   "study", *words)
+            status, text = refusal("experiments.profiles", *agents, *WORDS, *words)
         self.assertEqual((status, text.count("\n")), (2, 1), text)
         self.assertIn(told, text)
         self.assertEqual(before, self.files())
@@ -130,14 +131,14 @@ class Commands(unittest.TestCase):
 
     def test_seats_move_on_by_deals_and_profiles_differ_in_few(self) -> None:
         self.run_profiles("--players", "2")
-        seats: Dict[Tuple[str, int], Set[int]] = {}
+        seats: Dict[Tuple[int, int], Set[int]] = {}
         for row in read_scores(self.out / "part-1-of-1").rows:
-            seats.setdefault(row.game, set())
+            seats.setdefault(row.place, set())
             if row.agent == "hawk":
-                seats[row.game].add(row.seat)
-        for deal in "123":  # no hawk, one, all but one, all
+                seats[row.place].add(row.seat)
+        for deal in (1, 2, 3):  # no hawk, one, all but one, all
             self.assertTrue(seats[deal, 0] < seats[deal, 1] < seats[deal, 2] < seats[deal, 3])
-        self.assertEqual(len({frozenset(seats[deal, 1]) for deal in "123"}), 3)
+        self.assertEqual(len({frozenset(seats[deal, 1]) for deal in (1, 2, 3)}), 3)
 
     def test_it_goes_on_where_it_was_stopped(self) -> None:
         text, told = self.run_profiles(status=1, LOSE="2.1")
@@ -160,7 +161,7 @@ class Commands(unittest.TestCase):
         with mock.patch("geesefuton.experiments.tournament.Tournament.play",
                         side_effect=Stopped(signal.SIGTERM)):
             text, told = self.run_profiles(status=128 + signal.SIGTERM)
-        self.assertEqual((text, told), ("", "profiles: stopped\n"))
+        self.assertEqual((text, told.splitlines()[-1]), ("", "profiles: stopped"))
 
     def test_parts_are_joined_by_the_same_command(self) -> None:
         for part in ("1/5", "2/5", "4/5", "5/5"):  # one of them does not run
@@ -177,6 +178,18 @@ class Commands(unittest.TestCase):
             (folder / "games").rmdir()
             folder.rmdir()
         self.assertEqual(self.run_profiles()[0], text)  # in one piece
+
+    def test_parts_draw_from_one_secret(self) -> None:
+        with mock.patch.dict(globals(), WORDS=WORDS[:2] + WORDS[4:]), mock.patch(
+                "geesefuton.experiments.plan.new_secret", return_value=bytes(range(32))):
+            self.run_profiles("--part", "1/2")
+            secret = (self.out / "secret").read_text()
+            self.run_profiles("--part", "2/2")
+            self.assertIn("3 deals of 4 profiles", self.run_profiles()[0])
+        self.assertEqual((self.out / "secret").read_text(), secret)
+        told = {json.loads((self.out / f"part-{part}-of-2" / "run.json").read_text())["deals"][
+            "secret"] for part in (1, 2)}
+        self.assertEqual(told, {secret.strip()})
 
     def test_seats_that_did_not_play_are_told(self) -> None:
         text, told = self.run_profiles(CRASH="1.1")
@@ -196,13 +209,13 @@ class Commands(unittest.TestCase):
         self.refused("there is no file owl2.py", agents=("dove.py", "owl2.py"))
         hawk = self.place / "hawk.py"
         hawk.write_text("import os\n")
-        self.refused("the files or words of hawk differ", "--part", "1/2", "--resume")
+        self.refused("the files, libraries or words of hawk differ", "--part", "1/2", "--resume")
         hawk.write_text("pass\n")
         tac, self.tac = self.tac, fake_program(self.place, f"cat '{SERVED_GAME}' # another")
         self.refused("began differently: tac is")
         self.tac = tac
         (self.out / "part-1-of-2" / "run.json").write_text("{}")
-        self.refused("its run.json is not of a tournament")
+        self.refused("run.json is not of a tournament of this version")
 
     def test_a_folder_of_something_else_is_refused(self) -> None:
         self.out.mkdir()
@@ -237,7 +250,8 @@ class Commands(unittest.TestCase):
         self.assertEqual((len(before), len(new), len(set(before + new))), (8, 10, 18))
         rows = read_scores(self.out / "part-1-of-1").rows
         for name in new:
-            self.assertIn("owl", {row.agent for row in rows if f"{row.deal}.{row.rotation}" == name})
+            self.assertIn("owl", {row.agent for row in rows
+                                  if f"{row.number}.{row.rotation}" == name})
         # A stand-in plays as a dove unless it is called hawk, so an owl has what a dove has there.
         # Each has 15 more in the mean of the deals: 42 among doves or owls.
         self.assertRegex(text, r"\n0\+0\+8 +- +- +57 \+- 64\n")
@@ -281,8 +295,9 @@ class Commands(unittest.TestCase):
                             ("expected a part", ["--part", "x"]),
                             ("invalid choice", ["--players", "3"])):
             self.refused(told, *words)
-        for agents in (("dove.py",), ("dove.py", "dove.py"), ("dove.py", "hawk.py", "dove.py")):
-            self.refused("name two or more strategies, each once", agents=agents)
+        self.refused("name two or more strategies, each once", agents=("dove.py",))
+        self.refused("dove.py and ./dove.py are the same agent",
+                     agents=("dove.py", "hawk.py", "./dove.py"))
 
     def test_a_tournament_does_not_sum_it_up(self) -> None:
         self.run_profiles()

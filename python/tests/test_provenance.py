@@ -26,7 +26,8 @@ class Agents(unittest.TestCase):
 
     def test_files_are_those_of_the_folder_and_those_below(self) -> None:
         for folder, name in (("strategy", "__init__.py"), (".git", "x"), ("__pycache__", "x.pyc"),
-                             ("runs/1", "run.json"), ("venv", "pyvenv.cfg")):
+                             ("runs/1", "run.json"), ("venv", "pyvenv.cfg"),
+                             ("study", "secret")):
             (self.place / folder).mkdir(parents=True)
             (self.place / folder / name).write_text("1")
         agent = agent_of(read_entrant(str(self.place / "mine.py")))
@@ -34,6 +35,10 @@ class Agents(unittest.TestCase):
                                                "strategy/__init__.py"])
         self.assertEqual(agent.files["deep.py"], digest_of(self.place / "deep.py"))
         self.assertEqual((agent.name, list(agent.words)), ("mine", ["mine.py"]))
+        summary = self.place / "s.json"
+        summary.write_text("{}")
+        self.assertEqual(agent_of(read_entrant(str(self.place / "mine.py")),
+                                  without=[summary]).digest, agent.digest)
 
     def test_each_file_and_each_word_changes_the_digest(self) -> None:
         (self.place / "strategy").mkdir()

@@ -6,15 +6,14 @@ from typing import Any, List
 from geesefuton.experiments import study
 from geesefuton.experiments.comparisons import bonferroni_halves, estimate, holm, student_p
 from geesefuton.experiments.ranks import signed_rank_p
-from geesefuton.experiments.results import (FORMER_HEAD, HEAD, Kind, Outcome, ResultsError, Row,
-                                            read_rows, text_of)
+from geesefuton.experiments.results import (HEAD, Kind, Outcome, ResultsError, Row, read_rows,
+                                            text_of)
 from geesefuton.experiments.summary import summarize
 from geesefuton.records.tables import csv_of
 from tests.helpers import needs_study
 
 if not study.missing("these tests"):
     from geesefuton.experiments.regression import adjusted
-
 
 def row(deal: str, rotation: int, seat: int, agent: str, score: int,
         end: Outcome = Outcome.PLAYED, luck: int = 100, kind: Kind = Kind.SERVED) -> Row:
@@ -188,7 +187,8 @@ class Luck(unittest.TestCase):
                     score -= 7.0 + 0.5 * (first - 325.0) + 10.0 * (nights - 2.0) \
                         + 0.25 * (luck - 2153.43)
                 rows.append(replace(row(str(deal), 0, seat, agent, 0, luck=draws[seat][0]),
-                                    score=score, nights=draws[seat][1], first_price=first))
+                                    score=score, nights=draws[seat][1], first_price=first,
+                                    settings="rooms=16..16"))
         pair, = summarize(rows).differences
         sign = 1.0 if pair.first == "a" else -1.0
         assert pair.adjusted is not None and pair.adjusted.half is not None
@@ -213,7 +213,7 @@ class Luck(unittest.TestCase):
 class Draws(unittest.TestCase):
     """Rows with all covariates."""
 
-    def drawn(self, deals: int, agents: str, name: str = "{}") -> List[Row]:
+    def drawn(self, deals: int, agents: str, settings: str = "rooms=16..16") -> List[Row]:
         """An agent's score is 1000 (2000 for b), with what its draw is worth."""
         source, rows = random.Random(8), []
         for deal in range(deals):
@@ -222,8 +222,8 @@ class Draws(unittest.TestCase):
                 luck, nights = 2153 + source.randrange(-300, 300), 2.0 + source.randrange(-6, 7) / 8
                 score = {"a": 1000, "b": 2000}[agent] + luck - 2153 - 400 * (nights - 2.0) \
                     - 3 * (first_price - 325.0)
-                rows.append(Row(name.format(deal), 0, seat, agent, round(score), Outcome.PLAYED,
-                                luck, Kind.TURNS, nights, first_price))
+                rows.append(Row(str(deal), 0, seat, agent, round(score), Outcome.PLAYED, luck,
+                                Kind.TURNS, nights, first_price, settings=settings))
         return rows
 
     def test_means_are_adjusted_to_the_draws_of_all_made_games(self) -> None:
@@ -239,11 +239,11 @@ class Draws(unittest.TestCase):
         self.assertAlmostEqual(pair.mean, 1000.0, delta=1.0)
 
     def test_other_games_are_adjusted_to_their_own_draws(self) -> None:
-        rows = self.drawn(16, "a", "my-{}")
+        rows = self.drawn(16, "a", "game=0123")
         standing = summarize(rows).standings[0]
         assert standing.adjusted is not None
         self.assertAlmostEqual(standing.adjusted.mean, standing.score.mean)
-        pooled = summarize(self.drawn(16, "a", "few:{}")).standings[0].adjusted
+        pooled = summarize(self.drawn(16, "a", "rooms=3..6")).standings[0].adjusted
         assert pooled is not None
         self.assertAlmostEqual(pooled.mean, 1000.0, delta=2.0)
 
@@ -251,64 +251,45 @@ class Draws(unittest.TestCase):
         rows = self.drawn(16, "ab")
         rows += [replace(row, rotation=1, agent="ba"["ab".index(row.agent)],
                          score=row.score + (1000 if row.agent == "a" else -1000)
-                         + round(row.first_price or 0.0)) for row in rows]
+                         + round(row.first_price)) for row in rows]
         pair = summarize(rows).differences[0]
         assert pair.score is not None and pair.adjusted is not None
         self.assertAlmostEqual(pair.adjusted.mean, 1000.0, delta=2.0)
 
-    def test_rows_of_earlier_versions_are_adjusted_by_luck_alone(self) -> None:
-        rows = [replace(row, nights=None, first_price=None) for row in self.drawn(16, "a")]
-        standing = summarize(rows).standings[0]
-        scores, lucks = [float(row.score) for row in rows], [float(row.luck) for row in rows]
-        self.assertEqual(standing.adjusted, adjusted(scores, [lucks], [sum(lucks) / 16]))
-
 
 class Rows(unittest.TestCase):
     def test_rows_are_written_and_read(self) -> None:
-        rows: List[Row] = [*SWAPPED, row("x-1", 2, 7, 'a "b", c', -5, Outcome.HUNG, -3),
-                           row("3", 0, 0, "a", 5, kind=Kind.UNREPEATABLE),
-                           Row("3", 0, 1, "a", 5, Outcome.PLAYED, 9, Kind.TURNS, 2.625, 318.25, 4,
-                               "turns=40 rooms=16..16", "0123456789ab")]
+        game = [row("1", 0, seat, 'a "b", c', 110 - seat, Outcome.HUNG, -3) for seat in range(8)]
+        rows = [*game, *(replace(each, deal="0a1b", rotation=2, kind=Kind.TURNS, nights=2.625,
+                                 first_price=318.25, run=4, settings="turns=40 rooms=16..16",
+                                 files="0123456789ab", missed=45, number=7) for each in game)]
         text = csv_of([HEAD]) + text_of(rows)
         lines = text.split("\n")
         self.assertEqual(lines[0], "deal,rotation,seat,agent,score,end,luck,kind,nights,"
-                                   "first_price,run,settings,files")
-        self.assertEqual(lines[1], "1,0,0,a,110,played,100,served,,,0,,")
-        self.assertEqual(lines[-2], "3,0,1,a,5,played,9,turns2,2.625,318.25,4,turns=40 "
-                                    "rooms=16..16,0123456789ab")
-        self.assertEqual(read_rows(text, "x"), rows)
-        self.assertEqual(read_rows(text + text, "x"), rows + rows)
-
-    def test_files_of_earlier_versions_are_read(self) -> None:
-        text = csv_of([FORMER_HEAD]) + "1,0,0,a,110,played,100,turns\n"
-        self.assertEqual(read_rows(text, "x"), [row("1", 0, 0, "a", 110, kind=Kind.FORMER_TURNS)])
-        both = text + csv_of([HEAD]) + text_of(SWAPPED[:1])
-        self.assertEqual(len(read_rows(both, "x")), 2)
-        with self.assertRaisesRegex(ResultsError, "line 4 is not a row"):
-            read_rows(both.replace(",,,0,,", ""), "x")
+                                   "first_price,run,settings,files,missed,number")
+        self.assertEqual(lines[1], '1,0,0,"a ""b"", c",110,hung,-3,served,0,0,1,,,,1')
+        self.assertEqual(lines[-2], '0a1b,2,7,"a ""b"", c",103,hung,-3,turns2,2.625,318.25,4,'
+                                    "turns=40 rooms=16..16,0123456789ab,45,7")
+        self.assertEqual((read_rows(text).rows, read_rows(text).told), (rows, []))
 
     def test_each_end_and_each_kind_has_its_word(self) -> None:
         self.assertEqual([end.value for end in Outcome],
                          ["played", "absent", "crashed", "hung", "refused"])
-        self.assertEqual([kind.value for kind in Kind],
-                         ["served", "turns2", "unrepeatable2", "turns", "unrepeatable"])
+        self.assertEqual([kind.value for kind in Kind], ["served", "turns2", "unrepeatable2"])
         self.assertIs(Row("1", 0, 0, "a", 5, Outcome.PLAYED, 0).kind, Kind.SERVED)
 
-    def test_other_texts_are_refused(self) -> None:
+    def test_other_texts_are_refused_and_other_rows_left_out(self) -> None:
         head = csv_of([HEAD])
-        with self.assertRaisesRegex(ResultsError, "is not the head"):
-            read_rows(text_of(SWAPPED), "my.csv")
-        self.assertEqual(len(HEAD), 13)
-        for text, line in (("", 1), ("seed,seat,agent,score\n1,0,a,5\n", 1),
-                           (head + "1,0,0,a,5,played,100\n", 2),
-                           (head + "1,0,0,a,x,played,100,served,,,0,,\n", 2),
-                           (head + "1,0,0,a,5,won,100,served,,,0,,\n", 2),
-                           (head + "1,0,0,a,5,played,100,x,,,0,,\n", 2),
-                           (head + "1,0,0,a,5,played,100,served,x,,0,,\n", 2),
-                           (head + "1,0,0,a,5,played,100,served\n", 2)):
-            with self.assertRaises(ResultsError) as caught:
-                read_rows(text, "my.csv")
-            self.assertIn(f"my.csv: line {line} ", str(caught.exception))
+        for text in (text_of(SWAPPED), "seed,seat,agent,score\n1,0,a,5\n"):
+            with self.assertRaisesRegex(ResultsError, "line 1 is not the head"):
+                read_rows(text)
+        whole = "1,0,0,a,5,played,100,served,0,0,1,,,,1\n"
+        for text in ("1,0,0,a,5,played,100\n", whole.replace("5", "x"),
+                     whole.replace("played", "won"), whole.replace("served", "x"),
+                     whole.replace("0,0,1", "x,0,1")):
+            found = read_rows(head + text)
+            self.assertEqual(found.rows, [])
+            self.assertIn("line 2 is not a row", found.told[0])
 
 
 if __name__ == "__main__":

@@ -16,7 +16,7 @@ from typing import Container, Dict, Iterator, Optional, Tuple
 from geesefuton import program
 from geesefuton.records.drawing import classic_endowments, drawn_rooms
 from geesefuton.records.games import MOST_ROOMS, Game, GameError, read_game
-from geesefuton.records.secret_deals import commitment, deal_seed, new_secret, read_secret
+from geesefuton.records.secret_deals import commitment, deal_seed, read_secret
 
 SHORT = 12  # digits of a digest in a row
 RUN, SECRET = "run.json", "secret"  # files in the folder of a run
@@ -164,8 +164,8 @@ def tables(rule: Rule, games: int, rotations: int,
             yield Table(deal, rotation)
 
 
-def shared_secret(file: Path) -> bytes:
-    """The secret that a file has, which nobody else can read; it is made where there is none.
+def shared_secret(file: Path, secret: bytes) -> bytes:
+    """The secret that a file has, which nobody else can read; where there is none it gets this one.
 
     Raises:
         DealError: The file has something else.
@@ -175,7 +175,7 @@ def shared_secret(file: Path) -> bytes:
     new = file.with_name(f".{file.name}.{os.getpid()}")
     with open(new, "x", encoding="ascii",
               opener=lambda name, how: os.open(name, how, 0o600)) as text:
-        text.write(new_secret().hex() + "\n")
+        text.write(secret.hex() + "\n")
         text.flush()
         os.fsync(text.fileno())
     try:

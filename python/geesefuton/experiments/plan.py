@@ -10,7 +10,7 @@ from typing import Dict, List, Mapping, Optional, Sequence, Tuple
 from geesefuton import program
 from geesefuton.arguments import Parser, seconds, whole
 from geesefuton.experiments.deals import (SHORT, DealError, Rule, Table, kept_secret, made_deal,
-                                          read_rooms, shared_secret)
+                                          read_rooms)
 from geesefuton.experiments.entrants import Entrant, EntrantError, read_entrants, refuse_twins
 from geesefuton.experiments.forms import FORMS
 from geesefuton.experiments.messages import PATIENCE
@@ -151,7 +151,7 @@ def add_playing(parser: Parser, games: str, default: Optional[int] = None) -> No
         help="count this file or folder as each agent's own, too; may be repeated")
     add("--resume", action="store_true",
         help="play what FOLDER lacks, if its run began with the same words and files")
-    parser.set_defaults(secret=None, against=[], plan=False, summary=[], detect=None, pool=False,
+    parser.set_defaults(shared=None, against=[], plan=False, summary=[], detect=None, pool=False,
                         partial=False)
 
 
@@ -206,10 +206,9 @@ def _rule(given: argparse.Namespace) -> Rule:
     """How deals are made."""
     if given.seed is not None:
         secret = str(given.seed).encode()
-    elif given.secret is not None:
-        secret = shared_secret(given.secret)
     else:
-        kept = kept_secret(given.out) if given.resume and given.out else None
+        folder = given.shared or (given.out if given.resume else None)
+        kept = kept_secret(folder) if folder else None
         secret = new_secret() if kept is None else kept
     return Rule(secret, given.seed, given.game, given.rooms, given.live, given.endow == CLASSIC)
 
@@ -228,7 +227,8 @@ def read_plan(parser: Parser, given: argparse.Namespace, are_deals: bool = False
         rule = _rule(given)
         first = made_deal(rule, 1)  # tells whether deals can be made
         tac = digest_of(Path(program.find()))
-        agents = {entrant.name: agent_of(entrant, given.files, given.also) for entrant in entrants}
+        agents = {entrant.name: agent_of(entrant, given.files, given.also, given.summary)
+                  for entrant in entrants}
     except (EntrantError, DealError, program.ProgramError) as fault:
         parser.error(str(fault))
     except OSError as fault:

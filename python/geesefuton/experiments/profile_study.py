@@ -12,7 +12,7 @@ import numpy as np
 
 from geesefuton.arguments import Parser
 from geesefuton.experiments.comparisons import Estimate
-from geesefuton.experiments.deals import RUN, SECRET, place_of
+from geesefuton.experiments.deals import RUN, SECRET, place_of, shared_secret
 from geesefuton.experiments.entrants import Entrant
 from geesefuton.experiments.equilibria import NEAR, SymmetricGame, equilibria, find, gains
 from geesefuton.experiments.forms import columns, count_text, number_text, shown
@@ -48,7 +48,7 @@ class Study:
     def __init__(self, parser: Parser, given: argparse.Namespace) -> None:
         self._parser, self._folder, self.players = parser, given.out, given.players
         self._part, self._parts = given.part or (1, 1)
-        given.secret = given.out / SECRET
+        given.shared = given.out  # all parts draw from one secret
         given.out = given.out / f"part-{self._part}-of-{self._parts}"
         plan = read_plan(parser, given, are_deals=True)
         if len(plan.agents) < max(2, len(plan.entrants)):
@@ -72,6 +72,9 @@ class Study:
         if doubled:
             parser.error(f"--out {self._folder}: {'; '.join(doubled)}")
         self._others = [row for source in sources for row in source.rows]
+        if plan.rule.seed is None:
+            secret = shared_secret(self._folder / SECRET, plan.rule.secret)
+            self.plan = replace(self.plan, rule=replace(plan.rule, secret=secret))
 
     def _part_folders(self) -> List[Path]:
         """The folders of parts that have games. Refuses a folder of something else."""

@@ -23,7 +23,8 @@ from geesefuton.experiments.deals import SHORT
 from geesefuton.experiments.entrants import PACKAGE, Entrant, EntrantError
 
 MOST_FILES, MOST_BYTES = 2000, 1 << 30  # of an agent
-NOT_OURS = ("run.json", "pyvenv.cfg", "schema.json")  # a folder with one has no files of an agent
+# A folder that has one of these files has none of an agent.
+NOT_OURS = ("run.json", "secret", "payoffs.json", "pyvenv.cfg", "schema.json")
 
 
 def digest_of(file: Path) -> str:
@@ -73,7 +74,8 @@ class Agent:
                               **{f"library {name}": each for name, each in self.libraries.items()}})
 
 
-def agent_of(entrant: Entrant, patterns: Sequence[str] = (), also: Sequence[Path] = ()) -> Agent:
+def agent_of(entrant: Entrant, patterns: Sequence[str] = (), also: Sequence[Path] = (),
+             without: Sequence[Path] = ()) -> Agent:
     """What an agent is.
 
     Its files are those of the folder of the first file that its command names, and of the folders
@@ -86,6 +88,7 @@ def agent_of(entrant: Entrant, patterns: Sequence[str] = (), also: Sequence[Path
         entrant: The agent.
         patterns: If there are any, the files of its folder are those whose names match one.
         also: Further files and folders.
+        without: Files that are written, which are not an agent's.
 
     Raises:
         EntrantError: They are too many for an agent, or something is not there.
@@ -99,10 +102,10 @@ def agent_of(entrant: Entrant, patterns: Sequence[str] = (), also: Sequence[Path
     folder = None
     for word, path in named.items():
         if folder is None and path.is_file() and word not in by_name:
-            folder = path.resolve().parent
+            folder, written = path.resolve().parent, {each.resolve() for each in without}
             files.update({str(file.relative_to(folder)): file for file in _within(folder)
-                          if not patterns or any(fnmatch.fnmatch(file.name, each)
-                                                 for each in patterns)})
+                          if file not in written and (not patterns or any(
+                              fnmatch.fnmatch(file.name, each) for each in patterns))})
     for path in [*named.values(), *also]:
         if path.is_dir():
             files.update({f"{path.name}/{file.relative_to(path)}": file for file in _within(path)})

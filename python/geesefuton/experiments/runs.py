@@ -173,8 +173,6 @@ class RunFolder:
             **machine(), "ended": None})
         if self._plan.rule.seed is None and SECRET not in self._value["deals"]:
             self._replace(SECRET, self._plan.rule.secret.hex() + "\n", 0o600)
-        if SECRET in self._value["deals"]:
-            self.told.append("the secret has been told: who read it can know the deals to come")
         self._write_record()
         if found.told or not self.rows:
             self._replace(SCORES, csv_of([HEAD]) + text_of(self.rows))
@@ -187,6 +185,11 @@ class RunFolder:
     def finished(self) -> Set[Tuple[int, int]]:
         """The numbers of deals and rotations that earlier runs finished."""
         return {row.place for row in self.rows}
+
+    @property
+    def is_told(self) -> bool:
+        """Whether the secret of its deals has been told."""
+        return SECRET in self._value["deals"]
 
     def plan_games(self, planned: int) -> None:
         """Writes how many games the folder is to have.

@@ -215,7 +215,7 @@ class _Draws:
     def __init__(self, rows: Sequence[Row]) -> None:
         self.missing = study.missing("figures that are adjusted for the draw")
         self._centre = [0.0] * len(COVARIATES)
-        if not any("game" in read_settings(text) for text in {row.settings for row in rows}):
+        if all("rooms" in read_settings(text) for text in {row.settings for row in rows}):
             self._centre = [MEAN_LUCK, MEAN_NIGHTS, MEAN_FIRST_PRICE]
         elif rows:
             self._centre = [mean_of([value(row) for row in rows]) for value in COVARIATES]

@@ -366,6 +366,8 @@ def play_in_folder(parser: Parser, plan: Plan, elsewhere: AbstractSet[Tuple[int,
     tournament = Tournament(plan, folder.out, folder.finished | elsewhere, folder.number,
                             [folder.lock])
     folder.plan_games(len(folder.finished) + tournament.games)
+    if folder.is_told and tournament.games:
+        tell("the secret has been told, so agents may know the deals that are still to be played")
     status = 0
     with Children() as children:
         try:
