@@ -14,7 +14,6 @@ from geesefuton.hosting.journal import Exchange, JournalReader, Schedule, read_j
 from geesefuton.hosting.recovery import (KnownHistory, Player, Recovery, RecoveryError, Script,
                                          differences, script_of)
 from geesefuton.records.dialects import Asked, position_of
-from geesefuton.records.logs import read_log
 from tests.helpers import DATA, CountingPlayer, fake_program, needs_program
 from tests.journals import BEGIN, GAME, LINES, asks, of_text, told
 

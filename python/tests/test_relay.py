@@ -597,7 +597,7 @@ class Strangers(Case):
         link = self.connect(b"hello seat2\n")
         with mock.patch.object(socket.socket, "accept", side_effect=OSError(24, "Too many files")):
             self.turns()
-        self.assertEqual(self.relay.loop._select.select(0.01), [])  # nothing is tried again and again
+        self.assertEqual(self.relay.loop._select.select(0.01), [])  # it is not tried all the time
         self.relay.pass_time(time.monotonic() + REST + 0.1)
         self.turn_until(link, WELCOME)
 

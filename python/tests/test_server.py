@@ -18,7 +18,7 @@ from geesefuton.hosting.control import Phase
 from geesefuton.hosting.events import End
 from geesefuton.hosting.server import TRIES
 from geesefuton.processes import free_port
-from tests.helpers import TOP, fake_program, python
+from tests.helpers import TOP, fake_program
 from tests.lobbies import GAME, MOST, WORDS, Case, Host
 
 

@@ -134,8 +134,8 @@ class Console:
 
     def _seat(self, name: str) -> Seat:
         seats = self._relay.seats.seats
-        known = {**{str(seat.number): seat for seat in seats}, **{seat.word: seat for seat in seats}}
-        seat = known.get(name)
+        numbers = {str(seat.number): seat for seat in seats}
+        seat = {**numbers, **{seat.word: seat for seat in seats}}.get(name)
         if seat is None:
             raise NotDone(f"there is no seat {name}: give a seat's word, or its number 0 to 7")
         return seat

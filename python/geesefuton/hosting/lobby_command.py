@@ -116,8 +116,9 @@ def _default_journal(game: Path, teller: Teller) -> Optional[Path]:
 
 class _Signals:
     """What signals do. Before the game they end the lobby. In the game a first ctrl-C only warns,
-    and a terminal that closes ends only the showing of the scores after it. After the last tick ctrl-C says what is waited for,
-    and a second one ends that, with the log; and once the log is there it ends the page."""
+    and a terminal that closes ends only the showing of the scores after it. After the last tick
+    ctrl-C says what is waited for, and a second one ends that, with the log; and once the log is
+    there it ends the page."""
 
     def __init__(self, lobby: Lobby, teller: Teller) -> None:
         self._lobby, self._teller = lobby, teller

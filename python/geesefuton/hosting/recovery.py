@@ -22,7 +22,7 @@ from typing import Dict, Iterable, Iterator, List, NamedTuple, Sequence, Tuple
 from geesefuton import program
 from geesefuton.hosting.journal import Exchange, JournalReader, Schedule
 from geesefuton.records.dialects import CASH
-from geesefuton.records.games import GOODS, SEATS, TICKS
+from geesefuton.records.games import GOODS, TICKS
 
 MOST_TRIES = 300  # places of requests without a reply that are tried in an auction
 
@@ -290,8 +290,8 @@ class Recovery:
             for history in histories:
                 calls = known[history.good]
                 if not any(history.guess(calls, guess) for guess in guesses[history.good]):
-                    raise RecoveryError(f"good {history.good}: its {len(history.pending)} requests without a reply"
-                                        " cannot be placed")
+                    raise RecoveryError(f"good {history.good}: its {len(history.pending)} requests "
+                                        "without a reply cannot be placed")
             script = script_of(item for history in histories for item in history.items(quotes=True))
             told, _ = self._player.play(self._reader.text, script.text)
             wrong = {call.asked.good for call, _ in differences(script, told)}
