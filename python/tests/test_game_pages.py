@@ -167,8 +167,8 @@ class Started(unittest.TestCase):
 
     def end(self, status: int) -> None:
         """The process ends."""
-        assert self.side._process is not None
-        self.side._process.poll.return_value = self.side._process.returncode = status  # type: ignore
+        process: Any = self.side._process
+        process.poll.return_value = process.returncode = status
 
     def looks(self, *seconds: float) -> List[str]:
         """What the host is told after so many seconds each."""
@@ -190,8 +190,8 @@ class Started(unittest.TestCase):
     def test_one_that_cannot_be_started_is_a_warning_and_is_tried_again(self) -> None:
         start = self.children.start.side_effect
         self.children.start.side_effect = OSError(24, "Too many open files")
-        line = "the page cannot be started: Too many open files; the game goes on, and it is tried " \
-               "again in {} s"
+        line = "the page cannot be started: Too many open files; the game goes on, and it is " \
+               "tried again in {} s"
         self.assertEqual(self.looks(0, 1, AGAIN, 1), [line.format(5), "", line.format(10), ""])
         for _ in range(9):
             self.looks(LONGEST)

@@ -1,5 +1,5 @@
-"""Shows a game on a page, until ctrl-C: reads the journal that the lobby writes, and serves one page
-to any number of viewers.
+"""Shows a game on a page, until ctrl-C: reads the journal that the lobby writes, and serves one
+page to any number of viewers.
 
 The lobby shows this page itself if it has `--page PORT`. It is served by a process of its own, at a
 lower priority, which reads only the journal: so neither it nor a viewer slows the game. Once a tick
