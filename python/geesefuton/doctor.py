@@ -13,6 +13,7 @@ from typing import Dict, Iterator, List, Optional, Tuple
 import geesefuton
 from geesefuton import program
 from geesefuton.arguments import Parser
+from geesefuton.network.addresses import own_addresses
 from geesefuton.processes import Output, command, free_port, tell
 
 PROVENANCE = Path(__file__).resolve().with_name("provenance.json")  # written by tools/release
@@ -171,14 +172,7 @@ def _ports() -> Finding:
 
 def _addresses() -> Finding:
     """The addresses by which other machines reach this one."""
-    found: List[str] = []
-    for family, target in ((socket.AF_INET, "192.0.2.1"), (socket.AF_INET6, "2001:db8::1")):
-        with socket.socket(family, socket.SOCK_DGRAM) as probe:
-            try:
-                probe.connect((target, 9))  # sends nothing: the system only chooses an address
-                found.append(str(probe.getsockname()[0]))
-            except OSError:
-                continue
+    found = own_addresses()
     if found:
         return True, f"addresses: {' '.join(found)}"
     return True, "addresses: none but this machine's own; to play with others, join their network"

@@ -230,7 +230,8 @@ class Doctor(unittest.TestCase):
             with mock.patch("os.access", return_value=may_write):
                 self.check(doctor._folder, may_write,
                            f"this folder: {'' if may_write else 'not '}writable")
-        with mock.patch("socket.socket.connect", side_effect=OSError):
+        with mock.patch("socket.socket.connect", side_effect=OSError), \
+                mock.patch("socket.getaddrinfo", side_effect=OSError):
             self.check(doctor._addresses, True, "addresses: none but this machine's own")
         with mock.patch.dict(os.environ, {"TAC": str(self.place / "none")}):
             for look in (doctor._file, doctor._runs):

@@ -19,7 +19,6 @@ import argparse
 import contextlib
 import os
 import signal
-import socket
 import sys
 from pathlib import Path
 from types import FrameType
@@ -30,6 +29,7 @@ from geesefuton.arguments import Parser, seconds, whole
 from geesefuton.experiments.entrants import Entrant, EntrantError, read_entrants
 from geesefuton.hosting.lobby import LobbyError
 from geesefuton.hosting.teller import Teller
+from geesefuton.network.addresses import own_address
 from geesefuton.practice.board import Board
 from geesefuton.practice.folder import Folder, FolderError, write_whole
 from geesefuton.practice.room import Room, listener_at
@@ -83,14 +83,6 @@ def _arguments() -> argparse.Namespace:
     if given.page == given.port:
         parser.error(f"port {given.page} is for the games: choose another for the page")
     return given
-
-
-def _own_address() -> str:
-    """The address that this machine has in its network, as far as it knows."""
-    with contextlib.suppress(OSError), socket.socket(socket.AF_INET, socket.SOCK_DGRAM) as probe:
-        probe.connect(("192.0.2.1", 9))  # sends nothing
-        return str(probe.getsockname()[0])
-    return socket.gethostname()
 
 
 def _house(commands: Optional[List[str]]) -> List[Entrant]:
@@ -162,7 +154,7 @@ def _main() -> int:
                     return 0
                 if given.page is not None:
                     listener_at(given.page).close()  # so that a port that is taken is told now
-                address = given.address or _own_address()
+                address = given.address or own_address()
                 teams = _make_teams(given, address)
                 room = Room(TableSettings(given.port, given.pace, given.wait, given.after, house,
                                           sys.stdin), folder,
