@@ -24,7 +24,7 @@ from geesefuton.practice.board import Board
 from geesefuton.practice.folder import Finished, Folder, FolderError, write_whole
 from geesefuton.practice.house import HouseServer
 from geesefuton.practice.teams import Team, keep_words, read_teams
-from geesefuton.processes import Children, free_port
+from geesefuton.processes import Children, free_port, python_words
 from geesefuton.records.secret_deals import commitment, deal_seed, read_secret
 from tests.helpers import TOP
 
@@ -241,7 +241,6 @@ class Boards(Case):
         self.process.poll.return_value = None
         self.told: List[str] = []
         self.patch(board_module, "STEADY", 0.0)
-        self.patch(program, "find", lambda: "/tac")
 
     def board(self, page: Optional[int] = 7080) -> Board:
         return Board(self.children, page, 6, "10.0.0.1", self.told.append)
@@ -254,16 +253,14 @@ class Boards(Case):
     def test_the_file_has_the_game_the_names_and_the_room(self) -> None:
         made = self.board()
         made.show(None, ["a"], {"game": 1})
-        words, how = self.children.start.call_args
-        file = Path(words[0][3])
-        self.assertEqual(words[0], [sys.executable, "-m", "geesefuton.practice.page", str(file),
-                                    "7080", "--late", "6"])
-        self.assertEqual((how["cwd"], how["env"]["TAC"]), (TOP / "python", "/tac"))
+        words, file = self.children.start.call_args[0][0], self.path / "board"
+        self.assertEqual(words, [*python_words("geesefuton.practice.page"), str(file), "7080",
+                                 "--late", "6"])
         self.assertEqual(self.shown(), {
             "journal": None, "names": ["a"], "room": {"game": 1, "address": "10.0.0.1"},
             "is_over": False})
         made.show(Path("0001.journal"), ["b"], {"game": 1})
-        self.assertEqual(self.shown()["journal"], os.path.abspath("0001.journal"))
+        self.assertEqual(self.shown()["journal"], "0001.journal")
         self.assertEqual(self.children.start.call_count, 1)
         self.assertEqual([each.name for each in self.path.iterdir()], [file.name])
 
@@ -389,7 +386,7 @@ class Houses(Case):
 
     def test_a_guest_who_comes_while_house_agents_start_keeps_the_seat(self) -> None:
         listener = socket.create_server(("127.0.0.1", 0))
-        relay = Relay(WORDS, listener, lambda _: None, None, 30.0, 0.0)
+        relay = Relay(WORDS, listener, lambda _: None, mock.Mock(), 30.0, 0.0)
         self.addCleanup(listener.close)
         self.addCleanup(relay.close)
         links: Dict[str, socket.socket] = {}

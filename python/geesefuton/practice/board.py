@@ -9,14 +9,11 @@ from __future__ import annotations
 import json
 import os
 import subprocess
-import sys
 import time
 from pathlib import Path
-from typing import Any, Callable, Dict, List, Optional, Sequence
+from typing import Any, Callable, Dict, Optional, Sequence
 
-from geesefuton import program
-from geesefuton.experiments.entrants import PACKAGE
-from geesefuton.processes import Children, why
+from geesefuton.processes import Children, python_words, why
 
 LOOK = 0.05  # seconds between two looks at whether the page's process has ended
 STEADY = 5.0  # seconds after its start until it may be started again
@@ -45,9 +42,8 @@ class Board:
 
     def show(self, journal: Optional[Path], names: Sequence[str], room: Dict[str, Any]) -> None:
         """Shows the game of a journal, or the room while there is none."""
-        self._shown = {"journal": None if journal is None else os.path.abspath(journal),
-                       "names": list(names), "room": {**room, "address": self._address},
-                       "is_over": False}
+        self._shown = {"journal": None if journal is None else str(journal), "names": list(names),
+                       "room": {**room, "address": self._address}, "is_over": False}
         self._write()
 
     def close(self, is_stopped: Callable[[], bool]) -> None:
@@ -71,7 +67,7 @@ class Board:
             new.write_text(json.dumps(self._shown), encoding="ascii")
             os.replace(new, self._file)
             fault = self._start()
-        except (OSError, program.ProgramError) as failed:
+        except OSError as failed:
             fault = f"cannot show the page: {why(failed)}"
         if fault and fault != self._told:
             self._told = fault
@@ -88,14 +84,7 @@ class Board:
         if process is not None:
             self._children.end(process)
             told = f"the page ended with exit status {process.returncode}, and was restarted"
-        # Python looks for modules in the current folder first: in this one are only the package's.
         self._process = self._children.start(
-            page_words(self._file, self._page, self._late), stdin=subprocess.DEVNULL,
-            stdout=subprocess.DEVNULL, cwd=PACKAGE, env={**os.environ, "TAC": program.find()})
+            [*python_words("geesefuton.practice.page"), str(self._file), str(self._page), "--late",
+             str(self._late)], stdin=subprocess.DEVNULL, stdout=subprocess.DEVNULL)
         return told
-
-
-def page_words(file: Path, port: Optional[int], late: int) -> List[str]:
-    """The words that start the page."""
-    return [sys.executable, "-m", "geesefuton.practice.page", str(file), str(port), "--late",
-            str(late)]
