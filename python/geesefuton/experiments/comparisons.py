@@ -154,8 +154,8 @@ def bonferroni_halves(values: Sequence[Optional[Estimate]]) -> List[Optional[flo
         values: What `estimate` gives; None, or no interval, is left out of the count.
     """
     count = sum(value is not None and value.half is not None for value in values)
-    return [value and half_at(value, 1.0 - (1.0 - LEVEL) / count) for value in values] \
-        if count else [None] * len(values)
+    return [None if value is None or not count else half_at(value, 1.0 - (1.0 - LEVEL) / count)
+            for value in values]
 
 
 def groups_of(count: int, apart: Set[FrozenSet[int]]) -> List[List[int]]:

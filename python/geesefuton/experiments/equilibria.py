@@ -147,7 +147,7 @@ def _balanced(game: SymmetricGame) -> Array:
     return mixtures / mixtures.sum(axis=-1, keepdims=True)
 
 
-def distance(first: Mixture, other: Mixture) -> float:
+def distance(first: Sequence[float], other: Sequence[float]) -> float:
     """How much of their shares two mixtures have otherwise, from 0 to 1."""
     return sum(abs(one - two) for one, two in zip(first, other)) / 2.0
 
@@ -164,19 +164,20 @@ def equilibria(games: SymmetricGame) -> List[List[Mixture]]:
     parts = (games.payoffs - least[:, None, None]) / np.where(spread, spread, 1.0)[:, None, None]
     games = SymmetricGame(games.players, parts, games.mixed)
     for size in range(1, games.mixed + 1):
-        for support in map(list, combinations(range(games.mixed), size)):
+        for chosen in combinations(range(games.mixed), size):
+            support = list(chosen)
             inner = _balanced(games.among(support)) if size > 1 else np.ones((len(found), 1, 1))
             mixtures = np.zeros((*inner.shape[:2], games.mixed))
             mixtures[..., support] = inner
             are_good = games.regrets(mixtures) <= MOST_REGRET
             for place, (each, is_good) in enumerate(zip(mixtures, are_good)):
-                for mixture in map(tuple, each[is_good].tolist()):
-                    if all(distance(mixture, other) > APART for other in found[place]):
-                        found[place].append(mixture)
+                for shares in each[is_good].tolist():
+                    if all(distance(shares, other) > APART for other in found[place]):
+                        found[place].append(tuple(shares))
     return [sorted(each, reverse=True) for each in found]
 
 
-def gains(players: int, samples: Array, mixture: Mixture) -> List[Estimate]:
+def gains(players: int, samples: Array, mixture: Sequence[float]) -> List[Estimate]:
     """What a player gains by each single strategy while the others draw from a mixture, in the mean
     over deals, with the interval of paired differences."""
     values = SymmetricGame(players, samples, len(mixture)).values(mixture)

@@ -136,7 +136,7 @@ class Overview:
 
     def mean_parts(self, agent: str) -> Parts:
         """The means of an agent's parts."""
-        return Parts(*map(mean, zip(*self.parts[agent])))
+        return Parts(*(mean(values) for values in zip(*self.parts[agent])))
 
     def errors(self) -> Dict[str, List[Optional[float]]]:
         """For each of PREDICTORS by how many dollars it is wrong at each of MINUTES, in the mean

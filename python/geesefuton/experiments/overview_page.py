@@ -182,7 +182,8 @@ def _tickets(overview: Overview) -> Iterator[str]:
 def _fills(overview: Overview) -> Iterator[str]:
     yield ("<h2>Units asked for, and got</h2><p>A bid asks for the units by which it exceeds its "
            "agent's standing units there. The bars show what share of them traded.</p>")
-    rates, rows = {}, []
+    rates: Dict[str, Sequence[float]] = {}
+    rows: List[List[Cell]] = []
     for agent in overview.order():
         rates[agent] = [rate or 0 for rate in overview.rates(agent)]
         seats = len(overview.parts[agent])

@@ -47,7 +47,8 @@ class Study:
 
     def __init__(self, parser: Parser, given: argparse.Namespace) -> None:
         self._parser, self._folder, self.players = parser, given.out, given.players
-        self._part, self._parts = given.part or (1, 1)
+        part: Tuple[int, int] = given.part or (1, 1)
+        self._part, self._parts = part
         given.shared = given.out  # all parts draw from one secret
         given.out = given.out / f"part-{self._part}-of-{self._parts}"
         plan = read_plan(parser, given, are_deals=True)
@@ -206,7 +207,7 @@ def _text_of(payoffs: Payoffs) -> str:
     samples = payoffs.samples()
     gained = [["a seat whose opponents all have", *(f"gains by {name}" for name in names)]]
     gained += [[name, *map(_gain_text, gains(payoffs.players, samples, mixture))]
-               for name, mixture in zip(names, map(tuple, np.eye(payoffs.mixed)))]
+               for name, mixture in zip(names, np.eye(payoffs.mixed).tolist())]
     return "\n".join([*head, "", *columns(table), "", *columns(gained), "",
                       *_of_equilibria(payoffs)]) + "\n"
 
