@@ -1,5 +1,4 @@
 """Runs the programs of the package, and the proved program `tac`.
-
 `geesefuton WORD --help` describes a program. `tac` gets its words unchanged.
 """
 

@@ -346,8 +346,8 @@ class Pages(Case):
             made = self.lobby(None, journal=given and self.folder / given)
             made.settings.page = page
             journal = made._open_journal(self.folder, self.fail)
-            self.assertEqual(journal and journal.file.name, due)
-            if journal:
+            self.assertEqual(journal.file and journal.file.name, due)
+            if journal.file:
                 journal.close()
                 first = re.match(r'\{"journal":1,"at":\d+,"pace":5,"form":"words","game":"',
                                  journal.file.read_text())
