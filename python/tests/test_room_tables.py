@@ -10,13 +10,13 @@ from typing import Any, Callable, Dict, List
 from unittest import main, mock
 
 from geesefuton import program
-from geesefuton.hosting import events
+from geesefuton.hosting import events, teller
 from geesefuton.hosting.control import STOPPED, Phase
 from geesefuton.hosting.events import Event
 from geesefuton.hosting.lobby import LobbyError
 from geesefuton.practice import door, room, table
 from geesefuton.practice.room import Room
-from geesefuton.practice.table import TableSettings
+from geesefuton.practice.table import Deal, Table, TableSettings
 from geesefuton.practice.teams import Team
 from tests.helpers import SERVED_LOG
 from tests.test_room_parts import FIRST, MOST, Case
@@ -36,9 +36,7 @@ class Tables(Case):
         self.patch(room, "LOOK", 0.02)
         self.patch(program, "make", lambda _: FIRST)
         self.audit = self.patch(program, "audit", mock.Mock(return_value="sound"))
-        teller = mock.patch("geesefuton.hosting.teller.tell")
-        teller.start()
-        self.addCleanup(teller.stop)
+        self.patch(teller, "tell", mock.Mock())
         self.kept = self.folder(seed=7)
         self.faults: List[Exception] = []  # of the next games
 
@@ -184,6 +182,22 @@ class Tables(Case):
                 self.assertTrue(self.thread.is_alive())
             self.assertIs(put.call_args[0][0], game.settings.listener)
             put.call_args[0][1].close()
+
+
+class Left(Case):
+    def test_a_game_whose_teams_have_left_meanwhile_begins_and_frees_its_table(self) -> None:
+        self.patch(program, "make", lambda _: FIRST)
+        self.patch(program, "show", lambda file: file.read_text())
+        self.patch(teller, "tell", mock.Mock())
+        made = Table(TableSettings(0, wait=0.01), self.folder(seed=7), lambda: None)
+        begun = threading.Event()
+        self.patch(made.house, "play", lambda _: begun.set() or STOPPED)
+        deal = Deal(1, [f"seat{number}" for number in range(8)], {"w3": 3}, door.Handed(7000))
+        thread = threading.Thread(target=made.play, args=(deal,))
+        thread.start()
+        self.addCleanup(thread.join, MOST)
+        self.addCleanup(made.close, True)
+        self.assertTrue(begun.wait(MOST))
 
 
 del Case

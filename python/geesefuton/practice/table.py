@@ -148,8 +148,9 @@ class Table:
         write_whole(file, made)
         given, log = self._given, io.BytesIO()
         lobby = Lobby(LobbySettings(
-            game=file, port=given.port, pace=given.pace, log=log, wait=given.wait, keys=deal.keys,
-            linger=given.after, journal=self._folder.file(deal.number, "journal"),
+            game=file, port=given.port, pace=given.pace, log=log, wait=given.wait,
+            start=given.wait if deal.listener else None,  # its teams may have left meanwhile
+            keys=deal.keys, linger=given.after, journal=self._folder.file(deal.number, "journal"),
             orders=given.orders, vouches=True, listener=deal.listener), self.house)
         self.house.port = lobby.port
         self.deal, self.guests = deal, Guests(deal.words, self.house)
