@@ -98,6 +98,14 @@ class Admission(unittest.TestCase):
         self.assertIsNone(place.arrive("10.0.0.1"))
         self.assertIsNotNone(place.arrive("10.0.0.2"))
 
+    def test_lines_that_wait_in_the_largest_crowd_make_room_for_another_network(self) -> None:
+        place = Place()
+        crowd = [place.come(f"10.0.0.{number}") for number in (1, 1, 1, 2, 2, 3, 3)]
+        for visit in crowd:
+            visit.whole()
+        place.come("10.0.0.9")
+        self.assertEqual(place.ended, crowd[:1])
+
     def test_ipv6_addresses_are_one_network_by_their_first_half(self) -> None:
         place = Place()
         for number in range(6):

@@ -41,7 +41,7 @@ class BeforeTheGame(Case):
         self.assertEqual([silent[0].line(), silent[1].line()], ["", ""])
         host.hurry()
         host.end()
-        self.assertIn("too many links had not sent a first line",
+        self.assertIn("too many links had no seat",
                       [event.why for event in host.of(events.Lost)])
 
     def test_one_that_goes_may_come_again(self) -> None:

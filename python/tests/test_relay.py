@@ -563,7 +563,7 @@ class Strangers(Case):
         self.turn_until_told(events.Arrived, 3)
         self.assertEqual([self.has_ended(link) for link in links],
                          [True, *[False] * MOST_EACH])
-        self.assertEqual(self.of(events.Lost)[0].why, "too many links had not sent a first line")
+        self.assertEqual(self.of(events.Lost)[0].why, "too many links had no seat")
         links.append(self.connect(b""))  # one has its seat by now
         self.assertFalse(any(map(self.has_ended, links[1:])))
 

@@ -128,7 +128,7 @@ class Relay:
 
     def _make_room(self, link: OuterLink) -> None:
         if link.parting is None:
-            self._lose(link, "too many links had not sent a first line")
+            self._lose(link, "too many links had no seat")
         self._drop(link)
 
     def _read(self, link: OuterLink) -> None:

@@ -126,13 +126,13 @@ class Gate:
         if any(known in network for network in self.banned):
             return None
         network = str(known) if known.version == 4 else str(int(known) >> 64)
-        crowd, count = self._crowds.get(network, []), sum(map(len, self._crowds.values()))
+        own, count = self._crowds.get(network, []), sum(map(len, self._crowds.values()))
         taken = sum(self._known.values())
         places = self._most - (taken if known.is_loopback else max(taken, self._kept))
-        if len(crowd) >= self._each or count >= places:
-            if len(crowd) < self._each:
-                crowd = max(self._crowds.values(), key=len, default=[])
-            if not _make_room(crowd):
+        if len(own) >= self._each or count >= places:
+            crowd = own if len(own) >= self._each else max(
+                self._crowds.values(), key=len, default=[])
+            if not _make_room(crowd, len(own) < len(crowd)):
                 return None
         visit = Visit(self, network, self._clock() + self._first)
         self._crowds.setdefault(network, []).append(visit)
@@ -177,10 +177,11 @@ class Gate:
         return True
 
 
-def _make_room(crowd: List[Visit]) -> bool:
-    """Ends a visit: one that is parting, or else the eldest that has not sent a first line.
-    Returns whether there was one."""
-    for standing in (Standing.PARTING, Standing.STRANGER):
+def _make_room(crowd: List[Visit], for_smaller: bool) -> bool:
+    """Ends a visit: one that is parting, or else the eldest that has not sent a first line, or else
+    for a network with fewer visits the eldest whose line waits. Returns whether there was one."""
+    last = [Standing.JUDGED] if for_smaller else []
+    for standing in [Standing.PARTING, Standing.STRANGER, *last]:
         for visit in crowd:
             if visit.standing is standing:
                 visit.leave()
