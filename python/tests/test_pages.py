@@ -126,8 +126,9 @@ class Answering(Case):
         post = b"POST / HTTP/1.1\r\nContent-Length: %s\r\n\r\n"
         self.assertEqual(self.get(post % b"5" + b"hello")[0], "HTTP/1.1 200 OK")
         self.assertEqual(self.asked[-1].body, b"hello")
-        for length in (b"-1", b"x", b"\xb2", b"%d" % (MOST_BODY + 1)):
+        for length in (b"-1", b"x", b"\xb2", b"%d" % (MOST_BODY + 1), b"9" * 5000):
             self.assertEqual(self.get(post % length), ("", {}, b""), length)
+        self.assertEqual(self.told, [])
 
     def test_a_head_with_many_cookies_is_answered(self) -> None:
         for size, due in ((9, "HTTP/1.1 200 OK"), (60, "HTTP/1.1 200 OK"), (300, "")):

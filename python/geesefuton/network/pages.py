@@ -222,7 +222,7 @@ async def _read(reader: asyncio.StreamReader, writer: asyncio.StreamWriter, visi
     parts = [line.partition(":") for line in lines]
     fields = {name.lower(): value.strip() for name, _, value in parts}
     length = fields.get("content-length", "0")
-    if not (length.isascii() and length.isdigit()) or int(length) > MOST_BODY:
+    if not (length.isascii() and length.isdigit() and len(length) < 9) or int(length) > MOST_BODY:
         raise asyncio.LimitOverrunError("a long body", 0)
     with _within(PATIENCE, writer):
         body = await reader.readexactly(int(length))
