@@ -5,6 +5,7 @@ import unittest
 from typing import List, Optional
 from unittest import mock
 
+from geesefuton import link
 from geesefuton.network.gate import (LINE, LONGEST, WAITING, WRONG, Gate, Standing, Visit,
                                      most_links)
 
@@ -164,6 +165,9 @@ class Guesses(unittest.TestCase):
         waits = [place.come("10.0.0.1").whole() for _ in range(WAITING + 2)]
         self.assertEqual(waits[WAITING:], [None, None])
         self.assertNotIn(None, waits[:WAITING])
+
+    def test_an_agent_that_reconnects_waits_for_longer_than_its_line_does(self) -> None:
+        self.assertLess(LONGEST + 2, link.TRY)
 
     def test_a_line_that_is_not_judged_puts_off_none(self) -> None:
         place = Place()

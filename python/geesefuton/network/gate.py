@@ -32,8 +32,8 @@ from geesefuton.network.addresses import Network, parsed
 LINE = 0.5  # seconds by which a first line puts off the next ones of its network
 WRONG = 2.0  # seconds by which a wrong one does so beyond that
 CREDIT = 20.0  # seconds that a network's lines are put off before any of them waits
-LONGEST = 15.0  # seconds that a first line waits at most
-WAITING = 8  # first lines of a network that wait
+LONGEST = 10.0  # seconds that a first line waits at most; an agent that reconnects waits 15
+WAITING = 5  # first lines of a network that wait
 MOST_NETWORKS = 1024  # that are remembered without need
 
 
