@@ -14,6 +14,7 @@ from geesefuton.hosting import events, teller
 from geesefuton.hosting.control import STOPPED, Phase
 from geesefuton.hosting.events import Event
 from geesefuton.hosting.lobby import LobbyError
+from geesefuton.network.addresses import network_of
 from geesefuton.practice import door, room, table
 from geesefuton.practice.room import Room
 from geesefuton.practice.table import Deal, Table, TableSettings
@@ -184,20 +185,40 @@ class Tables(Case):
             put.call_args[0][1].close()
 
 
-class Left(Case):
-    def test_a_game_whose_teams_have_left_meanwhile_begins_and_frees_its_table(self) -> None:
+class Hosted(Case):
+    """A table with real lobbies, whose games a test plays."""
+
+    def setUp(self) -> None:
+        super().setUp()
         self.patch(program, "make", lambda _: FIRST)
         self.patch(program, "show", lambda file: file.read_text())
         self.patch(teller, "tell", mock.Mock())
-        made = Table(TableSettings(0, wait=0.01), self.folder(seed=7), lambda: None)
-        begun = threading.Event()
-        self.patch(made.house, "play", lambda _: begun.set() or STOPPED)
-        deal = Deal(1, [f"seat{number}" for number in range(8)], {"w3": 3}, door.Handed(7000))
-        thread = threading.Thread(target=made.play, args=(deal,))
+        self.played: "queue.Queue[Any]" = queue.Queue()
+        self.table = Table(TableSettings(0, wait=0.01), self.folder(seed=7), lambda: None)
+        self.patch(self.table.house, "play", self.stop)
+
+    def stop(self, game: Any) -> int:
+        """Plays a game in the house's place."""
+        self.played.put(game)
+        return STOPPED
+
+    def play(self, number: int) -> Any:
+        """A game to which no link comes."""
+        deal = Deal(number, [f"seat{seat}" for seat in range(8)], {"w3": 3}, door.Handed(7000))
+        thread = threading.Thread(target=self.table.play, args=(deal,))
         thread.start()
         self.addCleanup(thread.join, MOST)
-        self.addCleanup(made.close, True)
-        self.assertTrue(begun.wait(MOST))
+        self.addCleanup(self.table.close, True)
+        game = self.played.get(timeout=MOST)
+        thread.join(MOST)
+        return game
+
+    def test_a_game_whose_teams_have_left_meanwhile_begins_and_frees_its_table(self) -> None:
+        self.play(1)
+
+    def test_an_address_that_the_host_has_banned_is_banned_in_the_next_games(self) -> None:
+        self.play(1).relay.gate.banned.add(network_of("10.0.0.7"))
+        self.assertIsNone(self.play(2).relay.gate.arrive("10.0.0.7"))
 
 
 del Case

@@ -106,6 +106,7 @@ class Lobby:
                           self.settings.longest_silence())
             stack.callback(relay.close)
             relay.seats.keys = self.settings.keys or relay.seats.keys
+            relay.gate.banned = self.settings.banned
             game = HostedGame(self.settings, self._text, self._control, children, folder, relay,
                               told.put)
             if self.settings.page is not None or self.settings.by_hand is not None:

@@ -3,12 +3,13 @@
 from __future__ import annotations
 
 import socket
-from dataclasses import dataclass
+from dataclasses import dataclass, field
 from pathlib import Path
-from typing import Dict, Optional, TextIO
+from typing import Dict, Optional, Set, TextIO
 
 from geesefuton.hosting import log_files
 from geesefuton.hosting.seats import SILENCE
+from geesefuton.network.addresses import Network
 
 
 @dataclass
@@ -39,6 +40,7 @@ class LobbySettings:
         orders: The host's commands.
         vouches: Whether the log is compared with the lobby's links after the game.
         listener: Where the agents' links come in; None for a new listener at the port.
+        banned: The networks from which no link is taken, which the host may change.
     """
 
     game: Path
@@ -62,6 +64,7 @@ class LobbySettings:
     orders: Optional[TextIO] = None
     vouches: bool = False
     listener: Optional[socket.socket] = None
+    banned: Set[Network] = field(default_factory=set)
 
     def longest_silence(self) -> float:
         """How many seconds an agent may say nothing and keep its seat from another link: agents

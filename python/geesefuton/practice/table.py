@@ -6,7 +6,7 @@ import contextlib
 import io
 import time
 from dataclasses import dataclass, replace
-from typing import Callable, Dict, List, NamedTuple, Optional, Sequence, TextIO, Tuple
+from typing import Callable, Dict, List, NamedTuple, Optional, Sequence, Set, TextIO, Tuple
 
 from geesefuton import program
 from geesefuton.experiments.entrants import Entrant
@@ -18,6 +18,7 @@ from geesefuton.hosting.relay import OWN
 from geesefuton.hosting.server_links import summary
 from geesefuton.hosting.settings import LobbySettings
 from geesefuton.hosting.teller import Teller
+from geesefuton.network.addresses import Network
 from geesefuton.practice.door import Handed
 from geesefuton.practice.folder import Finished, Folder, digest_of, write_whole
 from geesefuton.practice.house import HouseServer
@@ -122,6 +123,7 @@ class Table:
     def __init__(self, settings: TableSettings, folder: Folder, show: Callable[[], None]) -> None:
         self._given, self._folder, self._show = settings, folder, show
         self._lobby: Optional[Lobby] = None
+        self._banned: Set[Network] = set()
         self._is_closing, self._seed, self._files = False, 0, dict[str, str]()
         self.house = HouseServer(settings.house)
         self.deal, self.guests = Deal(0, (), {}), Guests((), self.house)
@@ -151,7 +153,8 @@ class Table:
             game=file, port=given.port, pace=given.pace, log=log, wait=given.wait,
             start=given.wait if deal.listener else None,  # its teams may have left meanwhile
             keys=deal.keys, linger=given.after, journal=self._folder.file(deal.number, "journal"),
-            orders=given.orders, vouches=True, listener=deal.listener), self.house)
+            orders=given.orders, vouches=True, listener=deal.listener,
+            banned=self._banned), self.house)
         self.house.port = lobby.port
         self.deal, self.guests = deal, Guests(deal.words, self.house)
         self._files = {"game": digest_of(made)}
