@@ -60,6 +60,14 @@ class Placing(unittest.TestCase):
         history.cut(1)
         self.assertEqual(sorted(history.calls), [0, 2])
 
+    def test_the_length_of_a_history_is_worked_out_once_however_many_calls_it_has(self) -> None:
+        history = KnownHistory(0, Schedule(GAME))
+        for at in range(20):
+            history.place(call(0, at))
+        with mock.patch.object(KnownHistory, "length", return_value=20) as length:
+            self.assertEqual(len(list(history.items(quotes=False))), 20)
+        length.assert_called_once_with()
+
 
 class Guessing(unittest.TestCase):
     """Which requests without a reply were made, by what others were told."""

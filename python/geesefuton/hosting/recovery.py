@@ -106,14 +106,14 @@ class KnownHistory:
         for quote in self.quotes if quotes else ():
             assert quote.at is not None
             asked[quote.at].append(quote)
-        clocks = at_most = 0
-        for at in range(self.length() + 1):
+        clocks, at_most, length = 0, 0, self.length()
+        for at in range(length + 1):
             low, high = self._schedule.span(self.good, clocks)
             here = asked[at] + ([self.calls[at]] if at in self.calls else [])
             for call in here:
                 at_most = min(max(low, call.tick, at_most), high)
                 yield at_most, call
-            if at < self.length() and at not in self.calls:
+            if at < length and at not in self.calls:
                 clocks += 1
                 if clocks > len(self._ticks):
                     raise RecoveryError(f"position {at} for good {self.good} is neither the "
