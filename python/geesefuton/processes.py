@@ -113,6 +113,9 @@ class Children:
 
     Each process is the leader of a process group of its own, so that what it starts ends with it.
 
+    Attributes:
+        groups: The folder of the files that are named by the numbers of running process groups.
+
     Raises:
         OSError: No folder can be made where temporary files stand.
     """
@@ -132,13 +135,13 @@ class Children:
         if not place:
             self.close()
             raise OSError(errno.ENOSPC, "cannot create a folder", tempfile.gettempdir())
-        self._groups = Path(place, "groups")
+        self.groups = Path(place, "groups")
         self._files = Path(place, "files")
 
     def start(self, words: Sequence[Union[str, "os.PathLike[str]"]],
               **how: Any) -> "subprocess.Popen[bytes]":
         """Starts a process; `how` is passed on to `subprocess.Popen`."""
-        shell = ["sh", "-c", START, str(self._groups), *map(str, words)]
+        shell = ["sh", "-c", START, str(self.groups), *map(str, words)]
         return subprocess.Popen(shell, start_new_session=True, **how)
 
     def folder(self, name: str = "files") -> Path:
@@ -152,7 +155,7 @@ class Children:
         except (ProcessLookupError, PermissionError):
             pass  # it has ended already
         try:
-            os.remove(self._groups / str(child.pid))  # before another process may get its number
+            os.remove(self.groups / str(child.pid))  # before another process may get its number
         except FileNotFoundError:
             pass  # it had not begun
         return child.wait()

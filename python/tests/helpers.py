@@ -145,6 +145,12 @@ name = name[1:1 + name[0]].decode()
 """
 
 
+def worker(game: str) -> str:
+    """A stand-in for a process that plays games one after another: what it does in each, after
+    `STAND_IN`."""
+    return f"while True:\n    exec({STAND_IN + game!r}, {{}})"
+
+
 class CountingPlayer:
     """Stands for `tac play` in a game in which nobody trades: it counts positions, and knows what
     stands. Each bid costs its agent a dollar.

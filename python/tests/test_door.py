@@ -88,7 +88,7 @@ class Links(Case):
 
     def test_a_table_takes_its_links_as_if_they_had_come_to_its_port(self) -> None:
         table = self.handed()
-        relay = Relay(WORDS, table, lambda _: None, mock.Mock(), 30.0, 10.0)
+        relay = Relay(WORDS, [table], lambda _: None, mock.Mock(), 30.0, 10.0)
         self.addCleanup(relay.close)
         relay.seats.keys = {"w5": 2, "w6": 4}
         self.come(6, 5)

@@ -5,12 +5,15 @@ import sys
 import tempfile
 import time
 import unittest
+from concurrent.futures import ThreadPoolExecutor
+from contextlib import closing
 from multiprocessing.connection import Pipe
 from pathlib import Path
 from typing import Any, Callable, List, Sequence
 from unittest import mock
 
 from geesefuton.experiments import match
+from geesefuton.experiments.agents import Agents
 from geesefuton.experiments.entrants import Entrant
 from geesefuton.experiments.match import Exit, Match, outcome_of
 from geesefuton.experiments.messages import Job, Message, Note, Result
@@ -21,16 +24,17 @@ from geesefuton.hosting.lobby import LobbyError
 from geesefuton.processes import Children
 from tests.helpers import SERVED_GAME, SERVED_LOG, fake_program
 
+KEYS = tuple(f"key{seat}" for seat in range(8))
 QUIT, FAILED, KILLED, STOPPED = Exit(0), Exit(1), Exit(-9), Exit(-9, is_stopped=True)
 
 
 class Outcomes(unittest.TestCase):
     def test_every_end_of_a_part_with_every_end_of_a_process(self) -> None:
-        played, absent, crashed, hung, refused = Outcome
+        played, absent, crashed, hung, killed, refused = Outcome
         due = {End.LEFT: (played, played, played, played),
-               End.GONE: (played, crashed, crashed, hung),
+               End.GONE: (played, crashed, killed, hung),
                End.HUNG: (hung, hung, hung, hung),
-               End.ABSENT: (absent, crashed, crashed, absent),
+               End.ABSENT: (absent, crashed, killed, absent),
                End.REFUSED: (refused, refused, refused, refused)}
         self.assertEqual(set(due), set(End))
         for reason, outcomes in due.items():
@@ -113,7 +117,7 @@ class Matches(unittest.TestCase):
         self.patch("geesefuton.experiments.match.Lobby", self.lobby)
         self.turns = type("Made", (Turns,), {})
         self.patch("geesefuton.experiments.match.TurnServer", self.turns)
-        self.patch("geesefuton.experiments.match.LEAVE", 0.3)
+        self.patch("geesefuton.experiments.match.LEAVE", 60.0)
 
     def patch(self, name: str, value: object) -> None:
         patch = mock.patch(name, value)
@@ -133,9 +137,9 @@ class Matches(unittest.TestCase):
         entrants = tuple(Entrant("", ("sh", "-c", script), f"agent{seat}", "")
                          for seat, script in enumerate(all_scripts))
         job = Job("7.0", self.place, SERVED_GAME.read_text(), entrants, tuple(words),
-                  tuple(range(70, 78)), pace=20, **more)
-        with Children() as children:
-            return Match(job, children, self.sent.append).play()
+                  tuple(range(70, 78)), KEYS, pace=20, **more)
+        with Children() as children, closing(Agents(children)) as agents:
+            return Match(job, children, agents, self.sent.append).play()
 
     def events_of(self, kind: str) -> List[Any]:
         """The events of a kind in the file that has them."""
@@ -181,14 +185,19 @@ class Matches(unittest.TestCase):
                          ("words", 3.0, 30.0))
 
     def test_a_job_that_cannot_be_played_is_lost(self) -> None:
-        job = Job("7.0", self.place / "none", "", (), (), ())
+        job = Job("7.0", self.place / "none", "", (), (), (), ())
         ours, theirs = Pipe()
-        with ours, mock.patch("sys.argv", ["match", str(os.dup(theirs.fileno()))]):
+        with mock.patch("sys.argv", ["match", str(os.dup(theirs.fileno()))]):
             theirs.close()
-            ours.send(job)
-            self.assertEqual(match._main(), 0)
-            self.assertEqual(ours.recv(), Result(
-                fault=f"{self.place / 'none' / '7.0.events'}: No such file or directory"))
+            player = ThreadPoolExecutor(1)
+            ended = player.submit(match._main)
+            for _ in range(2):  # one job after another
+                ours.send(job)
+                self.assertEqual(ours.recv(), Result(
+                    fault=f"{self.place / 'none' / '7.0.events'}: No such file or directory"))
+            ours.close()
+            self.assertEqual(ended.result(), 0)
+            player.shutdown()
 
     def test_agents_get_their_words_and_variables(self) -> None:
         self.play('echo "$@" $PYTHONPATH', "echo oops >&2", "cat; echo $AGENT_SEED.$TAC; pwd",
@@ -197,7 +206,7 @@ class Matches(unittest.TestCase):
                          ["." + os.environ["TAC"], os.getcwd()])
         self.assertEqual((self.place / "7.0.out.red3").read_text(), "x\n")
         printed = (self.place / "7.0.out.red0").read_text().split()
-        self.assertEqual(printed[:4], ["4321", "red0", "--pause", "0.02"])
+        self.assertEqual(printed[:4], ["4321", "key0", "--pause", "0.02"])
         self.assertIn(str(Path(match.__file__).parents[2]), printed[4].split(":"))
         self.assertEqual((self.place / "7.0.out.red1").read_text(), "oops\n")
 
@@ -224,11 +233,13 @@ class Matches(unittest.TestCase):
         self.assertEqual((self.place / "7.0.out.red0").read_text(), "end\n")
 
     def test_the_lobby_is_told_of_agents_that_have_ended(self) -> None:
+        self.patch("geesefuton.experiments.match.LEAVE", 0.3)
         self.play("sleep 5")
         self.assertEqual(sorted(Lobby.orders), [f"without red{seat}\n" for seat in range(1, 8)])
 
     def test_the_lobby_is_told_again_if_a_link_ended_after_its_agent(self) -> None:
         self.lobby.departed = [1, 2]
+        self.patch("geesefuton.experiments.match.LEAVE", 0.3)
         self.play("exit 0", "exit 0", "sleep 5")
         self.assertEqual(Lobby.orders.count("without red0\n"), 1)
         self.assertEqual(Lobby.orders.count("without red1\n"), 2)
@@ -240,7 +251,7 @@ class Matches(unittest.TestCase):
         self.assertEqual((result.kind, len(result.scores)), (Kind.TURNS, 8))
         self.assertEqual((tuple(Turns.given), self.notes()), ((30, 2.5), ""))
         printed = (self.place / "7.0.out.red0").read_text().split()
-        self.assertEqual(printed, ["4321", "red0", "--pause", "0", "70", "0", "0"])
+        self.assertEqual(printed, ["4321", "key0", "--pause", "0", "70", "0", "0"])
         self.assertEqual((self.place / "7.0.out.red1").read_text(), "71\n")
         self.assertIs(self.play().kind, Kind.SERVED)
 
@@ -254,18 +265,20 @@ class Matches(unittest.TestCase):
     def test_agents_that_fail_are_told_with_what_they_printed_last(self) -> None:
         self.lobby.ends = [End.GONE, End.HUNG, End.ABSENT, End.ABSENT, End.LEFT, End.GONE,
                            End.REFUSED, End.LEFT]
-        result = self.play("echo a; echo last; exit 3", "sleep 9", "exit 0", "kill -9 $$",
+        self.patch("geesefuton.experiments.match.LEAVE", 3.0)
+        result = self.play("echo a; echo last; exit 3", "sleep 99", "exit 0", "kill -9 $$",
                            "exit 4", "exit 0", "exit 0")
         self.assertEqual([outcome.value for outcome in result.outcomes],
-                         ["crashed", "hung", "absent", "crashed", "played", "played", "refused",
+                         ["crashed", "hung", "absent", "killed", "played", "played", "refused",
                           "played"])
         told = self.notes().split("\n")
         self.assertEqual(told, [
             "agent0 at seat 0 (red0) counts as crashed: ended with status 3; its last line: last",
-            "agent1 at seat 1 (red1) counts as hung: was still running 0.3 seconds after its game, "
+            "agent1 at seat 1 (red1) counts as hung: was still running 3 seconds after its game, "
             "and was stopped",
             "agent2 at seat 2 (red2) counts as absent: ended without taking its seat",
-            "agent3 at seat 3 (red3) counts as crashed: was killed by signal 9",
+            "agent3 at seat 3 (red3) counts as killed: was ended by signal 9, which its game had "
+            "not sent",
             "agent4 at seat 4 (red4) ended with status 4",
             "agent5 at seat 5 (red5) left before the last tick, without `quit`",
             "agent6 at seat 6 (red6) counts as refused"][:len(told)])
@@ -273,7 +286,7 @@ class Matches(unittest.TestCase):
 
     def test_a_refused_first_line_is_blamed_on_the_word_in_it(self) -> None:
         self.lobby.ends = [End.ABSENT] * 3 + [End.LEFT] * 5
-        self.lobby.refused = ['{"hello":"red0"}', "hello red22"]
+        self.lobby.refused = ['{"hello":"key0"}', "hello key22"]
         result = self.play()
         self.assertEqual(result.outcomes[:3], (Outcome.REFUSED, Outcome.ABSENT, Outcome.ABSENT))
 
@@ -293,6 +306,7 @@ class Matches(unittest.TestCase):
 
     def test_an_agent_that_ignores_signals_is_ended_too(self) -> None:
         began = time.monotonic()
+        self.patch("geesefuton.experiments.match.LEAVE", 0.3)
         self.play("trap '' TERM INT HUP; sleep 60")
         self.assertLess(time.monotonic() - began, 20)
         self.assertIn("was still running", self.notes())
@@ -334,7 +348,7 @@ class Matches(unittest.TestCase):
 
     def test_signals_are_told_by_their_number(self) -> None:
         self.play(f"kill -{int(signal.SIGSEGV)} $$")
-        self.assertIn(f"was killed by signal {int(signal.SIGSEGV)}", self.notes())
+        self.assertIn(f"was ended by signal {int(signal.SIGSEGV)}", self.notes())
         self.assertTrue(sys.executable)
 
 

@@ -23,7 +23,7 @@ class Settings(unittest.TestCase):
 
     def settings(self, *words: object) -> "dict[str, str]":
         parser = make_parser("")
-        given = parser.parse_args(["--out", "x", *map(str, words), "sh", "cat"])
+        given = parser.parse_args(["--no-apart", "--out", "x", *map(str, words), "sh", "cat"])
         return {name: str(value) for name, value in read_plan(parser, given).settings.items()}
 
     def test_games_by_the_clock_and_in_turns(self) -> None:

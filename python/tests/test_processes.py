@@ -97,7 +97,7 @@ class Groups(unittest.TestCase):
         with Children() as children:
             first = children.start(["sh", "-c", "sleep 300 & wait"])
             second = children.start(["sleep", "300"])
-            file = children._groups / str(first.pid)
+            file = children.groups / str(first.pid)
             deadline = time.monotonic() + MOST
             while not file.exists() and time.monotonic() < deadline:
                 time.sleep(0.005)

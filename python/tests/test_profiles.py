@@ -19,7 +19,7 @@ from geesefuton.experiments.messages import Result
 from geesefuton.experiments.results import Outcome
 from geesefuton.experiments.runs import read_scores
 from geesefuton.processes import Output, Stopped
-from tests.helpers import SERVED_GAME, STAND_IN, TOP, fake_program, needs_study, refusal
+from tests.helpers import SERVED_GAME, TOP, fake_program, needs_study, refusal, worker
 
 if not study.missing("these tests"):
     from geesefuton.experiments import equilibria
@@ -28,7 +28,7 @@ if not study.missing("these tests"):
 # a hawk has 0 for each other hawk and 7 for each dove, a dove 2 for a hawk and 6 for a dove, and
 # each deal another 10 more. It writes which game it plays. It gives its result as bytes: in the one
 # of `played`, `crashed` or `lost` it changes the scores.
-WORKER = STAND_IN + """
+WORKER = worker("""
 with open(os.path.join(os.environ["PLACE"], "begun"), "a") as begun:
     begun.write(name + "\\n")
 words = job.split(b"\\nwords ", 1)[1].split(b"\\n", 1)[0].split()
@@ -41,8 +41,7 @@ for seat, hawk in enumerate(hawks):
     score = 10 * int(name.split(".")[0]) + (7 * (7 - others) if hawk else 42 - 4 * others)
     text = text.replace(b"I%d\\n" % (9000 + seat), b"I%d\\n" % score)
 give(text)
-time.sleep(60)
-"""
+""")
 WORDS = ["--games", "3", "--seed", "1", "--files", "*.py", "--out", "study"]
 
 

@@ -39,7 +39,7 @@ class Case(unittest.TestCase):
         self.journal = Journal(Path(place.name, "journal"), self.fail)
         self.addCleanup(self.journal.close)
         self.told: List[Event] = []
-        self.relay = Relay(WORDS, self.listener, self.told.append, self.journal, MOST, MOST)
+        self.relay = Relay(WORDS, [self.listener], self.told.append, self.journal, MOST, MOST)
         self.addCleanup(self.relay.close)
         self.agents = [self.connect(f"hello seat{number}\n".encode()) for number in range(2)]
         while len(self.relay.seats.missing()) > 6:
@@ -623,7 +623,7 @@ class Strangers(Case):
         self.ask(0, b"own 1\n", b"@0 own 0 ()\n")
 
     def test_one_that_goes_before_it_is_taken_holds_nobody(self) -> None:
-        self.relay._accept()  # as if a link had been there a moment before
+        self.relay._accept(self.listener)  # as if a link had been there a moment before
         self.ask(0, b"own 1\n", b"@0 own 0 ()\n")
 
     def test_a_word_that_is_changed_is_not_the_heirs(self) -> None:

@@ -386,7 +386,7 @@ class Houses(Case):
 
     def test_a_guest_who_comes_while_house_agents_start_keeps_the_seat(self) -> None:
         listener = socket.create_server(("127.0.0.1", 0))
-        relay = Relay(WORDS, listener, lambda _: None, mock.Mock(), 30.0, 0.0)
+        relay = Relay(WORDS, [listener], lambda _: None, mock.Mock(), 30.0, 0.0)
         self.addCleanup(listener.close)
         self.addCleanup(relay.close)
         links: Dict[str, socket.socket] = {}

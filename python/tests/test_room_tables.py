@@ -48,8 +48,8 @@ class Tables(Case):
                          ends=threading.Event(), over=threading.Event())
 
         def run(take: Callable[[Event], None]) -> int:
-            settings.listener.setblocking(True)
-            links = [settings.listener.accept()[0] for _ in settings.keys]
+            settings.listeners[0].setblocking(True)
+            links = [settings.listeners[0].accept()[0] for _ in settings.keys]
             seats = sorted(settings.keys.values())
             for seat in seats:
                 take(events.Arrived(50.0, seat, f"seat{seat}", "10.0.0.7"))
@@ -58,7 +58,7 @@ class Tables(Case):
             made.ends.wait(MOST)
             for link in links:
                 link.close()
-            settings.listener.close()
+            settings.listeners[0].close()
             made.over.set()
             settings.log.write(SERVED_LOG.read_bytes())
             return int(made.status)
@@ -181,7 +181,7 @@ class Tables(Case):
             link.sendall(b"hello hidden\n")
             while not put.called:
                 self.assertTrue(self.thread.is_alive())
-            self.assertIs(put.call_args[0][0], game.settings.listener)
+            self.assertIs(put.call_args[0][0], game.settings.listeners[0])
             put.call_args[0][1].close()
 
 

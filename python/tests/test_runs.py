@@ -27,7 +27,7 @@ from geesefuton.experiments.runs import (RunError, RunFolder, is_being_written, 
                                          read_scores)
 from geesefuton.experiments.seating import Seating
 from geesefuton.records.tables import csv_of
-from tests.helpers import SERVED_GAME, STAND_IN, fake_program, refusal
+from tests.helpers import SERVED_GAME, fake_program, refusal, worker
 
 MINE = Agent("mine", "mine.py", ["mine.py"], {"mine.py": "00"})
 
@@ -240,13 +240,12 @@ class Folders(unittest.TestCase):
 
 
 # A stand-in for the process of a game: it writes that it has begun, and scores soon.
-WORKER = STAND_IN + """
+WORKER = worker("""
 with open(os.environ["BEGUN"], "a") as begun:
     begun.write(name + "\\n")
 time.sleep(float(os.environ["LONGEST"]) * os.urandom(1)[0] / 255)
 give(open(os.environ["RESULT"], "rb").read())
-time.sleep(60)
-"""
+""")
 
 
 class Killed(unittest.TestCase):

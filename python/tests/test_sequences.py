@@ -137,7 +137,7 @@ class Play:
         self.door, self.told = Door(), list[Any]()
         Play.now = 100.0
         listener: Any = self.door
-        self.relay = Relay(WORDS, listener, self.told.append, Journal(None, print), PATIENCE,
+        self.relay = Relay(WORDS, [listener], self.told.append, Journal(None, print), PATIENCE,
                            SILENCE)
         self.wires: List[Wire] = []
         self.asked: List[List[int]] = []

@@ -25,18 +25,18 @@ from geesefuton.experiments.results import HEAD, Kind, Outcome, Row, read_rows
 from geesefuton.experiments.runs import read_scores
 from geesefuton.experiments.seating import Seating
 from geesefuton.experiments.summary import summarize
-from geesefuton.experiments.tournament import Running, Tournament
+from geesefuton.experiments.tournament import Player, Running, Tournament
 from geesefuton.hosting import events
 from geesefuton.processes import Children, Output, Stopped
 from geesefuton.program import ProgramError
 from geesefuton.records.secret_deals import agent_seed
 from geesefuton.records.tables import csv_of
-from tests.helpers import SERVED_GAME, STAND_IN, fake_program, served_game
+from tests.helpers import SERVED_GAME, fake_program, served_game, worker
 
 # A stand-in for the process of a game: seat s of game D.R scores 1000 D + 100 R + s. What FAULT
 # says of the game GAME happens to it. It reads its job without the package, each of whose types is
 # a `Value` here, and sends the messages of the folder MESSAGES with other texts and scores.
-WORKER = STAND_IN + """
+WORKER = worker("""
 import io, pickle
 class Value:
     def __new__(kind, *parts):
@@ -70,8 +70,7 @@ else:
     score = 1000 * int(deal) + 100 * int(rotation)
     kind = "served" if not job.turns else "turns" if rotation == "0" else "unrepeatable"
     send(kind, **{f"I{90000 + seat}\\n": f"I{score + seat}\\n" for seat in range(8)})
-time.sleep(60)
-"""
+""")
 
 
 def messages(folder: Path) -> None:
@@ -131,7 +130,7 @@ class Playing(unittest.TestCase):
         made = self.tournament(self.plan(**more), out=out)
         with mock.patch.dict(os.environ, {"FAULT": fault, "GAME": game}), Children() as children:
             made.play(children)
-            self.left = len(list(children._groups.iterdir()))
+            self.left = len(list(children.groups.iterdir()))
         return made
 
     def rows(self) -> List[Row]:
@@ -159,8 +158,7 @@ class Playing(unittest.TestCase):
     def test_the_time_that_is_left_is_told_in_minutes_and_seconds(self) -> None:
         plan = self.plan("a", games=3, rotations=1)
         made = self.tournament(plan)
-        game = Running(0, Table(Deal(1, served_game()), 0), list(plan.entrants) * 8, mock.Mock(),
-                       mock.Mock(), 0.0, Result(fault="why"))
+        game = Running(0, Table(Deal(1, served_game()), 0), list(plan.entrants) * 8, Player(mock.Mock(), mock.Mock()), 0.0, Result(fault="why"))
         with mock.patch("time.monotonic", return_value=made._began + 29.9):
             made._finish(game)  # two games more, of 29.9 seconds each
         self.assertEqual(self.told[-1], "game 1 of 3 (1.0): lost; 1:00 left")
@@ -216,8 +214,8 @@ class Playing(unittest.TestCase):
         ours, theirs = Pipe()
         result = Result(tuple(range(8)), (Outcome.PLAYED,) * 8)
         with ours, theirs:
-            game = Running(0, Table(Deal(1, served_game()), 0), list(plan.entrants) * 8, ours,
-                           mock.Mock(), deadline=time.monotonic() - 1.0)
+            game = Running(0, Table(Deal(1, served_game()), 0), list(plan.entrants) * 8, Player(ours, mock.Mock()),
+                           deadline=time.monotonic() - 1.0)
             for message in (events.Ticked(0.0, 54), Note("a note"), result):
                 theirs.send(message)
             while not made._is_over(game):
@@ -237,8 +235,8 @@ class Playing(unittest.TestCase):
             ours, theirs = Pipe()
             with ours, theirs:
                 theirs.send(events.Ticked(0.0, 1))
-                game = Running(0, Table(Deal(1, served_game()), 0), list(plan.entrants) * 8, ours,
-                               mock.Mock(), deadline=0.0)
+                game = Running(0, Table(Deal(1, served_game()), 0), list(plan.entrants) * 8, Player(ours, mock.Mock()),
+                               deadline=0.0)
                 self.tournament(plan)._hear([game])
             self.assertEqual(game.deadline > time.monotonic(), is_later)
             # The start, the turns of eight who are passed over in each, the end, and what is left.
@@ -254,8 +252,7 @@ class Playing(unittest.TestCase):
     def test_what_agents_missed_is_in_the_rows(self) -> None:
         made = self.tournament(self.plan())
         result = Result(tuple(range(8)), (Outcome.PLAYED,) * 8, missed=(None, *range(7)))
-        game = Running(0, Table(Deal(1, served_game()), 0), entrants(*"abababab"), mock.Mock(),
-                       mock.Mock(), 0.0, result)
+        game = Running(0, Table(Deal(1, served_game()), 0), entrants(*"abababab"), Player(mock.Mock(), mock.Mock()), 0.0, result)
         made._finish(game)
         rows = self.rows()
         self.assertEqual([row.missed for row in rows], [None, *range(7)])

@@ -11,6 +11,7 @@ from pathlib import Path
 from string import ascii_lowercase
 from typing import Dict, List, Sequence, Tuple
 
+SHOWN = ("PATH", "LANG", "LC_ALL", "LC_CTYPE", "TZ")  # variables for agents that are kept apart
 PACKAGE = Path(__file__).resolve().parents[2]  # the folder that the package is imported from
 MISSING = {"NA", "N/A", "NULL", "null", "None", "nan", "NaN", "n/a", "<NA>"}  # as tables are read
 
@@ -133,9 +134,11 @@ def seat_words(entrants: Sequence[Entrant]) -> List[str]:
     return words
 
 
-def environment(tac: str, folder: Path) -> Dict[str, str]:
+def environment(tac: str, folder: Path, is_apart: bool = False) -> Dict[str, str]:
     """The variables of an agent's process: it finds the package and the program, and its temporary
-    files stand in a folder that is removed with the game."""
+    files stand in a folder that is removed with the game. One that is kept apart has few others."""
     path = os.pathsep.join(filter(None, [str(PACKAGE), os.environ.get("PYTHONPATH")]))
-    return {**os.environ, "PYTHONUNBUFFERED": "1", "PYTHONPATH": path, "TAC": tac,
-            "TMPDIR": str(folder)}
+    others = {name: os.environ[name] for name in SHOWN if name in os.environ} if is_apart \
+        else dict(os.environ)
+    return {**others, **({"HOME": str(folder)} if is_apart else {}), "PYTHONUNBUFFERED": "1",
+            "PYTHONPATH": path, "TAC": tac, "TMPDIR": str(folder)}

@@ -1,14 +1,13 @@
-"""One game of a tournament, in a process of its own.
+"""Games of a tournament, one after another, in a process of their own.
 
-The process is started with the file descriptor of a connection. It receives a `Job` there, and
-sends back events of the lobby, notes, and at the end a `Result`. It hosts the game with a `Lobby`
-(in turns, with a `TurnServer`), and starts the agents, each in a process group of its own that does
-not outlive it.
+The process is started with the file descriptor of a connection. For each `Job` that it receives
+there it sends back events of the lobby, notes, and at the end a `Result`. It hosts the game with a
+`Lobby` (in turns, with a `TurnServer`), and runs the agents (`agents.py`).
 """
 
 import os
 import re
-import subprocess
+import signal
 import sys
 import threading
 import time
@@ -19,6 +18,7 @@ from pathlib import Path
 from typing import Callable, Dict, List, Optional, Tuple
 
 from geesefuton import program
+from geesefuton.experiments.agents import AgentProcess, Agents, limits_of
 from geesefuton.experiments.entrants import environment
 from geesefuton.experiments.messages import PATIENCE, Job, Message, Note, Result
 from geesefuton.experiments.results import Kind, Outcome
@@ -33,8 +33,10 @@ from geesefuton.records.logs import LogError, read_scores
 LOOK = 0.02  # seconds between two looks at the agents' processes
 LEAVE = 2.0  # seconds that an agent has to end after its game
 MOST_KEPT = 1 << 20  # bytes that are kept of what an agent prints
-MOST_PRINTED = 131072  # blocks of 512 bytes that an agent may print, as `ulimit -f` counts
+MOST_PRINTED = 1 << 26  # bytes that an agent may print
 LATE = 36  # the tick after which the last third of a game begins
+OWN_FAULTS = {signal.SIGABRT, signal.SIGBUS, signal.SIGFPE, signal.SIGILL, signal.SIGPIPE,
+              signal.SIGSEGV, signal.SIGSYS, signal.SIGXCPU, signal.SIGXFSZ}
 
 
 @dataclass(frozen=True)
@@ -56,9 +58,12 @@ def outcome_of(reason: End, exited: Exit, was_refused: bool, was_asking: bool) -
         was_asking: Whether it sent lines in the last third of the game. Then it did not hang if its
             link had to be ended: it did not quit, or the machine was too busy to hear it quit.
     """
+    was_killed = _is_foreign(exited)
     if reason is End.ABSENT:
         if was_refused:
             return Outcome.REFUSED
+        if was_killed:
+            return Outcome.KILLED
         failed = exited.status != 0 and not exited.is_stopped
         return Outcome.CRASHED if failed else Outcome.ABSENT
     if reason is End.REFUSED:
@@ -67,9 +72,16 @@ def outcome_of(reason: End, exited: Exit, was_refused: bool, was_asking: bool) -
         return Outcome.PLAYED if was_asking else Outcome.HUNG
     if reason is End.GONE and exited.is_stopped:
         return Outcome.HUNG
+    if reason is End.GONE and was_killed:
+        return Outcome.KILLED
     if reason is End.GONE and exited.status != 0:
         return Outcome.CRASHED
     return Outcome.PLAYED  # what its process did after the game changes nothing
+
+
+def _is_foreign(exited: Exit) -> bool:
+    """Whether a signal ended the process that neither its game nor its own fault had sent."""
+    return exited.status < 0 and not exited.is_stopped and -exited.status not in OWN_FAULTS
 
 
 def _how(exited: Exit, reason: Optional[End]) -> str:
@@ -79,7 +91,8 @@ def _how(exited: Exit, reason: Optional[End]) -> str:
     if exited.is_stopped:
         return f"was still running {LEAVE:g} seconds after its game, and was stopped"
     if exited.status < 0:
-        return f"was killed by signal {-exited.status}"
+        sender = ", which its game had not sent" if _is_foreign(exited) else ""
+        return f"was ended by signal {-exited.status}{sender}"
     if exited.status:
         return f"ended with status {exited.status}"
     if reason is End.GONE:
@@ -95,11 +108,19 @@ def repeated(seed: int) -> Dict[str, str]:
 
 
 class Match:
-    """A game with its agents."""
+    """A game with its agents.
 
-    def __init__(self, job: Job, children: Children, send: Callable[[Message], None]) -> None:
-        self._job, self._children, self._send = job, children, send
-        self._running: Dict[int, "subprocess.Popen[bytes]"] = {}
+    Args:
+        job: What is to be played.
+        children: By which the game's own processes are started.
+        agents: The processes of the agents.
+        send: Takes what is sent back.
+    """
+
+    def __init__(self, job: Job, children: Children, agents: Agents,
+                 send: Callable[[Message], None]) -> None:
+        self._job, self._children, self._agents, self._send = job, children, agents, send
+        self._running: Dict[int, AgentProcess] = {}
         self._exits: Dict[int, Exit] = {}
         self._ends: Dict[int, End] = {}
         self._refused: List[events.Refused] = []
@@ -121,13 +142,16 @@ class Match:
                 self._events:
             try:
                 journal = job.folder / f"{job.name}.journal"
+                seated = self._agents.seated(job)
                 settings = LobbySettings(
                     game=self._game, port=0, pace=job.pace, log=self._log, form=job.form,
                     start=job.start, linger=job.linger, patience=max(job.start, PATIENCE),
-                    journal=None if job.turns else journal, orders=orders)
+                    journal=None if job.turns else journal, orders=orders,
+                    keys={key: seat for seat, key in enumerate(job.keys)},
+                    listeners=[each.listener.dup() for each in seated if each.listener])
                 turns = TurnServer(job.turns, job.patience) if job.turns else None
                 lobby = Lobby(settings, turns)
-                self._start_agents(lobby.port)
+                self._start_agents(seated, lobby.port)
                 over = threading.Event()
                 watcher = threading.Thread(target=self._watch, args=(over,), daemon=True)
                 watcher.start()
@@ -139,7 +163,7 @@ class Match:
                 if turns:
                     script = b"".join(turns.script)
                     (job.folder / f"{job.name}.script").write_bytes(script)
-            except (LobbyError, program.ProgramError) as fault:
+            except (LobbyError, program.ProgramError, ValueError) as fault:
                 return Result(fault=str(fault))
         return self._result(status, turns.passed if turns else None)
 
@@ -156,19 +180,18 @@ class Match:
         self._events.write(events.json_of(event) + "\n")
         self._send(event)
 
-    def _start_agents(self, port: int) -> None:
+    def _start_agents(self, seated: List[AgentProcess], port: int) -> None:
         job = self._job
-        variables = environment(program.find(), self._children.folder("agents"))
-        limited = ["sh", "-c", f'ulimit -f {MOST_PRINTED}; exec "$@"', "agent"]
+        files = Path("/tmp") if job.limits else self._children.folder("agents")
+        variables = environment(program.find(), files, job.limits is not None)
         pause = 0 if job.turns else job.pace / 1000
-        for seat, (entrant, word) in enumerate(zip(job.entrants, job.words)):
-            words = [*limited, *entrant.words, "localhost", str(port), word, "--pause", str(pause)]
+        for seat, (process, key) in enumerate(zip(seated, job.keys)):
+            words = ["localhost", str(process.port or port), key, "--pause", str(pause)]
             if job.turns:
                 variables.update(repeated(job.seeds[seat]))
             with self._printed(seat).open("wb") as out:
-                self._running[seat] = self._children.start(
-                    words, stdin=subprocess.DEVNULL, stdout=out, stderr=subprocess.STDOUT,
-                    env=variables)
+                process.begin(words, variables, limits_of(job.limits, MOST_PRINTED), out)
+            self._running[seat] = process
 
     def _printed(self, seat: int) -> Path:
         return self._job.folder / f"{self._job.name}.out.{self._job.words[seat]}"
@@ -178,7 +201,7 @@ class Match:
         deadline = None
         while self._running:
             for seat in [seat for seat, agent in self._running.items() if agent.poll() is not None]:
-                self._exits[seat] = Exit(self._children.end(self._running.pop(seat)))
+                self._exits[seat] = Exit(self._running.pop(seat).end())
                 self._order(f"without {self._job.words[seat]}")
             if over.is_set():
                 deadline = deadline or time.monotonic() + LEAVE
@@ -186,8 +209,7 @@ class Match:
                     break
             time.sleep(LOOK)
         for seat in list(self._running):
-            status = self._children.end(self._running.pop(seat))
-            self._exits[seat] = Exit(status, is_stopped=True)
+            self._exits[seat] = Exit(self._running.pop(seat).end(), is_stopped=True)
 
     def _order(self, line: str) -> None:
         """Tells the lobby that an agent is not waited for."""
@@ -242,7 +264,7 @@ class Match:
         The lobby knows links and no processes, so a refused line that has nobody's word is told,
         and blamed on nobody.
         """
-        return any(self._job.words[seat] in re.findall("[a-z0-9]+", refused.line)
+        return any(self._job.keys[seat] in re.findall("[a-z0-9]+", refused.line)
                    for refused in self._refused)
 
     def _was_asking(self, seat: int) -> bool:
@@ -287,12 +309,16 @@ def main() -> int:
 
 
 def _main() -> int:
-    with closing(Connection(int(sys.argv[1]))) as parent, Children() as children:
-        job: Job = parent.recv()
-        try:
-            result = Match(job, children, parent.send).play()
-        except OSError as fault:
-            where = f"{fault.filename}: " if fault.filename is not None else ""
-            result = Result(fault=where + why(fault))
-        parent.send(result)
-    return 0
+    with closing(Connection(int(sys.argv[1]))) as parent, Children() as children, \
+            closing(Agents(children)) as agents:
+        while True:
+            try:
+                job: Job = parent.recv()
+            except EOFError:  # there are no more
+                return 0
+            try:
+                result = Match(job, children, agents, parent.send).play()
+            except OSError as fault:
+                where = f"{fault.filename}: " if fault.filename is not None else ""
+                result = Result(fault=where + why(fault))
+            parent.send(result)

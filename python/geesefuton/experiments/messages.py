@@ -1,7 +1,6 @@
-"""The messages between a tournament and the process of one of its games.
+"""The messages between a tournament and a process that plays games of it.
 
-They are separate from the code that plays a game (`match.py`), which a tournament does not load:
-each of its games has a process of its own.
+They are separate from the code that plays a game (`match.py`), which a tournament does not load.
 """
 
 from __future__ import annotations
@@ -10,6 +9,7 @@ from dataclasses import dataclass
 from pathlib import Path
 from typing import Optional, Tuple, Union
 
+from geesefuton.experiments.apart import Limits
 from geesefuton.experiments.entrants import Entrant
 from geesefuton.experiments.results import Kind, Outcome
 from geesefuton.hosting import events
@@ -17,7 +17,7 @@ from geesefuton.records.games import SEATS
 
 PATIENCE = 30.0  # seconds for the first line of a link, and in turns for each line
 
-# What runs a game's process. As a module's main program its types would have other names here and
+# What runs such a process. As a module's main program its types would have other names here and
 # there.
 PROGRAM = "import sys; from geesefuton.experiments.match import main; sys.exit(main())"
 
@@ -34,6 +34,8 @@ class Job:
         entrants: The agents of the eight seats.
         words: Their seat words.
         seeds: What they draw from in a game in turns.
+        keys: The words that they say for their seats.
+        limits: What each may use; None if agents are not kept apart.
         form: What they speak, `words` or `json`.
         pace: The milliseconds from tick to tick.
         start: The seconds that the game waits for its agents.
@@ -48,6 +50,8 @@ class Job:
     entrants: Tuple[Entrant, ...]
     words: Tuple[str, ...]
     seeds: Tuple[int, ...]
+    keys: Tuple[str, ...]
+    limits: Optional[Limits] = None
     form: str = "words"
     pace: int = 100
     start: float = 20.0

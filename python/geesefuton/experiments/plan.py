@@ -1,14 +1,17 @@
 """The plan of a tournament, read from its command line."""
 
 import argparse
+import getpass
 import os
 import platform
+from collections import Counter
 from dataclasses import dataclass, field, replace
 from pathlib import Path
 from typing import Dict, List, Mapping, Optional, Sequence, Tuple
 
 from geesefuton import program
 from geesefuton.arguments import Parser, seconds, whole
+from geesefuton.experiments.apart import Limits, folder_of, why_not
 from geesefuton.experiments.deals import (SHORT, DealError, Rule, Table, kept_secret, made_deal,
                                           read_rooms)
 from geesefuton.experiments.entrants import Entrant, EntrantError, read_entrants, refuse_twins
@@ -55,6 +58,7 @@ class Plan:
         detect: The difference of which the summary tells how many games tell it.
         lineups: The agents of the eight seats in each game of a deal, where these are no seating;
             each deal moves them on.
+        limits: What each agent may use; None if agents are not kept apart.
     """
 
     entrants: Sequence[Entrant]
@@ -76,6 +80,7 @@ class Plan:
     agents: Mapping[str, Agent] = field(default_factory=dict)
     detect: Optional[int] = None
     lineups: Sequence[Sequence[Entrant]] = ()
+    limits: Optional[Limits] = None
 
     def seated(self, table: Table) -> List[Entrant]:
         """The agents of the eight seats of a game."""
@@ -139,6 +144,15 @@ def add_playing(parser: Parser, games: str, default: Optional[int] = None) -> No
         help="in turns: pass an agent over after it has been silent this long (default: "
              f"{PATIENCE:g})")
     add("--json", action="store_true", help="let agents send JSON objects instead of words")
+    add("--apart", action=argparse.BooleanOptionalAction,
+        help="keep agents from what is not theirs: files, processes and the network (default: if "
+             "`bwrap` works)")
+    add("--memory", type=whole(16), default=1024, metavar="MEGABYTES",
+        help="of data for each process of an agent that is kept apart (default: 1024)")
+    add("--processes", type=whole(2), default=64, metavar="N",
+        help="of an agent that is kept apart, at a time (default: 64)")
+    add("--processor", type=whole(1), default=600, metavar="SECONDS",
+        help="for each process of an agent that is kept apart (default: 600)")
     add("--start", type=seconds, default=20.0, metavar="SECONDS",
         help="wait this long for the agents of a game (default: 20)")
     add("--after", type=seconds, metavar="SECONDS",
@@ -246,8 +260,32 @@ def read_plan(parser: Parser, given: argparse.Namespace, are_deals: bool = False
                 PATIENCE if given.patience is None else given.patience,
                 "json" if given.json else "words", given.start,
                 linger if given.after is None else given.after, given.summary,
-                given.out or Path(), seating, given.resume, {}, agents, given.detect)
+                given.out or Path(), seating, given.resume, {}, agents, given.detect,
+                limits=_limits(parser, given, entrants))
     return replace(plan, settings=_settings(plan, pool, first.name, tac))
+
+
+def _limits(parser: Parser, given: argparse.Namespace,
+            entrants: Sequence[Entrant]) -> Optional[Limits]:
+    """What agents may use that are kept apart; None if they are not."""
+    if given.apart is False:
+        return None
+    fault = why_not()
+    if not fault:
+        try:
+            folders = Counter(folder_of(entrant, [given.out or Path("run")])
+                              for entrant in entrants)
+        except ValueError as refused:
+            parser.error(f"{refused} (or give --no-apart)")
+        shared = [str(folder) for folder, count in folders.items() if folder and count > 1]
+        if shared:
+            tell(f"agents that stand in one folder, such as {shared[0]}, see each other's files: "
+                 "give each a folder of its own")
+        return Limits(given.memory << 20, given.processes, given.processor)
+    if given.apart:
+        parser.error(f"--apart: {fault}")
+    tell(f"agents can read what {getpass.getuser()} can, and end each other's processes: {fault}")
+    return None
 
 
 def _settings(plan: Plan, pool: int, first: str, tac: str) -> Dict[str, object]:
@@ -269,6 +307,7 @@ def _settings(plan: Plan, pool: int, first: str, tac: str) -> Dict[str, object]:
     return {"agents": names_text(names[:len(names) - pool]),
             **({"against": names_text(names[-pool:])} if pool else {}),
             "rotations": plan.rotations, **pace, **(game if rule.file else rooms),
+            **({"apart": "{}/{}/{}".format(*plan.limits)} if plan.limits else {}),
             "form": plan.form, "start": f"{plan.start:g}", "after": f"{plan.linger:g}",
             "python": ".".join(platform.python_version_tuple()[:2]),
             "tac": tac[:SHORT], "package": package_digest()[:SHORT]}

@@ -25,6 +25,7 @@ class Outcome(enum.Enum):
     ABSENT = "absent"  # it took no seat
     CRASHED = "crashed"  # it ended with an error, or without a word
     HUNG = "hung"  # it fell silent, and had to be ended when the game was over
+    KILLED = "killed"  # a signal ended it that its game had not sent
     REFUSED = "refused"  # its first line was refused, or every line that it sent
 
 

@@ -26,7 +26,7 @@ run.json with the settings, the agents and their files, and the files of the gam
 the run continues after any stop, and plays the missing games. --join FOLDER .. summarizes several
 runs, if they were played in the same way by the same agents.
 
-The line of a seat says how its game went: `played`, or `absent`, `crashed`, `hung`, `refused`. The
+The line of a seat says how its game went: `played`, or `absent`, `crashed`, `killed`, `hung`, `refused`. The
 summary has each agent's mean over all its seats with a 95 % interval, the mean over the seats that
 played to the end, how many did not, and the difference of each pair. Failures are reported as they
 happen.
@@ -43,7 +43,7 @@ import time
 from dataclasses import dataclass, field
 from multiprocessing.connection import Connection, Pipe, wait
 from pathlib import Path
-from typing import AbstractSet, Dict, Iterator, List, Optional, Sequence, Tuple
+from typing import AbstractSet, Dict, Iterator, List, NamedTuple, Optional, Sequence, Tuple
 
 from geesefuton import program
 from geesefuton.arguments import Parser
@@ -62,10 +62,18 @@ from geesefuton.experiments.runs import GAMES, RunError, RunFolder
 from geesefuton.experiments.summary import Summary, summarize
 from geesefuton.hosting import events
 from geesefuton.processes import Children, Output, Stopped, command, tell, why
-from geesefuton.records.secret_deals import agent_seed
+from geesefuton.records.games import SEATS
+from geesefuton.records.secret_deals import agent_seed, seat_key
 
 LEAVE = 5.0  # seconds that a game has to end its agents
 GRADES = "grades.csv"
+
+
+class Player(NamedTuple):
+    """A process that plays games, one after another."""
+
+    connection: Connection
+    process: "subprocess.Popen[bytes]"
 
 
 @dataclass
@@ -75,10 +83,10 @@ class Running:
     number: int
     table: Table
     entrants: List[Entrant]
-    connection: Connection
-    process: "subprocess.Popen[bytes]"
+    player: Player
     deadline: float
     result: Optional[Result] = None
+    has_answered: bool = False
 
 
 @dataclass
@@ -135,6 +143,7 @@ class Tournament:
         plan = self._plan
         waiting = tables(plan.rule, plan.games, plan.rotations, self._finished)
         running: List[Running] = []
+        self._idle: List[Player] = []
         number, are_all_begun = 0, False
         try:
             while running or not are_all_begun:
@@ -146,11 +155,13 @@ class Tournament:
                 self._hear(running)
                 for game in [game for game in running if self._is_over(game)]:
                     running.remove(game)
-                    children.end(game.process)
-                    game.connection.close()
+                    if game.has_answered:
+                        self._idle.append(game.player)
+                    else:
+                        _end_all([game.player], children)
                     self._finish(game)
         finally:
-            _end_all(running, children)
+            _end_all([game.player for game in running] + self._idle, children)
 
     def _begin_next(self, children: Children, number: int,
                     waiting: Iterator[Table]) -> Optional[Running]:
@@ -170,9 +181,22 @@ class Tournament:
         words = seat_words(entrants)
         seeds = [agent_seed(plan.rule.secret, table.name, f"{seat} {entrant.name}")
                  for seat, entrant in enumerate(entrants)]
+        keys = [seat_key(plan.rule.secret, table.name, seat) for seat in range(SEATS)]
         job = Job(table.name, plan.out / GAMES, table.deal.game.named(words).text(),
-                  tuple(entrants), tuple(words), tuple(seeds), plan.form, plan.pace, plan.start,
-                  plan.linger, plan.turns, plan.patience)
+                  tuple(entrants), tuple(words), tuple(seeds), tuple(keys), plan.limits,
+                  plan.form, plan.pace, plan.start, plan.linger, plan.turns,
+                  plan.patience)
+        while self._idle and self._idle[-1].process.poll() is not None:
+            _end_all([self._idle.pop()], children)
+        player = self._idle.pop() if self._idle else self._started(children)
+        try:
+            player.connection.send(job)
+        except OSError:
+            pass  # it has ended, which is seen when its messages are read
+        return Running(number, table, entrants, player, time.monotonic() + plan.seconds())
+
+    def _started(self, children: Children) -> Player:
+        """A new process that plays games."""
         ours, theirs = Pipe()
         path = os.pathsep.join(filter(None, [str(PACKAGE), os.environ.get("PYTHONPATH")]))
         process = children.start(
@@ -180,15 +204,11 @@ class Tournament:
             pass_fds=[theirs.fileno(), *self._held], stdin=subprocess.DEVNULL,
             stdout=subprocess.DEVNULL, env={**os.environ, "PYTHONPATH": path})
         theirs.close()
-        try:
-            ours.send(job)
-        except OSError:
-            pass  # it has ended, which is seen when its messages are read
-        return Running(number, table, entrants, ours, process, time.monotonic() + plan.seconds())
+        return Player(ours, process)
 
     def _hear(self, running: Sequence[Running]) -> None:
         """Takes the messages that the games send."""
-        by_connection = {game.connection: game for game in running}
+        by_connection = {game.player.connection: game for game in running}
         for connection in wait(list(by_connection), 0.5):
             assert isinstance(connection, Connection)
             game = by_connection[connection]
@@ -198,7 +218,7 @@ class Tournament:
                 game.result = Result(fault="its process ended without a result")
                 continue
             if isinstance(message, Result):
-                game.result = message
+                game.result, game.has_answered = message, True
             elif isinstance(message, Note):
                 self._say(game, message.text)
             elif isinstance(message, events.Refused):
@@ -214,7 +234,7 @@ class Tournament:
     def _is_over(self, game: Running) -> bool:
         # A game whose messages were not read yet, as after ctrl-Z, may have ended in time.
         if (game.result is None and time.monotonic() > game.deadline
-                and not game.connection.poll()):
+                and not game.player.connection.poll()):
             game.result = Result(fault="it took longer than its ticks and all its waits")
         return game.result is not None
 
@@ -252,17 +272,17 @@ class Tournament:
         return rows
 
 
-def _end_all(games: Sequence[Running], children: Children) -> None:
-    """Ends games that are not over, so that they end what they started."""
-    for game in games:
-        game.process.terminate()
-    for game in games:
+def _end_all(players: Sequence[Player], children: Children) -> None:
+    """Ends processes that play games, so that they end what they started."""
+    for player in players:
+        player.process.terminate()
+    for player in players:
         try:
-            game.process.wait(LEAVE)
+            player.process.wait(LEAVE)
         except subprocess.TimeoutExpired:
             pass  # it is killed
-        children.end(game.process)
-        game.connection.close()
+        children.end(player.process)
+        player.connection.close()
 
 
 def _write_summary(summary: Summary, files: Sequence[Path]) -> List[str]:

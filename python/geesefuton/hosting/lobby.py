@@ -62,8 +62,8 @@ class Lobby:
         self._text = program.show(settings.game)
         self.words = self._text.split("\n")[1].split()[1:]
         _check_pages(settings)
-        self._listener = settings.listener or _listen(settings.port)
-        self.port: int = self._listener.getsockname()[1]
+        self._listeners = list(settings.listeners) or [_listen(settings.port)]
+        self.port: int = self._listeners[0].getsockname()[1]
         self._control = Control()
         self._game: Optional[HostedGame] = None
         self._is_left = False  # whether the host's terminal is closed
@@ -97,12 +97,13 @@ class Lobby:
             told = EventQueue(on_event)
             stack.callback(told.close)
             stack.callback(self._control.close)
-            stack.callback(self._listener.close)
+            for listener in self._listeners:
+                stack.callback(listener.close)
             children = stack.enter_context(Children())
             folder = children.folder("lobby")
             journal = self._open_journal(folder, told.put)
             stack.callback(journal.close)
-            relay = Relay(self.words, self._listener, told.put, journal, self.settings.patience,
+            relay = Relay(self.words, self._listeners, told.put, journal, self.settings.patience,
                           self.settings.longest_silence())
             stack.callback(relay.close)
             relay.seats.keys = self.settings.keys or relay.seats.keys
@@ -171,7 +172,8 @@ class Lobby:
             status = 128 - status
         game.relay.settle()
         self._end_all(game)
-        self._listener.close()  # a link would wait in vain while the page shows the scores
+        for listener in self._listeners:
+            listener.close()  # a link would wait in vain while the page shows the scores
         game.relay.journal.timed(over=status)
         self._control.phase = Phase.SHOWING
         return self._finish(game, status)

@@ -43,7 +43,7 @@ class Relay:
 
     Args:
         words: The seat words.
-        listener: Where links come in.
+        listeners: Where links come in.
         emit: Is told what happens.
         journal: Where it is written.
         patience: The seconds that a link has for its first line.
@@ -57,7 +57,7 @@ class Relay:
         loop: What waits for them, and for other files.
     """
 
-    def __init__(self, words: Sequence[str], listener: socket.socket,
+    def __init__(self, words: Sequence[str], listeners: Sequence[socket.socket],
                  emit: Callable[[Event], None], journal: Journal,
                  patience: float, silence: float) -> None:
         self.seats, self.sessions = Seats(words, silence), list[Session]()
@@ -69,9 +69,9 @@ class Relay:
         self._numbers = itertools.count()
         self._due: Dict[int, OuterLink] = {}
         self.loop = Loop(self._warn)
-        self._listener = listener
-        listener.setblocking(False)
-        self.loop.attend(listener, self._accept)
+        for listener in listeners:
+            listener.setblocking(False)
+            self.loop.attend(listener, partial(self._accept, listener))
 
     def turn(self, timeout: float) -> None:
         """Waits until something comes, for some seconds at most, and passes it on."""
@@ -104,10 +104,10 @@ class Relay:
 
     # Links from outside.
 
-    def _accept(self) -> None:
+    def _accept(self, listener: socket.socket) -> None:
         for _ in range(AT_ONCE):
             try:
-                link, where = self._listener.accept()
+                link, where = listener.accept()
             except (BlockingIOError, ConnectionError):
                 return
             visit = self.gate.arrive(where[0])

@@ -5,7 +5,7 @@ from __future__ import annotations
 import socket
 from dataclasses import dataclass, field
 from pathlib import Path
-from typing import Dict, Optional, Set, TextIO
+from typing import Dict, Optional, Sequence, Set, TextIO
 
 from geesefuton.hosting import log_files
 from geesefuton.hosting.seats import SILENCE
@@ -39,7 +39,7 @@ class LobbySettings:
         advice: Whether that page may ask the solver.
         orders: The host's commands.
         vouches: Whether the log is compared with the lobby's links after the game.
-        listener: Where the agents' links come in; None for a new listener at the port.
+        listeners: Where the agents' links come in; none for a new listener at the port.
         banned: The networks from which no link is taken, which the host may change.
     """
 
@@ -63,7 +63,7 @@ class LobbySettings:
     advice: bool = True
     orders: Optional[TextIO] = None
     vouches: bool = False
-    listener: Optional[socket.socket] = None
+    listeners: Sequence[socket.socket] = ()
     banned: Set[Network] = field(default_factory=set)
 
     def longest_silence(self) -> float:

@@ -153,7 +153,7 @@ class Table:
             game=file, port=given.port, pace=given.pace, log=log, wait=given.wait,
             start=given.wait if deal.listener else None,  # its teams may have left meanwhile
             keys=deal.keys, linger=given.after, journal=self._folder.file(deal.number, "journal"),
-            orders=given.orders, vouches=True, listener=deal.listener,
+            orders=given.orders, vouches=True, listeners=[deal.listener] if deal.listener else [],
             banned=self._banned), self.house)
         self.house.port = lobby.port
         self.deal, self.guests = deal, Guests(deal.words, self.house)

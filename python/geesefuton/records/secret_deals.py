@@ -15,6 +15,7 @@ import hmac
 import secrets
 
 BYTES = 32  # of a secret
+KEY = 12  # letters and digits of a seat's key
 
 
 def new_secret() -> bytes:
@@ -46,6 +47,16 @@ def _derived(secret: bytes, text: str) -> int:
 def deal_seed(secret: bytes, number: int) -> int:
     """The seed for `tac make` of the deal of a number, from 1: 64 bits."""
     return _derived(secret, f"deal {number}")
+
+
+def seat_key(secret: bytes, game: str, seat: int) -> str:
+    """The word that an agent says for a seat of a game: 12 letters and digits that no other agent
+    can guess."""
+    number, word = _derived(secret, f"seat {game} {seat}"), ""
+    while len(word) < KEY:
+        number, digit = divmod(number, 36)
+        word += "0123456789abcdefghijklmnopqrstuvwxyz"[digit]
+    return word
 
 
 def agent_seed(secret: bytes, game: str, name: str) -> int:

@@ -1,0 +1,209 @@
+"""The processes of a run's agents, each played by a host that outlives its games."""
+
+from __future__ import annotations
+
+import contextlib
+import json
+import os
+import select
+import socket
+import subprocess
+import sys
+from collections import Counter
+from pathlib import Path
+from typing import Any, BinaryIO, Dict, List, Optional, Sequence, Tuple
+
+from geesefuton import program
+from geesefuton.experiments.agent_host import namespaces
+from geesefuton.experiments.apart import Limits, sandbox
+from geesefuton.experiments.entrants import Entrant, environment
+from geesefuton.experiments.messages import Job
+from geesefuton.processes import Children
+
+HOST = str(Path(__file__).with_name("agent_host.py"))
+KILLED = 10.0  # seconds until an agent has to have ended that was killed
+MOST = 1 << 16  # bytes that are read at once
+
+
+class AgentProcess:
+    """An agent's process, in one game after another.
+
+    Args:
+        children: By which its host is started.
+        entrant: The agent.
+        variables: The environment that its host is started with.
+        before: The words of its sandbox; none if it has none.
+
+    Attributes:
+        listener: A listener in the agent's own network; None if it has none.
+        port: The listener's port there.
+    """
+
+    def __init__(self, children: Children, entrant: Entrant, variables: Dict[str, str],
+                 before: Sequence[str] = ()) -> None:
+        self._children, self._entrant = children, entrant
+        self.listener: Optional[socket.socket] = None
+        self.port = 0
+        self._held, self._is_ready = b"", False
+        self._status: Optional[int] = None
+        self._connection, theirs = socket.socketpair()
+        with theirs:
+            self._host = children.start(
+                [*before, sys.executable, HOST, str(theirs.fileno()),
+                 "" if before else str(children.groups),
+                 " ".join(namespaces()) if before else ""],
+                pass_fds=[theirs.fileno()], stdin=subprocess.DEVNULL, stdout=subprocess.DEVNULL,
+                stderr=subprocess.PIPE, env=variables)
+        first, second, *_ = [*entrant.words, ""]
+        self._say({"load": second if first == sys.executable else ""})
+
+    def wait(self) -> None:
+        """Waits until its host is ready, if it is not.
+
+        Raises:
+            OSError: Its host has ended.
+        """
+        if self._is_ready:
+            return
+        message, files = self._hear(None)
+        if message is None:
+            raise OSError(0, f"the process of {self._entrant.name} did not start: {self._why()}")
+        self._is_ready, self.port = True, int(message["port"])
+        self.listener = socket.socket(fileno=files[0]) if files else None
+
+    def _why(self) -> str:
+        """The last line that its host or the sandbox printed."""
+        assert self._host.stderr is not None
+        with self._host.stderr as printed:
+            said = printed.read().decode("utf-8", "replace").strip()
+        return said.split("\n")[-1]
+
+    def _say(self, message: Dict[str, Any], files: Sequence[int] = ()) -> None:
+        with contextlib.suppress(OSError):  # it has ended, which is seen when it is heard
+            socket.send_fds(self._connection, [json.dumps(message).encode() + b"\n"], files)
+
+    def _hear(self, seconds: Optional[float]) -> Tuple[Optional[Dict[str, Any]], List[int]]:
+        """What the host says next within some seconds, with files; None if it has ended, or says
+        nothing."""
+        files: List[int] = []
+        while b"\n" not in self._held:
+            if not select.select([self._connection], [], [], seconds)[0]:
+                return None, files
+            try:
+                piece, more, _, _ = socket.recv_fds(self._connection, MOST, 1)
+            except OSError:
+                piece, more = b"", []
+            files += more
+            if not piece:
+                return None, files
+            self._held += piece
+        line, self._held = self._held.split(b"\n", 1)
+        return json.loads(line), files
+
+    @property
+    def number(self) -> int:
+        """The number of its host's process."""
+        return self._host.pid
+
+    def begin(self, words: Sequence[str], variables: Dict[str, str], limits: Dict[str, int],
+              out: BinaryIO) -> None:
+        """Begins a game: the words after the agent's own, and where its output goes."""
+        self._status = None
+        self._say({"run": [*self._entrant.words, *words], "variables": variables,
+                   "limits": limits}, [out.fileno()])
+
+    def poll(self) -> Optional[int]:
+        """The exit status of the agent in this game, negative for a signal; None if it runs. A
+        host that has ended was ended by the agent, and so counts as killed."""
+        if self._status is None:
+            message, _ = self._hear(0)
+            if message is not None:
+                self._status = int(message["status"])
+            elif self.has_ended():
+                self._status = -9
+        return self._status
+
+    def has_ended(self) -> bool:
+        """Whether its host has ended."""
+        return self._host.poll() is not None
+
+    def end(self) -> int:
+        """Ends the agent's process, if it has not ended. Its status in this game."""
+        if self.poll() is None:
+            self._say({"end": True})
+            message, _ = self._hear(KILLED)
+            if message is None:
+                self.close()
+                return -9
+            self._status = int(message["status"])
+        assert self._status is not None
+        return self._status
+
+    def close(self) -> None:
+        """Ends its host."""
+        self._connection.close()
+        if self.listener is not None:
+            self.listener.close()
+        self._children.end(self._host)
+        if self._host.stderr is not None:
+            self._host.stderr.close()
+
+
+class Agents:
+    """The processes of the agents of a run, in one game after another.
+
+    Args:
+        children: By which they are started.
+    """
+
+    def __init__(self, children: Children) -> None:
+        self._children = children
+        self._running: Dict[Tuple[Entrant, int], AgentProcess] = {}
+
+    def seated(self, job: Job) -> List[AgentProcess]:
+        """The processes for the seats of a game. An agent with several seats has as many.
+
+        Raises:
+            OSError: A host cannot be started.
+            ProgramError: There is no file of `tac`.
+            ValueError: An agent's folder holds what it may not see.
+        """
+        counts: "Counter[Entrant]" = Counter()
+        seated = []
+        for entrant in job.entrants:
+            key = entrant, counts[entrant]
+            counts[entrant] += 1
+            found = self._running.get(key)
+            if found is None or found.has_ended():
+                if found is not None:
+                    found.close()
+                found = self._running[key] = self._started(entrant, job)
+            seated.append(found)
+        for process in seated:
+            process.wait()
+        return seated
+
+    def _started(self, entrant: Entrant, job: Job) -> AgentProcess:
+        tac, before = program.find(), list[str]()
+        variables = environment(tac, Path("/tmp"), job.limits is not None)
+        if job.limits is not None:
+            before = sandbox(entrant, tac, [job.folder.parent])
+        if job.turns:
+            variables["PYTHONHASHSEED"] = "0"  # holds from the start of a Python on
+        return AgentProcess(self._children, entrant, variables, before)
+
+    def close(self) -> None:
+        """Ends all of them."""
+        for process in self._running.values():
+            process.close()
+        self._running.clear()
+
+
+def limits_of(limits: Optional[Limits], printed: int) -> Dict[str, int]:
+    """An agent's limits by name.
+
+    Args:
+        limits: What it may use; None if it is not kept apart.
+        printed: How many bytes it may print.
+    """
+    return {"FSIZE": printed, **(limits.by_name() if limits else {})}

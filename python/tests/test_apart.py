@@ -1,0 +1,235 @@
+"""Tests of experiments/agent_host.py, agents.py and apart.py, with agents that look around."""
+
+import json
+import os
+import signal
+import socket
+import subprocess
+import sys
+import tempfile
+import time
+import unittest
+from pathlib import Path
+from typing import Any, Dict, List, Optional, Tuple
+from unittest import mock
+
+from geesefuton.experiments.agent_host import namespaces
+from geesefuton.experiments.agents import HOST, AgentProcess, Agents, limits_of
+from geesefuton.experiments.apart import Limits, folder_of, sandbox, why_not
+from geesefuton.experiments.entrants import Entrant, environment, read_entrants
+from geesefuton.experiments.messages import Job
+from geesefuton.processes import Children
+
+TAC = "/bin/true"
+WHY_NOT = why_not()
+# Prints what it can see and do, as JSON.
+SPY = """
+import json, os, socket, sys
+def tried(what):
+    try:
+        return what()
+    except (OSError, MemoryError) as fault:
+        return type(fault).__name__
+def listed(folder):
+    return sorted(os.listdir(folder))
+def connected(port):
+    with socket.create_connection(("127.0.0.1", port), 5) as link:
+        link.sendall(b"hello\\n")
+        return link.recv(10).decode()
+def others():
+    own = {"1", str(os.getpid()), str(os.getppid())}
+    return len([name for name in listed("/proc") if name.isdigit() and name not in own])
+given = json.loads(os.environ["SPY"])
+print(json.dumps({
+    "words": sys.argv[1:], "seed": os.environ.get("AGENT_SEED"),
+    "run": tried(lambda: listed(given["run"])),
+    "home": tried(lambda: listed(given["home"])),
+    "own": tried(lambda: open(__file__).read(3)),
+    "beside": tried(lambda: open(given["beside"]).read()),
+    "written": tried(lambda: open(__file__, "a").close()),
+    "temporary": tried(lambda: [name for name in listed("/tmp") if name.startswith("spy-")]),
+    "left": tried(lambda: open("/tmp/spy-left", "w").write("x")),
+    "memory": tried(lambda: len(bytearray(2 << 30)) if given["port"] != 1 else 0),
+    "outside": tried(lambda: connected(given["port"])),
+    "host": tried(lambda: open(f"/proc/{os.getppid()}/mem", "rb").read(1)),
+    "others": tried(others),
+    "link": tried(lambda: connected(int(sys.argv[2]))),
+}))
+os.fork() or os.execvp("sleep", ["sleep", "600"])
+sys.exit(3)
+"""
+
+
+class Places(unittest.TestCase):
+    """A folder of a run, and one with two agents."""
+
+    def setUp(self) -> None:
+        folder = tempfile.TemporaryDirectory(dir="/var/tmp")
+        self.addCleanup(folder.cleanup)
+        place = Path(folder.name).resolve()
+        self.run_folder, self.own = place / "run", place / "agents"
+        for each in (self.run_folder, self.own):
+            each.mkdir()
+        (self.run_folder / "1.game").write_text("secret")
+        (self.own / "spy.py").write_text(SPY)
+        (self.own / "other.py").write_text("import sys\nsys.exit(len(sys.argv))\n")
+        (self.own / "data.txt").write_text("data")
+        self.spy, self.other = read_entrants([str(self.own / "spy.py"), str(self.own / "other.py")])
+        self.children = Children()
+        self.addCleanup(self.children.close)
+        self.agents = Agents(self.children)
+        self.addCleanup(self.agents.close)
+        tac = mock.patch.dict(os.environ, {"TAC": TAC})
+        tac.start()
+        self.addCleanup(tac.stop)
+
+    def seated(self, *entrants: Entrant, limits: Optional[Limits] = None) -> List[AgentProcess]:
+        """The processes of agents, in one game after another."""
+        job = Job("1.0", self.run_folder / "games", "", entrants, (), (), (), limits)
+        return self.agents.seated(job)
+
+    def variables(self, port: int, **more: str) -> Dict[str, str]:
+        """The environment of an agent that is told where to look, and a port of this machine."""
+        where = {"run": str(self.run_folder), "home": str(Path.home()), "port": port,
+                 "beside": str(self.own / "data.txt")}
+        return {**environment(TAC, Path("/tmp")), "SPY": json.dumps(where), **more}
+
+    def play(self, process: AgentProcess, listener: socket.socket, port: int,
+             outside: int = 1) -> Tuple[int, Dict[str, Any]]:
+        """Runs the spy in a game at a listener. Its status, and what it has seen."""
+        with tempfile.TemporaryFile() as out:
+            limits = limits_of(Limits() if process.listener else None, 1 << 20)
+            process.begin(["localhost", str(port), "red"], self.variables(outside, AGENT_SEED="5"),
+                          limits, out)
+            listener.settimeout(60)
+            link, _ = listener.accept()
+            with link:
+                self.assertEqual(link.recv(10), b"hello\n")
+                link.sendall(b"hi")
+                status = waited(process)
+            out.seek(0)
+            return status, json.loads(out.read())
+
+
+def waited(process: AgentProcess) -> int:
+    """The status of an agent's process, once it has ended."""
+    while True:
+        status = process.poll()
+        if status is not None:
+            return status
+        time.sleep(0.005)
+
+
+class Shared(Places):
+    """Agents that are not kept apart."""
+
+    def test_an_agent_is_run_again_and_again_by_one_process(self) -> None:
+        process, = self.seated(self.spy)
+        for _ in range(2):
+            with socket.create_server(("127.0.0.1", 0)) as listener:
+                status, seen = self.play(process, listener, listener.getsockname()[1])
+            self.assertEqual((status, seen["words"][2], seen["seed"], seen["own"], seen["link"]),
+                             (3, "red", "5", SPY[:3], "hi"))
+
+    def test_an_agent_that_does_not_end_is_killed_with_all_that_it_has_started(self) -> None:
+        (self.own / "spy.py").write_text("import os, time\nif os.fork() == 0:\n    time.sleep(600)\n"
+                                         "print(os.getpgid(0), flush=True)\ntime.sleep(600)\n")
+        process, = self.seated(self.spy)
+        reading, writing = os.pipe()
+        with open(reading, "rb") as printed, open(writing, "wb") as out:
+            process.begin([], self.variables(1), {}, out)
+            group = int(printed.readline())
+        self.assertIsNone(process.poll())
+        self.assertEqual(process.end(), -9)
+        with self.assertRaises(ProcessLookupError):
+            while True:  # until the last one is waited for
+                os.killpg(group, 0)
+                time.sleep(0.005)
+
+    def test_a_program_that_is_no_python_file_is_executed(self) -> None:
+        entrant, = read_entrants(["sh -c 'exit 7'"])
+        process, = self.seated(entrant)
+        with tempfile.TemporaryFile() as out:
+            process.begin(["localhost", "1", "red"], self.variables(1), {}, out)
+            self.assertEqual(waited(process), 7)
+
+    def test_two_seats_of_an_agent_have_two_processes_and_the_next_game_the_same(self) -> None:
+        first = self.seated(self.spy, self.other, self.spy)
+        self.assertEqual(len(set(first)), 3)
+        self.assertEqual(self.seated(self.spy, self.other, self.spy), first)
+
+    def test_a_host_that_was_killed_counts_as_killed_and_is_replaced(self) -> None:
+        (self.own / "spy.py").write_text("import os, time\nprint(os.getppid(), flush=True)\n"
+                                         "time.sleep(600)\n")
+        process, = self.seated(self.spy)
+        reading, writing = os.pipe()
+        with open(reading, "rb") as printed, open(writing, "wb") as out:
+            process.begin([], self.variables(1), {}, out)
+            host = int(printed.readline())
+        self.assertEqual(host, process.number)  # so that no other process is killed
+        os.kill(host, signal.SIGKILL)
+        self.assertEqual(waited(process), -9)
+        self.assertNotEqual(self.seated(self.spy), [process])
+
+
+@unittest.skipIf(WHY_NOT, WHY_NOT)
+class Apart(Places):
+    """Agents that are kept apart."""
+
+    def test_a_host_that_is_in_no_sandbox_ends_before_it_does_anything(self) -> None:
+        own = namespaces()
+        for outside in (" ".join(own), next(iter(own))):
+            ended = subprocess.run([sys.executable, HOST, "0", "", outside], check=False,
+                                   stdin=subprocess.DEVNULL, stderr=subprocess.PIPE)
+            self.assertEqual((ended.returncode, ended.stderr), (1, b"this is no sandbox\n"))
+
+    def test_an_agent_sees_its_folder_and_its_link_and_nothing_else(self) -> None:
+        process, = self.seated(self.spy, limits=Limits())
+        assert process.listener is not None
+        with socket.create_server(("127.0.0.1", 0)) as outside:
+            for _ in range(2):  # nothing is left of the first game in the second
+                status, seen = self.play(process, process.listener, process.port,
+                                         outside.getsockname()[1])
+                self.assertEqual(status, 3)
+                self.assertEqual(
+                    {name: seen[name] for name in ("run", "own", "beside", "written",
+                                                   "temporary", "memory", "outside", "host",
+                                                   "others", "link")},
+                    {"run": "FileNotFoundError", "own": SPY[:3], "beside": "data",
+                     "written": "OSError", "temporary": [],
+                     "memory": "MemoryError", "outside": "ConnectionRefusedError",
+                     "host": "PermissionError", "others": 0, "link": "hi"})
+                self.assertNotIn(".bashrc", seen["home"])
+
+    def test_agents_do_not_see_one_another(self) -> None:
+        one, two = self.seated(self.spy, self.spy, limits=Limits())
+        (self.own / "spy.py").write_text("import time\nprint(1, flush=True)\ntime.sleep(600)\n")
+        reading, writing = os.pipe()
+        with open(reading, "rb") as printed, open(writing, "wb") as out:
+            one.begin([], self.variables(1), {}, out)
+            self.assertEqual(printed.readline(), b"1\n")
+            (self.own / "spy.py").write_text(SPY)
+            assert two.listener is not None
+            status, seen = self.play(two, two.listener, two.port)
+            self.assertEqual((status, seen["others"]), (3, 0))
+            self.assertIsNone(one.poll())
+            one.end()
+
+    def test_a_folder_that_holds_the_run_or_the_home_folder_is_refused(self) -> None:
+        for secret in ([self.own], [self.own / "below"], [self.own.parent, self.own / "spy.py"]):
+            with self.assertRaisesRegex(ValueError, "put it into a folder of its own"):
+                folder_of(self.spy, secret)
+        self.assertEqual(folder_of(self.spy, [self.run_folder]), self.own)
+
+    def test_a_sandbox_that_does_not_start_is_told_in_a_line(self) -> None:
+        missing = Entrant("gone", (sys.executable, "/nowhere/gone.py"), "gone", "gone")
+        words: List[str] = sandbox(missing, TAC, [])
+        words[1:1] = ["--ro-bind", "/nowhere", "/nowhere"]
+        process = AgentProcess(self.children, missing, dict(os.environ), words)
+        self.addCleanup(process.close)
+        with self.assertRaisesRegex(OSError, "the process of gone did not start: .*nowhere"):
+            process.wait()
+
+
+if __name__ == "__main__":
+    unittest.main()
