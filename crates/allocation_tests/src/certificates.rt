@@ -1,7 +1,6 @@
 // Certificates, as texts and as bounds.
 use crate::accounts::{ONE_SEAT, WRESTLING_FANS, account};
-use bound_cert::{check, print_cert, read_cert};
-use game_text::Account;
+use bound_cert::{CertFault, check, print_cert, read_cert};
 use std::alloc::{AllocError, Global};
 use std::test::Fail;
 
@@ -10,30 +9,65 @@ const ONE_SEAT_LEAF: &[u8] =
 
 const FREE_LEAF: &[u8] = b"leaf 0 0 0 0 0 0 0 0 0 0 0 0 0 0 0 0 0 0 0 0 0 0 0 0 0 0 0 0\n";
 
-/// The deepest tree, whose leaves have no prices.
-fn deepest(alloc: Global) -> Result<Vec<u8>, AllocError> {
-    let mut text = Vec::new(alloc);
-    for _ in 0..32u8 {
-        text.extend_from_slice(b"split 0 1\n")?;
+/// A leaf of the greatest prices.
+const DEAR_LEAF: &[u8] =
+    b"leaf 14001 14001 14001 14001 14001 14001 14001 14001 14001 14001 14001 14001 14001 14001 14001 14001 14001 14001 14001 14001 14001 14001 14001 14001 14001 14001 14001 14001\n";
+
+/// A leaf that lacks the price of the last good.
+const SHORT_LEAF: &[u8] = b"leaf 0 0 0 0 0 0 0 0 0 0 0 0 0 0 0 0 0 0 0 0 0 0 0 0 0 0 0\n";
+
+const NO_GOODS: &str = "0 0 0 0 0 0 0 0 0 0 0 0 0 0 0 0 0 0 0 0 0 0 0 0 0 0 0 0";
+
+/// Holdings, a certificate, a claim, and whether the certificate bounds it.
+const CLAIMS: &[(&str, &[u8], u32, bool)] = &[
+    (ONE_SEAT, ONE_SEAT_LEAF, 1150, true),
+    (ONE_SEAT, ONE_SEAT_LEAF, 1149, false),
+    (NO_GOODS, DEAR_LEAF, 0, true),
+    (NO_GOODS, FREE_LEAF, 0, false),
+    (NO_GOODS, FREE_LEAF, 14000, true),
+];
+
+/// How many splits stand one below the other, what follows them, and the bad line with its reason.
+const REFUSED: &[(u8, &[u8], u32, u8)] = &[
+    (33, b"", 33, 8),
+    (32, b"", 33, 7),
+    (0, SHORT_LEAF, 1, 2),
+];
+
+/// Splits, each the first child of the one before it, and then so many times another text.
+fn tree(alloc: Global, splits: u8, text: &[u8], times: u8) -> Result<Vec<u8>, AllocError> {
+    let mut tree = Vec::new(alloc);
+    for _ in 0..splits {
+        tree.extend_from_slice(b"split 0 1\n")?;
     }
-    for _ in 0..129u8 {
-        text.extend_from_slice(FREE_LEAF)?;
+    for _ in 0..times {
+        tree.extend_from_slice(text)?;
     }
-    Ok(text)
+    Ok(tree)
 }
 
 /// Whether the certificate of a text bounds a claim, and is printed as it was read.
-fn is_bound(alloc: Global, account: &Account, claim: u32, text: &[u8]) -> Result<bool, Fail> {
+fn is_bound(alloc: Global, hold: &str, claim: u32, text: &[u8]) -> Result<bool, Fail> {
+    let account = account(alloc, hold, WRESTLING_FANS)?;
     let cert = read_cert(alloc, text)?;
     let printed = print_cert(alloc, &cert)?;
-    Ok(check(account, claim, &cert) && printed.as_slice() == text)
+    Ok(check(&account, claim, &cert) && printed.as_slice() == text)
 }
 
 #[test]
 fn certificates_bound_their_claims_and_are_printed_as_read(rt: HostRuntime) -> Result<(), Fail> {
     let alloc = rt.alloc();
-    let account = account(alloc, ONE_SEAT, WRESTLING_FANS)?;
-    assert!(rt; is_bound(alloc, &account, 1150, ONE_SEAT_LEAF)?);
-    assert!(rt; is_bound(alloc, &account, 14000, &deepest(alloc)?)?);
+    for (hold, text, claim, holds) in CLAIMS {
+        assert!(rt; is_bound(alloc, hold, *claim, text)? == *holds);
+    }
+    // The deepest tree.
+    assert!(rt; is_bound(alloc, ONE_SEAT, 14000, &tree(alloc, 32, FREE_LEAF, 129)?)?);
+    for (splits, text, line, reason) in REFUSED {
+        let fault = CertFault::Line {
+            line: *line,
+            reason: *reason,
+        };
+        assert!(rt; read_cert(alloc, &tree(alloc, *splits, text, 1)?).err() == Some(fault));
+    }
     Ok(())
 }

@@ -1,4 +1,4 @@
-//! Tests of the public calls on certificates, prices and best allocations: worked rows, one after another.
+//! Tests of the public calls on packages, certificates, prices and best allocations: worked rows, one after another.
 #![tactic(auto)]
 
 #[cfg(test)]
@@ -9,3 +9,5 @@ mod allocations;
 mod certificates;
 #[cfg(test)]
 mod prices;
+#[cfg(test)]
+mod trips;

@@ -1,9 +1,19 @@
-//! Tests of the public calls on auctions, cash and made games: worked rows, one after another.
+//! Tests of the public calls on books, auctions, cash, bid strings and made games: worked rows, one after another.
 #![tactic(auto)]
 
 #[cfg(test)]
 mod auctions;
 #[cfg(test)]
+mod bids;
+#[cfg(test)]
 mod cash;
 #[cfg(test)]
+mod flights;
+#[cfg(test)]
+mod hotels;
+#[cfg(test)]
 mod made_games;
+#[cfg(test)]
+mod replies;
+#[cfg(test)]
+mod tickets;
