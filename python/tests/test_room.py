@@ -383,7 +383,7 @@ class Games(Case):
                 self.assertIn("seat1", [agent["name"] for agent in state["agents"]])
         self.assertEqual((phases[0], phases[-1]), ("room", "over"), phases)
         self.assertIn("running", phases)
-        self.assertEqual([agent["score"] for agent in state["agents"]], self.scores(2))
+        self.assertEqual([agent["score"][-1] for agent in state["agents"]], self.scores(2))
         self.until(lambda: room.poll() is not None)
 
     def states(self, page: int) -> Iterator[Dict[str, Any]]:
