@@ -261,7 +261,7 @@ class Baseline:
                               for gain in gains if gain >= 1])
 
     def place(self, good: int, bids: List[int]) -> None:
-        """Bids for the rooms of a night. If that is too low, it raises what has to beat the quote."""
+        """Bids for a night's rooms. If that is too low, it raises what has to beat the quote."""
         bids = sorted(bids, reverse=True)
         if not bids or bids == self.bids[good]:
             return

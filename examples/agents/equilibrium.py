@@ -11,8 +11,8 @@ distribution from which they are drawn. Prices are found by tatonnement: each mo
 demand, in steps that shrink. Tickets add to a stay what they are expected to bring. A bid is the
 room's marginal value, shaded by what the bid would cost the agent's own other rooms.
 
-Left out: its model of other bidders, from which it computed the shading, in place of which there is
-one number, GAP; its learned trade of tickets, and its tuning by a game of reduced profiles. Flights,
+Left out: its model of other bidders, from which it computed the shading (here that is one number,
+GAP); its learned trade of tickets; and its tuning by a game of reduced profiles. Flights,
 plans and tickets are those of baseline.py, and so are games with scarce rooms, whose number no line
 tells.
 """
@@ -31,7 +31,8 @@ from baseline import LAST, STAYS, Baseline, wait
 ROOMS, OTHERS = 16, 56  # rooms of a night; clients of the seven other agents
 PREMIUMS = (50, 150)  # dollars: from what to what clients value the better hotel
 SHOWS = (0, 75, 102, 107, 107)  # dollars that tickets add to a stay of 0, 1, .. nights
-ROUNDS, STEP, SHRINK = 60, 6.0, 0.95  # of tatonnement; dollars for a room that is in excess at first
+# Of tatonnement: its rounds, and the dollars for a room in excess at first, which shrink.
+ROUNDS, STEP, SHRINK = 60, 6.0, 0.95
 WEIGHT = 0.25  # of the equilibrium's price in a prediction; the rest is that of baseline.py
 GAP = 12  # dollars between two bids that stand near the price of a night
 MOST = 1000  # dollars of a bid

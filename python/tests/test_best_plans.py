@@ -58,7 +58,7 @@ def small_case(seed: int) -> Tuple[List[Client], List[int], Prices]:
     return clients, held(*draw.choices(GOODS, k=5)), prices
 
 
-# What the trips of `tight_case` are worth, found as a program in whole numbers (test_allocations.py).
+# What the trips of `tight_case` are worth, by a program in whole numbers (test_allocations.py).
 OPTIMA: Dict[int, int] = {17: 3960, 25: 3762, 47: 3157}
 
 

@@ -1,4 +1,4 @@
-"""The door of a room with several tables: which link waits, plays or is refused, and who is next."""
+"""The door of a room with several tables: which link waits, plays or is refused."""
 
 import contextlib
 import socket

@@ -228,7 +228,7 @@ class Crowds(Case):
             for number in range(4):
                 await self.hold(port, 50, GET % b"/events", f"127.0.0.{number + 2}")
             fifth, = await self.hold(port, 1, GET % b"/events", "127.0.1.1")
-            for number in range(4):  # and those that come again do not end it
+            for number in range(4):  # and those that return do not end it
                 await self.hold(port, 5, GET % b"/events", f"127.0.0.{number + 2}")
             await fifth[0].readuntil(b"piece\n")
             return [(await self.ask(port, GET % b"/", address))[0]

@@ -6,7 +6,7 @@ import unittest
 from geesefuton.records.secret_deals import (agent_seed, commitment, deal_seed, new_secret,
                                              read_secret)
 
-# By `printf 'deal 1' | openssl dgst -sha256 -mac HMAC -macopt hexkey:0001..1f`, the first 16 digits.
+# By `printf 'deal 1' | openssl dgst -sha256 -mac HMAC -macopt hexkey:0001..1f`: 16 digits.
 SECRET = bytes(range(32))
 DEAL_1, DEAL_12 = 0x101c246e2881e969, 0xbc92d3c4d01d9843
 OF_AGENT = 0x5065575b699f1940  # of the text `agent 3.1 planner one`

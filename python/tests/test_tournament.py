@@ -158,7 +158,8 @@ class Playing(unittest.TestCase):
     def test_the_time_that_is_left_is_told_in_minutes_and_seconds(self) -> None:
         plan = self.plan("a", games=3, rotations=1)
         made = self.tournament(plan)
-        game = Running(0, Table(Deal(1, served_game()), 0), list(plan.entrants) * 8, Player(mock.Mock(), mock.Mock()), 0.0, Result(fault="why"))
+        game = Running(0, Table(Deal(1, served_game()), 0), list(plan.entrants) * 8,
+                       Player(mock.Mock(), mock.Mock()), 0.0, Result(fault="why"))
         with mock.patch("time.monotonic", return_value=made._began + 29.9):
             made._finish(game)  # two games more, of 29.9 seconds each
         self.assertEqual(self.told[-1], "game 1 of 3 (1.0): lost; 1:00 left")
@@ -214,8 +215,8 @@ class Playing(unittest.TestCase):
         ours, theirs = Pipe()
         result = Result(tuple(range(8)), (Outcome.PLAYED,) * 8)
         with ours, theirs:
-            game = Running(0, Table(Deal(1, served_game()), 0), list(plan.entrants) * 8, Player(ours, mock.Mock()),
-                           deadline=time.monotonic() - 1.0)
+            game = Running(0, Table(Deal(1, served_game()), 0), list(plan.entrants) * 8,
+                           Player(ours, mock.Mock()), deadline=time.monotonic() - 1.0)
             for message in (events.Ticked(0.0, 54), Note("a note"), result):
                 theirs.send(message)
             while not made._is_over(game):
@@ -235,8 +236,8 @@ class Playing(unittest.TestCase):
             ours, theirs = Pipe()
             with ours, theirs:
                 theirs.send(events.Ticked(0.0, 1))
-                game = Running(0, Table(Deal(1, served_game()), 0), list(plan.entrants) * 8, Player(ours, mock.Mock()),
-                               deadline=0.0)
+                game = Running(0, Table(Deal(1, served_game()), 0), list(plan.entrants) * 8,
+                               Player(ours, mock.Mock()), deadline=0.0)
                 self.tournament(plan)._hear([game])
             self.assertEqual(game.deadline > time.monotonic(), is_later)
             # The start, the turns of eight who are passed over in each, the end, and what is left.
@@ -252,7 +253,8 @@ class Playing(unittest.TestCase):
     def test_what_agents_missed_is_in_the_rows(self) -> None:
         made = self.tournament(self.plan())
         result = Result(tuple(range(8)), (Outcome.PLAYED,) * 8, missed=(None, *range(7)))
-        game = Running(0, Table(Deal(1, served_game()), 0), entrants(*"abababab"), Player(mock.Mock(), mock.Mock()), 0.0, result)
+        game = Running(0, Table(Deal(1, served_game()), 0), entrants(*"abababab"),
+                       Player(mock.Mock(), mock.Mock()), 0.0, result)
         made._finish(game)
         rows = self.rows()
         self.assertEqual([row.missed for row in rows], [None, *range(7)])

@@ -179,7 +179,8 @@ def shared_secret(file: Path, secret: bytes) -> bytes:
         text.flush()
         os.fsync(text.fileno())
     try:
-        os.link(new, file)  # so that it is there whole, and of two that make it the first one counts
+        # So the file is there whole, and if two make it, the first one counts.
+        os.link(new, file)
     except FileExistsError:
         pass
     finally:

@@ -44,8 +44,8 @@ def page(overview: Overview, name: str, row: Row, summary: Summary) -> str:
 
 
 def _ranking(summary: Summary) -> Iterator[str]:
-    yield ("<h2>Ranking</h2><p>Mean scores with 95 % intervals (Student's t, by deals). These games "
-           "do not separate agents that have a letter in common: Holm's test over all pairs finds "
+    yield ("<h2>Ranking</h2><p>Mean scores with 95 % intervals (Student's t, by deals). These "
+           "games do not separate agents that have a letter in common: Holm's test over all pairs finds "
            "no difference.</p>")
     told = [(standing, standing.score.half or 0.0) for standing in summary.standings]
     low = min((standing.score.mean - half for standing, half in told), default=0.0)

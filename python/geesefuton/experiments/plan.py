@@ -189,8 +189,8 @@ def make_parser(description: Optional[str]) -> Parser:
     add("--detect", type=whole(1), metavar="DOLLARS",
         help="estimate how many games detect such a difference between two agents")
     add("--join", action="store_true",
-        help="play nothing: AGENT .. are the folders of runs, which are summarized together if they "
-             "belong together")
+        help="play nothing: AGENT .. are the folders of runs, which are summarized together if "
+             "they belong together")
     add("--pool", action="store_true",
         help="with --join: compare runs that do not belong together, each pool by its own name")
     add("--partial", action="store_true",

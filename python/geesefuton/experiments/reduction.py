@@ -24,8 +24,8 @@ def counts_of(players: int, strategies: int) -> List[Counts]:
 
 
 def expanded(rivals: Sequence[int]) -> List[Counts]:
-    """Seven rivals in the shares of fewer, rounded: those with the largest rests get one more. Where
-    rests are equal there are several ways, which count equally."""
+    """Seven rivals in the shares of fewer, rounded: those with the largest rests get one more.
+    Where rests are equal there are several ways, which count equally."""
     players, seats = sum(rivals), SEATS - 1
     counts = [count * seats // players for count in rivals]
     rests = [count * seats % players for count in rivals]

@@ -34,8 +34,8 @@ class Row:
     """What a seat of a game came to.
 
     Attributes:
-        deal: The beginning of the SHA-256 of what was dealt (`deals.Deal.name`). Games with the same
-            deal are alike, wherever they were played.
+        deal: The beginning of the SHA-256 of what was dealt (`deals.Deal.name`). Games with the
+            same deal are alike, wherever they were played.
         rotation: Which of the deal's games it is, from 0.
         seat: The seat, 0 to 7.
         agent: The agent's name.

@@ -21,7 +21,7 @@ from typing import Callable, Dict, Hashable, Iterable, Iterator, List, Tuple
 from geesefuton.records.games import SEATS
 
 MOST = SEATS * SEATS  # agents
-ROUNDS = 8  # after so many the base games come again
+ROUNDS = 8  # after which the base games are repeated
 TRIES, STEPS, HEAT = 3, 5000, 12.0  # of a search; what a step may cost at first
 SALT = 7  # with which searches find what they should for twenty and thirty agents
 SAME = 1000  # what it costs that an agent meets or follows itself

@@ -26,10 +26,10 @@ run.json with the settings, the agents and their files, and the files of the gam
 the run continues after any stop, and plays the missing games. --join FOLDER .. summarizes several
 runs, if they were played in the same way by the same agents.
 
-The line of a seat says how its game went: `played`, or `absent`, `crashed`, `killed`, `hung`, `refused`. The
-summary has each agent's mean over all its seats with a 95 % interval, the mean over the seats that
-played to the end, how many did not, and the difference of each pair. Failures are reported as they
-happen.
+The line of a seat says how its game went: `played`, or `absent`, `crashed`, `killed`, `hung`,
+`refused`. The summary has each agent's mean over all its seats with a 95 % interval, the mean over
+the seats that played to the end, how many did not, and the difference of each pair. Failures are
+reported as they happen.
 
 The exit status is 0 if every game was scored and everything was written, 1 if not, and 128 plus
 the signal's number if a signal stopped it.

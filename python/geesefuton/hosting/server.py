@@ -1,9 +1,9 @@
 """The server of a game by the clock: `tac serve`, whose eight seats the lobby takes.
 
 The server is given a copy of the game whose seat words are drawn for it, so that nobody else can
-take a seat. It is asked to listen on loopback alone, by the variable TAC_BIND. A server that does
-not take it listens on every address, and a link that reaches it before the lobby may hold it up by
-saying nothing: then the lobby ends it and starts another, since no agent was passed on by then.
+take a seat. The variable TAC_BIND asks it to listen on loopback alone, but `tac` does not read that
+variable: it listens on every address, and a link that reaches it before the lobby may hold it up by
+saying nothing. Then the lobby ends it and starts another, since no agent was passed on by then.
 That it is the lobby's own server the welcome shows, which follows from the game.
 """
 

@@ -5,9 +5,9 @@ commitment. It keeps the secret until it is over, and then publishes it too. Eve
 from the secret by HMAC-SHA-256, as docs/FORMATS.md, "Secret deals", describes, so anybody can make
 the same games again with `tac make`.
 
-An agent that knows its own clients can try some 2,000 seeds a second, so a seed has to have 64 bits.
-The generator of `tac make` is not a cipher: from one game's draws its seed can perhaps be found
-faster, but not the secret, and so not the seed of another game.
+An agent that knows its own clients can try some 2,000 seeds a second, so a seed has to have 64
+bits. The generator of `tac make` is not a cipher: from one game's draws its seed can perhaps be
+found faster, but not the secret, and so not the seed of another game.
 """
 
 import hashlib
