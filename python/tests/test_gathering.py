@@ -29,14 +29,14 @@ class Beginning(Case):
             settings: What the lobby is told.
         """
         made = Lobby(LobbySettings(GAME, 0, 5, None, **settings))
-        self.addCleanup(made._listener.close)
-        self.addCleanup(made._control.close)
+        self.addCleanup(made._listeners[0].close)
+        self.addCleanup(made.control.close)
         clock = SimpleNamespace(now=0.0)
 
         def turn(seconds: float) -> None:
             self.assertTrue(0 < seconds <= 0.2, seconds)
             clock.now += seconds
-            made._control.is_begin_asked = clock.now >= asked
+            made.control.is_begin_asked = clock.now >= asked
             game.is_stopped = clock.now > 100
 
         seats = SimpleNamespace(
@@ -86,7 +86,7 @@ class Hosting(Case):
         self.assertEqual(other.line(), "refused wrongword")
         agents = self.agents(host, "red7k", "blue2")
         self.assertEqual([event.word for event in host.of(events.Arrived)], ["seat3", "seat0"])
-        host.lobby._control.go_on()
+        host.lobby.control.go_on()
         self.assertEqual([agent.welcome()[0] for agent in agents], ["welcome 3", "welcome 0"])
         for agent in agents:
             agent.quit()

@@ -149,21 +149,22 @@ class Signals(Case):
         self.handlers = {}
         self.patch("signal.signal", self.handlers.__setitem__)
         self.clock = self.patch("time.monotonic", return_value=0.5)
-        self.lobby, self.teller = mock.Mock(phase=Phase.PLAYING), mock.Mock()
+        self.lobby, self.teller = mock.Mock(), mock.Mock()
+        self.lobby.control.phase = Phase.PLAYING
 
     def take(self, number: int, at: float) -> bool:
         """Whether the game is ended by a signal."""
         self.clock.return_value = at
-        self.lobby.interrupt.reset_mock()
+        self.lobby.control.stop.reset_mock()
         self.handlers[number](number, None)
-        return bool(self.lobby.interrupt.called)
+        return bool(self.lobby.control.stop.called)
 
     def test_in_the_game(self) -> None:
         taken = lobby_command._Signals(self.lobby, self.teller)
         self.assertEqual(set(self.handlers),
                          {signal.SIGINT, signal.SIGTERM, signal.SIGHUP, signal.SIGTSTP})
         self.assertFalse(self.take(signal.SIGHUP, 0.5) or self.teller.say.called)
-        self.lobby.hang_up.assert_called_once_with()
+        self.assertIs(self.lobby.settings.stays, False)
         self.assertFalse(self.take(signal.SIGINT, 1.0))
         self.assertIn("the game goes on", self.teller.say.call_args[0][0])
         self.assertFalse(self.take(signal.SIGINT, 6.5))  # not within five seconds
@@ -172,11 +173,11 @@ class Signals(Case):
         self.assertEqual(taken.number, signal.SIGINT)
         self.assertTrue(self.take(signal.SIGTERM, 20.0))
         self.assertEqual(taken.number, signal.SIGTERM)
-        self.lobby.end_links.assert_not_called()
+        self.lobby.control.end.assert_not_called()
 
     def test_before_the_game(self) -> None:
         for phase in (Phase.GATHERING, Phase.STARTING):
-            self.lobby.phase = phase
+            self.lobby.control.phase = phase
             for number in (signal.SIGINT, signal.SIGHUP, signal.SIGTERM):
                 taken = lobby_command._Signals(self.lobby, self.teller)
                 self.assertTrue(self.take(number, 1.0))
@@ -184,26 +185,26 @@ class Signals(Case):
 
     def test_after_the_last_tick_ctrl_c_says_what_is_waited_for_and_a_second_one_ends_it(
             self) -> None:
-        self.lobby.phase = Phase.ENDING
+        self.lobby.control.phase = Phase.ENDING
         self.lobby.waits_for.return_value = (29.7, ["seat0", "seat4"])
         lobby_command._Signals(self.lobby, self.teller)
         self.assertFalse(self.take(signal.SIGHUP, 1.0) or self.teller.say.called)
         self.assertFalse(self.take(signal.SIGINT, 1.0))
         self.assertIn("waiting 30 s for seat0 seat4; press Enter", self.teller.say.call_args[0][0])
-        self.lobby.end_links.assert_not_called()
+        self.lobby.control.end.assert_not_called()
         self.assertFalse(self.take(signal.SIGINT, 2.0))
-        self.lobby.end_links.assert_called_once_with()
+        self.lobby.control.end.assert_called_once_with()
         self.assertTrue(self.take(signal.SIGINT, 3.0))  # the server does not end
 
     def test_after_the_last_tick_a_request_to_stop_leaves_the_log(self) -> None:
-        self.lobby.phase = Phase.ENDING
+        self.lobby.control.phase = Phase.ENDING
         lobby_command._Signals(self.lobby, self.teller)
         self.assertFalse(self.take(signal.SIGTERM, 1.0))
-        self.lobby.end_links.assert_called_once_with()
+        self.lobby.control.end.assert_called_once_with()
         self.assertTrue(self.take(signal.SIGTERM, 2.0))
 
     def test_once_the_log_is_written_the_page_is_ended(self) -> None:
-        self.lobby.phase = Phase.SHOWING
+        self.lobby.control.phase = Phase.SHOWING
         for number in (signal.SIGINT, signal.SIGHUP, signal.SIGTERM):
             lobby_command._Signals(self.lobby, self.teller)
             self.assertTrue(self.take(number, 1.0))
@@ -218,11 +219,11 @@ class Signals(Case):
         kill = self.patch("os.kill")
         lobby_command._Signals(self.lobby, self.teller)
         for phase in (Phase.STARTING, Phase.PLAYING, Phase.ENDING):
-            self.lobby.phase = phase
+            self.lobby.control.phase = phase
             self.assertFalse(self.take(signal.SIGTSTP, 1.0) or kill.called)
             self.assertIn("the game goes on", self.teller.say.call_args[0][0])
         for phase in (Phase.GATHERING, Phase.SHOWING):
-            self.lobby.phase = phase
+            self.lobby.control.phase = phase
             self.take(signal.SIGTSTP, 1.0)
             kill.assert_called_once_with(os.getpid(), signal.SIGSTOP)
             kill.reset_mock()
@@ -304,24 +305,22 @@ class Pages(Case):
 
     def lobby(self, page: Optional[int], **more: Any) -> Lobby:
         made = Lobby(LobbySettings(GAME, 0, 5, None, page=page, **more))
-        self.addCleanup(made._listener.close)
-        self.addCleanup(made._control.close)
+        self.addCleanup(made._listeners[0].close)
+        self.addCleanup(made.control.close)
         return made
 
     def test_links_come_in_at_every_address(self) -> None:
         made = self.lobby(None)
-        self.assertIn(made._listener.getsockname()[0], ("::", "0.0.0.0"))
+        self.assertIn(made._listeners[0].getsockname()[0], ("::", "0.0.0.0"))
         self.assertEqual(made.words, [f"seat{number}" for number in range(8)])
         for host in ("127.0.0.1", *["::1"] * socket.has_dualstack_ipv6()):
             socket.create_connection((host, made.port)).close()
 
     def test_what_is_told_of_a_game_that_is_stopped(self) -> None:
-        for phase, given, due in ((Phase.PLAYING, "my.journal", True),
-                                  (Phase.ENDING, "my.journal", True),
-                                  (Phase.PLAYING, None, False),
-                                  (Phase.STARTING, "my.journal", False)):
+        for started, given, due in ((1.0, "my.journal", True), (1.0, None, False),
+                                    (None, "my.journal", False)):
             made, told = self.lobby(None, journal=given and Path(given)), mock.Mock()
-            made._control.phase = phase
+            told.relay.started = started
             self.assertEqual(made._stop(told), 130)
             self.assertIn("stopped, without a log", told.warn.call_args[0][0])
             self.assertEqual("my.journal > " in told.warn.call_args[0][0], due)

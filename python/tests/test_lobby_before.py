@@ -26,7 +26,7 @@ class BeforeTheGame(Case):
         silent = Agent(host.port, first=b"hello")
         self.assertEqual(silent.line(), "")
         silent.close()
-        host.lobby.interrupt()
+        host.lobby.control.stop()
         self.assertEqual((host.end(), host.status), ({}, 130))
         self.assertEqual([event.answer for event in host.of(events.Refused)],
                          ["wrongword", "syntax", "syntax", "syntax", "wrongword"])

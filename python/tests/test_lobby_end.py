@@ -11,6 +11,7 @@ from typing import List
 from unittest import mock
 
 from geesefuton.hosting import events, log_files
+from geesefuton.hosting.control import Phase
 from geesefuton.hosting.journal import Journal, read_journal
 from geesefuton.hosting.lobby import Lobby, LobbyError
 from geesefuton.hosting.server import TRIES
@@ -111,14 +112,14 @@ class TheEnd(Case):
     def test_interrupt(self) -> None:
         host = Host(self.folder, pace=1000, start=0)
         host.wait(events.Began)
-        host.lobby.interrupt()
+        host.lobby.control.stop()
         host.end()
         self.assertEqual(host.status, 130)
         self.assertIn("recover", host.of(events.Warned)[-1].text)
         self.assertIsNone(read_journal(self.folder / "my.journal").status)
         finished, = host.of(events.Finished)
         self.assertEqual((finished.status, finished.log), (130, None))
-        host.lobby.interrupt()  # it has ended already
+        host.lobby.control.stop()  # it has ended already
 
     def test_the_page_has_a_while_to_show_the_last_scores(self) -> None:
         for is_stopped in (False, True):
@@ -128,7 +129,7 @@ class TheEnd(Case):
                 host = Host(self.folder, pace=2, start=None if is_stopped else 0, linger=0,
                             page=free_port(), journal=journal)
                 if is_stopped:
-                    host.lobby.interrupt()
+                    host.lobby.control.stop()
                 host.end()
             self.assertEqual((host.status, started.call_count), (130 if is_stopped else 0, 1))
             self.assertEqual([0 < call[0][0] <= 60 for call in page.wait.call_args_list],
@@ -153,8 +154,8 @@ class TheEnd(Case):
         with socket.create_connection(("127.0.0.1", host.port)) as link:
             link.sendall(b"hello seat1\n")
             self.assertEqual(host.wait(events.Arrived, 2)[1].source, "127.0.0.1")
-        self.assertFalse(host.lobby.is_playing)
-        host.lobby.interrupt()
+        self.assertIs(host.lobby.control.phase, Phase.GATHERING)
+        host.lobby.control.stop()
         host.end()
         self.assertEqual((host.status, host.of(events.Began)), (130, []))
         self.assertNotIn("recover", host.of(events.Warned)[-1].text)  # there is nothing to make

@@ -67,5 +67,5 @@ class Rejoining(Case):
                 self.assertEqual(agent.own(4), 0)
                 self.assertRaisesRegex(LinkError, "^seat3: no reply within 0.2", agent.own, 7)
                 self.assertRaisesRegex(LinkError, "^seat3: the link was closed$", agent.own, 4)
-            host.lobby.interrupt()
+            host.lobby.control.stop()
             host.end()

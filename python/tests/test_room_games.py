@@ -47,8 +47,8 @@ class Lobbies:
         play = self.plays.pop(0)
         if isinstance(play, Exception):
             raise play
-        lobby = mock.Mock(port=7000 + len(self.made), phase=Phase.GATHERING, settings=settings,
-                          serving=serving)
+        lobby = mock.Mock(port=7000 + len(self.made), settings=settings, serving=serving)
+        lobby.control.phase = Phase.GATHERING
         lobby.run = lambda take: play(lobby, take)
         self.made.append(lobby)
         return lobby
@@ -258,17 +258,17 @@ class Rooms(Case):
 
     def test_what_closing_does_at_each_time(self) -> None:
         for phase, at_once, due in (
-                (Phase.GATHERING, False, "interrupt"), (Phase.STARTING, False, "interrupt"),
-                (Phase.PLAYING, False, None), (Phase.PLAYING, True, "interrupt"),
-                (Phase.ENDING, False, "end_links"), (Phase.ENDING, True, "end_links")):
+                (Phase.GATHERING, False, "stop"), (Phase.STARTING, False, "stop"),
+                (Phase.PLAYING, False, None), (Phase.PLAYING, True, "stop"),
+                (Phase.ENDING, False, "end"), (Phase.ENDING, True, "end")):
             with self.subTest(phase=phase, at_once=at_once):
                 made, texts = self.room(), list[str]()
 
                 def play(lobby: Any, take: Callable[[Event], None]) -> int:
-                    lobby.phase = phase
+                    lobby.control.phase = phase
                     texts.append(made.close(at_once))
-                    called = [name for name in ("interrupt", "end_links")
-                              if getattr(lobby, name).called]
+                    called = [name for name in ("stop", "end")
+                              if getattr(lobby.control, name).called]
                     self.assertEqual(called, [due] if due else [])
                     return STOPPED
 
@@ -292,7 +292,7 @@ class Rooms(Case):
                 return FIRST
 
             def play(lobby: Any, take: Callable[[Event], None]) -> int:
-                lobby.interrupt.assert_called_once_with()
+                lobby.control.stop.assert_called_once_with()
                 return STOPPED
 
             self.make.side_effect, self.lobbies.plays = make, [play]

@@ -205,8 +205,8 @@ class Signals(Case):
             host = Host(self.folder, start=None, page=free_port())
             warned, = host.wait(events.Warned)
             self.assertIn("the page ended with exit status 7", warned.text)
-            self.assertIs(host.lobby.phase, Phase.GATHERING)
-            host.lobby.interrupt()
+            self.assertIs(host.lobby.control.phase, Phase.GATHERING)
+            host.lobby.control.stop()
             host.end()
 
     def agent(self, script: "subprocess.Popen[bytes]", port: int) -> socket.socket:
@@ -249,7 +249,7 @@ class Signals(Case):
             host = Host(self.folder, pace=2, start=0, linger=0, page=free_port())
             host.wait(events.Finished)
             self.assertTrue(host.thread.is_alive())
-            host.lobby.interrupt()
+            host.lobby.control.stop()
             host.thread.join(20.0)
             self.assertFalse(host.thread.is_alive())
         self.assertEqual(host.status, 0)
@@ -259,7 +259,7 @@ class Signals(Case):
         with mock.patch("geesefuton.hosting.page_process.python_words", return_value=slow), \
                 mock.patch("geesefuton.hosting.lobby.SHOWING", 0.1):
             host = Host(self.folder, pace=2, start=0, linger=0, page=free_port(), stays=True)
-            host.lobby.hang_up()
+            host.lobby.settings.stays = False
             host.end()
         self.assertEqual(host.status, 0)
 

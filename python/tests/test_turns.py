@@ -258,7 +258,7 @@ class Ends(Case):
         with open(orders, encoding="ascii") as reading, open(writing, "wb", 0) as orders_file:
             host = Host(self.folder, orders=reading)
             agents = self.agents(host, ["own 1"], ["own 2"], *[["own 0", "quit"]] * 6)
-            self.addCleanup(host.lobby.interrupt)
+            self.addCleanup(host.lobby.control.stop)
             agents[0].close()
             agents[1].close()
             host.wait(events.Departed, 2)
@@ -316,7 +316,7 @@ class Ends(Case):
         host = Host(self.folder)
         agents = self.agents(host, *[["own 1"] if seat == FIRST else [] for seat in range(8)])
         self.assertEqual([agents[FIRST].line() for _ in range(11)][10], "@1 own 0 ()")
-        host.lobby.interrupt()
+        host.lobby.control.stop()
         host.end()
         self.assertEqual((host.status, agents[FIRST].rest(), host.log.exists()), (130, [], False))
 

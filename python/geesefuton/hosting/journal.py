@@ -188,27 +188,16 @@ class JournalError(Exception):
 
 @dataclass
 class Exchange:
-    """A request of an auction or of cash, and its reply in words once that has come.
-
-    Attributes:
-        agent: Who asked.
-        asked: What the server took it for.
-        order: The number of its line in the journal.
-        tick: The tick that was the last when it was passed on.
-        reply: Its reply.
-        at: The position in the reply.
-        time: When the reply came, in milliseconds since the welcome.
-        answered: The number of the reply's line in the journal.
-    """
+    """A request of an auction or of cash, and its reply in words once that has come."""
 
     agent: int
-    asked: Asked
-    order: int
-    tick: int
+    asked: Asked  # what the server took it for
+    order: int  # the number of its line in the journal
+    tick: int  # the last one when it was passed on
     reply: Optional[str] = None
-    at: Optional[int] = None
-    time: int = 0
-    answered: int = 0
+    at: Optional[int] = None  # the position in the reply
+    time: int = 0  # when the reply came, in milliseconds since the welcome
+    answered: int = 0  # the number of the reply's line in the journal
 
 
 class Schedule:

@@ -54,6 +54,7 @@ class Lobby:
     Attributes:
         port: The port for agents, on which links are taken from the beginning on.
         words: The seat words.
+        control: How far the game is, and what is asked of it.
     """
 
     def __init__(self, settings: LobbySettings, serving: Optional[Serving] = None) -> None:
@@ -62,21 +63,10 @@ class Lobby:
         self._text = program.show(settings.game)
         self.words = self._text.split("\n")[1].split()[1:]
         _check_pages(settings)
-        self._listeners = list(settings.listeners) or [_listen(settings.port)]
+        self._listeners = list(settings.listeners) or [listener_at(settings.port)]
         self.port: int = self._listeners[0].getsockname()[1]
-        self._control = Control()
+        self.control = Control()
         self._game: Optional[HostedGame] = None
-        self._is_left = False  # whether the host's terminal is closed
-
-    @property
-    def phase(self) -> Phase:
-        """How far the game is."""
-        return self._control.phase
-
-    @property
-    def is_playing(self) -> bool:
-        """Whether the game has begun."""
-        return self.phase not in (Phase.GATHERING, Phase.STARTING)
 
     def run(self, on_event: Callable[[Event], None]) -> int:
         """Plays the game.
@@ -96,7 +86,7 @@ class Lobby:
         with contextlib.ExitStack() as stack:
             told = EventQueue(on_event)
             stack.callback(told.close)
-            stack.callback(self._control.close)
+            stack.callback(self.control.close)
             for listener in self._listeners:
                 stack.callback(listener.close)
             children = stack.enter_context(Children())
@@ -108,7 +98,7 @@ class Lobby:
             stack.callback(relay.close)
             relay.seats.keys = self.settings.keys or relay.seats.keys
             relay.gate.banned = self.settings.banned
-            game = HostedGame(self.settings, self._text, self._control, children, folder, relay,
+            game = HostedGame(self.settings, self._text, self.control, children, folder, relay,
                               told.put)
             if self.settings.page is not None or self.settings.by_hand is not None:
                 game.page = PageProcess(children, self.settings, self.words, self.port,
@@ -117,26 +107,11 @@ class Lobby:
             self._game = game
             status = self._host(game)
             if game.page and not game.is_stopped:
-                stays = self.settings.stays and not self._is_left
+                stays = self.settings.stays
                 if not stays:  # otherwise it ends by the host's word alone
                     game.page.close()
-                game.page.wait(float("inf") if stays else SHOWING, self._control)
+                game.page.wait(float("inf") if stays else SHOWING, self.control)
         return status
-
-    def interrupt(self) -> None:
-        """Ends the game before its time, or after it the showing of its scores. It may be called by
-        a signal handler or a thread."""
-        self._control.stop()
-
-    def hang_up(self) -> None:
-        """The host's terminal is closed: nobody is there to end the showing of the scores, and it
-        is short. It may be called by a signal handler or a thread."""
-        self._is_left = True
-
-    def end_links(self) -> None:
-        """Ends the links that are left after the last tick, so that the log is written. It may be
-        called by a signal handler or a thread."""
-        self._control.end()
 
     def waits_for(self) -> Tuple[float, List[str]]:
         """After the last tick: for how many seconds the lobby still waits, and for whose agents."""
@@ -164,7 +139,7 @@ class Lobby:
         self._gather(game)
         if game.is_stopped:
             return self._stop(game)
-        self._control.phase = Phase.STARTING
+        self.control.phase = Phase.STARTING
         status = self._serving.play(game)
         if status == STOPPED:
             return self._stop(game)
@@ -175,7 +150,7 @@ class Lobby:
         for listener in self._listeners:
             listener.close()  # a link would wait in vain while the page shows the scores
         game.relay.journal.timed(over=status)
-        self._control.phase = Phase.SHOWING
+        self.control.phase = Phase.SHOWING
         return self._finish(game, status)
 
     def _gather(self, game: HostedGame) -> None:
@@ -183,7 +158,7 @@ class Lobby:
         given, never = self.settings, float("inf")
         deadline = never if given.start is None else time.monotonic() + given.start
         guest_deadline = never
-        while game.relay.seats.missing() and not self._control.is_begin_asked:
+        while game.relay.seats.missing() and not self.control.is_begin_asked:
             now = time.monotonic()
             if not game.relay.seats.is_anybody_here():
                 guest_deadline = never
@@ -202,7 +177,7 @@ class Lobby:
 
     def _stop(self, game: HostedGame) -> int:
         text = "stopped, without a log"
-        if self.settings.journal and self.is_playing:
+        if self.settings.journal and game.relay.started is not None:
             text += f"; to make one from the journal: {recovery_line(self.settings.journal)}"
         game.warn(text)
         game.emit(events.Finished(time.time(), STOPPED, None))
@@ -263,10 +238,15 @@ def _check_pages(settings: LobbySettings) -> None:
                 other = "game" if port == settings.port else "other page"
                 raise LobbyError(f"port {port} is for the {other}: choose another for the page")
             taken.add(port)
-            _listen(port).close()
+            listener_at(port).close()
 
 
-def _listen(port: int) -> socket.socket:
+def listener_at(port: int) -> socket.socket:
+    """A listening socket.
+
+    Raises:
+        LobbyError: The port is taken, for instance.
+    """
     try:
         return listen(port)
     except OSError as fault:

@@ -121,7 +121,7 @@ class _Signals:
     there it ends the page."""
 
     def __init__(self, lobby: Lobby, teller: Teller) -> None:
-        self._lobby, self._teller = lobby, teller
+        self._lobby, self._control, self._teller = lobby, lobby.control, teller
         self._asked = float("-inf")  # when ctrl-C was pressed in the game
         self._is_ending = False  # whether the wait after the last tick was spoken of
         self._is_ended = False  # whether it was to be ended
@@ -134,15 +134,15 @@ class _Signals:
 
     def _pause(self, number: int, _: Optional[FrameType]) -> None:
         """ctrl-Z: stops the lobby, but not in a game, whose clock would go on."""
-        if self._lobby.phase in (Phase.GATHERING, Phase.SHOWING):
+        if self._control.phase in (Phase.GATHERING, Phase.SHOWING):
             os.kill(os.getpid(), signal.SIGSTOP)
         else:
             self._teller.say("ctrl-Z: the game goes on, for its clock does not stop")
 
     def _take(self, number: int, _: Optional[FrameType]) -> None:
-        phase = self._lobby.phase
+        phase = self._control.phase
         if phase in (Phase.PLAYING, Phase.ENDING) and number == signal.SIGHUP:
-            self._lobby.hang_up()
+            self._lobby.settings.stays = False  # nobody is there to end the showing of the scores
             return
         if phase is Phase.PLAYING and number == signal.SIGINT and self._is_first():
             self._teller.say("ctrl-C: the game goes on; press ctrl-C again within five seconds to "
@@ -151,7 +151,7 @@ class _Signals:
             self._end(number)
         else:
             self.number = number
-            self._lobby.interrupt()
+            self._control.stop()
 
     def _is_first(self) -> bool:
         """Whether no other ctrl-C came just before."""
@@ -169,7 +169,7 @@ class _Signals:
                              "press Enter or ctrl-C to end now, with the log")
             return
         self._is_ended = True
-        self._lobby.end_links()
+        self._control.end()
 
 
 def main() -> int:

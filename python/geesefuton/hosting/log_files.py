@@ -17,15 +17,10 @@ Target = Union[BinaryIO, Path, None]
 
 @dataclass(frozen=True)
 class Kept:
-    """What became of a log.
+    """What became of a log."""
 
-    Attributes:
-        fault: Why the output took no more, in a few words; None if it has all.
-        file: A file that has the whole log, if there is one.
-    """
-
-    fault: Optional[str]
-    file: Optional[Path]
+    fault: Optional[str]  # why the output took no more, in a few words; None if it has all
+    file: Optional[Path]  # a file that has the whole log, if there is one
 
 
 def free_name(file: Path) -> Path:

@@ -17,22 +17,16 @@ from geesefuton.records.replies import read_points
 
 STEP = 0.1  # ticks; of prices that are nearer to one another only the last is kept
 
-PriceSteps = List[List[float]]  # ticks and dollars
+PriceSteps = List[List[float]]  # ticks, and the dollars from then on
 
 
 @dataclass(frozen=True)
 class Night:
-    """A hotel night until a tick.
-
-    Attributes:
-        published: Ticks, and the price published then, in dollars.
-        asks: Ticks, and the ask from then on, in dollars.
-        closed: Once it is closed the tick, the price and the rooms sold.
-    """
+    """A hotel night until a tick."""
 
     published: PriceSteps
     asks: PriceSteps
-    closed: Optional[List[int]]
+    closed: Optional[List[int]]  # once it is closed the tick, the price and the rooms sold
 
 
 class Nights:

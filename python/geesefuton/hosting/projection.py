@@ -25,29 +25,16 @@ SILENT = 9  # ticks without a line after which an agent is shown as silent
 
 @dataclass(frozen=True)
 class Projection:
-    """What the log of a game so far says.
+    """What the log of a game so far says."""
 
-    Attributes:
-        tick: The last tick.
-        plans: For each agent what its best plan is worth with its cash, its cash, and what is
-            still to be bought for the plan, in dollars.
-        scores: After the game for each agent its best total, its cash, its tickets short, and its
-            score; before it nothing.
-        asks: For each of the hotel nights 8 to 15 ticks, and the ask from then on.
-        trades: Tick, good, buyer, seller and dollars of each trade of a ticket.
-        asked: For each agent how many lines it has sent.
-        silent: The agents that are here and have said nothing for some ticks.
-        refused: The agents whose lines were all refused.
-    """
-
-    tick: int
-    plans: List[List[int]]
-    scores: List[List[int]]
-    asks: List[PriceSteps]
-    trades: List[List[float]]
-    asked: List[int]
-    silent: List[int]
-    refused: List[int]
+    tick: int  # the last one
+    plans: List[List[int]]  # each agent's: its worth with the cash, the cash, what is to be bought
+    scores: List[List[int]]  # after the game each agent's best total, cash, tickets short, score
+    asks: List[PriceSteps]  # of the hotel nights 8 to 15
+    trades: List[List[float]]  # of tickets: tick, good, buyer, seller and dollars
+    asked: List[int]  # how many lines each agent has sent
+    silent: List[int]  # the agents that are here and have said nothing for some ticks
+    refused: List[int]  # those whose lines were all refused
 
 
 def project(reader: JournalReader, nights: List[Night], player: Player) -> Projection:
@@ -119,16 +106,10 @@ def _trades(log: Log, reader: JournalReader) -> List[List[float]]:
 
 @dataclass(frozen=True)
 class View:
-    """What a page may show.
+    """What a page may show."""
 
-    Attributes:
-        late: By how many ticks what agents cannot ask is shown later; 0 is at once, and 54 after
-            the game.
-        by_word: Whether agents are called by their seat words.
-    """
-
-    late: int
-    by_word: bool
+    late: int  # ticks by which what agents cannot ask is shown later; 54 is after the game
+    by_word: bool  # whether agents are called by their seat words
 
     def state(self, reader: JournalReader, nights: Optional[List[Night]],
               secret: Optional[Projection], is_final: bool) -> Dict[str, Any]:

@@ -25,9 +25,7 @@ from typing import Dict, List, Optional, Sequence, Tuple, Union
 from geesefuton.hosting.events import End
 
 SILENCE = 10.0  # seconds without a word after which a link gives way to another with its word
-
 PROBED = 16.0  # seconds in which a link ends whose machine is gone, as the system probes it
-
 GREETING = re.compile(rb"hello ([a-z0-9]{1,16})")
 
 
@@ -76,29 +74,19 @@ Action = Union[Give, Refuse, Close, Over]
 
 @dataclass
 class Seat:
-    """One seat.
-
-    Attributes:
-        silence: The seconds without a word after which its link gives way to another.
-        holder: The link that has it.
-        heir: A link that waits for it.
-        heard: When the holder spoke last, in seconds, and `claimed` when the heir came.
-        played: Whether an agent had it in the game.
-        playing: Whether the game has begun.
-        kept: Whether it waits for its agent while no link has it.
-    """
+    """One seat."""
 
     number: int
     word: str
-    silence: float = SILENCE
+    silence: float = SILENCE  # seconds without a word after which its link gives way to another
     state: State = State.FREE
-    holder: Optional[int] = None
-    heir: Optional[int] = None
-    heard: float = 0.0
-    claimed: float = 0.0
-    played: bool = False
-    playing: bool = False
-    kept: bool = True
+    holder: Optional[int] = None  # the link that has it
+    heir: Optional[int] = None  # a link that waits for it
+    heard: float = 0.0  # when the holder spoke last, in seconds
+    claimed: float = 0.0  # when the heir came
+    played: bool = False  # whether an agent had it in the game
+    playing: bool = False  # whether the game has begun
+    kept: bool = True  # whether it waits for its agent while no link has it
 
     def come(self, link: int, now: float) -> List[Action]:
         """A link says the word of the seat."""
@@ -221,17 +209,12 @@ class Seat:
 
 @dataclass
 class Seats:
-    """The eight seats of a game, in the order of their agents.
+    """The eight seats of a game, in the order of their agents."""
 
-    Attributes:
-        words: The words of the game file.
-        keys: The words that agents say for their seats, each with the number of its seat; by
-            default those of the game file.
-        own: The same for words that are known to the host's own agents alone.
-    """
-
-    words: Sequence[str]
+    words: Sequence[str]  # of the game file
     silence: float = SILENCE
+    # The words that agents say for their seats, each with the number of its seat; by default those
+    # of the game file. And the same for words that are known to the host's own agents alone.
     keys: Dict[str, int] = field(default_factory=dict)
     own: Dict[str, int] = field(default_factory=dict)
     seats: List[Seat] = field(init=False)

@@ -36,33 +36,19 @@ class FolderError(Exception):
 
 @dataclass(frozen=True)
 class Finished:
-    """What a game came to.
+    """What a game came to."""
 
-    Attributes:
-        number: Its number in the room, from 1.
-        seed: What it was made from.
-        pace: The milliseconds from tick to tick.
-        began: When it began, in seconds since 1970, and `over` when it was over, 0 if it is not.
-        players: For whom each seat counts; "" for nobody.
-        files: The SHA-256 of its game file, and of its log once it is judged.
-        vouched: What `tac vouch` says of the log by the lobby's link of each seat; none if that is
-            not known.
-        is_judged: Whether it is known if it counts.
-        scores: The scores of the eight seats, in dollars; none if it does not count.
-        fault: Why it is lost; "" if it is not.
-    """
-
-    number: int
-    seed: int
-    pace: int
-    began: float
-    over: float
-    players: Tuple[str, ...]
-    files: Dict[str, str]
-    vouched: Tuple[str, ...] = ()
-    is_judged: bool = False
-    scores: Tuple[int, ...] = ()
-    fault: str = ""
+    number: int  # in the room, from 1
+    seed: int  # what it was made from
+    pace: int  # milliseconds from tick to tick
+    began: float  # in seconds since 1970, 0 if it has not
+    over: float  # the same
+    players: Tuple[str, ...]  # for whom each seat counts; "" for nobody
+    files: Dict[str, str]  # the SHA-256 of its game file, and of its log once it is judged
+    vouched: Tuple[str, ...] = ()  # what `tac vouch` says of each seat's link, if that is known
+    is_judged: bool = False  # whether it is known if it counts
+    scores: Tuple[int, ...] = ()  # of the eight seats, in dollars; none if it does not count
+    fault: str = ""  # why it is lost
 
 
 def write_whole(file: Path, data: bytes) -> None:

@@ -30,14 +30,13 @@ LIMITED = ["sh", "-c", f'ulimit -f {MOST_PRINTED}; exec "$@"', "agent"]
 
 
 class _Started(NamedTuple):
-    """A house agent that was started: its process, its seat with its word, and the file that it
-    prints to."""
+    """A house agent that was started."""
 
     process: "subprocess.Popen[bytes]"
     seat: Seat
-    word: str
+    word: str  # by which it takes the seat
     name: str
-    printed: Path
+    printed: Path  # what it prints
 
 
 class HouseServer:

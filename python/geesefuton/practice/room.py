@@ -11,7 +11,6 @@ gets the teams that have played fewest games.
 from __future__ import annotations
 
 import contextlib
-import socket
 import threading
 import time
 from collections import Counter
@@ -19,8 +18,7 @@ from dataclasses import replace
 from typing import Callable, Dict, List, Optional, Sequence
 
 from geesefuton import program
-from geesefuton.hosting.lobby import LobbyError, recovery_line
-from geesefuton.network.addresses import listen
+from geesefuton.hosting.lobby import LobbyError, listener_at, recovery_line
 from geesefuton.practice.board import Board
 from geesefuton.practice.door import Door, Handed
 from geesefuton.practice.folder import Finished, Folder, digest_of
@@ -299,15 +297,3 @@ class Room:
             **state, "begins": None if guests.first is None else guests.first + given.wait,
             "seats": [{"name": name, "here": guests.is_here(seat)}
                       for seat, name in enumerate(names)]})
-
-
-def listener_at(port: int) -> socket.socket:
-    """A listening socket.
-
-    Raises:
-        LobbyError: The port is taken, for instance.
-    """
-    try:
-        return listen(port)
-    except OSError as fault:
-        raise LobbyError(f"port {port}: {why(fault)}") from None

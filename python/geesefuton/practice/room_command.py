@@ -27,12 +27,12 @@ from typing import Callable, List, Optional
 from geesefuton import program
 from geesefuton.arguments import Parser, seconds, whole
 from geesefuton.experiments.entrants import Entrant, EntrantError, read_entrants
-from geesefuton.hosting.lobby import LobbyError
+from geesefuton.hosting.lobby import LobbyError, listener_at
 from geesefuton.hosting.teller import Teller
 from geesefuton.network.addresses import own_address
 from geesefuton.practice.board import Board
 from geesefuton.practice.folder import Folder, FolderError, write_whole
-from geesefuton.practice.room import Room, listener_at
+from geesefuton.practice.room import Room
 from geesefuton.practice.table import TableSettings
 from geesefuton.practice.teams import MOST, Team, TeamsError, keep_words, read_teams, slips_of
 from geesefuton.processes import Children, command, tell

@@ -12,27 +12,15 @@ from geesefuton.practice.folder import Finished
 
 @dataclass(frozen=True)
 class Standing:
-    """What a player came to, as `tac table` has it for a seat word.
-
-    Attributes:
-        name: Who it is.
-        games: How many seats count for it. The house may have several in a game.
-        total: The sum of their scores, in dollars.
-        average: The total over the games.
-        rank: 1 plus the number of players with a greater average.
-        half: Half the width of the 95 % interval of the average; None where there is none, as for
-            several seats in a game, whose scores are alike.
-        last: The score of its last seat.
-        best: Its best score.
-    """
+    """What a player came to, as `tac table` has it for a seat word."""
 
     name: str
-    games: int
-    total: int
+    games: int  # seats that count for it; the house may have several in a game
+    total: int  # of their scores, in dollars
     average: Fraction
-    rank: int
-    half: Optional[float]
-    last: int
+    rank: int  # 1 plus the number of players with a greater average
+    half: Optional[float]  # of the average's 95 % interval; None for several seats in a game
+    last: int  # the score of its last seat
     best: int
 
 

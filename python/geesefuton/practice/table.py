@@ -27,23 +27,14 @@ from geesefuton.records.games import SEATS, GameError, read_game
 
 @dataclass(frozen=True)
 class TableSettings:
-    """What a table is told.
+    """What a table is told."""
 
-    Attributes:
-        port: The port for agents; 0 takes a free one for each game.
-        pace: The milliseconds from tick to tick.
-        wait: The seconds from the first guest of a game to its beginning.
-        after: The seconds after the last tick until the links that are left are ended.
-        house: The house agents.
-        orders: The host's commands.
-    """
-
-    port: int
-    pace: int = 1000
-    wait: float = 30.0
-    after: float = 10.0
+    port: int  # for agents; 0 takes a free one for each game
+    pace: int = 1000  # milliseconds from tick to tick
+    wait: float = 30.0  # seconds from the first guest of a game to its beginning
+    after: float = 10.0  # seconds after the last tick until the links that are left are ended
     house: Sequence[Entrant] = ()
-    orders: Optional[TextIO] = None
+    orders: Optional[TextIO] = None  # the host's commands
 
 
 class Guests:
@@ -170,12 +161,12 @@ class Table:
         self._is_closing, lobby = True, self._lobby
         if lobby is None:
             return ""
-        if lobby.phase is Phase.ENDING:
-            lobby.end_links()
-        elif lobby.phase is Phase.PLAYING and not at_once:
+        if lobby.control.phase is Phase.ENDING:
+            lobby.control.end()
+        elif lobby.control.phase is Phase.PLAYING and not at_once:
             return "the room closes after this game; press ctrl-C again to stop the game now"
         else:
-            lobby.interrupt()
+            lobby.control.stop()
         return ""
 
     def _host(self, lobby: Lobby) -> int:
@@ -193,7 +184,7 @@ class Table:
 
         self._lobby = lobby
         if self._is_closing:  # it was asked for while the game was made
-            lobby.interrupt()
+            lobby.control.stop()
         self._show()
         try:
             return lobby.run(take)

@@ -26,17 +26,11 @@ class TeamsError(Exception):
 
 @dataclass
 class Team:
-    """A team.
+    """A team."""
 
-    Attributes:
-        name: As it is shown.
-        key: The name as a seat word of game files and logs, which anybody may see.
-        word: The word by which its agent takes its seat.
-    """
-
-    name: str
-    key: str
-    word: str
+    name: str  # as it is shown
+    key: str  # the name as a seat word of game files and logs, which anybody may see
+    word: str  # by which its agent takes its seat
 
 
 def made_word() -> str:
