@@ -166,7 +166,7 @@ class Links(Case):
         with mock.patch("geesefuton.network.gate.CREDIT", 0.0):
             for _ in range(2):
                 link = self.link(b"hello guess\n")
-                self.until(lambda: any(each.due for each in self.door._visitors.values()))
+                self.until(lambda: any(each.visit.due for each in self.door._visitors.values()))
             self.door.turn(0.0)
             link.setblocking(False)
             with self.assertRaises(BlockingIOError):

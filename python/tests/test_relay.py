@@ -15,9 +15,9 @@ from geesefuton.hosting.events import End, Event
 from geesefuton.hosting.journal import Journal
 from geesefuton.hosting.links import MOST_SAID, OuterLink, Session
 from geesefuton.network.loop import REST
-from geesefuton.hosting.relay import MOST_EACH, MOST_HELD, NEAR_MOST, PARTING, UNREAD, Relay
+from geesefuton.hosting.relay import MOST_EACH, MOST_HELD, NEAR_MOST, UNREAD, Relay
 from geesefuton.hosting.seats import Seat, State
-from geesefuton.network.gate import LINE
+from geesefuton.network.gate import LINE, PARTING
 from geesefuton.records.dialects import MOST_LINE
 
 WORDS = [f"seat{number}" for number in range(8)]

@@ -64,13 +64,11 @@ class OuterLink(Link):
         number: By which `Seats` knows it.
         visit: What the gate knows of it.
         source: Where it comes from, as the host is told.
-        due: When its first line is judged, if that waits.
         seat: The seat that it has, or waits for.
         said: What it sent and was not passed on.
         owed: How many of its lines were passed on and are not answered.
         stuck: Since when it takes nothing of what is held; None while nothing is held back.
         is_told: Whether the host was told so.
-        parting: When it is closed at the latest; None while it is in use.
     """
 
     def __init__(self, number: int, link: socket.socket, visit: Visit, source: str) -> None:
@@ -78,8 +76,6 @@ class OuterLink(Link):
         self.number, self.visit, self.source = number, visit, source
         self.seat: Optional[Seat] = None
         self.said, self.owed = bytearray(), 0
-        self.due: Optional[float] = None
-        self.parting: Optional[float] = None
         self.stuck: Optional[float] = None
         self.is_told = False
         self._is_skipping = False  # whether the rest of a line that is too long is coming

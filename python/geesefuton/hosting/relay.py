@@ -35,7 +35,6 @@ MOST_LINES = 65536  # of a seat that the server answers
 NEAR_MOST = 60000  # lines of a seat of which the host is told
 UNREAD = 5.0  # seconds after which the host is told of an agent that does not read
 OWN = "the house"  # where the links of the host's own agents come from
-PARTING = 1.0  # seconds that a link has to end its side after it was sent its last line
 
 
 class Relay:
@@ -90,12 +89,9 @@ class Relay:
 
     def _look_at(self, link: OuterLink, now: float) -> None:
         """Ends a link that has waited too long, or judges its first line."""
-        if link.parting is not None:
-            if now > link.parting:
-                self._drop(link)
-        elif now > link.visit.deadline:
-            self._lose(link, f"it sent no line for {self._patience:g} seconds")
-        elif link.visit.standing is Standing.JUDGED and link.due is not None and now >= link.due:
+        if now > link.visit.deadline:
+            self._make_room(link, f"it sent no line for {self._patience:g} seconds")
+        elif link.visit.is_due(now):
             self._judge(link)
         elif link.seat and link.stuck and now - link.stuck > UNREAD and not link.is_told:
             link.is_told = True
@@ -120,15 +116,16 @@ class Relay:
                 visit.leave()
                 link.close()
                 continue
-            visit.end = partial(self._make_room, guest)
+            visit.end = partial(self._make_room, guest, "too many links had no seat")
             guest.served = Served(partial(self._read, guest), partial(self._owe, guest, b""),
                                   partial(self.fail, guest))
             self.links[guest.number] = guest
             self.loop.watch(guest)
 
-    def _make_room(self, link: OuterLink) -> None:
-        if link.parting is None:
-            self._lose(link, "too many links had no seat")
+    def _make_room(self, link: OuterLink, why: str) -> None:
+        """Closes a link that has no seat."""
+        if not link.visit.is_parting():
+            self._emit(events.Lost(time.time(), link.source, why))
         self._drop(link)
 
     def _read(self, link: OuterLink) -> None:
@@ -142,11 +139,12 @@ class Relay:
             return self.fail(link)
         if not data:
             return self._end_side(link)
-        if link.parting is not None:
+        if link.visit.is_parting():
             return None  # what a refused link sends is not read
         link.feed(data)
         if link.seat is None:
-            if link.due is None and (link.has_line() or len(link.said) > MOST_LINE):
+            if link.visit.standing is Standing.STRANGER and (
+                    link.has_line() or len(link.said) > MOST_LINE):
                 self._greet(link)
         elif link.seat.holder == link.number:
             self._do(link.seat, link.seat.speak(time.monotonic()))
@@ -159,9 +157,9 @@ class Relay:
         """A first line is whole. It is judged, at once or later."""
         wait = link.visit.whole()
         if wait is None:
-            return self._lose(link, "too many links of its network wait for an answer")
-        link.due = time.monotonic() + wait
-        return None if wait else self._judge(link)
+            self._make_room(link, "too many links of its network wait for an answer")
+        elif not wait:
+            self._judge(link)
 
     def _judge(self, link: OuterLink) -> None:
         """Seats or refuses a link by its first line."""
@@ -169,9 +167,8 @@ class Relay:
         line = link.take() if is_line else bytes(link.said)
         seat, told = self.seats.admit(line) if is_line else (None, "syntax")
         if seat is None:
-            if told == "wrongword":
-                link.visit.refuse()
-            return self._refuse(link, told, line)
+            self._refuse(link, told, line)
+            return link.visit.refuse() if told == "wrongword" else None
         link.visit.know(seat.word)
         link.seat, link.source = seat, OWN if told else link.source
         return self._do(seat, seat.come(link.number, time.monotonic()))
@@ -180,10 +177,10 @@ class Relay:
         """A link sends nothing more. What it sent before is still asked."""
         link.has_ended = True
         seat = link.seat
-        if link.parting is not None:
+        if link.visit.is_parting():
             return self.loop.watch(link) if link.held else self._drop(link)
         if seat is None:
-            return self._lose(link, "it ended before its first line")
+            return self._make_room(link, "it ended before its first line")
         if seat.holder == link.number and (link.has_line() or link.owed or link.held):
             self._do(seat, seat.stop(time.monotonic()))
             return self.loop.watch(link)
@@ -214,15 +211,9 @@ class Relay:
             del self.links[link.number]
             self._due.pop(link.number, None)
 
-    def _lose(self, link: OuterLink, why: str) -> None:
-        """Closes a link that sent no line."""
-        self._emit(events.Lost(time.time(), link.source, why))
-        self._drop(link)
-
     def _part(self, link: OuterLink, last: bytes = b"") -> None:
         """Sends a link what it still gets, and closes it once it has ended its side."""
-        if link.is_open and link.parting is None:
-            link.parting = time.monotonic() + PARTING
+        if link.is_open and not link.visit.is_parting():
             link.visit.part()
             seat, link.seat = link.seat, None
             link.said.clear()
@@ -299,7 +290,7 @@ class Relay:
             return self.fail(link)
         if link.held:
             link.stuck = link.stuck or time.monotonic()
-        elif link.parting is not None:
+        elif link.visit.is_parting():
             if link.has_ended:
                 return self._drop(link)
             with contextlib.suppress(OSError):  # it may have ended

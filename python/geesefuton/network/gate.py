@@ -11,9 +11,10 @@ A link is a `Visit`:
     visit.end = close             is called if it has to make room
     visit.deadline                when its first line, or the head of its request, has to be whole
     visit.whole()                 it is: the seconds until it may be judged; None: close it
+    visit.is_due(now)             it may be judged
     visit.know(word)              it was right; False if too many links have the same word
     visit.refuse()                it was a wrong word
-    visit.part()                  it is sent its last line, as one is that was refused
+    visit.part()                  it is sent its last line, and is closed at the deadline
     visit.leave()                 it is closed
 
 A network's first lines are judged at once until they are many, and then one after the other; a
@@ -35,6 +36,7 @@ CREDIT = 20.0  # seconds that a network's lines are put off before any of them w
 LONGEST = 10.0  # seconds that a first line waits at most; an agent that reconnects waits 15
 WAITING = 5  # first lines of a network that wait
 MOST_NETWORKS = 1024  # that are remembered without need
+PARTING = 1.0  # seconds that a link has to end its side after it was sent its last line
 
 
 class Standing(enum.Enum):
@@ -51,19 +53,28 @@ class Visit:
     """A link at a gate, which is a stranger at first.
 
     Attributes:
-        deadline: When its first line has to be whole, by the gate's clock; infinite once it is.
+        deadline: When its first line has to be whole, or its side ended, by the gate's clock;
+            infinite while neither is waited for.
         standing: What is known of it.
         end: Closes it. It is called if the visit has to make room for another.
     """
 
     def __init__(self, gate: "Gate", network: str, deadline: float) -> None:
         self._gate, self.network, self.deadline = gate, network, deadline
-        self.standing, self.word = Standing.STRANGER, ""
+        self.standing, self.word, self.due = Standing.STRANGER, "", 0.0
         self.end: Callable[[], None] = lambda: None
 
     def is_known(self) -> bool:
         """Whether it has shown a word or a token."""
         return self.standing is Standing.KNOWN
+
+    def is_parting(self) -> bool:
+        """Whether it was sent its last line."""
+        return self.standing is Standing.PARTING
+
+    def is_due(self, now: float) -> bool:
+        """Whether its first line waits no longer to be judged."""
+        return self.standing is Standing.JUDGED and now >= self.due
 
     def whole(self) -> Optional[float]:
         """Its first line is whole: the seconds until it may be judged; None if too many lines of
@@ -83,6 +94,7 @@ class Visit:
     def part(self) -> None:
         """It is sent its last line. Until it is closed it makes room before all others."""
         self._gate.move(self, Standing.PARTING)
+        self.deadline = self._gate.clock() + PARTING
 
     def leave(self) -> None:
         """It is closed. A second call changes nothing."""
@@ -108,7 +120,7 @@ class Gate:
 
     def __init__(self, clock: Callable[[], float], most: int, each: int, kept: int, first: float,
                  own: int = 16) -> None:
-        self._clock, self._first, self._own = clock, first, own
+        self.clock, self._first, self._own = clock, first, own
         self._most, self._each, self._kept = most, each, min(kept, most // 2)
         self.banned: Set[Network] = set()
         self._known: Counts[str] = Counter()
@@ -134,7 +146,7 @@ class Gate:
                 self._crowds.values(), key=len, default=[])
             if not _make_room(crowd, len(own) < len(crowd)):
                 return None
-        visit = Visit(self, network, self._clock() + self._first)
+        visit = Visit(self, network, self.clock() + self._first)
         self._crowds.setdefault(network, []).append(visit)
         return visit
 
@@ -145,12 +157,12 @@ class Gate:
         if wait and sum(each.standing is Standing.JUDGED for each in crowd) >= WAITING:
             self.put_off(visit.network, -LINE)
             return None
-        visit.standing = Standing.JUDGED
+        visit.standing, visit.due = Standing.JUDGED, self.clock() + wait
         return wait
 
     def put_off(self, network: str, seconds: float) -> float:
         """Puts off the first lines of a network. Returns by how much they are now."""
-        now = self._clock()
+        now = self.clock()
         if len(self._until) > MOST_NETWORKS:
             self._until = {each: until for each, until in self._until.items() if until > now}
         until = max(now, self._until.get(network, now)) + seconds
@@ -184,8 +196,8 @@ def _make_room(crowd: List[Visit], for_smaller: bool) -> bool:
     for standing in [Standing.PARTING, Standing.STRANGER, *last]:
         for visit in crowd:
             if visit.standing is standing:
-                visit.leave()
                 visit.end()
+                visit.leave()
                 return True
     return False
 

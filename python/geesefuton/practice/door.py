@@ -24,7 +24,6 @@ from geesefuton.records.dialects import MOST_LINE
 from geesefuton.records.games import SEATS
 
 PATIENCE = 30.0  # seconds that a link has for its first line
-PARTING = 1.0  # seconds that a link has to end its side after it was refused
 MOST_LINKS, MOST_EACH, KEPT = 200, 32, 100  # links at a time, as a `Gate` counts them
 OTHERS = 200  # open files that the tables and the rest of the process may need
 REST = 0.05  # seconds until a link is taken after one could not be
@@ -66,23 +65,12 @@ class Handed(socket.socket):
 
 @dataclass
 class Visitor:
-    """A link at the door.
-
-    Attributes:
-        link: Its socket.
-        where: The address that it comes from.
-        visit: What the gate knows of it.
-        due: When its first line is judged, once that is whole; None if it is not, or was.
-        parting: When it is closed, once it was refused.
-        since: When it began to wait for a table.
-    """
+    """A link at the door."""
 
     link: socket.socket
-    where: Any
+    where: Any  # the address that it comes from
     visit: Visit
-    due: Optional[float] = None
-    parting: float = float("inf")
-    since: float = 0.0
+    since: float = 0.0  # when it began to wait for a table
 
 
 class Door:
@@ -118,9 +106,9 @@ class Door:
                 self._look(self._visitors[number], bool(mask & HAS_ENDED))
         now = time.monotonic()
         for visitor in list(self._visitors.values()):
-            if now > min(visitor.visit.deadline, visitor.parting):
+            if now > visitor.visit.deadline:
                 self._drop(visitor)
-            elif visitor.due is not None and now >= visitor.due:
+            elif visitor.visit.is_due(now):
                 self._judge(visitor)
 
     def places(self, games: Dict[str, int]) -> List[str]:
@@ -177,14 +165,11 @@ class Door:
         """Looks at what a link has sent."""
         said = self._said(visitor)
         if has_ended or not said:
-            return self._drop(visitor)
-        if visitor.visit.standing is Standing.STRANGER and (
+            self._drop(visitor)
+        elif visitor.visit.standing is Standing.STRANGER and (
                 b"\n" in said or len(said) > MOST_LINE):
-            wait = visitor.visit.whole()
-            if wait is None:
-                return self._drop(visitor)
-            visitor.due = time.monotonic() + wait
-        return None
+            if visitor.visit.whole() is None:
+                self._drop(visitor)
 
     @staticmethod
     def _said(visitor: Visitor) -> bytes:
@@ -195,7 +180,6 @@ class Door:
 
     def _judge(self, visitor: Visitor) -> None:
         """Lets a link wait or play, or refuses it, by its first line."""
-        visitor.due = None
         greeting = GREETING.fullmatch(self._said(visitor).split(b"\n", 1)[0])
         if greeting is None:
             return self._refuse(visitor, "syntax")
@@ -215,7 +199,6 @@ class Door:
         if answer == "wrongword":
             visitor.visit.refuse()
         visitor.visit.part()
-        visitor.parting = time.monotonic() + PARTING
         with contextlib.suppress(OSError):
             visitor.link.recv(MOST_LINE + 1)
             visitor.link.send(f"refused {answer}\n".encode("ascii"))
