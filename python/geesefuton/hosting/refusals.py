@@ -2,7 +2,6 @@
 
 from __future__ import annotations
 
-import threading
 from dataclasses import dataclass
 from typing import Dict, List, Optional
 
@@ -22,7 +21,7 @@ class _Count:
 
 
 class Refusals:
-    """What was refused, by address, or what else happens again and again. Threads may share it.
+    """What was refused, by address, or what else happens again and again.
 
     Args:
         few: How often somebody is told of at once in a while.
@@ -33,7 +32,6 @@ class Refusals:
                  more: str = "{} more links from {} took no seat; the last: {}") -> None:
         self._few, self._more = few, more
         self._counts: Dict[str, _Count] = {}
-        self._lock = threading.Lock()
 
     def add(self, at: float, source: str, text: str) -> Optional[str]:
         """Counts something.
@@ -46,26 +44,24 @@ class Refusals:
         Returns:
             The text, if it is to be told now; None if `due` tells it later.
         """
-        with self._lock:
-            if source not in self._counts and len(self._counts) >= MOST_ADDRESSES:
-                source = OTHERS
-            known = self._counts.setdefault(source, _Count(at))
-            if known.told < self._few:
-                known.told += 1
-                return text
-            known.count, known.last = known.count + 1, text
-            return None
+        if source not in self._counts and len(self._counts) >= MOST_ADDRESSES:
+            source = OTHERS
+        known = self._counts.setdefault(source, _Count(at))
+        if known.told < self._few:
+            known.told += 1
+            return text
+        known.count, known.last = known.count + 1, text
+        return None
 
     def due(self, at: float) -> List[str]:
         """What is to be told of those whose time has come. Others are kept no longer."""
         told = []
-        with self._lock:
-            for source, known in list(self._counts.items()):
-                if 0 <= at - known.since < AGAIN:
-                    continue
-                del self._counts[source]
-                if known.count:
-                    told.append(known.last if known.count == 1 else
-                                self._more.format(known.count, source, known.last))
-                    self._counts[source] = _Count(at, self._few)
+        for source, known in list(self._counts.items()):
+            if 0 <= at - known.since < AGAIN:
+                continue
+            del self._counts[source]
+            if known.count:
+                told.append(known.last if known.count == 1 else
+                            self._more.format(known.count, source, known.last))
+                self._counts[source] = _Count(at, self._few)
         return told

@@ -5,7 +5,7 @@ from __future__ import annotations
 import queue
 import threading
 import time
-from typing import Callable, Dict, Optional, Sequence, Set, Type
+from typing import Callable, Dict, Sequence, Set, Tuple, Type, Union
 
 from geesefuton import program
 from geesefuton.hosting import events
@@ -34,52 +34,57 @@ class Teller:
         self._here: Set[str] = set()
         self._refusals = Refusals()
         self._comings = Refusals(FEW, "{} more times {} came or went; the last: {}")
-        self._lines: "queue.SimpleQueue[Optional[str]]" = queue.SimpleQueue()
-        self._thread = threading.Thread(target=self._write, daemon=True)
+        self._told: "queue.SimpleQueue[Union[None, str, Tuple[float, Event]]]" = queue.SimpleQueue()
+        self._thread = threading.Thread(target=self._work, daemon=True)
         self._thread.start()
 
     def tell(self, event: Event) -> None:
         """Tells an event."""
-        told, now = self._text(event), self._clock()
-        counted, by = self._refusals, getattr(event, "source", "")
-        if isinstance(event, (events.Arrived, events.Rejoined, events.Departed)):
-            counted, by = self._comings, event.word
-        elif not isinstance(event, (events.Refused, events.Lost)):
-            by = ""
-        if by:  # it may recur
-            self._tell_due(now)
-            told = counted.add(now, by, told) or ""
-        if told:
-            self._put(event.at, told, isinstance(event, FAULTS))
+        self._told.put((self._clock(), event))
 
     def say(self, text: str) -> None:
         """Tells a text."""
-        self._lines.put(f"{time.strftime('%H:%M:%S')} {text}")
+        self._told.put(f"{time.strftime('%H:%M:%S')} {text}")
 
     def close(self) -> None:
         """Waits a little until all is told."""
-        self._tell_due(float("inf"))
-        self._lines.put(None)
+        self._told.put(None)
         self._thread.join(2.0)
 
-    def _put(self, at: float, text: str, is_fault: bool) -> None:
-        clock = time.strftime("%H:%M:%S", time.localtime(at))
-        self._lines.put(f"{'! ' if is_fault else ''}{clock} {text}")
-
-    def _tell_due(self, now: float) -> None:
-        for text in self._refusals.due(now) + self._comings.due(now):
-            self._put(time.time(), text, is_fault=True)
-
-    def _write(self) -> None:
+    def _work(self) -> None:
         while True:
             try:
-                line = self._lines.get(timeout=LOOK)
+                told = self._told.get(timeout=LOOK)
             except queue.Empty:
                 self._tell_due(self._clock())
                 continue
-            if line is None:
-                return
-            tell(line)
+            if told is None:
+                return self._tell_due(float("inf"))
+            if isinstance(told, str):
+                tell(told)
+            else:
+                self._tell(*told)
+
+    def _tell(self, now: float, event: Event) -> None:
+        text, counted = self._text(event), None
+        if isinstance(event, (events.Arrived, events.Rejoined, events.Departed)):
+            counted, by = self._comings, event.word
+        elif isinstance(event, (events.Refused, events.Lost)):
+            counted, by = self._refusals, event.source
+        if counted is not None:  # it may recur
+            self._tell_due(now)
+            text = counted.add(now, by, text) or ""
+        if text:
+            self._write(event.at, text, isinstance(event, FAULTS))
+
+    def _tell_due(self, now: float) -> None:
+        for text in self._refusals.due(now) + self._comings.due(now):
+            self._write(time.time(), text, is_fault=True)
+
+    @staticmethod
+    def _write(at: float, text: str, is_fault: bool) -> None:
+        clock = time.strftime("%H:%M:%S", time.localtime(at))
+        tell(f"{'! ' if is_fault else ''}{clock} {text}")
 
     def _text(self, event: Event) -> str:
         """What is told of an event; "" for nothing."""
