@@ -14,7 +14,6 @@ from pathlib import Path
 from typing import Any, Dict, List
 from unittest import mock
 
-from geesefuton.hosting.control import Control
 from geesefuton.hosting.page_process import AGAIN, LONGEST, STEADY, PageProcess, SideProcess
 from geesefuton.hosting.settings import LobbySettings
 from geesefuton.processes import Children, free_port, python_words
@@ -46,8 +45,7 @@ class Serving(unittest.TestCase):
         self.addCleanup(self.server.close)
         told = self.enter(open(self.folder / "told", "w", encoding="utf-8"))
         self.enter(mock.patch.dict(os.environ, {"TAC": str(DATA.parent / "fake_tac.py")}))
-        self.children, self.control = self.enter(Children()), Control()
-        self.addCleanup(self.control.close)
+        self.children = self.enter(Children())
         self.enter(mock.patch.object(self.children, "start", functools.partial(
             self.children.start, stderr=told)))
         self.board, self.by_hand = free_port(), free_port()
@@ -94,7 +92,7 @@ class Serving(unittest.TestCase):
         with urllib.request.urlopen(f"http://127.0.0.1:{self.board}/", timeout=MOST) as board:
             self.assertIn(b"<title>TAC Classic</title>", board.read())
         self.pages.close()
-        self.pages.wait(MOST, self.control)
+        self.pages.wait(MOST, lambda: False)
         assert self.pages._process is not None
         self.assertEqual(self.pages._process.wait(MOST), 0)
 
@@ -115,7 +113,7 @@ class Serving(unittest.TestCase):
             text = screen.read()
         state = json.loads(re.findall(rb"data: (\{.*\})", text)[-1])
         self.assertEqual((state["phase"], state["status"], state["tick"]), ("over", None, 9))
-        self.pages.wait(MOST, self.control)
+        self.pages.wait(MOST, lambda: False)
         assert self.pages._process is not None
         self.assertEqual(self.pages._process.wait(MOST), 0)
 

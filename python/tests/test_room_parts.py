@@ -16,10 +16,11 @@ from typing import Any, Dict, List, Optional
 from unittest import mock
 
 from geesefuton import program
+from geesefuton.hosting import page_process
 from geesefuton.hosting.control import STOPPED
 from geesefuton.hosting.journal import Journal
 from geesefuton.hosting.relay import OWN, Relay
-from geesefuton.practice import board as board_module, house, room_command
+from geesefuton.practice import house, room_command
 from geesefuton.practice.board import Board
 from geesefuton.practice.folder import Finished, Folder, FolderError, write_whole
 from geesefuton.practice.house import HouseServer
@@ -240,7 +241,7 @@ class Boards(Case):
         self.process = self.children.start.return_value
         self.process.poll.return_value = None
         self.told: List[str] = []
-        self.patch(board_module, "STEADY", 0.0)
+        self.patch(page_process, "STEADY", 0.0)
 
     def board(self, page: Optional[int] = 7080) -> Board:
         return Board(self.children, page, 6, "10.0.0.1", self.told.append)
@@ -254,8 +255,9 @@ class Boards(Case):
         made = self.board()
         made.show(None, ["a"], {"game": 1})
         words, file = self.children.start.call_args[0][0], self.path / "board"
-        self.assertEqual(words, [*python_words("geesefuton.practice.page"), str(file), "7080",
-                                 "--late", "6"])
+        self.assertEqual(words, python_words("geesefuton.practice.page"))
+        self.process.stdin.write.assert_called_once_with(json.dumps(
+            {"board": str(file), "port": 7080, "late": 6}).encode() + b"\n")
         self.assertEqual(self.shown(), {
             "journal": None, "names": ["a"], "room": {"game": 1, "address": "10.0.0.1"},
             "is_over": False})
@@ -278,8 +280,9 @@ class Boards(Case):
         made = self.board()
         for _ in range(3):
             made.show(None, ["a"], {})
-        self.assertEqual(self.told, ["cannot show the page: Resource temporarily unavailable"])
-        self.assertEqual(self.children.start.call_count, 3)
+        self.assertEqual(self.told, ["the page cannot be started: Resource temporarily unavailable; "
+                                     "the game goes on, and it is tried again in 5 s"])
+        self.assertEqual(self.children.start.call_count, 1)
 
     def test_what_cannot_be_written_is_told_and_the_page_has_what_it_had(self) -> None:
         made = self.board()

@@ -110,7 +110,7 @@ class Lobby:
                 stays = self.settings.stays
                 if not stays:  # otherwise it ends by the host's word alone
                     game.page.close()
-                game.page.wait(float("inf") if stays else SHOWING, self.control)
+                game.page.wait(float("inf") if stays else SHOWING, lambda: game.is_stopped)
         return status
 
     def waits_for(self) -> Tuple[float, List[str]]:

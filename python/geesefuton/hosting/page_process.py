@@ -9,7 +9,6 @@ import time
 from pathlib import Path
 from typing import Callable, List, Optional
 
-from geesefuton.hosting.control import Control
 from geesefuton.hosting.settings import LobbySettings
 from geesefuton.network.addresses import new_token
 from geesefuton.processes import Children, python_words, why
@@ -89,10 +88,10 @@ class SideProcess:
             self._children.end(self._process)
             self._process = None
 
-    def wait(self, limit: float, control: Control) -> None:
+    def wait(self, limit: float, is_stopped: Callable[[], bool]) -> None:
         """Waits until it has ended, for some seconds at most, unless the host stops it."""
         deadline = time.monotonic() + limit
-        while self.is_running() and not control.is_stopped and time.monotonic() < deadline:
+        while self.is_running() and not is_stopped() and time.monotonic() < deadline:
             time.sleep(LOOK)
 
 

@@ -8,15 +8,12 @@ from __future__ import annotations
 
 import json
 import os
-import subprocess
-import time
 from pathlib import Path
 from typing import Any, Callable, Dict, Optional, Sequence
 
-from geesefuton.processes import Children, python_words, why
+from geesefuton.hosting.page_process import SideProcess
+from geesefuton.processes import Children, why
 
-LOOK = 0.05  # seconds between two looks at whether the page's process has ended
-STEADY = 5.0  # seconds after its start until it may be started again
 SHOWING = 60.0  # seconds that the page has to show the last scores
 
 
@@ -33,11 +30,11 @@ class Board:
 
     def __init__(self, children: Children, page: Optional[int], late: int, address: str,
                  tell: Callable[[str], None]) -> None:
-        self._children, self._page, self._late, self._address = children, page, late, address
-        self._tell, self._told = tell, ""
+        self._page, self._address, self._tell, self._told = page, address, tell, ""
         self._file = children.folder("board") / "board"
-        self._process: "Optional[subprocess.Popen[bytes]]" = None
-        self._started = float("-inf")
+        given = json.dumps({"board": str(self._file), "port": page, "late": late})
+        self._process = SideProcess(children, "the page", "geesefuton.practice.page",
+                                    lambda: given.encode("ascii") + b"\n")
         self._shown: Dict[str, Any] = {}
 
     def show(self, journal: Optional[Path], names: Sequence[str], room: Dict[str, Any]) -> None:
@@ -49,13 +46,10 @@ class Board:
     def close(self, is_stopped: Callable[[], bool]) -> None:
         """The room is over: waits until all screens have been sent what was shown last, for a while
         and unless the room is stopped."""
-        if self._process is None:
-            return
-        self._shown["is_over"] = True
-        self._write()
-        deadline = time.monotonic() + SHOWING
-        while self._process.poll() is None and not is_stopped() and time.monotonic() < deadline:
-            time.sleep(LOOK)
+        if self._process.is_running():
+            self._shown["is_over"] = True
+            self._write()
+            self._process.wait(SHOWING, is_stopped)
 
     def _write(self) -> None:
         """Lets the page show what is to be shown, and starts its process if it does not run. A
@@ -66,25 +60,9 @@ class Board:
         try:
             new.write_text(json.dumps(self._shown), encoding="ascii")
             os.replace(new, self._file)
-            fault = self._start()
+            fault = self._process.look()
         except OSError as failed:
             fault = f"cannot show the page: {why(failed)}"
         if fault and fault != self._told:
             self._told = fault
             self._tell(fault)
-
-    def _start(self) -> str:
-        """Starts the page's process, unless it runs, or was started a moment ago. Gives what the
-        host is to be told; "" for nothing."""
-        process, told = self._process, ""
-        if process is not None and process.poll() is None \
-                or time.monotonic() < self._started + STEADY:
-            return ""
-        self._started = time.monotonic()
-        if process is not None:
-            self._children.end(process)
-            told = f"the page ended with exit status {process.returncode}, and was restarted"
-        self._process = self._children.start(
-            [*python_words("geesefuton.practice.page"), str(self._file), str(self._page), "--late",
-             str(self._late)], stdin=subprocess.DEVNULL, stdout=subprocess.DEVNULL)
-        return told

@@ -7,7 +7,6 @@ themselves. A game's final scores stay for a while, unless the next game begins.
 
 from __future__ import annotations
 
-import argparse
 import asyncio
 import contextlib
 import json
@@ -16,7 +15,6 @@ import time
 from pathlib import Path
 from typing import Any, Dict, List, Optional, Sequence
 
-from geesefuton.arguments import Parser, whole
 from geesefuton.hosting.handouts import Handouts
 from geesefuton.hosting.live import LINGER, NICE, PAGE, Live
 from geesefuton.hosting.projection import View
@@ -25,7 +23,6 @@ from geesefuton.hosting.viewers import Viewers
 from geesefuton.network.addresses import listen
 from geesefuton.network.pages import Faults, PageServer, page_gate, read_page, run
 from geesefuton.processes import Children, command, give_way, tell, why
-from geesefuton.records.games import TICKS
 
 LOOK = 0.25  # seconds between two looks at what the room shows
 STAY = 20.0  # seconds for which final scores stay
@@ -150,11 +147,11 @@ async def _end(tasks: "Sequence[asyncio.Future[None]]") -> None:
             raise told
 
 
-async def _run(given: argparse.Namespace, player: Player) -> None:
+async def _run(given: Dict[str, Any], player: Player) -> None:
     faults = Faults(tell)
     screens = Screens(b"")
-    page = RoomPage(given.board, screens, player, given.late, faults)
-    with contextlib.closing(listen(given.port)) as listener:
+    page = RoomPage(Path(given["board"]), screens, player, given["late"], faults)
+    with contextlib.closing(listen(given["port"])) as listener:
         server = PageServer(screens.answer, page_gate(), faults)
         serving = asyncio.ensure_future(server.serve(listener))
         await page.follow()
@@ -162,20 +159,12 @@ async def _run(given: argparse.Namespace, player: Player) -> None:
 
 
 def _main() -> int:
-    parser = Parser("page", __doc__)
-    parser.add_argument("board", type=Path)
-    parser.add_argument("port", type=whole(1, 65535))
-    parser.add_argument("--late", type=whole(0, TICKS), default=6)
-    given = parser.parse_args()
     give_way(NICE)
+    given: Dict[str, Any] = json.loads(sys.stdin.readline())
     with Children() as children:
         return run(_run(given, Player(children.folder("page"))))
 
 
 def main() -> int:
-    """The page's process."""
+    """The page's process. A line of standard input says what it shows."""
     return command("page", _main)
-
-
-if __name__ == "__main__":
-    sys.exit(main())
