@@ -14,7 +14,7 @@ from pathlib import Path
 from types import FrameType, TracebackType
 from typing import Any, Callable, List, Optional, Sequence, Type, Union
 
-from geesefuton.program import STOPPING, ProgramError
+from geesefuton.program import STOPPING, CommandError
 
 # The guard is a shell that makes a folder, and waits until the pipe to it closes: then the script
 # has ended, even by SIGKILL. Each process writes its number into the folder `groups` before it
@@ -252,7 +252,7 @@ def command(name: str, main: Callable[[], int]) -> int:
         status = asked.code if isinstance(asked.code, int) else int(asked.code is not None)
     except Stopped as stopped:
         status = stopped.status
-    except ProgramError as fault:
+    except CommandError as fault:
         tell(f"{name}: {fault}")
     except OSError as fault:
         where = f"{fault.filename}: " if fault.filename is not None else ""

@@ -19,7 +19,7 @@ from typing import Any, Iterator, List, Optional, Sequence, Set, Tuple, Union
 
 __all__ = [
     "INPUT", "LEAST_LIBRARY", "MEANINGS", "OK", "CLOCK", "REFUSED", "STOPPING", "UNSOUND",
-    "ProgramError", "audit", "ended", "examples", "exit_status", "find", "find_runnable",
+    "CommandError", "ProgramError", "audit", "ended", "examples", "exit_status", "find", "find_runnable",
     "library", "make", "moved", "nameless_file", "play", "run", "served_words", "show", "solve",
     "start", "table", "top", "upgrade", "vouch", "why_not_run", "worth",
 ]
@@ -54,7 +54,11 @@ _starting = threading.Lock()  # held while a process is started
 _running: Set[int] = set()  # the processes that were started and have not ended
 
 
-class ProgramError(Exception):
+class CommandError(Exception):
+    """Why a command cannot do what it is asked to, in a line."""
+
+
+class ProgramError(CommandError):
     """A command of tac that ended otherwise than asked, or a program that is not there.
 
     Attributes:

@@ -18,7 +18,7 @@ from geesefuton.hosting import lobby, lobby_command
 from geesefuton.hosting.control import STOPPED, Phase
 from geesefuton.hosting.lobby import Lobby, LobbyError
 from geesefuton.hosting.settings import LobbySettings
-from geesefuton.processes import free_port
+from geesefuton.processes import command, free_port
 from tests.helpers import TOP, python, variables
 
 GAME = TOP / "examples" / "first.game"
@@ -78,7 +78,6 @@ class Main(Case):
         self.made.return_value = mock.Mock(port=7000, words=["red", "blue"])
         self.teller = self.patch("Teller").return_value
         self.signals = self.patch("_Signals").return_value
-        self.told = self.patch("tell")
         self.patch("_open_standard_files", return_value=True)
         self.patch("_default_journal", return_value=Path("default.journal"))
 
@@ -131,16 +130,14 @@ class Main(Case):
                                     (STOPPED, signal.SIGINT, 130), (STOPPED, signal.SIGTERM, 143),
                                     (STOPPED, signal.SIGHUP, 129), (STOPPED, 0, 130)):
             self.assertEqual(self.run_it(status, number), due)
-        self.told.assert_not_called()
 
     def test_errors(self) -> None:
         self.made.return_value.run.side_effect = LobbyError("the journal is there already")
-        self.assertEqual(self.run_it(0), 1)
-        self.told.assert_called_once_with("lobby: the journal is there already")
+        with mock.patch("geesefuton.processes.tell") as told, \
+                mock.patch("geesefuton.processes.stop_on_signals"):
+            self.assertEqual(command("lobby", lambda: self.run_it(0)), 1)
+        told.assert_called_once_with("lobby: the journal is there already")
         self.teller.close.assert_called_once_with()
-        self.made.side_effect = LobbyError("port 7000: taken")
-        self.assertEqual(self.run_it(0), 1)
-        self.told.assert_called_with("lobby: port 7000: taken")
 
 
 class Signals(Case):

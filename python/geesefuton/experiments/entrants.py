@@ -11,12 +11,14 @@ from pathlib import Path
 from string import ascii_lowercase
 from typing import Dict, List, Sequence, Tuple
 
+from geesefuton.program import CommandError
+
 SHOWN = ("PATH", "LANG", "LC_ALL", "LC_CTYPE", "TZ")  # variables for agents that are kept apart
 PACKAGE = Path(__file__).resolve().parents[2]  # the folder that the package is imported from
 MISSING = {"NA", "N/A", "NULL", "null", "None", "nan", "NaN", "n/a", "<NA>"}  # as tables are read
 
 
-class EntrantError(Exception):
+class EntrantError(CommandError):
     """A command that cannot be run."""
 
 

@@ -29,9 +29,10 @@ import time
 from collections import deque
 from dataclasses import dataclass, field
 from pathlib import Path
-from typing import Any, Callable, Deque, Dict, Iterator, List, Optional, Tuple
+from typing import Any, Callable, Deque, Dict, List, Optional, Tuple
 
 from geesefuton.processes import why
+from geesefuton.program import CommandError
 from geesefuton.records.dialects import (CASH, MOST_LINE, Asked, asked_by, is_refusal, position_of,
                                          reply_of)
 from geesefuton.records.games import GOODS, SEATS, TICKS, Game, GameError, read_game
@@ -182,7 +183,7 @@ class Journal:
                 self._loss = fault
 
 
-class JournalError(Exception):
+class JournalError(CommandError):
     """A text that is no journal; the error names the line."""
 
 
@@ -364,29 +365,28 @@ class JournalReader:
             self.calls.append(Exchange(number, asked, order, tick, reply, at, now, self.lines))
 
 
-def lines_of(file: Path) -> Iterator[str]:
-    """The lines of a journal file, one after the other. A last one without its end is left out:
-    nothing of it was passed on.
+def read_journal(file: Path, take: Optional[Callable[[Dict[str, Any]], None]] = None
+                 ) -> JournalReader:
+    """Reads a journal file. A last line without its end is left out: nothing of it was passed on.
 
-    Raises:
-        OSError: It cannot be read.
-    """
-    with file.open("rb") as lines:
-        for line in lines:
-            if line.endswith(b"\n") and len(line) > 1:
-                yield line[:-1].decode("latin-1")
-
-
-def read_journal(file: Path) -> JournalReader:
-    """Reads a journal file.
+    Args:
+        file: The file.
+        take: Is given the object of each line. Then calls are not kept.
 
     Raises:
         JournalError: It is no journal.
         OSError: It cannot be read.
     """
-    reader = JournalReader()
-    for line in lines_of(file):
-        reader.add(line)
-    if reader.game is None:
-        raise JournalError("it lacks the first line of a journal")
+    reader = JournalReader(keeps_calls=take is None)
+    try:
+        with file.open("rb") as lines:
+            for line in lines:
+                if line.endswith(b"\n") and len(line) > 1:
+                    what = reader.add(line[:-1].decode("latin-1"))
+                    if take is not None:
+                        take(what)
+        if reader.game is None:
+            raise JournalError("it lacks the first line of a journal")
+    except JournalError as fault:
+        raise JournalError(f"{file}: {fault}") from None
     return reader

@@ -206,15 +206,11 @@ def _arguments() -> argparse.Namespace:
 def _main() -> int:
     given = _arguments()
     give_way(NICE)
-    try:
-        with given.journal.open("rb") as journal, Children() as children:
+    with given.journal.open("rb") as journal, Children() as children:
+        try:
             return run(_run(given, journal, Player(children.folder("live"))))
-    except JournalError as fault:
-        tell(f"live: {given.journal}: {fault}")
-        return 1
-    except OSError as fault:
-        tell(f"live: {given.journal if fault.filename else f'port {given.port}'}: {why(fault)}")
-        return 1
+        except JournalError as fault:
+            raise JournalError(f"{given.journal}: {fault}") from None
 
 
 def main() -> int:

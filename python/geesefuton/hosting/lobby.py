@@ -36,7 +36,7 @@ ENDING = 1.0  # seconds that links have to end after the server
 SHOWING = 60.0  # seconds that the pages have to show the last scores
 
 
-class LobbyError(Exception):
+class LobbyError(program.CommandError):
     """A game that cannot be hosted."""
 
 

@@ -32,11 +32,11 @@ from typing import Optional
 from geesefuton.arguments import Parser, seconds, whole
 from geesefuton.hosting import log_files
 from geesefuton.hosting.control import STOPPED, Phase
-from geesefuton.hosting.lobby import Lobby, LobbyError
+from geesefuton.hosting.lobby import Lobby
 from geesefuton.hosting.seats import SILENCE
 from geesefuton.hosting.settings import LobbySettings
 from geesefuton.hosting.teller import Teller
-from geesefuton.processes import command, tell, why
+from geesefuton.processes import command, why
 from geesefuton.records.games import TICKS
 
 AGAIN = 5.0  # seconds within which a second ctrl-C stops the game
@@ -187,22 +187,18 @@ def _main() -> int:
         journal=given.journal, page=given.page, late=given.late, names=given.names,
         stays=given.page is not None and bool(sys.stdin and sys.stdin.isatty()),
         by_hand=given.by_hand, advice=not given.no_advice, orders=sys.stdin, vouches=True)
+    lobby = Lobby(settings)
+    teller = Teller(lobby.words)
+    settings.journal = settings.journal or _default_journal(given.game, teller)
+    signals = _Signals(lobby, teller)
+    where = f"the journal is {settings.journal}" if settings.journal else "there is no journal"
+    if settings.stays:
+        where += "; after the game the page stays until ctrl-C"
+    teller.say(f"waiting at port {lobby.port} for {' '.join(lobby.words)}; {where}")
     try:
-        lobby = Lobby(settings)
-        teller = Teller(lobby.words)
-        settings.journal = settings.journal or _default_journal(given.game, teller)
-        signals = _Signals(lobby, teller)
-        where = f"the journal is {settings.journal}" if settings.journal else "there is no journal"
-        if settings.stays:
-            where += "; after the game the page stays until ctrl-C"
-        teller.say(f"waiting at port {lobby.port} for {' '.join(lobby.words)}; {where}")
-        try:
-            status = lobby.run(teller.tell)
-        finally:
-            teller.close()
-    except LobbyError as fault:
-        tell(f"lobby: {fault}")
-        return 1
+        status = lobby.run(teller.tell)
+    finally:
+        teller.close()
     return 128 + signals.number if status == STOPPED and signals.number else status
 
 

@@ -17,6 +17,7 @@ from typing import Dict, Iterable, List, NamedTuple, Optional, Sequence, Set, Tu
 
 from geesefuton.hosting.seats import GREETING
 from geesefuton.hosting.server_links import LinkBytes
+from geesefuton.program import CommandError
 from geesefuton.records.dialects import MOST_LINE
 
 WELCOME = 10  # lines
@@ -26,7 +27,7 @@ ASKED, SAID = ".asked", ".said"
 _NAME = re.compile(r"([a-z0-9]{1,16})(?:\.([1-9][0-9]{0,8}))?")
 
 
-class RecordError(Exception):
+class RecordError(CommandError):
     """Files that are no record of a link."""
 
 

@@ -20,9 +20,9 @@ from typing import List
 
 from geesefuton import program
 from geesefuton.arguments import Parser
-from geesefuton.hosting.journal import JournalError, JournalReader, read_journal
+from geesefuton.hosting.journal import JournalReader, read_journal
 from geesefuton.hosting.recovery import Player, Recovery, RecoveryError
-from geesefuton.processes import Children, Output, command, tell, why
+from geesefuton.processes import Children, Output, command, tell
 from geesefuton.records.games import TICKS
 from geesefuton.records.logs import read_scores
 
@@ -73,14 +73,7 @@ def _tell_pending(reader: JournalReader, recovery: Recovery, player: Player, log
 
 def _main() -> int:
     given = _arguments()
-    try:
-        reader = read_journal(given.journal)
-    except JournalError as fault:
-        tell(f"recover: {given.journal}: {fault}")
-        return 1
-    except OSError as fault:
-        tell(f"recover: {given.journal}: {why(fault)}")
-        return 1
+    reader = read_journal(given.journal)
     with Children() as children:
         player = Player(children.folder("recover"))
         try:
@@ -89,8 +82,7 @@ def _main() -> int:
             tell(_summary(reader))
             _tell_pending(reader, recovery, player, log)
         except RecoveryError as fault:
-            tell(f"recover: {given.journal}: {fault}")
-            return 1
+            raise RecoveryError(f"{given.journal}: {fault}") from None
         for line in faults:
             tell(f"! {line}")
         outputs = [(Output(1), log)]

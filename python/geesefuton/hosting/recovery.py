@@ -29,7 +29,7 @@ MOST_TRIES = 300  # places of requests without a reply that are tried in an auct
 Guess = Dict[int, Exchange]  # by position
 
 
-class RecoveryError(Exception):
+class RecoveryError(program.CommandError):
     """A journal of which no script can be made."""
 
 

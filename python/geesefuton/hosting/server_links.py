@@ -10,10 +10,10 @@ from __future__ import annotations
 
 import time
 from pathlib import Path
-from typing import List, NamedTuple, Optional, Sequence, Tuple, Union
+from typing import Any, Dict, List, NamedTuple, Optional, Sequence, Tuple, Union
 
 from geesefuton import program
-from geesefuton.hosting.journal import JournalError, JournalReader, lines_of
+from geesefuton.hosting.journal import read_journal
 from geesefuton.records.games import SEATS, welcome
 
 
@@ -35,17 +35,15 @@ def server_links(file: Path) -> List[LinkBytes]:
         JournalError: It is no journal.
         OSError: It cannot be read.
     """
-    reader = JournalReader(keeps_calls=False)
     asked, said = ([bytearray() for _ in range(SEATS)] for _ in range(2))
-    for line in lines_of(file):
-        what = reader.add(line)
-        if "q" in what:
-            asked[what["a"]] += what["q"].encode("latin-1") + b"\n"
-        elif "r" in what:
-            said[what["a"]] += what["r"].encode("latin-1") + b"\n"
-    if reader.game is None:
-        raise JournalError("it lacks the first line of a journal")
-    if not reader.is_playing:
+
+    def take(what: Dict[str, Any]) -> None:
+        for key, lines in (("q", asked), ("r", said)):
+            if key in what:
+                lines[what["a"]] += what[key].encode("latin-1") + b"\n"
+
+    reader = read_journal(file, take)
+    if reader.game is None or not reader.is_playing:
         return []
     return [LinkBytes(b"hello %b\n%b" % (word.encode("ascii"), asked[seat]),
                       welcome(reader.text, seat) + said[seat] if reader.has_begun else b"")

@@ -26,9 +26,9 @@ from typing import Dict, List, Optional, Tuple
 
 from geesefuton import program
 from geesefuton.arguments import Parser
-from geesefuton.hosting.journal import JournalError, read_journal
-from geesefuton.hosting.pieces import (ASKED, SAID, Piece, RecordError, first_difference,
-                                       read_piece, stems_of)
+from geesefuton.hosting.journal import read_journal
+from geesefuton.hosting.pieces import (ASKED, SAID, Piece, first_difference, read_piece,
+                                       stems_of)
 from geesefuton.hosting.server_links import LinkBytes, audit_link, is_vouched, server_links
 from geesefuton.processes import Children, Output, command, tell
 from geesefuton.records.games import read_game, welcome
@@ -36,7 +36,7 @@ from geesefuton.records.games import read_game, welcome
 PIECES = "{} has {} records, none of the whole session: add --published FOLDER or --journal J"
 
 
-class VouchError(Exception):
+class VouchError(program.CommandError):
     """Files by which nothing can be judged."""
 
 
@@ -187,14 +187,9 @@ def _publish(folder: Path, links: Dict[str, LinkBytes]) -> None:
 
 def _main() -> int:
     given = _arguments()
-    try:
-        with Children() as children:
-            judge = _Judge(given, children.folder("vouch"))
-            found = judge.judge()
-    except (JournalError, RecordError, VouchError) as fault:
-        where = f"{given.journal}: " if isinstance(fault, JournalError) else ""
-        tell(f"vouch: {where}{fault}")
-        return 1
+    with Children() as children:
+        judge = _Judge(given, children.folder("vouch"))
+        found = judge.judge()
     count = sum(is_vouched(said) for _, said in found)
     lines = [*map(": ".join, found), f"vouched: {count} of {len(found)}"]
     output = Output(1)

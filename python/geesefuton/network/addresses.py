@@ -32,7 +32,7 @@ def listen(port: int, address: str = "") -> socket.socket:
     except socket.gaierror:
         raise  # the address is a name that nobody has
     except OSError as fault:
-        raise OSError(fault.errno, os.strerror(fault.errno)) from None  # without the address
+        raise OSError(fault.errno, os.strerror(fault.errno or 0), f"port {port}") from None
 
 
 def own_addresses() -> List[str]:

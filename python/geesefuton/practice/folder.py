@@ -23,6 +23,7 @@ from pathlib import Path
 from typing import Any, Dict, List, Optional, Tuple
 
 from geesefuton.hosting.journal import JournalError, read_journal
+from geesefuton.program import CommandError
 from geesefuton.records.games import SEATS
 from geesefuton.records.secret_deals import commitment, deal_seed, new_secret, read_secret
 
@@ -30,7 +31,7 @@ VERSION = 2  # of the form of a room's files
 ABOUT, LOCK, NEW, SECRET = "room.json", "lock", ".new", "secret"
 
 
-class FolderError(Exception):
+class FolderError(CommandError):
     """A folder that is not this room's."""
 
 

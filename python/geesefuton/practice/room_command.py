@@ -26,16 +26,16 @@ from typing import Callable, List, Optional
 
 from geesefuton import program
 from geesefuton.arguments import Parser, seconds, whole
-from geesefuton.experiments.entrants import Entrant, EntrantError, read_entrants
-from geesefuton.hosting.lobby import LobbyError, listener_at
+from geesefuton.experiments.entrants import Entrant, read_entrants
+from geesefuton.hosting.lobby import listener_at
 from geesefuton.hosting.teller import Teller
 from geesefuton.network.addresses import own_address
 from geesefuton.practice.board import Board
-from geesefuton.practice.folder import Folder, FolderError, write_whole
+from geesefuton.practice.folder import Folder, write_whole
 from geesefuton.practice.room import Room
 from geesefuton.practice.table import TableSettings
-from geesefuton.practice.teams import MOST, Team, TeamsError, keep_words, read_teams, slips_of
-from geesefuton.processes import Children, command, tell
+from geesefuton.practice.teams import MOST, Team, keep_words, read_teams, slips_of
+from geesefuton.processes import Children, command
 from geesefuton.records.games import SEATS, TICKS
 
 USUAL = "planner.py"  # of the examples
@@ -144,32 +144,26 @@ def _end(folder: Folder) -> str:
 def _main() -> int:
     given = _arguments()
     program.find()
-    with contextlib.closing(Teller(())) as teller:
-        try:
-            house = _house(given.house)
-            with contextlib.closing(Folder(given.folder, given.seed)) as folder, \
-                    Children() as children:
-                if given.end:
-                    teller.say(_end(folder))
-                    return 0
-                if given.page is not None:
-                    listener_at(given.page).close()  # so that a port that is taken is told now
-                address = given.address or own_address()
-                teams = _make_teams(given, address)
-                room = Room(TableSettings(given.port, given.pace, given.wait, given.after, house,
-                                          sys.stdin), folder,
-                            Board(children, given.page, given.late, address, teller.say),
-                            teller.say, teams, given.games, given.tables)
-                signals = _Signals(room, teller.say)
-                if not house:
-                    teller.say("no house agents: empty seats stay empty")
-                teller.say(f"games are drawn from a secret, whose SHA-256 is {folder.commitment}"
-                           if folder.commitment else "games can be guessed: they are those of the "
-                           f"seeds from {folder.seed} on")
-                room.run()
-        except (EntrantError, FolderError, LobbyError, TeamsError) as fault:
-            tell(f"room: {fault}")
-            return 1
+    with contextlib.closing(Teller(())) as teller, \
+            contextlib.closing(Folder(given.folder, given.seed)) as folder, Children() as children:
+        if given.end:
+            teller.say(_end(folder))
+            return 0
+        if given.page is not None:
+            listener_at(given.page).close()  # so that a port that is taken is told now
+        house, address = _house(given.house), given.address or own_address()
+        teams = _make_teams(given, address)
+        room = Room(TableSettings(given.port, given.pace, given.wait, given.after, house,
+                                  sys.stdin), folder,
+                    Board(children, given.page, given.late, address, teller.say),
+                    teller.say, teams, given.games, given.tables)
+        signals = _Signals(room, teller.say)
+        if not house:
+            teller.say("no house agents: empty seats stay empty")
+        teller.say(f"games are drawn from a secret, whose SHA-256 is {folder.commitment}"
+                   if folder.commitment else "games can be guessed: they are those of the "
+                   f"seeds from {folder.seed} on")
+        room.run()
     return 128 + signals.number if signals.number else 0
 
 

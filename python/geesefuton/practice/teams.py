@@ -12,6 +12,7 @@ from pathlib import Path
 from typing import Dict, List, Sequence
 
 from geesefuton.practice.folder import write_whole
+from geesefuton.program import CommandError
 from geesefuton.records.games import SEATS, is_seat_word
 
 LETTERS = "abcdefghijkmnpqrstuvwxyz23456789"  # without those that look like others
@@ -20,7 +21,7 @@ MOST = 64  # teams of a room with several tables
 WORDS = "words.json"
 
 
-class TeamsError(Exception):
+class TeamsError(CommandError):
     """A file that has no teams."""
 
 
