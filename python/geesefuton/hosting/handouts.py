@@ -25,17 +25,13 @@ class Handouts:
         port: The port for agents.
         address: The host's address, for a browser on the host itself; "" if it is not known.
         again: Whether a starter asks for a seat in the next game after each, as in a room.
-
-    Attributes:
-        port: The port for agents.
-        are_there: Whether the starters are installed.
     """
 
     def __init__(self, port: int, address: str = "", again: bool = False) -> None:
         self.port, self._address, self._again = port, address, again
         self._page = read_page(Path(__file__).with_name("join.html")).decode()
         self._texts = _read_starters()
-        self.are_there = bool(self._texts)
+        self.are_there = bool(self._texts)  # whether the starters are installed
 
     def answer(self, path: str, host: str) -> Optional[Response]:
         """The file at a path; None if there is none.

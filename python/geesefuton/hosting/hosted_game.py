@@ -26,26 +26,16 @@ LOOK = 0.2  # seconds between two looks at what has waited too long
 
 
 class HostedGame:
-    """A game that is being hosted.
-
-    Attributes:
-        settings: What the lobby was told.
-        text: The canonical text of the game file.
-        control: How far the game is, and what is asked of it.
-        children: By which processes are started that end with the game.
-        folder: A folder that is removed with the game.
-        relay: The links of the agents.
-        emit: Is told each event.
-        log: The pieces of the log so far.
-        page: The process of the pages, if there are any.
-    """
+    """A game that is being hosted."""
 
     def __init__(self, settings: LobbySettings, text: str, control: Control, children: Children,
                  folder: Path, relay: Relay, emit: Callable[[Event], None]) -> None:
-        self.settings, self.text, self.control = settings, text, control
-        self.children, self.folder, self.relay, self.emit = children, folder, relay, emit
-        self.log: List[bytes] = []
-        self.page: Optional[SideProcess] = None
+        self.settings, self.text = settings, text  # and the canonical text of the game file
+        self.control, self.relay = control, relay  # what is asked of it; the links of the agents
+        self.children, self.folder = children, folder  # which end with the game
+        self.emit = emit  # is told each event
+        self.log: List[bytes] = []  # its pieces so far
+        self.page: Optional[SideProcess] = None  # the process of the pages, if there are any
         self._lines: Deque[str] = deque()
         self._orders = Orders(settings.orders, self._lines)
         self._orders.look(relay.loop)

@@ -51,9 +51,6 @@ class Journal:
     Once the file takes no more, `warn` is called and nothing more is written. Once the disk fails
     to keep what was written, `warn` is called, and the journal goes on.
 
-    Attributes:
-        is_whole: Whether the file has taken all so far.
-
     Args:
         file: A new file; None if nothing is to be written.
         warn: Is told what fails, in the thread that writes.
@@ -80,6 +77,7 @@ class Journal:
 
     @property
     def is_whole(self) -> bool:
+        """Whether the file has taken all so far."""
         return self._number is not None
 
     def head(self, pace: int, form: str, game: str) -> None:
@@ -244,26 +242,19 @@ class JournalReader:
 
     Args:
         keeps_calls: Whether `calls` are kept, which are most of what it needs.
-
-    Attributes:
-        text: The canonical text of the game file, and `game` what it says.
-        calls: The requests whose replies have a position, in the order of their replies.
-        agents: The eight agents.
-        tick: The last tick, and `time` the last time, in milliseconds since the welcome.
-        has_begun: Whether the welcome was sent.
-        status: The exit status of the server; None while it runs, or if the journal breaks off.
     """
 
     def __init__(self, keeps_calls: bool = True) -> None:
         self._keeps_calls = keeps_calls
-        self.text, self.form, self.pace, self.at = "", "words", 0, 0
-        self.game: Optional[Game] = None
+        self.text, self.form, self.pace, self.at = "", "words", 0, 0  # `text` is canonical
+        self.game: Optional[Game] = None  # what it says
         self.schedule: Optional[Schedule] = None
-        self.calls: List[Exchange] = []
+        self.calls: List[Exchange] = []  # whose replies have a position, in the replies' order
         self.agents = [Agent() for _ in range(SEATS)]
-        self.is_playing, self.has_begun = False, False
-        self.tick, self.time, self.lines = 0, 0, 0
-        self.status: Optional[int] = None
+        self.is_playing, self.has_begun = False, False  # it has begun once the welcome was sent
+        self.tick, self.time = 0, 0  # the last ones, in milliseconds since the welcome
+        self.lines = 0
+        self.status: Optional[int] = None  # of the server, once it has ended
 
     def read(self, text: str) -> None:
         """Adds a piece of a journal that ends with a line.

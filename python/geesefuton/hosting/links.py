@@ -23,20 +23,14 @@ UNACKNOWLEDGED = 14_000  # milliseconds, the same time for a link with something
 
 
 class Session(Link):
-    """The link to the server that is kept for a seat, and has been welcomed.
-
-    Attributes:
-        welcome: The lines that the server has sent it first.
-        asked: The links whose lines were passed on and are not answered.
-        lines: How many lines agents have sent for it, and `passed` how many were passed on.
-        answered: How many replies came, and `refused` how many of them refuse a line.
-    """
+    """The link to the server that is kept for a seat, and has been welcomed with some lines."""
 
     def __init__(self, seat: Seat, link: socket.socket, welcome: bytes) -> None:
         super().__init__(link)
         self.seat, self.welcome = seat, welcome
-        self.asked: Deque[OuterLink] = deque()
-        self.lines = self.passed = self.answered = self.refused = 0
+        self.asked: Deque[OuterLink] = deque()  # whose lines were passed on and are not answered
+        self.lines = self.passed = 0  # lines that agents have sent, and that were passed on
+        self.answered = self.refused = 0  # replies, and those of them that refuse a line
         self._tail = b""
 
     def feed(self, data: bytes) -> List[bytes]:
@@ -60,24 +54,21 @@ class Session(Link):
 class OuterLink(Link):
     """A link from outside: a stranger until its first line, and then the link of a seat.
 
-    Attributes:
+    Args:
         number: By which `Seats` knows it.
+        link: Its socket.
         visit: What the gate knows of it.
         source: Where it comes from, as the host is told.
-        seat: The seat that it has, or waits for.
-        said: What it sent and was not passed on.
-        owed: How many of its lines were passed on and are not answered.
-        stuck: Since when it takes nothing of what is held; None while nothing is held back.
-        is_told: Whether the host was told so.
     """
 
     def __init__(self, number: int, link: socket.socket, visit: Visit, source: str) -> None:
         super().__init__(link)
         self.number, self.visit, self.source = number, visit, source
-        self.seat: Optional[Seat] = None
-        self.said, self.owed = bytearray(), 0
-        self.stuck: Optional[float] = None
-        self.is_told = False
+        self.seat: Optional[Seat] = None  # which it has, or waits for
+        self.said = bytearray()  # what it sent and was not passed on
+        self.owed = 0  # lines of it that were passed on and are not answered
+        self.stuck: Optional[float] = None  # since when it takes nothing of what is held
+        self.is_told = False  # whether the host was told so
         self._is_skipping = False  # whether the rest of a line that is too long is coming
         tune(link)
 

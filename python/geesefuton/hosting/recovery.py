@@ -56,22 +56,15 @@ class Player:
 
 
 class KnownHistory:
-    """What is known of one history.
-
-    Attributes:
-        calls: The calls by their positions.
-        quotes: The quotes, by the time of their replies.
-        pending: The requests without a reply, by agents: an agent has one at most.
-        used: Those of them that are taken for made.
-    """
+    """What is known of one history."""
 
     def __init__(self, good: int, schedule: Schedule) -> None:
         self.good, self._schedule = good, schedule
         self._ticks = schedule.ticks[good]
-        self.calls: Dict[int, Exchange] = {}
-        self.quotes: List[Exchange] = []
-        self.pending: Dict[int, Exchange] = {}
-        self.used: List[Exchange] = []
+        self.calls: Dict[int, Exchange] = {}  # by their positions
+        self.quotes: List[Exchange] = []  # by the time of their replies
+        self.pending: Dict[int, Exchange] = {}  # without a reply, by agents: each has one at most
+        self.used: List[Exchange] = []  # those of them that are taken for made
 
     def place(self, call: Exchange) -> None:
         """Adds an answered call."""
@@ -218,10 +211,6 @@ class Recovery:
 
     Raises:
         RecoveryError: The replies are not those of a game.
-
-    Attributes:
-        made: The requests without a reply that are in the script.
-        left: Those that are not.
     """
 
     def __init__(self, reader: JournalReader, player: Player, pending: bool = False,
@@ -230,6 +219,7 @@ class Recovery:
         self._reader, self._player = reader, player
         self._histories = [KnownHistory(good, reader.schedule) for good in GOODS]
         self._readings: List[Exchange] = []
+        # The requests without a reply that are in the script, and those that are not.
         self.made: List[Exchange] = []
         self.left = [] if live else reader.pending()
         for call in reader.calls:

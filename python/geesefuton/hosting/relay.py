@@ -47,26 +47,19 @@ class Relay:
         journal: Where it is written.
         patience: The seconds that a link has for its first line.
         silence: The seconds without a word after which a link gives way to another.
-
-    Attributes:
-        started: When the game began, by `time.monotonic`.
-        links: The links from outside, by their numbers.
-        homes: Whence each seat's agent came first.
-        gate: Which of them are taken.
-        loop: What waits for them, and for other files.
     """
 
     def __init__(self, words: Sequence[str], listeners: Sequence[socket.socket],
                  emit: Callable[[Event], None], journal: Journal,
                  patience: float, silence: float) -> None:
         self.seats, self.sessions = Seats(words, silence), list[Session]()
-        self.started: Optional[float] = None
+        self.started: Optional[float] = None  # when the game began, by `time.monotonic`
         self.gate = Gate(time.monotonic, most_links(MOST_LINKS, OTHERS), MOST_EACH, KEPT, patience)
         self._emit, self.journal, self._patience = emit, journal, patience
-        self.links: Dict[int, OuterLink] = {}
-        self.homes: Dict[int, str] = {}
+        self.links: Dict[int, OuterLink] = {}  # those from outside, by their numbers
+        self.homes: Dict[int, str] = {}  # whence each seat's agent came first
         self._numbers = itertools.count()
-        self._due: Dict[int, OuterLink] = {}
+        self._due: Dict[int, OuterLink] = {}  # those to which something is to be sent
         self.loop = Loop(self._warn)
         for listener in listeners:
             listener.setblocking(False)
@@ -186,9 +179,9 @@ class Relay:
             return self.loop.watch(link)
         return self.fail(link)
 
-    def fail(self, link: OuterLink) -> None:
+    def fail(self, link: Optional[OuterLink]) -> None:
         """A link has ended, or failed, or the host ends it."""
-        if not link.is_open:
+        if link is None or not link.is_open:
             return None
         seat = link.seat
         self._drop(link)
@@ -230,12 +223,7 @@ class Relay:
         """Does what a seat asks for. A fault costs the link that it is about, and no other seat."""
         for action in actions:
             link = None if isinstance(action, Over) else self.links.get(action.link)
-            try:
-                self._act(seat, action, link)
-            except Exception as fault:
-                self.loop.caught(fault)
-                if link is not None:
-                    self.fail(link)
+            self.loop.guard(partial(self._act, seat, action, link), partial(self.fail, link))
 
     def _act(self, seat: Seat, action: Action, link: Optional[OuterLink]) -> None:
         """Does one thing that a seat asks for; `link` is the one that it is about, if there is."""
@@ -257,10 +245,12 @@ class Relay:
         what = (time.time(), seat.number, seat.word, link.source)
         self._emit(events.Rejoined(*what) if again else events.Arrived(*what))
         if self.sessions:
-            session = self.sessions[seat.number]
-            session.lines += link.said.count(b"\n")
-            self._owe(link, session.welcome)
-            self._pass_on(session)
+            self._welcome(self.sessions[seat.number], link)
+
+    def _welcome(self, session: Session, link: OuterLink) -> None:
+        session.lines += link.said.count(b"\n")
+        self._owe(link, session.welcome)
+        self._pass_on(session)
 
     # Sending.
 
@@ -274,11 +264,7 @@ class Relay:
             self.journal.flush()
             due, self._due = self._due, {}
             for link in due.values():
-                try:
-                    self._write(link)
-                except Exception as fault:
-                    self.loop.caught(fault)
-                    self.fail(link)
+                self.loop.guard(partial(self._write, link), partial(self.fail, link))
 
     def _write(self, link: OuterLink) -> None:
         if not link.is_open:
@@ -320,8 +306,7 @@ class Relay:
         for session in sessions:
             link = self._holder(session.seat)
             if link is not None:
-                session.lines = link.said.count(b"\n")
-                self._owe(link, session.welcome)
+                self._welcome(session, link)
 
     def release(self) -> None:
         """The last tick has passed: seats without a link are not kept any longer."""

@@ -90,16 +90,12 @@ class ClockServer:
 
 
 class Server:
-    """A server, and how it is started.
-
-    Attributes:
-        links: The lobby's links to its eight seats, once all of them are welcomed; else none.
-    """
+    """A server, and how it is started."""
 
     def __init__(self, game: HostedGame) -> None:
         self._game = game
         self._process: "Optional[subprocess.Popen[bytes]]" = None
-        self.links: List[socket.socket] = []
+        self.links: List[socket.socket] = []  # to its eight seats, once all of them are welcomed
 
     def start(self) -> str:
         """Starts it at a free port, and takes all seats. The links of the agents go on meanwhile.

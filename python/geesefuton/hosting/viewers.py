@@ -14,19 +14,11 @@ NOT_FOUND = Response("404 Not Found", "text/plain", b"the page is at /\n")
 
 class Viewers:
     """The screens of a page. Each gets the newest state when it can take it, and misses those
-    between.
-
-    Args:
-        page: The page, which may be replaced.
-
-    Attributes:
-        handouts: What is handed out to those who write agents; None for nothing.
-        count: How many screens follow the states.
-    """
+    between. The page may be replaced."""
 
     def __init__(self, page: bytes) -> None:
-        self.page, self.count = page, 0
-        self.handouts: Optional[Handouts] = None
+        self.page, self.count = page, 0  # and how many screens follow the states
+        self.handouts: Optional[Handouts] = None  # what authors of agents are given
         self._state, self._number, self._is_final = b"{}", 0, False
         self._bell = Bell()
 

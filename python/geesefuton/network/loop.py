@@ -24,21 +24,15 @@ class Served(NamedTuple):
 
 
 class Link:
-    """A link.
+    """A link."""
 
-    Attributes:
-        served: What serves it.
-        held: What is still to be sent to it.
-        wants: What the selector waits for.
-        has_ended: Whether it sends nothing more.
-        is_open: Whether it was not closed.
-    """
-
-    served: Served
+    served: Served  # what serves it
 
     def __init__(self, link: socket.socket) -> None:
-        self.socket, self.held, self.wants = link, bytearray(), 0
-        self.has_ended, self.is_open = False, True
+        self.socket, self.wants = link, 0  # what the selector waits for
+        self.held = bytearray()  # what is still to be sent to it
+        self.has_ended = False  # whether it sends nothing more
+        self.is_open = True  # whether it was not closed
         link.setblocking(False)
 
     def is_read(self) -> bool:
