@@ -7,9 +7,9 @@ from typing import Callable, Dict, NamedTuple, Optional
 
 from geesefuton.hosting.control import Control, Phase
 from geesefuton.hosting.links import OuterLink
-from geesefuton.hosting.relay import Relay
+from geesefuton.hosting.relay import OWN, Relay
 from geesefuton.hosting.seats import Seat, State
-from geesefuton.network.addresses import Network, is_within, network_of, plain_network
+from geesefuton.network.addresses import Network, network_of, parsed, plain_network
 from geesefuton.records.games import is_seat_word
 
 SILENT = 10.0  # seconds without a word after which an agent is told as silent
@@ -20,20 +20,15 @@ class NotDone(Exception):
 
 
 class Command(NamedTuple):
-    """A command: the words after its own, what it does, and what does it."""
+    """A command of the host."""
 
-    words: str
+    words: str  # after its own
     does: str
     run: Callable[..., str]
 
 
 class Console:
-    """Does what the host says.
-
-    Args:
-        relay: The links.
-        control: How far the game is.
-    """
+    """Does what the host says."""
 
     def __init__(self, relay: Relay, control: Control) -> None:
         self._relay, self._control = relay, control
@@ -106,7 +101,8 @@ class Console:
     def _ban(self, text: str) -> str:
         network = _network(text)
         self._relay.gate.banned.add(network)
-        links = [link for link in self._relay.links.values() if is_within(link.source, network)]
+        links = [link for link in self._relay.links.values()
+                 if link.source != OWN and parsed(link.source) in network]
         for link in links:
             self._relay.fail(link)
         return f"banned {plain_network(network)}; links closed: {len(links)}"

@@ -23,18 +23,13 @@ class Phase(enum.Enum):
 
 class Control:
     """How far a game is, and what is asked of it. `stop` and `end` may be called by a signal
-    handler or by another thread: they wake the game, which looks at what is asked.
-
-    Attributes:
-        phase: How far the game is.
-        is_stopped: Whether the game is to stop, without a log.
-        is_begin_asked: Whether it is to begin without those who are missing.
-        is_end_asked: Whether the links that are left after the last tick are to be ended now.
-    """
+    handler or by another thread: they wake the game, which looks at what is asked."""
 
     def __init__(self) -> None:
         self.phase = Phase.GATHERING
-        self.is_stopped = self.is_begin_asked = self.is_end_asked = False
+        self.is_stopped = False  # whether the game is to stop, without a log
+        self.is_begin_asked = False  # whether it is to begin without those who are missing
+        self.is_end_asked = False  # whether the links that are left in the end are to be ended now
         self._wake, self._waker = socket.socketpair()
         self._wake.setblocking(False)
         self._waker.setblocking(False)

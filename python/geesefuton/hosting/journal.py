@@ -230,12 +230,6 @@ class Agent:
     last: int = 0  # the tick of its last line, or of its link's beginning
     waiting: Deque[Tuple[int, int, str]] = field(default_factory=deque)
 
-    def copy(self) -> "Agent":
-        """As it is now."""
-        other = copy.copy(self)
-        other.waiting = self.waiting.copy()
-        return other
-
 
 class JournalReader:
     """What a journal says. Lines may be added while they are written.
@@ -288,7 +282,7 @@ class JournalReader:
         """What is known now, for a reader that works while more is added."""
         other = copy.copy(self)
         other.calls = self.calls[:]
-        other.agents = [agent.copy() for agent in self.agents]
+        other.agents = copy.deepcopy(self.agents)
         return other
 
     def pending(self) -> List[Exchange]:

@@ -33,29 +33,19 @@ def free_name(file: Path) -> Path:
 
 
 def keep(log: bytes, target: Target, beside: Optional[Path]) -> Kept:
-    """Writes a log.
-
-    Args:
-        log: Its text.
-        target: The output; None if there is none.
-        beside: A file for a second copy. Where it is there already another name is taken, and if
-            it is the output itself there is no copy.
-
-    If an output that is no path takes no more, and no copy could be made, a new file is made where
+    """Writes a log to its output, if there is one, and a copy beside it. Where the copy's file is
+    there already another name is taken, and if it is the output itself there is no copy. If an
+    output that is no path takes no more, and no copy could be made, a new file is made where
     temporary files stand.
     """
-    copy = None
-    if beside is not None and not _is_same(target, beside):
-        copy = free_name(beside)
-        if _write(log, copy) is not None:
-            copy.unlink(missing_ok=True)
-            copy = None
+    copy = None if beside is None or _is_same(target, beside) else free_name(beside)
+    if copy is not None and _write(log, copy) is not None:
+        copy.unlink(missing_ok=True)
+        copy = None
     fault = "it is closed" if target is None else _write(log, target)
-    if fault is None and isinstance(target, Path):
-        return Kept(None, target)
-    if fault is not None and copy is None and not isinstance(target, Path):
-        copy = _keep_elsewhere(log)
-    return Kept(fault, copy)
+    if isinstance(target, Path):
+        return Kept(fault, copy if fault else target)
+    return Kept(fault, _keep_elsewhere(log) if fault and copy is None else copy)
 
 
 def _keep_elsewhere(log: bytes) -> Optional[Path]:
@@ -64,13 +54,11 @@ def _keep_elsewhere(log: bytes) -> Optional[Path]:
         number, name = tempfile.mkstemp(".log", "tac-")
     except OSError:
         return None
-    output = Output(number)
-    is_whole = output.write(log)
     os.close(number)
-    if not is_whole:
-        os.remove(name)
-        return None
-    return Path(name)
+    if _write(log, Path(name)) is None:
+        return Path(name)
+    os.remove(name)
+    return None
 
 
 def _write(log: bytes, target: Union[BinaryIO, Path]) -> Optional[str]:

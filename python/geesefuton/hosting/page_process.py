@@ -96,23 +96,13 @@ class SideProcess:
 
 
 class PageProcess(SideProcess):
-    """The pages of a game: the board, and the seats that persons play, whose addresses the host is
-    shown. Started again, it serves each seat at the same address.
-
-    Args:
-        children: By which it is started.
-        settings: What the lobby was told.
-        words: The seat words.
-        port: The lobby's port for agents.
-        journal: The file that the board shows; None if there is no board.
-
-    Attributes:
-        seats: For each seat that persons may play its word, and the token of its page.
-    """
+    """The pages of a game: the board, which shows a journal, and the seats that persons play, whose
+    addresses the host is shown. Started again, it serves each seat at the same address."""
 
     def __init__(self, children: Children, settings: LobbySettings, words: List[str], port: int,
                  journal: Optional[Path]) -> None:
         begins = None if settings.start is None else time.monotonic() + settings.start
+        # For each seat that persons may play its word, and the token of its page.
         self.seats = [(word, new_token()) for word in words] if settings.by_hand is not None else []
 
         def told() -> bytes:

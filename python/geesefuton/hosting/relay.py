@@ -22,7 +22,7 @@ from geesefuton.hosting.events import End, Event
 from geesefuton.hosting.journal import Journal
 from geesefuton.hosting.links import MOST_SAID, OuterLink, Session
 from geesefuton.hosting.seats import Action, Give, Over, Refuse, Seat, Seats, State
-from geesefuton.network.addresses import plain_address
+from geesefuton.network.addresses import parsed
 from geesefuton.network.gate import Gate, Standing, most_links
 from geesefuton.network.loop import Loop, Served
 from geesefuton.records.dialects import MOST_LINE, is_bye
@@ -104,7 +104,7 @@ class Relay:
                 link.close()
                 continue
             try:
-                guest = OuterLink(next(self._numbers), link, visit, plain_address(where[0]))
+                guest = OuterLink(next(self._numbers), link, visit, str(parsed(where[0])))
             except OSError:  # it has gone already
                 visit.leave()
                 link.close()

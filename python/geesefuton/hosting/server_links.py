@@ -26,10 +26,8 @@ class LinkBytes(NamedTuple):
 
 
 def server_links(file: Path) -> List[LinkBytes]:
-    """The bytes of the link of each of the eight seats; none if the server had not started.
-
-    Args:
-        file: The journal.
+    """The bytes of the link of each of the eight seats, by a journal; none if the server had not
+    started.
 
     Raises:
         JournalError: It is no journal.
@@ -57,12 +55,12 @@ def is_vouched(said: str) -> bool:
 
 def audit_link(link: LinkBytes, game: Path, log: Union[Path, bytes], form: str, folder: Path,
                timeout: Optional[float] = None) -> str:
-    """What is said of a log by the bytes of one link.
+    """What is said of a log, a file or its bytes, by the bytes of one link.
 
     Args:
         link: The bytes.
         game: The game file.
-        log: The log, a file or its bytes.
+        log: The log.
         form: How the link's lines are written, `words` or `json`.
         folder: Where files may be made.
         timeout: The seconds that it may take; None for no limit.
@@ -79,21 +77,12 @@ def audit_link(link: LinkBytes, game: Path, log: Union[Path, bytes], form: str, 
 
 def audit_journal(journal: Path, game: Path, log: Union[Path, bytes], form: str, folder: Path,
                   most: float) -> Tuple[str, ...]:
-    """What is said of a log by the lobby's link of each seat; nothing if the server had not
-    started.
-
-    Args:
-        journal: The journal of the game.
-        game: The game file.
-        log: The log, a file or its bytes.
-        form: How the links' lines are written, `words` or `json`.
-        folder: Where files may be made.
-        most: The seconds that all of it may take.
+    """What is said of a log by the lobby's link of each seat, as `audit_link` does, all of it
+    within some seconds; nothing if the server had not started.
 
     Raises:
         JournalError: It is no journal.
-        OSError: It cannot be read, or the folder takes no more.
-        program.ProgramError: As in `audit_link`.
+        OSError, program.ProgramError: As in `audit_link`; or it cannot be read.
     """
     deadline = time.monotonic() + most
     return tuple(audit_link(link, game, log, form, folder, max(0.0, deadline - time.monotonic()))
@@ -101,12 +90,8 @@ def audit_journal(journal: Path, game: Path, log: Union[Path, bytes], form: str,
 
 
 def summary(words: Sequence[str], said: Sequence[str]) -> str:
-    """How many links are vouched for, such as `vouched 8 of 8`, and what is said of the others.
-
-    Args:
-        words: What each link is called.
-        said: What is said of each.
-    """
+    """How many links are vouched for, such as `vouched 8 of 8`, and what is said of the others, by
+    what each link is called."""
     others = [f"{word}: {each}" for word, each in zip(words, said) if not is_vouched(each)]
     more = f" ({'; '.join(others)})" if others else ""
     return f"vouched {len(said) - len(others)} of {len(said)}{more}"

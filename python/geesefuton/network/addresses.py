@@ -1,5 +1,4 @@
-"""The addresses of this machine and of links: listeners, one text for each, networks, and tokens of
-pages."""
+"""The addresses of this machine and of links: listeners, networks, and tokens of pages."""
 
 from __future__ import annotations
 
@@ -80,7 +79,7 @@ def page_address(host: str, port: int, token: str) -> str:
 
 
 def new_token() -> str:
-    """A token that nobody guesses: 49 bits, in letters and digits."""
+    """A token that nobody guesses, which a seat word may be: 49 bits, in letters and digits."""
     return "".join(secrets.choice(LETTERS) for _ in range(TOKEN))
 
 
@@ -95,15 +94,6 @@ def parsed(text: str) -> Address:
     return mapped or address
 
 
-def plain_address(text: str) -> str:
-    """The one text of an address: `fe80::1` of `FE80:0::1`.
-
-    Raises:
-        ValueError: It is no address.
-    """
-    return str(parsed(text))
-
-
 def network_of(text: str) -> Network:
     """The addresses that a text stands for: those of `2001:db8::/64`, or a single one.
 
@@ -116,11 +106,3 @@ def network_of(text: str) -> Network:
 def plain_network(network: Network) -> str:
     """The one text of some addresses, that of the address if it is a single one."""
     return str(network.network_address if network.num_addresses == 1 else network)
-
-
-def is_within(text: str, network: Network) -> bool:
-    """Whether a text is an address, and is among those of a network."""
-    try:
-        return parsed(text) in network
-    except ValueError:
-        return False

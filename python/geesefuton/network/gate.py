@@ -50,19 +50,14 @@ class Standing(enum.Enum):
 
 
 class Visit:
-    """A link at a gate, which is a stranger at first.
-
-    Attributes:
-        deadline: When its first line has to be whole, or its side ended, by the gate's clock;
-            infinite while neither is waited for.
-        standing: What is known of it.
-        end: Closes it. It is called if the visit has to make room for another.
-    """
+    """A link at a gate, which is a stranger at first."""
 
     def __init__(self, gate: "Gate", network: str, deadline: float) -> None:
-        self._gate, self.network, self.deadline = gate, network, deadline
-        self.standing, self.word, self.due = Standing.STRANGER, "", 0.0
-        self.end: Callable[[], None] = lambda: None
+        self._gate, self.network = gate, network
+        self.deadline = deadline  # when it is closed; infinite once its first line is whole
+        self.due = 0.0  # when that is judged then
+        self.standing, self.word = Standing.STRANGER, ""
+        self.end: Callable[[], None] = lambda: None  # closes it, if it has to make room
 
     def is_known(self) -> bool:
         """Whether it has shown a word or a token."""
@@ -113,16 +108,13 @@ class Gate:
             of them at most.
         first: The seconds until a first line has to be whole.
         own: The links that may have the same word or token.
-
-    Attributes:
-        banned: The networks from which no link is taken.
     """
 
     def __init__(self, clock: Callable[[], float], most: int, each: int, kept: int, first: float,
                  own: int = 16) -> None:
         self.clock, self._first, self._own = clock, first, own
         self._most, self._each, self._kept = most, each, min(kept, most // 2)
-        self.banned: Set[Network] = set()
+        self.banned: Set[Network] = set()  # from which no link is taken
         self._known: Counts[str] = Counter()
         self._crowds: Dict[str, List[Visit]] = {}  # those not known by networks, the eldest first
         self._until: Dict[str, float] = {}  # until when the lines of a network are put off
@@ -203,12 +195,8 @@ def _make_room(crowd: List[Visit], for_smaller: bool) -> bool:
 
 
 def most_links(most: int, others: int) -> int:
-    """How many links the system's limit of open files leaves, `most` at most.
-
-    Args:
-        most: The links that are wanted.
-        others: The open files that the rest of the process may need.
-    """
+    """How many links the system's limit of open files leaves, `most` at most, if the rest of the
+    process may need others."""
     try:
         from resource import RLIM_INFINITY, RLIMIT_NOFILE, getrlimit
     except ImportError:  # no such limit

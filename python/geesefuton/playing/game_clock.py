@@ -21,35 +21,23 @@ class GameClock:
 
     Args:
         pace: The seconds from tick to tick, if they were told; None to measure them.
-
-    Attributes:
-        tick: The last tick that was seen.
-        pace: The seconds from tick to tick; None while they are not known.
-        is_exact: Whether the number of the tick is known, and not just the least that it can be.
     """
 
     def __init__(self, pace: Optional[float] = None) -> None:
-        self.tick, self.pace, self.is_exact = 0, pace, False
+        self.tick = 0  # the last one that was seen
+        self.pace = pace  # None while it is not known
+        self.is_exact = False  # whether `tick` is known, and is not just the least that it can be
         self._is_told = pace is not None
         self._mark: Optional[Mark] = None
 
     def begin(self, now: float, closed: int, is_fresh: bool) -> None:
-        """The first look at the quotes.
-
-        Args:
-            now: When the welcome came.
-            closed: How many hotel nights are closed.
-            is_fresh: Whether the game began with the welcome, which otherwise came in it.
-        """
+        """The first look at the quotes shows so many hotel nights closed. The welcome came `now`,
+        and if it is fresh the game began with it."""
         self.tick, self.is_exact = MINUTE * closed, is_fresh
         self._mark = Mark(now, 0) if is_fresh else None
 
     def move(self, now: float) -> None:
-        """The flights have new prices.
-
-        Args:
-            now: When that happened.
-        """
+        """The flights have new prices."""
         if self._mark is None:
             self.tick += 1
             self._mark = Mark(now, self.tick)
@@ -62,12 +50,7 @@ class GameClock:
         self.tick = self._mark.tick + count
 
     def close(self, now: float, closed: int) -> None:
-        """A hotel night has closed, which tells the tick.
-
-        Args:
-            now: When that happened.
-            closed: How many of them are closed.
-        """
+        """A hotel night has closed: so many are closed now, which tells the tick."""
         mark, tick = self._mark or Mark(now, self.tick), MINUTE * closed
         if not self.is_exact:
             self._mark = Mark(mark.moment, mark.tick + tick - self.tick)

@@ -34,14 +34,13 @@ NOT_NOW = Answer(False, "There is no game now in which this could be asked.")
 
 @dataclass
 class Holding:
-    """What a seat knows of a good: its units, what stands there, the position of that reading, the
-    board, and when what stands may be read again."""
+    """What a seat knows of a good."""
 
     units: int = 0
-    points: Points = ()
-    at: int = -1
+    points: Points = ()  # what stands there
+    at: int = -1  # the position of that reading
     quote: Optional[Quote] = None
-    due: float = 0.0
+    due: float = 0.0  # when what stands may be read again
 
     def is_due(self, good: int) -> bool:
         """Whether what stood may have been traded since the last reading."""
@@ -83,17 +82,12 @@ class Seat:
     Args:
         greet: Takes the seat, and waits until the game begins.
         pace: The seconds from tick to tick, if they are known.
-
-    Attributes:
-        clients: The seat's clients, once the game has begun.
-        version: The number of the newest state.
-        tell: Is called in any thread once there is a new state.
     """
 
     def __init__(self, greet: Callable[[], Link], pace: Optional[float] = None) -> None:
         self._greet, self._pace = greet, pace
-        self.version = 0
-        self.tell: Callable[[], None] = lambda: None
+        self.version = 0  # the number of the newest state
+        self.tell: Callable[[], None] = lambda: None  # called in any thread once there is one
         self._lock = threading.RLock()
         self._state: Dict[str, Any] = {"phase": "idle"}
         self._asked: Optional[float] = None  # since when a reply is waited for
@@ -101,7 +95,7 @@ class Seat:
         self._reset()
 
     def _reset(self) -> None:
-        self.clients: List[Client] = []
+        self.clients: List[Client] = []  # once the game has begun
         self._phase, self._fault = "waiting", ""
         self._goods = [Holding() for _ in GOODS]
         self._clock, self._clock_closed = GameClock(self._pace), 0
@@ -132,11 +126,7 @@ class Seat:
         return phase
 
     def holdings(self, with_standing: bool = False) -> List[int]:
-        """What the seat holds of each good.
-
-        Args:
-            with_standing: As if all that stands were traded.
-        """
+        """What the seat holds of each good, or would hold if all that stands were traded."""
         return [units + (sum(count for count, _ in points) if with_standing else 0)
                 for units, points in self._state["goods"]]
 

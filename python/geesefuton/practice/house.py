@@ -20,7 +20,7 @@ from geesefuton.hosting.hosted_game import HostedGame
 from geesefuton.hosting.relay import OWN
 from geesefuton.hosting.seats import Seat
 from geesefuton.hosting.server import ClockServer
-from geesefuton.practice.teams import made_word
+from geesefuton.network.addresses import new_token
 from geesefuton.processes import why
 
 COMING = 15.0  # seconds that house agents have to take their seats
@@ -72,7 +72,7 @@ class HouseServer:
         for seat in game.relay.seats.seats:
             if seat.holder is not None:
                 continue
-            word, entrant = made_word(), self._house[seat.number % len(self._house)]
+            word, entrant = new_token(), self._house[seat.number % len(self._house)]
             printed = game.folder / f"out.{seat.number}"
             self.words[word] = seat.number
             try:

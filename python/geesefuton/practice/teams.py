@@ -6,17 +6,15 @@ import csv
 import html
 import json
 import re
-import secrets
 from dataclasses import dataclass
 from pathlib import Path
 from typing import Dict, List, Sequence
 
+from geesefuton.network.addresses import new_token
 from geesefuton.practice.folder import write_whole
 from geesefuton.program import CommandError
 from geesefuton.records.games import SEATS, is_seat_word
 
-LETTERS = "abcdefghijkmnpqrstuvwxyz23456789"  # without those that look like others
-LENGTH = 9  # letters of a word that is made
 MOST = 64  # teams of a room with several tables
 WORDS = "words.json"
 
@@ -32,11 +30,6 @@ class Team:
     name: str  # as it is shown
     key: str  # the name as a seat word of game files and logs, which anybody may see
     word: str  # by which its agent takes its seat
-
-
-def made_word() -> str:
-    """A word that nobody guesses."""
-    return "".join(secrets.choice(LETTERS) for _ in range(LENGTH))
 
 
 def read_teams(file: Path, folder: Path, most: int = SEATS) -> List[Team]:
@@ -61,7 +54,7 @@ def read_teams(file: Path, folder: Path, most: int = SEATS) -> List[Team]:
         if len(row) > 2 or not key or word and not is_seat_word(word):
             raise TeamsError(f"{file}: {','.join(row)!r} is not a team: give a name with letters a "
                              "to z or digits, and optionally a word of 1 to 16 of these")
-        teams.append(Team(name, key, word or known.get(key) or made_word()))
+        teams.append(Team(name, key, word or known.get(key) or new_token()))
     if not 1 <= len(teams) <= most:
         raise TeamsError(f"{file} has {len(teams)} teams, but " + (
             f"a room has 1 to {most}" if most > SEATS else
