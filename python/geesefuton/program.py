@@ -348,16 +348,17 @@ def upgrade(game: Word) -> str:
     return run("upgrade", game)
 
 
-def play(game: Word, script: Word) -> str:
-    """The reply lines of a script's requests, and then the log."""
-    return run("play", game, script)
+def play(game: Word, script: Word, timeout: Optional[float] = None) -> str:
+    """The reply lines of a script's requests, and then the log, within some seconds."""
+    return run("play", game, script, timeout=timeout)
 
 
-def audit(game: Word, log: Union[Word, bytes]) -> str:
-    """What the audit says of a log, a file or its bytes: `sound`, or its first flaw, such as
-    `unsound score 0`."""
+def audit(game: Word, log: Union[Word, bytes], timeout: Optional[float] = None) -> str:
+    """What the audit says, within some seconds, of a log, a file or its bytes: `sound`, or its
+    first flaw, such as `unsound score 0`."""
     given, file = (log, INPUT) if isinstance(log, bytes) else (b"", log)
-    return run("audit", game, file, given=given, allowed=(OK, UNSOUND)).rstrip("\n")
+    return run("audit", game, file, given=given, allowed=(OK, UNSOUND),
+               timeout=timeout).rstrip("\n")
 
 
 def vouch(game: Word, log: Union[Word, bytes], asked: Word, said: Word, form: str = "words",

@@ -215,7 +215,7 @@ class Keeping(unittest.TestCase):
 
     def test_it_is_a_new_file_of_its_owner(self) -> None:
         journal = self.open()
-        self.assertTrue(journal._syncing.daemon)  # a lobby that fails does not wait for it
+        self.assertTrue(all(each.daemon for each in journal._threads))  # a lobby may fail
         self.assertEqual(self.file.stat().st_mode & 0o777, 0o600)
         with self.assertRaises(FileExistsError):
             Journal(self.file, self.fail)
@@ -321,6 +321,29 @@ class Keeping(unittest.TestCase):
         with mock.patch("os.fsync", side_effect=OSError(errno.EIO, "Input/output error")):
             journal.close()
         self.assertEqual(len(self.warned), 1)
+
+    def test_a_disk_that_stalls_is_told_and_waited_for(self) -> None:
+        goes_on, write = threading.Event(), os.write
+
+        def slow(number: int, data: bytes) -> int:
+            goes_on.wait(60.0)
+            return write(number, data)
+
+        with mock.patch("geesefuton.hosting.journal.SYNC", 0.01), \
+                mock.patch("geesefuton.hosting.journal.STALL", 0.05), mock.patch("os.write", slow):
+            journal = self.open()
+            told = threading.Thread(target=journal.tell, kwargs={"tick": 0, "t": 0})
+            told.start()
+            deadline = time.monotonic() + 60.0
+            while not self.warned and time.monotonic() < deadline:
+                time.sleep(0.01)
+            self.assertEqual(self.file.read_text(), "")
+            goes_on.set()
+            told.join()
+            journal.close()
+        self.assertEqual(self.warned, [f"the disk of the journal {self.file} has taken nothing for "
+                                       "0.05 seconds: the game waits for it"])
+        self.assertEqual((self.file.read_text(), journal.is_whole), ('{"tick":0,"t":0}\n', True))
 
     def test_a_closed_journal_holds_no_file(self) -> None:
         before = len(os.listdir("/dev/fd"))

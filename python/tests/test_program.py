@@ -123,6 +123,8 @@ class Commands(unittest.TestCase):
         self.use("exec sleep 20")
         with self.assertRaisesRegex(ProgramError, "tac make took longer than 0.1 seconds"):
             program.run("make", 1, timeout=0.1)
+        with self.assertRaisesRegex(ProgramError, "tac audit took longer than 0.1 seconds"):
+            program.audit("g", "l", 0.1)
 
     def test_a_program_that_is_not_there(self) -> None:
         self.set({"TAC": str(self.place / "none")})

@@ -32,7 +32,7 @@ class Telling(unittest.TestCase):
         """Runs the command on a journal, and gives its exit status and the lines that it tells."""
         (self.folder / "journal").write_text("".join(line + "\n" for line in lines))
         command = "geesefuton.hosting.recover_command"
-        with mock.patch(f"{command}.Player", lambda folder: CountingPlayer()), \
+        with mock.patch(f"{command}.Player", lambda folder, _: CountingPlayer()), \
                 mock.patch(f"{command}.Output",
                            lambda target: Output(self.log if target == 1 else target)):
             status, text = refusal("hosting.recover_command", self.folder / "journal", *words)

@@ -296,11 +296,11 @@ class Making(unittest.TestCase):
 class Playing(unittest.TestCase):
     """The program that a player runs."""
 
-    def play(self, body: str, script: str) -> Tuple[List[str], str]:
+    def play(self, body: str, script: str, longest: float = 60.0) -> Tuple[List[str], str]:
         with tempfile.TemporaryDirectory() as place:
             folder = Path(place)
             with mock.patch.dict(os.environ, {"TAC": fake_program(folder, body)}):
-                return Player(folder).play("the game\n", script)
+                return Player(folder, longest).play("the game\n", script)
 
     def test_reply_lines_come_before_the_log(self) -> None:
         body = '[ "$1" = play ] && cat "$3" && echo taclog 1 && cat "$2"'
@@ -315,6 +315,10 @@ class Playing(unittest.TestCase):
     def test_a_refusal(self) -> None:
         with self.assertRaisesRegex(RecoveryError, "exit status 8 .*text 1 2"):
             self.play("echo text 1 2; exit 8", "")
+
+    def test_one_that_takes_too_long(self) -> None:
+        with self.assertRaisesRegex(RecoveryError, "tac play took longer than 0.1 seconds"):
+            self.play("exec sleep 60", "", 0.1)
 
 
 @needs_program

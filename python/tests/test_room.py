@@ -174,7 +174,7 @@ class Teams(Case):
         teams = read_teams(file, self.path)
         self.assertEqual([(team.name, team.key) for team in teams],
                          [("Red Foxes", "redfoxes"), ("Blau", "blau")])
-        self.assertRegex(teams[0].word, "^[a-z2-9]{9}$")
+        self.assertRegex(teams[0].word, "^[a-z2-9]{10}$")
         keep_words(self.path, teams)
         self.assertEqual(self.read("Red Foxes\n"), [("Red Foxes", "redfoxes", teams[0].word)])
         self.assertEqual(self.read("Blau\n"), [("Blau", "blau", "b4")])

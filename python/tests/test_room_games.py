@@ -16,7 +16,7 @@ from geesefuton.hosting.lobby import LobbyError
 from geesefuton.hosting.relay import OWN
 from geesefuton.practice import room, table
 from geesefuton.practice.folder import Finished, digest_of
-from geesefuton.practice.room import Room
+from geesefuton.practice.room import AUDITING, Room
 from geesefuton.practice.table import TableSettings
 from geesefuton.practice.teams import Team
 from geesefuton.records.games import read_game
@@ -172,6 +172,7 @@ class Rooms(Case):
                          [(1, SCORES, ""), (2, SCORES, "")])
         self.assertEqual(self.told[0], "game 1 does not count yet: memory was refused; its log is "
                          "kept, and audited again after the next game")
+        self.assertEqual({call[0][2] for call in self.audit.call_args_list}, {AUDITING})
 
     def test_a_game_that_was_not_judged_before_a_stop_is_judged_at_the_next_start(self) -> None:
         self.audit.side_effect = program.ProgramError("no program")

@@ -41,6 +41,7 @@ from geesefuton.records.rules import clock_ticks
 
 VERSION = 1
 SYNC = 1.0  # seconds between two requests to put what was written onto the disk
+STALL = 3.0  # seconds after which it is told that a disk takes nothing
 _quoted = json.JSONEncoder().encode  # `json.dumps` of a text, in half the time
 NO_DISK = (errno.EINVAL, errno.ENOTSUP)  # what `fsync` says of a pipe or the like
 
@@ -49,11 +50,13 @@ class Journal:
     """Writes a journal. Lines are kept until `flush`, or until a line that `tell` writes.
 
     Once the file takes no more, `warn` is called and nothing more is written. Once the disk fails
-    to keep what was written, `warn` is called, and the journal goes on.
+    to keep what was written, `warn` is called, and the journal goes on. While a disk stalls, the
+    game waits: an agent gets no reply that the journal does not have, and to leave each line to a
+    thread that may be given up would cost each request a tenth more.
 
     Args:
         file: A new file; None if nothing is to be written.
-        warn: Is told what fails, in the thread that writes.
+        warn: Is told what fails, in any thread.
 
     Raises:
         OSError: The file is there already, or cannot be made.
@@ -66,14 +69,17 @@ class Journal:
         self._number: Optional[int] = None
         self._loss: Optional[OSError] = None  # why the disk did not keep something
         self._is_loss_told = self._is_dirty = False
+        self._writing: Optional[float] = None  # since when a line is written
         self._closed = threading.Event()
-        self._syncing: Optional[threading.Thread] = None
+        self._threads: List[threading.Thread] = []
         if file is not None:  # it has the seat words, which are passwords
             how = os.O_WRONLY | os.O_CREAT | os.O_EXCL | os.O_APPEND
             self._number = os.open(file, how, 0o600)
             self._sync_folder(file.parent)
-            self._syncing = threading.Thread(target=self._sync, args=(self._number,), daemon=True)
-            self._syncing.start()
+            self._threads = [threading.Thread(target=self._sync, args=(self._number,), daemon=True),
+                             threading.Thread(target=self._watch, daemon=True)]
+            for thread in self._threads:
+                thread.start()
 
     @property
     def is_whole(self) -> bool:
@@ -124,20 +130,20 @@ class Journal:
         if not self._held:
             return
         data = memoryview(("\n".join(self._held) + "\n").encode("ascii"))
-        self._held = []
+        self._held, self._writing = [], time.monotonic()
         while data and self._number is not None:
             try:
                 data = data[os.write(self._number, data):]
             except OSError as fault:
                 self._give_up(fault)
-        self._is_dirty = True
+        self._is_dirty, self._writing = True, None
 
     def close(self) -> None:
         """Writes all that is kept, waits until it is on the disk, and closes the file."""
         self.flush()
         self._closed.set()
-        if self._syncing is not None:
-            self._syncing.join()
+        for thread in self._threads:
+            thread.join()
         self._tell_loss()
 
     def _give_up(self, fault: OSError) -> None:
@@ -166,6 +172,16 @@ class Journal:
             self._put_new(number)
         self._put_new(number)
         os.close(number)
+
+    def _watch(self) -> None:
+        """Tells of each line that takes long to be written."""
+        told: Optional[float] = None
+        while not self._closed.wait(SYNC):
+            since = self._writing
+            if since is not None and since != told and time.monotonic() - since > STALL:
+                told = since
+                self._warn(f"the disk of the journal {self.file} has taken nothing for {STALL:g} "
+                           "seconds: the game waits for it")
 
     def _put_new(self, number: int) -> None:
         if self._is_dirty:

@@ -75,7 +75,7 @@ def _main() -> int:
     given = _arguments()
     reader = read_journal(given.journal)
     with Children() as children:
-        player = Player(children.folder("recover"))
+        player = Player(children.folder("recover"), None)  # somebody waits for it
         try:
             recovery = Recovery(reader, player, given.pending)
             log, faults = recovery.log()

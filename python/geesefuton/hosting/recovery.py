@@ -17,7 +17,7 @@ import heapq
 import itertools
 from collections import defaultdict
 from pathlib import Path
-from typing import Dict, Iterable, Iterator, List, NamedTuple, Sequence, Tuple
+from typing import Dict, Iterable, Iterator, List, NamedTuple, Optional, Sequence, Tuple
 
 from geesefuton import program
 from geesefuton.hosting.journal import Exchange, JournalReader, Schedule
@@ -25,6 +25,7 @@ from geesefuton.records.dialects import CASH
 from geesefuton.records.games import GOODS, TICKS
 
 MOST_TRIES = 300  # places of requests without a reply that are tried in an auction
+LONGEST = 60.0  # seconds that a script may take by default
 
 Guess = Dict[int, Exchange]  # by position
 
@@ -34,21 +35,21 @@ class RecoveryError(program.CommandError):
 
 
 class Player:
-    """Plays scripts by `tac play`, in a folder of its own."""
+    """Plays scripts by `tac play`, in a folder of its own, each within some seconds."""
 
-    def __init__(self, folder: Path) -> None:
-        self._game, self._script = folder / "game", folder / "script"
+    def __init__(self, folder: Path, longest: Optional[float] = LONGEST) -> None:
+        self._game, self._script, self._longest = folder / "game", folder / "script", longest
 
     def play(self, game: str, script: str) -> Tuple[List[str], str]:
         """The reply lines of a script, and the log.
 
         Raises:
-            RecoveryError: The program refuses the game or the script.
+            RecoveryError: The program refuses the game or the script, or takes too long.
         """
         self._game.write_text(game, encoding="ascii")
         self._script.write_text(script, encoding="latin-1")
         try:
-            text = program.play(self._game, self._script)
+            text = program.play(self._game, self._script, self._longest)
         except program.ProgramError as fault:
             raise RecoveryError(str(fault)) from None
         start = 0 if text.startswith("taclog ") else text.index("\ntaclog ") + 1

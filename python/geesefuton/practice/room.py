@@ -32,6 +32,7 @@ from geesefuton.records.logs import LogError, read_scores
 AGAIN = 5.0  # seconds until what failed is tried again
 LOOK = 0.2  # seconds between two looks at tables
 SEATING = 1.0  # seconds that a table has to take the links that are handed to it
+AUDITING = 60.0  # seconds that the audit of a log may take
 
 
 class Room:
@@ -253,7 +254,8 @@ class Room:
         fault, log = game.fault, self._folder.file(game.number, "log").read_bytes()
         scores: Sequence[int] = ()
         try:
-            said = "sound" if fault else program.audit(self._folder.file(game.number, "game"), log)
+            said = "sound" if fault else program.audit(self._folder.file(game.number, "game"), log,
+                                                       AUDITING)
             if said != "sound":
                 fault = f"the audit says `{said}`"
             elif not fault:

@@ -144,6 +144,7 @@ def _end(folder: Folder) -> str:
 def _main() -> int:
     given = _arguments()
     program.find()
+    house = _house(given.house)
     with contextlib.closing(Teller(())) as teller, \
             contextlib.closing(Folder(given.folder, given.seed)) as folder, Children() as children:
         if given.end:
@@ -151,7 +152,7 @@ def _main() -> int:
             return 0
         if given.page is not None:
             listener_at(given.page).close()  # so that a port that is taken is told now
-        house, address = _house(given.house), given.address or own_address()
+        address = given.address or own_address()
         teams = _make_teams(given, address)
         room = Room(TableSettings(given.port, given.pace, given.wait, given.after, house,
                                   sys.stdin), folder,
