@@ -1,14 +1,16 @@
 #!/usr/bin/env python3
-"""Hosts games for hostile classrooms: eight clients play, and all others try to do harm.
+"""Hosts games for hostile classrooms: eight clients play, one of them by hand, and all others try
+to do harm.
 
     tests/soak/classroom.py --games N --at-once M --first SEED
 
 A seed determines a classroom of forty clients. Each of the 32 that do not play does one thing again
 and again: it opens links and says nothing, sends half a line or half a head, a line without an end,
 words that no seat has, or the word of a seat that is taken; it resets its links, reads nothing,
-holds many event streams, or opens the pages for playing by hand. Besides, one thing befalls the
-host: the journal's disk is full, the pages are killed, no file can be opened for a while, or the
-terminal is closed or stopped.
+holds many event streams, or opens the pages for playing by hand. Some who guess words sit behind
+the same router as players. Besides, one thing befalls the host: the journal's disk is full, the
+pages are killed, no file can be opened or no process started for a while, the clock is set back, or
+the terminal is closed or stopped.
 
 The game has to end, with a sound log that is right about each player's record. No player may wait
 for a reply for more than two ticks, and the host's processes may have 300 MB of memory in all. A
@@ -40,16 +42,17 @@ from geesefuton import program  # noqa: E402
 from geesefuton.arguments import Parser, whole  # noqa: E402
 from geesefuton.processes import Children, command, free_port  # noqa: E402
 
-LOBBY = [sys.executable, "-m", "geesefuton.hosting.lobby_command"]
+LOBBY = [sys.executable, str(Path(__file__).with_name("troubled_lobby.py"))]
 PLAYERS = [sys.executable, str(Path(__file__).with_name("eight_players.py"))]
 HOSTILE, SEATS = 32, 8
 PACE = 500  # milliseconds
+START = 8  # seconds until the game begins
 MOST_TICKS = 2  # that a player may wait for a reply
 MOST_MEMORY = 300  # megabytes of the host's processes
 LONGEST = 150.0  # seconds for a game
 FILES = 512  # that a process of the host may have open
 MOST_HELD = 60  # links that a hostile client holds
-BEFALLS = ("nothing", "full disk", "pages killed", "no files", "HUP", "TSTP")
+BEFALLS = ("nothing", "full disk", "pages killed", "no files", "HUP", "TSTP", "clock", "processes")
 Links = Tuple[asyncio.StreamReader, asyncio.StreamWriter]
 
 
@@ -142,7 +145,9 @@ class Hostile:
         writer.transport.abort()
 
     async def guess(self) -> None:
-        """Guesses words and tokens."""
+        """Guesses words and tokens, behind the router of players once these have their seats."""
+        if self._address.startswith("127.1.") and "begins" not in self._told():
+            return
         for _ in range(20):
             word = "".join(self._dice.choice("abcdefgh") for _ in range(5))
             await self._send(f"hello {word}\n".encode(), "agents")
@@ -181,6 +186,7 @@ class Classroom:
         befalls: What befalls the host.
         kinds: Of harm.
         longest: Seconds that a player waited for a reply.
+        by_hand: Those that the page of one who plays by hand took for each bid.
         memory: Bytes that the host's processes had at most.
         wrong: What went wrong.
     """
@@ -193,7 +199,7 @@ class Classroom:
         self.befalls = BEFALLS[seed % len(BEFALLS)]
         self.kinds = sorted(self._dice.choice(KINDS) for _ in range(HOSTILE))
         self.wrong: List[str] = []
-        self.longest, self.memory = 0.0, 0
+        self.longest, self.by_hand, self.memory = 0.0, list[float](), 0
 
     def _told(self) -> str:
         return (self._folder / "told").read_text(errors="replace")
@@ -203,18 +209,18 @@ class Classroom:
         with Children() as children, self._log.open("wb") as log, \
                 (self._folder / "told").open("wb") as told:
             host = children.start(
-                [*LOBBY, str(self._game), str(self._ports["agents"]), str(PACE), "--start", "8",
+                [*LOBBY, str(self._game), str(self._ports["agents"]), str(PACE), "--start", str(START),
                  "--after", "3", "--journal", str(self._folder / "journal"), "--page",
                  str(self._ports["page"]), "--by-hand", str(self._ports["by hand"])],
                 stdin=subprocess.PIPE, stdout=log, stderr=told, cwd=self._folder,
-                env={**os.environ, "PYTHONPATH": str(TOP / "python")})
+                env={**os.environ, "AGENT_RECORD": str(self._folder)})
             resource.prlimit(host.pid, resource.RLIMIT_NOFILE, (FILES, FILES))
             players = children.start(
                 [*PLAYERS, str(self._ports["agents"]), str(self._seed), str(self._folder)],
                 stdout=subprocess.PIPE)
-            hostile = [Hostile(self._ports, f"127.0.{1 + number % 9}.{2 + number}",
+            hostile = [Hostile(self._ports, address_of(number, kind),
                                random.Random(f"{self._seed} {number}"), self._told)
-                       for number in range(HOSTILE)]
+                       for number, kind in enumerate(self.kinds)]
             tasks = [asyncio.ensure_future(each.harm(kind))
                      for each, kind in zip(hostile, self.kinds)]
             tasks += [asyncio.ensure_future(self._measure(host.pid)),
@@ -231,9 +237,15 @@ class Classroom:
             self._judge(status, players)
 
     async def _befall(self, host: "subprocess.Popen[bytes]") -> None:
-        """Lets one thing befall the host during the game."""
-        while "begins" not in self._told():
+        """Lets one thing befall the host during the game; it cannot start the server, either."""
+        file = self._folder / self.befalls
+        due = "waiting at port" if self.befalls == "processes" else "begins"
+        while due not in self._told():
             await asyncio.sleep(0.1)
+        if self.befalls == "processes":
+            file.touch()
+            await asyncio.sleep(START + 4)
+            file.unlink()
         await asyncio.sleep(self._dice.random() * 40 * PACE / 1000)
         if self.befalls == "full disk":
             resource.prlimit(host.pid, resource.RLIMIT_FSIZE, (10_000, -1))
@@ -247,6 +259,10 @@ class Classroom:
             resource.prlimit(host.pid, resource.RLIMIT_NOFILE, (3, FILES))
             await asyncio.sleep(5)
             resource.prlimit(host.pid, resource.RLIMIT_NOFILE, (FILES, FILES))
+        elif self.befalls in ("clock", "processes"):
+            file.touch()
+            await asyncio.sleep(3)
+            file.unlink()
         elif self.befalls == "HUP":
             host.send_signal(signal.SIGHUP)
         elif self.befalls == "TSTP":
@@ -265,13 +281,16 @@ class Classroom:
             self.wrong.append(f"status {status}: {self._told().strip().splitlines()[-1:]}")
             return
         played = json.loads(players.communicate(timeout=30)[0])
-        self.longest = played["longest"]
+        self.longest, self.by_hand = played["longest"], played["by hand"]
         self.wrong += played["wrong"]
         verdict = program.audit(self._game, self._log)
         if verdict != "sound":
             self.wrong.append(verdict)
-        for seat in range(SEATS):
-            asked, said = [self._folder / f"{seat}.{name}" for name in ("asked", "said")]
+        names = [str(seat) for seat in range(SEATS - 1)]
+        if not (self._folder / "seat7.2.asked").exists():  # otherwise its page was started again
+            names.append("seat7")
+        for seat, name in enumerate(names):
+            asked, said = [self._folder / f"{name}.{side}" for side in ("asked", "said")]
             verdict = program.vouch(self._game, self._log, asked, said)
             if not verdict.startswith(f"vouched {seat} whole"):
                 self.wrong.append(f"seat{seat}: {verdict}")
@@ -279,6 +298,12 @@ class Classroom:
             self.wrong.append(f"a player waited {self.longest:.2f} s")
         if self.memory > MOST_MEMORY << 20:
             self.wrong.append(f"{self.memory >> 20} MB of memory")
+
+
+def address_of(number: int, kind: str) -> str:
+    """The address of a hostile client. Every other one that guesses has that of players."""
+    beside = kind == "guess" and number % 2
+    return f"127.1.0.{2 + number // 2 % 2}" if beside else f"127.0.{1 + number % 9}.{2 + number}"
 
 
 def _ended(host: "subprocess.Popen[bytes]") -> Optional[int]:
@@ -318,7 +343,8 @@ async def _classroom(seed: int) -> List[str]:
         room = Classroom(seed, Path(folder))
         await room.play()
         print(json.dumps({"seed": seed, "befalls": room.befalls, "harm": sorted(set(room.kinds)),
-                          "longest wait": round(room.longest, 2),
+                          "longest wait": round(room.longest, 2), "bids by hand":
+                          len(room.by_hand), "longest": max(room.by_hand, default=None),
                           "megabytes": room.memory >> 20, "wrong": room.wrong}), flush=True)
         return room.wrong
 
@@ -346,8 +372,7 @@ def main() -> int:
     seeds = range(given.first, given.first + given.games)
     with ThreadPoolExecutor(given.at_once) as pool:
         wrong = sum(pool.map(_in_own_process, seeds))
-    print(f"{given.games} classrooms, {wrong} of them wrong; not tried: a clock that is set back, "
-          "no room for processes, players by hand")
+    print(f"{given.games} classrooms, {wrong} of them wrong")
     return int(wrong > 0)
 
 

@@ -1,22 +1,26 @@
 #!/usr/bin/env python3
-"""Plays all eight seats of a hosted game, each over a link of its own, until tickets are closed.
+"""Plays all eight seats of a hosted game until tickets are closed: seven each over a link of its
+own, and one by hand, as a browser does on the seat's page.
 
     tests/soak/eight_players.py PORT SEED FOLDER
 
 Each seat's requests are drawn from the seed. What it sent and was sent is written to SEAT.asked and
-SEAT.said in the folder. The script prints a JSON object with the longest time in seconds that a
-reply took, and a list of what went wrong.
+SEAT.said in the folder. The page's address is in its file `told`, which the lobby writes. The
+script prints a JSON object with the longest time in seconds that a reply took, the times that bids
+by hand took, whose page runs at a lower priority, and a list of what went wrong.
 """
 
 import asyncio
 import json
 import random
+import re
 import sys
 import time
 from pathlib import Path
-from typing import List, Tuple
+from typing import Any, Dict, List, Tuple
 
 SEATS, PAUSE = 8, 0.5  # and the seconds that a player waits at most between two requests
+BY_HAND = SEATS - 1
 Links = Tuple[asyncio.StreamReader, asyncio.StreamWriter]
 
 
@@ -32,6 +36,7 @@ class Players:
     def __init__(self, port: int, seed: int, folder: Path) -> None:
         self.port, self.seed, self.folder = port, seed, folder
         self.longest = 0.0
+        self.by_hand: List[float] = []  # seconds that each bid by hand took
         self.wrong: List[str] = []
 
     async def play(self, seat: int) -> None:
@@ -58,6 +63,49 @@ class Players:
         (self.folder / f"{seat}.asked").write_bytes(asked)
         (self.folder / f"{seat}.said").write_bytes(said)
 
+    async def play_by_hand(self) -> None:
+        """Plays the last seat on its page. Whatever befalls the page, it is opened again."""
+        dice, page, state = random.Random(f"{self.seed} page"), "", dict[str, Any]()
+        while state.get("phase") not in ("over", "failed"):
+            told = (self.folder / "told").read_text(errors="replace")
+            if "the game is over" in told and not page:
+                break
+            await asyncio.sleep(dice.random() * PAUSE)
+            try:
+                page = page or (await self._post(told, "open", page=""))["page"]
+                begun = time.monotonic()
+                if state.get("phase") == "running":
+                    await self._post(told, "bid", page=page, good=dice.randrange(28),
+                                     points=[[1, dice.randint(1, 400)]])
+                    self.by_hand.append(round(time.monotonic() - begun, 2))
+                state = await self._post(told, "state", page=page, after=state.get("version"))
+            except (OSError, KeyError, ValueError):
+                page = ""
+        if state.get("phase") != "over":
+            self.wrong.append(f"by hand: {state.get('phase')} {state.get('fault')}")
+
+    async def _post(self, told: str, what: str, **given: Any) -> Dict[str, Any]:
+        """The answer of the seat's page.
+
+        Raises:
+            OSError: It is not there.
+            ValueError: It has no address, or the answer is none.
+        """
+        found = re.search(rf"seat{BY_HAND}: http://[^/]+:(\d+)(/\w+/)", told)
+        if found is None:
+            raise ValueError("it has no address")
+        reader, writer = await asyncio.open_connection(
+            "127.0.0.1", int(found[1]), local_addr=(f"127.1.0.{2 + BY_HAND // 4}", 0))
+        body = json.dumps(given)
+        writer.write(f"POST {found[2]}{what} HTTP/1.1\r\nContent-Type: application/json\r\nConnection: "
+                     f"close\r\nContent-Length: {len(body)}\r\n\r\n{body}".encode())
+        try:
+            answer = await reader.read()
+        finally:
+            writer.close()
+        told_back: Dict[str, Any] = json.loads(answer.partition(b"\r\n\r\n")[2])
+        return told_back
+
     async def _seated(self, seat: int) -> Links:
         """A link that has greeted. Four players have one address, as behind a router."""
         while True:
@@ -77,7 +125,7 @@ def _request(dice: random.Random) -> bytes:
 
 
 async def _play(players: Players) -> None:
-    await asyncio.gather(*map(players.play, range(SEATS)))
+    await asyncio.gather(players.play_by_hand(), *map(players.play, range(BY_HAND)))
 
 
 def main() -> int:
@@ -85,7 +133,8 @@ def main() -> int:
     port, seed, folder = sys.argv[1:]
     players = Players(int(port), int(seed), Path(folder))
     asyncio.run(_play(players))
-    print(json.dumps({"longest": players.longest, "wrong": players.wrong}))
+    print(json.dumps({"longest": players.longest, "by hand": players.by_hand,
+                      "wrong": players.wrong}))
     return 0
 
 

@@ -76,7 +76,7 @@ class Live:
         return self._reader.status is not None or self._has_ended
 
     def cut(self) -> None:
-        """Is called once nobody writes the journal any more; what it has is still read."""
+        """Nobody writes the journal any more; what it has is still read."""
         self._is_cut = True
 
     async def follow(self) -> None:
@@ -111,7 +111,8 @@ class Live:
         while not self._is_final:
             is_over = self.is_over()
             now = self._reader.lines, is_over
-            if self._is_due(is_over) and known != now:
+            would_be_shown = self._reader.has_begun and (is_over or self._view.late < TICKS)
+            if would_be_shown and known != now:
                 known, start = now, time.monotonic()
                 await self._make_projection()
                 took = time.monotonic() - start
@@ -122,19 +123,13 @@ class Live:
             while time.monotonic() < due and not self.is_over():
                 await asyncio.sleep(min(0.1, each))
 
-    def _is_due(self, is_over: bool) -> bool:
-        """Whether a projection would be shown, now or later."""
-        return self._reader.has_begun and (is_over or self._view.late < TICKS)
-
     async def _make_projection(self) -> None:
         """Makes a projection, unless something fails: then the page goes on with what it has."""
         assert self._nights is not None
         reader, nights = self._reader.copy(), self._nights.now()
         try:
             self._add(await asyncio.to_thread(project, reader, nights, self._player))
-        except (RecoveryError, LogError) as fault:
-            self._faults.tell(f"live: no scores at tick {reader.tick}", str(fault))
-        except OSError as fault:  # such as too many open files
+        except (RecoveryError, LogError, OSError) as fault:  # such as too many open files
             self._faults.tell(f"live: no scores at tick {reader.tick}", why(fault))
 
     def _add(self, made: Projection) -> None:

@@ -50,11 +50,6 @@ class Lobby:
     Raises:
         LobbyError: A port is taken, or the page's port is that of the game.
         program.ProgramError: There is no program, or it refuses the game file.
-
-    Attributes:
-        port: The port for agents, on which links are taken from the beginning on.
-        words: The seat words.
-        control: How far the game is, and what is asked of it.
     """
 
     def __init__(self, settings: LobbySettings, serving: Optional[Serving] = None) -> None:
@@ -63,8 +58,9 @@ class Lobby:
         self._text = program.show(settings.game)
         self.words = self._text.split("\n")[1].split()[1:]
         _check_pages(settings)
+        # Links are taken from the beginning on.
         self._listeners = list(settings.listeners) or [listener_at(settings.port)]
-        self.port: int = self._listeners[0].getsockname()[1]
+        self.port: int = self._listeners[0].getsockname()[1]  # for agents
         self.control = Control()
         self._game: Optional[HostedGame] = None
 
@@ -107,10 +103,10 @@ class Lobby:
             self._game = game
             status = self._host(game)
             if game.page and not game.is_stopped:
-                stays = self.settings.stays
-                if not stays:  # otherwise it ends by the host's word alone
+                if not self.settings.stays:  # otherwise it ends by the host's word alone
                     game.page.close()
-                game.page.wait(float("inf") if stays else SHOWING, lambda: game.is_stopped)
+                game.page.wait(float("inf") if self.settings.stays else SHOWING,
+                               lambda: game.is_stopped)
         return status
 
     def waits_for(self) -> Tuple[float, List[str]]:
@@ -143,8 +139,7 @@ class Lobby:
         status = self._serving.play(game)
         if status == STOPPED:
             return self._stop(game)
-        if status < 0:  # ended by a signal: as a shell tells it
-            status = 128 - status
+        status = status if status >= 0 else 128 - status  # of a signal as a shell tells it
         game.relay.settle()
         self._end_all(game)
         for listener in self._listeners:
@@ -155,16 +150,14 @@ class Lobby:
 
     def _gather(self, game: HostedGame) -> None:
         """Waits until the game may begin."""
-        given, never = self.settings, float("inf")
-        deadline = never if given.start is None else time.monotonic() + given.start
-        guest_deadline = never
+        given, began, came = self.settings, time.monotonic(), float("inf")
+        start, wait = (float("inf") if seconds is None else seconds
+                       for seconds in (given.start, given.wait))
         while game.relay.seats.missing() and not self.control.is_begin_asked:
             now = time.monotonic()
-            if not game.relay.seats.is_anybody_here():
-                guest_deadline = never
-            elif guest_deadline == never and given.wait is not None:
-                guest_deadline = now + given.wait
-            left = min(deadline, guest_deadline) - now
+            # When the first of those came who are here.
+            came = min(came, now) if game.relay.seats.is_anybody_here() else float("inf")
+            left = min(began + start, came + wait) - now
             if game.is_stopped or left <= 0:
                 break
             game.turn(min(LOOK, left))
@@ -220,8 +213,7 @@ def _vouching(game: HostedGame) -> Tuple[str, ...]:
         file.write_text(game.text, encoding="ascii")
         return audit_journal(journal.file, file, log, game.settings.form, game.folder, VOUCHING)
     except (JournalError, OSError, program.ProgramError) as fault:
-        told = why(fault) if isinstance(fault, OSError) else str(fault)
-        game.warn(f"cannot compare the log with the lobby's links: {told}")
+        game.warn(f"cannot compare the log with the lobby's links: {why(fault)}")
     return ()
 
 

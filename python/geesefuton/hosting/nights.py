@@ -30,11 +30,7 @@ class Night:
 
 
 class Nights:
-    """The hotel nights of a game that has begun.
-
-    Args:
-        reader: The journal.
-    """
+    """The hotel nights of a game that has begun."""
 
     def __init__(self, reader: JournalReader) -> None:
         self._nights = {good: _RunningNight(reader, good) for good in HOTELS}

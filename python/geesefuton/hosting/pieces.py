@@ -51,15 +51,9 @@ class Piece(NamedTuple):
 
 
 class Difference(NamedTuple):
-    """Where pieces and a seat's link differ.
+    """Where pieces and a seat's link differ, and what is there and should be."""
 
-    Attributes:
-        where: The piece and its line, such as `red7k.2, line 14`, counted from 1 behind the
-            greeting, or `the seat's link, line 20`.
-        what: What is there, and what should be.
-    """
-
-    where: str
+    where: str  # such as `red7k.2, line 14`, counted from 1 behind the greeting
     what: str
 
 
@@ -102,13 +96,8 @@ def stems_of(mine: Path) -> List[Path]:
 
 def first_difference(pieces: Sequence[Piece], link: LinkBytes, welcome: bytes
                      ) -> Optional[Difference]:
-    """The first line at which the pieces are not the session of a seat; None if they are.
-
-    Args:
-        pieces: The records of its agent, in their order.
-        link: The bytes of the link that the lobby kept for the seat.
-        welcome: The ten lines of its agent.
-    """
+    """The first line at which the pieces, in their order, are not the session of a seat, which has
+    a link of the lobby and a welcome of ten lines; None if they are."""
     whole = _Session(link)
     # How many lines of the seat's link may be those of the pieces so far.
     reached: Set[int] = {0}

@@ -38,12 +38,7 @@ class Projection:
 
 
 def project(reader: JournalReader, nights: List[Night], player: Player) -> Projection:
-    """What the log of the game so far says.
-
-    Args:
-        reader: The journal; it is not changed meanwhile.
-        nights: The hotel nights so far.
-        player: Plays scripts.
+    """What the log of the game so far says, by a journal that is not changed meanwhile.
 
     Raises:
         RecoveryError: The replies so far are not those of a game.
@@ -113,14 +108,8 @@ class View:
 
     def state(self, reader: JournalReader, nights: Optional[List[Night]],
               secret: Optional[Projection], is_final: bool) -> Dict[str, Any]:
-        """What the page is sent.
-
-        Args:
-            reader: The journal.
-            nights: The hotel nights now, of which prices and closings are shown.
-            secret: The projection that may be shown.
-            is_final: Whether the game is over, and the projection has its end.
-        """
+        """What the page is sent: of the nights, which are those of now, prices and closings; and
+        the projection that may be shown, which has the game's end if that is final."""
         game = reader.game
         assert game is not None
         names = names_of(game.words, self.by_word)

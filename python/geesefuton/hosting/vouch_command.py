@@ -70,19 +70,12 @@ def _arguments() -> argparse.Namespace:
 
 
 class _Judge:
-    """Judges links by a game and its log.
-
-    Args:
-        given: The command line.
-        folder: Where files may be made.
+    """Judges links by a game and its log, as the command line says.
 
     Raises:
         OSError: The game file or the log cannot be read.
         VouchError: The log is not sound.
         program.ProgramError: One of them is refused.
-
-    Attributes:
-        hint: What the user may have forgotten; "" for nothing.
     """
 
     def __init__(self, given: argparse.Namespace, folder: Path) -> None:
@@ -91,7 +84,8 @@ class _Judge:
             file.open("rb").close()  # the program does not tell which file is missing
         self._text = program.show(given.game)
         self._words = read_game(self._text).words
-        self._form, self.hint = "json" if given.json else "words", ""
+        self._form = "json" if given.json else "words"
+        self.hint = ""  # what the user may have forgotten
         audit = program.audit(given.game, given.log)
         if audit != "sound":
             raise VouchError(f"{given.log}: the audit says `{audit}`")
