@@ -287,7 +287,7 @@ class Classroom:
         if verdict != "sound":
             self.wrong.append(verdict)
         names = [str(seat) for seat in range(SEATS - 1)]
-        if not (self._folder / "seat7.2.asked").exists():  # otherwise its page was started again
+        if len(list(self._folder.glob("seat7*.asked"))) == 1:  # its page was not started again
             names.append("seat7")
         for seat, name in enumerate(names):
             asked, said = [self._folder / f"{name}.{side}" for side in ("asked", "said")]
