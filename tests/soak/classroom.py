@@ -154,10 +154,11 @@ class Hostile:
             await self._send(f"GET /{word} HTTP/1.1\r\nHost: a\r\n\r\n".encode(), "page", "by hand")
 
     async def take(self) -> None:
-        """Wants a seat that is taken, by its right word, once somebody plays it."""
+        """Wants a seat that is taken, by its right word, once somebody plays it, and not by hand: a
+        page that ends frees its seat."""
         if "begins" in self._told():
             reader, writer = await self._linked("agents")
-            writer.write(f"hello seat{self._dice.randrange(SEATS)}\n".encode())
+            writer.write(f"hello seat{self._dice.randrange(SEATS - 1)}\n".encode())
             self._held.append(writer)
             self.seats += (await reader.readline()).startswith(b"welcome")
 

@@ -3,10 +3,9 @@
 from __future__ import annotations
 
 import time
-from typing import Callable, Dict, NamedTuple, Optional
+from typing import Callable, Dict, NamedTuple
 
 from geesefuton.hosting.control import Control, Phase
-from geesefuton.hosting.links import OuterLink
 from geesefuton.hosting.relay import OWN, Relay
 from geesefuton.hosting.seats import Seat, State
 from geesefuton.network.addresses import Network, network_of, parsed, plain_network
@@ -68,7 +67,7 @@ class Console:
 
     def _presence(self, seat: Seat) -> str:
         """What is known of a seat's agent."""
-        link = self._link(seat)
+        link = self._relay.holder(seat)
         if link is None:
             return f"{seat.word} {'has finished' if seat.state is State.OVER else 'is missing'}"
         text = f"{seat.word} is here from {link.source}"
@@ -92,7 +91,7 @@ class Console:
         return ""
 
     def _end(self, word: str) -> str:
-        link = self._link(self._seat(word))
+        link = self._relay.holder(self._seat(word))
         if link is None:
             raise NotDone(f"seat {word} has no link")
         self._relay.fail(link)
@@ -135,9 +134,6 @@ class Console:
         if seat is None:
             raise NotDone(f"there is no seat {name}: give a seat's word, or its number 0 to 7")
         return seat
-
-    def _link(self, seat: Seat) -> Optional[OuterLink]:
-        return None if seat.holder is None else self._relay.links.get(seat.holder)
 
 
 def _network(text: str) -> Network:

@@ -126,11 +126,7 @@ Event = Union[Answered, Arrived, Departed, Refused, Lost, Waived, Began, Ticked,
 
 class EventQueue:
     """Gives events to a listener in their order, in a thread of its own, so that neither what it
-    does slowly nor what it raises is felt by what the events are about.
-
-    Args:
-        listener: Is given each event.
-    """
+    does slowly nor what it raises is felt by what the events are about."""
 
     def __init__(self, listener: Callable[[Event], None]) -> None:
         self._listener = listener

@@ -34,12 +34,8 @@ class Handouts:
         self.are_there = bool(self._texts)  # whether the starters are installed
 
     def answer(self, path: str, host: str) -> Optional[Response]:
-        """The file at a path; None if there is none.
-
-        Args:
-            path: The path, such as `/starter.py`.
-            host: How the browser calls the host, such as `192.0.2.7:7080`.
-        """
+        """The file at a path such as `/starter.py`, for a browser that calls the host so, such as
+        `192.0.2.7:7080`; None if there is none."""
         name = path[1:]
         if name == "join" and self.are_there:
             page = self._page.replace("--host--", self._name(host)).replace(

@@ -91,7 +91,6 @@ class HostedGame:
             self.warn(told)
 
     def _obey(self) -> None:
-        """Does what the host asks for."""
         while self._lines:
             try:
                 for text in self._console.obey(self._lines.popleft()).splitlines():

@@ -369,10 +369,7 @@ class JournalReader:
 def read_journal(file: Path, take: Optional[Callable[[Dict[str, Any]], None]] = None
                  ) -> JournalReader:
     """Reads a journal file. A last line without its end is left out: nothing of it was passed on.
-
-    Args:
-        file: The file.
-        take: Is given the object of each line. Then calls are not kept.
+    `take` is given the object of each line, and then calls are not kept.
 
     Raises:
         JournalError: It is no journal.

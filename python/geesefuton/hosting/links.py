@@ -7,6 +7,7 @@ closed. Its *owed* lines were passed on to the server and have no reply yet.
 
 from __future__ import annotations
 
+import contextlib
 import socket
 from collections import deque
 from typing import Deque, List, Optional
@@ -52,14 +53,8 @@ class Session(Link):
 
 
 class OuterLink(Link):
-    """A link from outside: a stranger until its first line, and then the link of a seat.
-
-    Args:
-        number: By which `Seats` knows it.
-        link: Its socket.
-        visit: What the gate knows of it.
-        source: Where it comes from, as the host is told.
-    """
+    """A link from outside: a stranger until its first line, and then the link of a seat. `Seats`
+    knows it by its number, the gate as a visit, and the host by its source."""
 
     def __init__(self, number: int, link: socket.socket, visit: Visit, source: str) -> None:
         super().__init__(link)
@@ -105,10 +100,9 @@ def tune(link: socket.socket) -> None:
     """Sets up a link: small pieces are sent at once, and one whose machine has gone is noticed
     after some ten seconds, where the system can do so. There a link that takes nothing of what it
     is sent for as long is ended, too."""
-    link.setsockopt(socket.IPPROTO_TCP, socket.TCP_NODELAY, 1)
-    link.setsockopt(socket.SOL_SOCKET, socket.SO_KEEPALIVE, 1)
-    for name, value in KEEPALIVE.items():
-        if hasattr(socket, name):
-            link.setsockopt(socket.IPPROTO_TCP, getattr(socket, name), value)
-    if hasattr(socket, "TCP_USER_TIMEOUT"):
-        link.setsockopt(socket.IPPROTO_TCP, socket.TCP_USER_TIMEOUT, UNACKNOWLEDGED)
+    options = {"TCP_NODELAY": 1, **KEEPALIVE, "TCP_USER_TIMEOUT": UNACKNOWLEDGED}
+    with contextlib.suppress(OSError):  # it may have gone already
+        link.setsockopt(socket.SOL_SOCKET, socket.SO_KEEPALIVE, 1)
+        for name, value in options.items():
+            if hasattr(socket, name):
+                link.setsockopt(socket.IPPROTO_TCP, getattr(socket, name), value)

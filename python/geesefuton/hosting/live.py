@@ -50,12 +50,8 @@ PAGE = Path(__file__).with_name("live.html")
 
 
 class Live:
-    """Follows a journal, and shows what it says.
-
-    Args:
-        joining: What a screen says before the game of how agents join it.
-        begins: When the game begins without those who are missing, by `time.monotonic`.
-    """
+    """Follows a journal, and shows what it says; before the game also how agents join it, and when
+    it `begins` without those who are missing, by `time.monotonic`."""
 
     def __init__(self, journal: BinaryIO, view: View, player: Player, viewers: Viewers,
                  faults: Faults, joining: Optional[Dict[str, Any]] = None,

@@ -124,7 +124,7 @@ class _Signals:
         self._lobby, self._control, self._teller = lobby, lobby.control, teller
         self._asked = float("-inf")  # when ctrl-C was pressed in the game
         self._is_ending = False  # whether the wait after the last tick was spoken of
-        self._is_ended = False  # whether it was to be ended
+        self._is_ended = False  # whether it was to be ended by a signal
         self.number = 0
         for number in (signal.SIGINT, signal.SIGTERM, signal.SIGHUP):
             if signal.getsignal(number) is not signal.SIG_IGN:
@@ -144,7 +144,9 @@ class _Signals:
         if phase in (Phase.PLAYING, Phase.ENDING) and number == signal.SIGHUP:
             self._lobby.settings.stays = False  # nobody is there to end the showing of the scores
             return
-        if phase is Phase.PLAYING and number == signal.SIGINT and self._is_first():
+        if phase is Phase.PLAYING and number == signal.SIGINT \
+                and time.monotonic() - self._asked > AGAIN:
+            self._asked = time.monotonic()
             self._teller.say("ctrl-C: the game goes on; press ctrl-C again within five seconds to "
                              "stop it")
         elif phase is Phase.ENDING and not self._is_ended:
@@ -153,23 +155,15 @@ class _Signals:
             self.number = number
             self._control.stop()
 
-    def _is_first(self) -> bool:
-        """Whether no other ctrl-C came just before."""
-        if time.monotonic() - self._asked <= AGAIN:
-            return False
-        self._asked = time.monotonic()
-        return True
-
     def _end(self, number: int) -> None:
         """A signal after the last tick: the log is written whatever comes."""
-        if number == signal.SIGINT and not self._is_ending:
-            self._is_ending = True
-            left, words = self._lobby.waits_for()
-            self._teller.say(f"ctrl-C: waiting {left:.0f} s for {' '.join(words) or 'the server'}; "
-                             "press Enter or ctrl-C to end now, with the log")
-            return
-        self._is_ended = True
-        self._control.end()
+        if number != signal.SIGINT or self._is_ending:
+            self._is_ended = True
+            return self._control.end()
+        self._is_ending = True
+        left, words = self._lobby.waits_for()
+        return self._teller.say(f"ctrl-C: waiting {left:.0f} s for {' '.join(words) or 'the server'}"
+                                "; press Enter or ctrl-C to end now, with the log")
 
 
 def main() -> int:

@@ -201,14 +201,9 @@ def differences(script: Script, told: Sequence[str]) -> List[Tuple[Exchange, str
 
 
 class Recovery:
-    """The script of a journal.
-
-    Args:
-        reader: The journal.
-        player: Plays scripts.
-        pending: Whether the requests without a reply are asked too, after all others.
-        live: Whether the game still runs: then what comes after a position that no reply has, and
-            that the clock cannot have had yet, is left out, since its reply is about to come.
+    """The script of a journal. Requests without a reply are asked, too, if `pending` is set, after
+    all others. While a game is `live`, what comes after a position that no reply has, and that the
+    clock cannot have had yet, is left out, since its reply is about to come.
 
     Raises:
         RecoveryError: The replies are not those of a game.

@@ -34,16 +34,8 @@ class Refusals:
         self._counts: Dict[str, _Count] = {}
 
     def add(self, at: float, source: str, text: str) -> Optional[str]:
-        """Counts something.
-
-        Args:
-            at: When it was, in seconds.
-            source: Who did it.
-            text: What is to be told of it.
-
-        Returns:
-            The text, if it is to be told now; None if `due` tells it later.
-        """
+        """Counts what somebody did at a time in seconds. Gives the text that is to be told of it
+        now; None if `due` tells it later."""
         if source not in self._counts and len(self._counts) >= MOST_ADDRESSES:
             source = OTHERS
         known = self._counts.setdefault(source, _Count(at))

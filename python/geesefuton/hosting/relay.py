@@ -38,16 +38,8 @@ OWN = "the house"  # where the links of the host's own agents come from
 
 
 class Relay:
-    """The links of a game, and which of them has which seat.
-
-    Args:
-        words: The seat words.
-        listeners: Where links come in.
-        emit: Is told what happens.
-        journal: Where it is written.
-        patience: The seconds that a link has for its first line.
-        silence: The seconds without a word after which a link gives way to another.
-    """
+    """The links of a game, and which of them has which seat. A link has some seconds of `patience`
+    for its first line, and after some of `silence` it gives way to another."""
 
     def __init__(self, words: Sequence[str], listeners: Sequence[socket.socket],
                  emit: Callable[[Event], None], journal: Journal,
@@ -103,12 +95,7 @@ class Relay:
             if visit is None:
                 link.close()
                 continue
-            try:
-                guest = OuterLink(next(self._numbers), link, visit, str(parsed(where[0])))
-            except OSError:  # it has gone already
-                visit.leave()
-                link.close()
-                continue
+            guest = OuterLink(next(self._numbers), link, visit, str(parsed(where[0])))
             visit.end = partial(self._make_room, guest, "too many links had no seat")
             guest.served = Served(partial(self._read, guest), partial(self._owe, guest, b""),
                                   partial(self.fail, guest))
@@ -304,7 +291,7 @@ class Relay:
         self.journal.tell(tick=0, t=0)
         self._emit(events.Began(time.time(), here))
         for session in sessions:
-            link = self._holder(session.seat)
+            link = self.holder(session.seat)
             if link is not None:
                 self._welcome(session, link)
 
@@ -330,7 +317,7 @@ class Relay:
     def settle(self) -> None:
         """The server has ended: what is left of seats and links is over."""
         for seat in self.seats.seats:
-            self._do(seat, seat.finish() if self._holder(seat) is None else seat.leave())
+            self._do(seat, seat.finish() if self.holder(seat) is None else seat.leave())
         self.finish()
 
     def is_done(self) -> bool:
@@ -347,7 +334,7 @@ class Relay:
 
     def _pass_on(self, session: Session) -> None:
         """Sends the next line of the seat's agent to the server, if none waits for its reply."""
-        seat, link = session.seat, self._holder(session.seat)
+        seat, link = session.seat, self.holder(session.seat)
         if session.asked or link is None:
             return
         if seat.state is State.OVER:
@@ -412,7 +399,7 @@ class Relay:
         session.has_ended = True
         session.held.clear()
         self.loop.watch(session)
-        seat, link = session.seat, self._holder(session.seat)
+        seat, link = session.seat, self.holder(session.seat)
         self._do(seat, seat.finish() if link is None else seat.leave())
         if link is not None:
             self._part(link)
@@ -421,7 +408,8 @@ class Relay:
         """Another word leads to a seat from now on."""
         self._do(seat, self.seats.change_word(seat.number, word))
 
-    def _holder(self, seat: Seat) -> Optional[OuterLink]:
+    def holder(self, seat: Seat) -> Optional[OuterLink]:
+        """The link that has a seat, if there is one."""
         return None if seat.holder is None else self.links.get(seat.holder)
 
     def _warn(self, text: str) -> None:

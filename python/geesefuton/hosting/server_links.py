@@ -55,15 +55,8 @@ def is_vouched(said: str) -> bool:
 
 def audit_link(link: LinkBytes, game: Path, log: Union[Path, bytes], form: str, folder: Path,
                timeout: Optional[float] = None) -> str:
-    """What is said of a log, a file or its bytes, by the bytes of one link.
-
-    Args:
-        link: The bytes.
-        game: The game file.
-        log: The log.
-        form: How the link's lines are written, `words` or `json`.
-        folder: Where files may be made.
-        timeout: The seconds that it may take; None for no limit.
+    """What is said of a log, a file or its bytes, by the bytes of one link, whose lines are written
+    in a form, `words` or `json`, within some seconds. In the folder files may be made.
 
     Raises:
         OSError: The folder takes no more.

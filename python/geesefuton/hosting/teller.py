@@ -22,12 +22,7 @@ FEW = 6  # times in a while that it is told at once that a seat's agent came or 
 
 class Teller:
     """Tells the host what happens, from a thread of its own: a terminal that is held, or a pipe
-    that is not read, does not hold the game.
-
-    Args:
-        words: The seat words.
-        clock: The time in seconds by which what recurs is told seldom; it does not go back.
-    """
+    that is not read, does not hold the game. What recurs is told seldom, by a clock."""
 
     def __init__(self, words: Sequence[str], clock: Callable[[], float] = time.monotonic) -> None:
         self._words, self._clock = list(words), clock

@@ -57,11 +57,7 @@ class Link:
 
 
 class Loop:
-    """Serves what is ready, in one thread.
-
-    Args:
-        warn: Is told faults, each once.
-    """
+    """Serves what is ready, in one thread, and warns of faults, each once."""
 
     def __init__(self, warn: Callable[[str], None]) -> None:
         self._warn = warn

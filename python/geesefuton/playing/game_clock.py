@@ -17,15 +17,11 @@ class Mark(NamedTuple):
 
 class GameClock:
     """The tick of a game. Flights change their prices at each tick, and each closing of a hotel
-    tells the tick exactly.
-
-    Args:
-        pace: The seconds from tick to tick, if they were told; None to measure them.
-    """
+    tells the tick exactly. The pace is measured unless it is told."""
 
     def __init__(self, pace: Optional[float] = None) -> None:
         self.tick = 0  # the last one that was seen
-        self.pace = pace  # None while it is not known
+        self.pace = pace  # the seconds from tick to tick; None while they are not known
         self.is_exact = False  # whether `tick` is known, and is not just the least that it can be
         self._is_told = pace is not None
         self._mark: Optional[Mark] = None

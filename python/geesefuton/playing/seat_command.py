@@ -49,13 +49,8 @@ def _arguments() -> argparse.Namespace:
 
 
 def address_lines(seats: Sequence[Tuple[str, str]], port: int, address: str = "") -> Iterator[str]:
-    """What is printed: for each seat its word and the address of its page, also as a QR code.
-
-    Args:
-        seats: The word of each seat, and the token of its page.
-        port: The port of the pages.
-        address: The address at which they are served; "" for all of this machine.
-    """
+    """What is printed: for each seat its word and the address of its page, by its token, also as a
+    QR code. The pages are served at an address, or at all of this machine."""
     hosts = [address] if address else own_addresses() or ["localhost"]
     coder = None if address == "127.0.0.1" else shutil.which("qrencode")
     for word, token in seats:
