@@ -211,7 +211,7 @@ class Classroom:
                 (self._folder / "told").open("wb") as told:
             host = children.start(
                 [*LOBBY, str(self._game), str(self._ports["agents"]), str(PACE), "--start", str(START),
-                 "--after", "3", "--journal", str(self._folder / "journal"), "--page",
+                 "--after", "15", "--journal", str(self._folder / "journal"), "--page",
                  str(self._ports["page"]), "--by-hand", str(self._ports["by hand"])],
                 stdin=subprocess.PIPE, stdout=log, stderr=told, cwd=self._folder,
                 env={**os.environ, "AGENT_RECORD": str(self._folder)})

@@ -17,7 +17,7 @@ import re
 import sys
 import time
 from pathlib import Path
-from typing import Any, Dict, List, Tuple
+from typing import Any, Dict, List, Optional, Tuple
 
 SEATS, PAUSE = 8, 0.5  # and the seconds that a player waits at most between two requests
 BY_HAND = SEATS - 1
@@ -36,6 +36,7 @@ class Players:
     def __init__(self, port: int, seed: int, folder: Path) -> None:
         self.port, self.seed, self.folder = port, seed, folder
         self.longest = 0.0
+        self._page: Optional[Links] = None  # the browser's link
         self.by_hand: List[float] = []  # seconds that each bid by hand took
         self.wrong: List[str] = []
 
@@ -66,20 +67,22 @@ class Players:
     async def play_by_hand(self) -> None:
         """Plays the last seat on its page. Whatever befalls the page, it is opened again."""
         dice, page, state = random.Random(f"{self.seed} page"), "", dict[str, Any]()
-        while state.get("phase") not in ("over", "failed"):
+        while state.get("phase") != "over":
             told = (self.folder / "told").read_text(errors="replace")
-            if "the game is over" in told and not page:
+            if "the game is over" in told and (not page or state.get("phase") == "failed"):
                 break
             await asyncio.sleep(dice.random() * PAUSE)
             try:
                 page = page or (await self._post(told, "open", page=""))["page"]
                 begun = time.monotonic()
-                if state.get("phase") == "running":
+                if state.get("phase") == "failed":
+                    await self._post(told, "again", page=page)
+                elif state.get("phase") == "running":
                     await self._post(told, "bid", page=page, good=dice.randrange(28),
                                      points=[[1, dice.randint(1, 400)]])
                     self.by_hand.append(round(time.monotonic() - begun, 2))
                 state = await self._post(told, "state", page=page, after=state.get("version"))
-            except (OSError, KeyError, ValueError):
+            except (EOFError, OSError, KeyError, ValueError):
                 page = ""
         if state.get("phase") != "over":
             self.wrong.append(f"by hand: {state.get('phase')} {state.get('fault')}")
@@ -88,23 +91,27 @@ class Players:
         """The answer of the seat's page.
 
         Raises:
-            OSError: It is not there.
+            EOFError, OSError: It is not there.
             ValueError: It has no address, or the answer is none.
         """
         found = re.search(rf"seat{BY_HAND}: http://[^/]+:(\d+)(/\w+/)", told)
         if found is None:
             raise ValueError("it has no address")
-        reader, writer = await asyncio.open_connection(
-            "127.0.0.1", int(found[1]), local_addr=(f"127.1.0.{2 + BY_HAND // 4}", 0))
-        body = json.dumps(given)
-        writer.write(f"POST {found[2]}{what} HTTP/1.1\r\nContent-Type: application/json\r\nConnection: "
-                     f"close\r\nContent-Length: {len(body)}\r\n\r\n{body}".encode())
+        if self._page is None:
+            self._page = await asyncio.open_connection(
+                "127.0.0.1", int(found[1]), local_addr=(f"127.1.0.{2 + BY_HAND // 4}", 0))
+        (reader, writer), body = self._page, json.dumps(given)
         try:
-            answer = await reader.read()
-        finally:
+            writer.write(f"POST {found[2]}{what} HTTP/1.1\r\nContent-Type: application/json\r\n"
+                         f"Content-Length: {len(body)}\r\n\r\n{body}".encode())
+            head = (await reader.readuntil(b"\r\n\r\n")).decode()
+            length = int(head.partition("Content-Length: ")[2].split("\r\n")[0])
+            answer: Dict[str, Any] = json.loads(await reader.readexactly(length))
+            return answer
+        except (EOFError, OSError, ValueError):
             writer.close()
-        told_back: Dict[str, Any] = json.loads(answer.partition(b"\r\n\r\n")[2])
-        return told_back
+            self._page = None
+            raise
 
     async def _seated(self, seat: int) -> Links:
         """A link that has greeted. Four players have one address, as behind a router."""

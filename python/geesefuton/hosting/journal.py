@@ -135,7 +135,9 @@ class Journal:
             try:
                 data = data[os.write(self._number, data):]
             except OSError as fault:
-                self._give_up(fault)
+                self._number = None
+                self._warn(f"cannot write the journal {self.file} ({why(fault)}): the game goes on "
+                           "without it")
         self._is_dirty, self._writing = True, None
 
     def close(self) -> None:
@@ -145,11 +147,6 @@ class Journal:
         for thread in self._threads:
             thread.join()
         self._tell_loss()
-
-    def _give_up(self, fault: OSError) -> None:
-        self._number = None
-        self._warn(f"cannot write the journal {self.file} ({why(fault)}): the game goes on without "
-                   "it")
 
     def _tell_loss(self) -> None:
         if self._loss is not None and not self._is_loss_told:
@@ -168,9 +165,13 @@ class Journal:
         os.close(folder)
 
     def _sync(self, number: int) -> None:
-        while not self._closed.wait(SYNC):
-            self._put_new(number)
-        self._put_new(number)
+        """Puts onto the disk now and then what was written, and in the end the rest."""
+        is_last = False
+        while not is_last:
+            is_last = self._closed.wait(SYNC)
+            if self._is_dirty:
+                self._is_dirty = False
+                self._put(number)
         os.close(number)
 
     def _watch(self) -> None:
@@ -182,11 +183,6 @@ class Journal:
                 told = since
                 self._warn(f"the disk of the journal {self.file} has taken nothing for {STALL:g} "
                            "seconds: the game waits for it")
-
-    def _put_new(self, number: int) -> None:
-        if self._is_dirty:
-            self._is_dirty = False
-            self._put(number)
 
     def _put(self, number: int) -> None:
         """Waits until what was written is on the disk."""

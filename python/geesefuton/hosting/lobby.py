@@ -141,7 +141,9 @@ class Lobby:
             return self._stop(game)
         status = status if status >= 0 else 128 - status  # of a signal as a shell tells it
         game.relay.settle()
-        self._end_all(game)
+        deadline = time.monotonic() + ENDING
+        while not game.relay.is_done() and time.monotonic() < deadline:
+            game.turn(LOOK)  # agents are sent what they still get
         for listener in self._listeners:
             listener.close()  # a link would wait in vain while the page shows the scores
         game.relay.journal.timed(over=status)
@@ -161,12 +163,6 @@ class Lobby:
             if game.is_stopped or left <= 0:
                 break
             game.turn(min(LOOK, left))
-
-    def _end_all(self, game: HostedGame) -> None:
-        """Sends to agents what they still get, for a while."""
-        deadline = time.monotonic() + ENDING
-        while not game.relay.is_done() and time.monotonic() < deadline:
-            game.turn(LOOK)
 
     def _stop(self, game: HostedGame) -> int:
         text = "stopped, without a log"

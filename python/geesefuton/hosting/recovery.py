@@ -162,15 +162,7 @@ def _in_order(items: Iterable[Tuple[int, Exchange]]) -> Iterator[Tuple[int, List
     for tick, call in items:
         by_tick[tick][call.asked.good].append(call)
     for tick, goods in enumerate(by_tick):
-        asked: List[Exchange] = []
-        heap = [(calls[0].order, good, 0) for good, calls in goods.items()]
-        heapq.heapify(heap)
-        while heap:
-            _, good, number = heapq.heappop(heap)
-            asked.append(goods[good][number])
-            if number + 1 < len(goods[good]):
-                heapq.heappush(heap, (goods[good][number + 1].order, good, number + 1))
-        yield tick, asked
+        yield tick, list(heapq.merge(*goods.values(), key=lambda call: call.order))
 
 
 class Script(NamedTuple):

@@ -125,21 +125,17 @@ class Relay:
         if link.seat is None:
             if link.visit.standing is Standing.STRANGER and (
                     link.has_line() or len(link.said) > MOST_LINE):
-                self._greet(link)
+                wait = link.visit.whole()
+                if wait is None:
+                    self._make_room(link, "too many links of its network wait for an answer")
+                elif not wait:
+                    self._judge(link)
         elif link.seat.holder == link.number:
             self._do(link.seat, link.seat.speak(time.monotonic()))
             if self.sessions:
                 self.sessions[link.seat.number].lines += data.count(b"\n")
                 self._pass_on(self.sessions[link.seat.number])
         return self.loop.watch(link)
-
-    def _greet(self, link: OuterLink) -> None:
-        """A first line is whole. It is judged, at once or later."""
-        wait = link.visit.whole()
-        if wait is None:
-            self._make_room(link, "too many links of its network wait for an answer")
-        elif not wait:
-            self._judge(link)
 
     def _judge(self, link: OuterLink) -> None:
         """Seats or refuses a link by its first line."""
