@@ -227,8 +227,11 @@ class Classroom:
             tasks += [asyncio.ensure_future(self._measure(host.pid)),
                       asyncio.ensure_future(self._befall(host))]
             status = await asyncio.get_running_loop().run_in_executor(None, _ended, host)
-            for task in tasks:
-                task.cancel()
+            left = set(tasks)
+            while left:  # `wait_for` may miss that it is cancelled
+                for task in left:
+                    task.cancel()
+                _, left = await asyncio.wait(left, timeout=1)
             for fault in await asyncio.gather(*tasks, return_exceptions=True):
                 if isinstance(fault, Exception):
                     self.wrong.append(f"a client: {fault!r}")
