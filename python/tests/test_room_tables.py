@@ -44,8 +44,9 @@ class Tables(Case):
     def lobby(self, settings: Any, serving: Any) -> Any:
         if self.faults:
             raise self.faults.pop(0)
-        made = mock.Mock(settings=settings, port=7000, phase=Phase.PLAYING, status=0,
-                         ends=threading.Event(), over=threading.Event())
+        made = mock.Mock(settings=settings, port=7000, status=0, ends=threading.Event(),
+                         over=threading.Event())
+        made.control.phase = Phase.PLAYING
 
         def run(take: Callable[[Event], None]) -> int:
             settings.listeners[0].setblocking(True)
@@ -64,7 +65,7 @@ class Tables(Case):
             return int(made.status)
 
         made.run = run
-        made.interrupt = lambda: (setattr(made, "status", STOPPED), made.ends.set())
+        made.control.stop = lambda: (setattr(made, "status", STOPPED), made.ends.set())
         return made
 
     def start(self, tables: int, games: int = 0, wait: float = 0.0) -> Room:
