@@ -67,7 +67,7 @@ class Tables(unittest.TestCase):
         self.assertEqual((game.version, game.live), (2, True))
         self.assertEqual(list(game.rooms), drawn_rooms(3, 3, 6))
         other = deals.made_deal(Rule(seed=3, live=True), 1).game
-        self.assertEqual(other.rooms, served_game().rooms)
+        self.assertEqual(other.rooms, (16,) * 8)
         quiet = deals.made_deal(Rule(seed=3, rooms=(4, 4)), 1).game
         self.assertEqual((quiet.rooms, quiet.live), ((4,) * 8, False))
 
@@ -82,8 +82,9 @@ class Tables(unittest.TestCase):
         text = (TOP / "examples" / "first.game").read_text()
         with mock.patch("geesefuton.program.make", lambda seed: text):
             games = [deals.made_deal(Rule(seed=3, live=live), 1).game for live in (True, False)]
+            games.append(deals.made_deal(Rule(seed=3, rooms=(16, 16)), 1).game)
         self.assertEqual([(game.version, game.live, game.rooms) for game in games],
-                         [(2, True, (16,) * 8), (1, False, (16,) * 8)])
+                         [(2, True, (16,) * 8), (1, False, (16,) * 8), (1, False, (16,) * 8)])
 
     def test_files_that_are_none(self) -> None:
         with tempfile.TemporaryDirectory() as folder:

@@ -187,6 +187,10 @@ class Teams(Case):
                            ("a,b,c\n", "is not a team")):
             with self.assertRaisesRegex(TeamsError, told):
                 self.read(text)
+        file = self.place / "teams.csv"
+        file.write_text("".join(f"team {number}\n" for number in range(65)))
+        with self.assertRaisesRegex(TeamsError, "has 65 teams, but a room has 1 to 64"):
+            read_teams(file, self.path, 64)
 
     def test_slips(self) -> None:
         file = self.place / "teams.csv"

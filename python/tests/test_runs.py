@@ -157,6 +157,8 @@ class Folders(unittest.TestCase):
                      is_resumed=True, agents={"mine": other})
         self.refused("its deals are of the seed 1, not of the seed 1001", is_resumed=True,
                      rule=Rule(seed=1001))
+        self.refused("its deals are of the seed 1, not of the commitment 6", is_resumed=True,
+                     rule=Rule(bytes(range(32))))
         self.refused("the files, libraries or words of mine differ", is_resumed=True,
                      agents={"mine": replace(MINE, libraries={"numpy": "2.0"})})
         self.refused("turns is 41, not 40; the files, libraries or words of mine differ",
@@ -190,6 +192,9 @@ class Folders(unittest.TestCase):
         run.plan_games(1)
         run.end(143, 0, [])
         self.assertEqual(self.value()["deals"], rule.drawn)
+        self.refused(f"its deals are of the commitment {rule.drawn['commitment']}, not of the "
+                     f"commitment {Rule(bytes(32)).drawn['commitment']}", is_resumed=True,
+                     rule=Rule(bytes(32)))
 
     def test_two_at_once_are_refused(self) -> None:
         run = self.begin()

@@ -1,8 +1,17 @@
 """Tests of records/secret_deals.py: the derivation as docs/FORMATS.md describes it."""
 
 import hashlib
+import json
+import shutil
+import subprocess
+import tempfile
 import unittest
+from pathlib import Path
+from typing import Dict
+from unittest import mock
 
+from geesefuton.experiments.deals import Rule, made_deal
+from geesefuton.records.made_games import made_game
 from geesefuton.records.secret_deals import (agent_seed, commitment, deal_seed, new_secret,
                                              read_secret)
 
@@ -32,6 +41,41 @@ class Seeds(unittest.TestCase):
                      " " + SECRET.hex()):
             with self.assertRaises(ValueError):
                 read_secret(text)
+
+
+@unittest.skipUnless(shutil.which("node"), "there is no Node.js")
+class MadeAgain(unittest.TestCase):
+    """The games of a run are made again in another language, by docs/FORMATS.md alone."""
+
+    def check(self, rule: Rule, settings: Dict[str, str]) -> "subprocess.CompletedProcess[str]":
+        with tempfile.TemporaryDirectory() as name, \
+                mock.patch("geesefuton.program.make", lambda seed: made_game(seed).text()):
+            folder = Path(name)
+            (folder / "games").mkdir()
+            (folder / "run.json").write_text(json.dumps({"settings": settings, "deals": {
+                "commitment": commitment(rule.secret), "secret": SECRET.hex()}}))
+            for number in (1, 2, 3, 10):
+                game = made_deal(rule, number).game.named([f"red{seat}" for seat in range(8)])
+                (folder / "games" / f"{number}.0.game").write_text(game.text())
+            script = Path(__file__).with_name("made_again.mjs")
+            return subprocess.run(["node", str(script), name], stdout=subprocess.PIPE, text=True,
+                                  timeout=300, check=False)
+
+    def test_games_of_each_kind(self) -> None:
+        plain = {"rooms": "16..16", "live": "false"}
+        for rule, settings in (
+                (Rule(SECRET), plain), (Rule(SECRET, is_clumped=True), {**plain, "endow": "classic"}),
+                (Rule(SECRET, live=True), {**plain, "live": "true"}),
+                (Rule(SECRET, rooms=(3, 6), live=True, is_clumped=True),
+                 {"rooms": "3..6", "live": "true", "endow": "classic"})):
+            done = self.check(rule, settings)
+            self.assertEqual((done.returncode, done.stdout), (0, ""))
+
+    def test_games_of_another_secret(self) -> None:
+        done = self.check(Rule(bytes(32)), {"rooms": "16..16", "live": "false"})
+        self.assertEqual((done.returncode, done.stdout.split("\n")), (1, [
+            "the secret is not the one of the commitment",
+            *(f"{number}.0.game is not the game of the secret" for number in (1, 10, 2, 3)), ""]))
 
 
 if __name__ == "__main__":

@@ -14,7 +14,7 @@ from pathlib import Path
 from typing import Container, Dict, Iterator, Optional, Tuple
 
 from geesefuton import program
-from geesefuton.records.drawing import classic_endowments, drawn_rooms
+from geesefuton.records.drawing import varied
 from geesefuton.records.games import MOST_ROOMS, Game, GameError, read_game
 from geesefuton.records.secret_deals import commitment, deal_seed, read_secret
 
@@ -36,7 +36,7 @@ class Rule:
         file: A game file that is played each time in place of made games.
         rooms: The least and the most rooms of a hotel night; None for 16.
         live: Whether each admitted bid publishes a hotel's price.
-        is_clumped: Whether tickets are endowed as in the original game (`classic_endowments`).
+        is_clumped: Whether tickets are endowed as in the original game.
     """
 
     secret: bytes = bytes(32)
@@ -115,13 +115,8 @@ def made_deal(rule: Rule, number: int) -> Deal:
     if rule.file is not None:
         return Deal(number, _read(rule.file))
     seed = rule.seed_of(number)
-    game = read_game(program.make(seed))
-    if rule.rooms is not None or rule.live:
-        rooms = drawn_rooms(seed, *rule.rooms) if rule.rooms else game.rooms
-        game = game.with_rooms(rooms, rule.live)
-    if rule.is_clumped:
-        game = game.with_endowments(classic_endowments(seed))
-    return Deal(number, game)
+    return Deal(number, varied(read_game(program.make(seed)), seed, rule.rooms, rule.live,
+                               rule.is_clumped))
 
 
 def _read(file: Path) -> Game:

@@ -31,8 +31,6 @@ def _flaws(folder: Path) -> List[str]:
         raise RunError(f"{folder}: its games are those of a file")
     rule = Rule(secret_of(folder), rooms=read_rooms(str(settings["rooms"])),
                 live=settings["live"] == "true", is_clumped="endow" in settings)
-    if settings["rooms"] == "16..16" and not rule.live:
-        rule = Rule(rule.secret, is_clumped=rule.is_clumped)
     flaws, files = [], sorted((folder / GAMES).glob("*.game"))
     for file in files:
         try:

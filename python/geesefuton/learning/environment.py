@@ -42,9 +42,8 @@ from geesefuton.learning.market import LimitError, Market
 from geesefuton.learning.rivals import Maker, Players, Rivals, maker_of
 from geesefuton.learning.scores import Scorer
 from geesefuton.records.books import Board, Books, text_of
-from geesefuton.records.drawing import MOST_SEED, classic_endowments, drawn_rooms
-from geesefuton.records.games import (CLIENTS, GOODS, HOTELS, MOST_ROOMS, ROOMS, SEATS, TICKS, Game,
-                                      read_game)
+from geesefuton.records.drawing import MOST_SEED, varied
+from geesefuton.records.games import CLIENTS, GOODS, MOST_ROOMS, SEATS, TICKS, Game, read_game
 from geesefuton.records.made_games import made_game
 from geesefuton.records.order import order_of_turn
 
@@ -223,12 +222,7 @@ class Environment(Parallel):
     def _made(self, seed: int) -> Tuple[Game, str]:
         """The game of a seed, and its canonical text."""
         if self._last is None or self._last[0] != seed:
-            game = made_game(seed)
-            if self._rooms is not None or self._live:
-                rooms = drawn_rooms(seed, *self._rooms) if self._rooms else [ROOMS] * len(HOTELS)
-                game = game.with_rooms(rooms, self._live)
-            if self._endow is not None:
-                game = game.with_endowments(classic_endowments(seed))
+            game = varied(made_game(seed), seed, self._rooms, self._live, self._endow is not None)
             self._last = seed, game, game.text()
         return self._last[1:]
 

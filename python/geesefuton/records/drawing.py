@@ -1,12 +1,29 @@
 """Draws from the seed of a made game, in addition to those of `tac make`."""
 
 import hashlib
-from typing import List, Tuple
+from typing import List, Optional, Tuple
 
-from geesefuton.records.games import HOTELS, SEATS, TICKETS, ticket
+from geesefuton.records.games import HOTELS, ROOMS, SEATS, TICKETS, Game, ticket
 
 MOST_SEED = 18446744073709551615
 KINDS, SIDES = 3, ((1, 4), (2, 3))  # of tickets; the outer and the inner nights
+
+
+def varied(game: Game, seed: int, rooms: Optional[Tuple[int, int]], live: bool,
+           is_clumped: bool) -> Game:
+    """The made game of a seed with other rooms, quotes or tickets.
+
+    Args:
+        game: As `tac make` makes it.
+        seed: Its seed.
+        rooms: The least and the most rooms of a hotel night; None for 16.
+        live: Whether each admitted bid publishes a hotel's price.
+        is_clumped: Whether tickets are endowed as in the original game.
+    """
+    low, high = rooms or (ROOMS, ROOMS)
+    if live or (low, high) != (ROOMS, ROOMS):
+        game = game.with_rooms(drawn_rooms(seed, low, high), live)
+    return game.with_endowments(classic_endowments(seed)) if is_clumped else game
 
 
 def drawn_rooms(seed: int, low: int, high: int) -> List[int]:
