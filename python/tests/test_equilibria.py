@@ -107,9 +107,9 @@ class Games(unittest.TestCase):
 
     def test_random_games_of_two_have_all_that_an_enumeration_finds(self) -> None:
         source = random.Random(3)
-        for size in (2, 3, 4, 5):
+        for size, count in ((2, 100), (3, 334), (4, 333), (5, 333)):
             games = [[[source.gauss(0.0, 1.0) for _ in range(size)] for _ in range(size)]
-                     for _ in range(60)]
+                     for _ in range(count)]
             for game, found in zip(games, equilibria(SymmetricGame(2, games))):
                 self.agree(found, sorted(enumerated(game), reverse=True))
 
