@@ -2,8 +2,8 @@
 _geesefuton() {
     local word=${COMP_WORDS[COMP_CWORD]}
     local programs commands
-    programs="data deals doctor live lobby profiles quickstart recover report room seat tac"
-    programs+=" tournament version vouch"
+    programs="benchmark data deals doctor live lobby profiles quickstart recover report room seat"
+    programs+=" tac tournament version vouch"
     commands="audit hotel make play serve show solve step table trial upgrade vouch worth"
     if [ "$COMP_CWORD" -eq 1 ]; then
         mapfile -t COMPREPLY < <(compgen -W "$programs --help" -- "$word")

@@ -13,7 +13,7 @@ from typing import Dict, Tuple
 INSTALLED = Path("usr/lib/python3/dist-packages")
 DOCUMENTS = Path("usr/share/doc/geesefuton")
 MAINTAINER = "The Geesefuton maintainers <maintainers@geesefuton.invalid>"
-RUN = (".py", ".game", ".script", ".account")  # examples that the package itself uses
+RUN = (".py", ".game", ".script", ".account", ".json")  # examples that the package itself uses
 OVERRIDES = Path("usr/share/lintian/overrides/geesefuton")
 OVERRIDE = """# The program is the one that was proved, byte by byte, so nothing is taken out of it.
 geesefuton: unstripped-binary-or-object *

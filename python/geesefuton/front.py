@@ -1,6 +1,4 @@
-"""Runs the programs of the package, and the proved program `tac`.
-`geesefuton WORD --help` describes a program. `tac` gets its words unchanged.
-"""
+"""Runs a program of the package, which `geesefuton WORD --help` describes, or the proved `tac`."""
 
 import importlib
 import os
@@ -40,6 +38,8 @@ PROGRAMS: Dict[str, Program] = {
                       "makes a page of a game, or of the games of a tournament"),
     "tournament": Program("geesefuton.experiments.tournament",
                           "plays many games between agents, and compares them"),
+    "benchmark": Program("geesefuton.experiments.benchmark",
+                         "compares an agent with the reference agents on known deals"),
     "profiles": Program("geesefuton.experiments.profiles",
                         "plays every profile of some strategies"),
     "deals": Program("geesefuton.experiments.deals_command",

@@ -1,0 +1,129 @@
+"""Plays a benchmark: an agent and the reference agents, each alone among the same pool of agents.
+
+    benchmark --out FOLDER classic mine.py
+
+There are two lists of deals, in examples/benchmarks: `classic`, with 16 rooms a night and tickets
+in clumps as in the original game, and `scarce`, with 3 to 6 rooms a night and live quotes. Games
+are in turns, so they are the same on any machine with the same program, package and minor version
+of Python. Their seeds are known: compare agents that were not made for these deals.
+
+FOLDER keeps the games like a tournament's --out, and --resume continues. At the end it has
+benchmark.json, which tells nothing of the machine: the list and its SHA-256, how the games were
+played, each agent's digest and its mean, and how much more the agent has than each reference agent,
+paired by deals, with 95 % intervals. The command prints these means and differences.
+
+The exit status is that of `tournament`.
+"""
+
+import hashlib
+import json
+import shlex
+import sys
+from dataclasses import asdict, replace
+from pathlib import Path
+from typing import List
+
+from geesefuton import program
+from geesefuton.arguments import Parser, whole
+from geesefuton.experiments.comparisons import Estimate
+from geesefuton.experiments.forms import columns, number_text, shown
+from geesefuton.experiments.plan import Plan, make_parser, read_plan
+from geesefuton.experiments.results import Row
+from geesefuton.experiments.summary import Difference, summarize
+from geesefuton.experiments.tournament import play_in_folder
+from geesefuton.processes import Output, command, tell
+
+LISTS = ("classic", "scarce")
+RESULT = "benchmark.json"
+
+
+def _file_of(name: str) -> Path:
+    """The file of a list."""
+    return program.examples() / "benchmarks" / f"{name}.json"
+
+
+def _words(name: str, agent: str, deals: int) -> List[str]:
+    """The words of the tournament that plays a list, or some of its deals."""
+    told = json.loads(_file_of(name).read_bytes())
+    pool, others = ([shlex.quote(str(program.examples() / file)) for file in told[part]]
+                    for part in ("pool", "references"))
+    others = [other for other in others if other != shlex.quote(agent)]  # it may be one of them
+    return [*told["settings"], "--seed", str(told["seed"]),
+            "--games", str((deals or told["deals"]) * (1 + len(others))),
+            *(f"--against={each}" for each in pool), agent, *others]
+
+
+def _against(agent: str, pair: Difference) -> Difference:
+    """A difference as that of an agent less another."""
+    if pair.second != agent or pair.score is None:
+        return pair
+    score = replace(pair.score, mean=-pair.score.mean)
+    return replace(pair, first=agent, second=pair.first, score=score)
+
+
+def _written(plan: Plan, name: str, rows: List[Row]) -> str:
+    """Writes what the games came to into the plan's folder, and gives it as text."""
+    agent, known = plan.entrants[0].name, plan.agents
+    summary = summarize([row for row in rows if not row.agent.endswith(" (pool)")])
+    pairs = {pair.second: pair for pair in (_against(agent, each) for each in summary.differences)
+             if pair.first == agent}
+
+    def rounded(value: Estimate) -> object:
+        return {key: each if each is None else round(each, 2) for key, each in asdict(value).items()}
+
+    agents, table = [], [["", "agent", "mean", f"{shown(agent)} less it", "p (Student)"]]
+    for place, standing in enumerate(summary.standings, 1):
+        pair = pairs.get(standing.agent)
+        less = pair.score if pair else None
+        agents.append({"agent": standing.agent, "digest": known[standing.agent].digest,
+                       "score": rounded(standing.score), "less": less and rounded(less),
+                       "student_p": pair and pair.student and round(pair.student, 6)})
+        table.append([f"{place}.", shown(standing.agent), number_text(standing.score),
+                      number_text(less), "-" if pair is None or pair.student is None
+                      else f"{pair.student:.3f}"])
+    told = {"benchmark": name, "sha256": hashlib.sha256(_file_of(name).read_bytes()).hexdigest(),
+            "deals": summary.deals, "settings": plan.settings, "agents": agents}
+    out = Output(plan.out / RESULT)
+    out.write(json.dumps(told, indent=1) + "\n")
+    out.close()
+    if out.fault:
+        tell(f"benchmark: {out.name}: {out.fault}")
+    return "\n".join([f"{name}, {summary.deals} deals; dollars with 95 % intervals by deals "
+                      "(Student's t)", *columns(table)]) + "\n"
+
+
+def _main() -> int:
+    parser = Parser("benchmark", __doc__)
+    parser.add_argument("list", choices=LISTS, help="the list of deals")
+    parser.add_argument("agent", metavar="AGENT", help="as for `tournament`")
+    parser.add_argument("--out", type=Path, required=True, metavar="FOLDER",
+                        help="keep the games in this folder")
+    parser.add_argument("--resume", action="store_true", help="play what FOLDER lacks")
+    parser.add_argument("--deals", type=whole(1), default=0, metavar="N",
+                        help="play only so many of the deals, to try it")
+    given = parser.parse_args()
+    try:
+        words = _words(given.list, given.agent, given.deals)
+    except OSError as fault:
+        parser.error(f"{fault.filename}: {fault.strerror}")
+    more = ["--resume"] if given.resume else []
+    plan = read_plan(parser, make_parser(None).parse_args(
+        [*words, *more, f"--out={given.out}"]))
+    status, rows, lost = play_in_folder(parser, plan)
+    for text in lost:
+        tell(f"benchmark: {text}")
+    if status:
+        return status
+    text = _written(plan, given.list, rows)
+    out = Output(1)
+    out.write(text)
+    return 1 if out.fault else 0
+
+
+def main() -> int:
+    """The command `benchmark`."""
+    return command("benchmark", _main)
+
+
+if __name__ == "__main__":
+    sys.exit(main())
