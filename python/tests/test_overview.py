@@ -22,8 +22,8 @@ from tests.test_data import NAMES, TEXTS, Case, numbers
 from tests.test_summary import row
 
 if not study.missing("these tests"):
-    from geesefuton.experiments.overview import (PREDICTORS, SIDES, Fill, GamePrices, Overview,
-                                                 Parts, figures_of, fills_of, optimum, table_of)
+    from geesefuton.experiments.overview import (PARTS, PREDICTORS, SIDES, figures_of, fills_of,
+                                                 optimum, overview_of, table_of)
     from geesefuton.experiments.overview_page import page
 
 TAKEN, DONE = read_entry_reply("taken 0 0"), read_entry_reply("done")
@@ -38,15 +38,15 @@ class Fills(unittest.TestCase):
     def test_a_bid_that_stands_is_asked_once(self) -> None:
         history = [bid(2, (3, 50)), bid(2, (3, 60)), bid(2, (4, 70)), bid(2, (1, 70)),
                    Entry(8, Call("close"), DONE, (Trade(2, 8, 1, 40),))]
-        self.assertEqual(fills_of(history), {(2, False): Fill(4, 1)})
+        self.assertEqual(fills_of(history), {(2, False): [4, 1]})
 
     def test_what_has_traded_may_be_asked_again(self) -> None:
         sold = (Trade(2, 5, 2, 50),)
         history = [bid(5, (-2, 50), (1, 20)), bid(2, (2, 50), trades=sold), bid(2, (2, 50)),
                    Entry(2, Call("withdraw"), DONE), bid(2, (1, 50)),
                    Entry(5, Call("bid", ((-9, 1),)), read_entry_reply("no closed"))]
-        self.assertEqual(fills_of(history), {(5, True): Fill(2, 2), (5, False): Fill(1, 0),
-                                             (2, False): Fill(5, 2)})
+        self.assertEqual(fills_of(history), {(5, True): [2, 2], (5, False): [1, 0],
+                                             (2, False): [5, 2]})
 
 
 @needs_study
@@ -82,9 +82,8 @@ class Games(Case):
             for rows in games_of(self.rows):
                 kept = read_kept(self.folder, rows)
                 self.figures.append(figures_of(kept, optimum(kept.game)))
-        self.overview = Overview()
-        for figures in self.figures:
-            self.overview.add(figures)
+        self.overview = overview_of(self.figures)
+        self.by_agent = {agent: seats for agent, seats in self.overview.seats.groupby("agent")}
 
     def test_the_parts_add_up_to_the_scores_of_the_logs(self) -> None:
         scores: Dict[str, List[int]] = defaultdict(list)
@@ -94,11 +93,11 @@ class Games(Case):
                 scores[NAMES[seat]].append(score)
                 trips[NAMES[seat]].append(best)
         for agent in NAMES:
-            self.assertEqual([parts.score for parts in self.overview.parts[agent]], scores[agent])
-            means = self.overview.mean_parts(agent)
-            self.assertAlmostEqual(means.score, sum(scores[agent]) / 3)
-            self.assertAlmostEqual(means.utility, sum(trips[agent]) / 3)
-        means_of_all = [sum(scores[agent]) for agent in self.overview.order()]
+            seats = self.by_agent[agent]
+            self.assertEqual(list(seats[PARTS].sum(axis=1)), scores[agent])
+            self.assertEqual((list(seats.score), list(seats.trips)),
+                             (scores[agent], trips[agent]))
+        means_of_all = [sum(scores[agent]) for agent in self.overview.order]
         self.assertEqual(means_of_all, sorted(means_of_all, reverse=True))
 
     def test_the_distance_is_that_to_the_best_plan_at_closing_prices(self) -> None:
@@ -115,13 +114,12 @@ class Games(Case):
         for seat, agent in enumerate(NAMES):
             plan = best_plan(game.clients[seat], [0] * 16 + list(game.endow[seat]), prices)
             score = numbers("score", text)[seat][-1]
-            self.assertEqual(self.overview.distances[agent][0], plan.value - score)
+            self.assertEqual(self.by_agent[agent].distance.iloc[0], plan.value - score)
 
     def test_nobody_has_more_than_the_bound(self) -> None:
-        (each,) = self.overview.efficiencies.values()
-        for game in each:
-            self.assertLessEqual(game.had, game.bound)
-            self.assertLessEqual(game.best, game.bound)
+        games = self.overview.games
+        self.assertEqual((len(games), games.agents.nunique()), (3, 1))
+        self.assertTrue((games[["had", "best"]].max(axis=1) <= games.bound).all())
         self.assertEqual(table_of(["b", "a", "b"]), "1 a, 2 b")
 
     def test_the_page_has_a_picture_and_a_table_for_each_figure(self) -> None:
@@ -137,16 +135,16 @@ class Games(Case):
             self.assertGreaterEqual(section.count("<table>"), 1, name)
         self.assertEqual(sections["Prices"].count("<figure>"), 16)
         rows = cells_of(sections["The parts of scores"].split("</table>")[1])[1:]
-        best = self.overview.order()[0]
-        parts: Parts = self.overview.mean_parts(best)
-        self.assertEqual(rows[0], [best, "3", *(f"{part:.0f}" for part in parts),
-                                   f"{parts.score:.0f}"])
+        best = self.overview.order[0]
+        means = self.by_agent[best][[*PARTS, "score"]].mean()
+        self.assertEqual(rows[0], [best, "3", *(f"{part:.0f}" for part in means)])
 
     def test_names_are_escaped(self) -> None:
         rows = [replace(row, agent=f"<zz{row.agent} & co") for row in self.rows]
-        overview = Overview()
-        for figures in self.figures:
-            overview.add(figures._replace(agents=[f"<zz{agent} & co" for agent in figures.agents]))
+        overview = overview_of([{**figures, "seats": [
+            (deal, f"<zz{agent} & co", *more) for deal, agent, *more in figures["seats"]],
+            "fills": [(f"<zz{agent} & co", *more) for agent, *more in figures["fills"]]}
+            for figures in self.figures])
         text = page(overview, "<zz & run", rows[0], summarize(rows))
         self.assertEqual(("<zz" in text, "& " in text), (False, False))
         self.assertIn("&lt;zz &amp; run", text)
@@ -180,9 +178,9 @@ class Games(Case):
                                  "tickets", "fills", "distances", "efficiencies"})
         with open(place / "parts.csv", newline="", encoding="utf-8") as text:
             lines = list(csv.DictReader(text))
-        self.assertEqual([line["of"] for line in lines], self.overview.order())
-        self.assertAlmostEqual(float(lines[0]["utility"]),
-                               self.overview.mean_parts(self.overview.order()[0]).utility)
+        self.assertEqual([line["of"] for line in lines], self.overview.order)
+        self.assertAlmostEqual(float(lines[0]["trips"]),
+                               self.by_agent[self.overview.order[0]].trips.mean())
         if importlib.util.find_spec("matplotlib") is not None:
             self.assertEqual(len(list(place.iterdir())), 30)
             svg = (place / "ranking.svg").read_bytes()
@@ -212,16 +210,15 @@ class Games(Case):
 @needs_study
 class Errors(unittest.TestCase):
     def test_three_predictions_of_a_night(self) -> None:
-        overview = Overview()
         # Night 8 of three games of two deals closes at tick 48, the others at once.
-        for deal, start, end in (("1", 10, 50), ("1", 20, 40), ("2", 30, 100)):
-            overview.paths[8].append(GamePrices(deal, 48, [start] * 48 + [end] * 7))
-        errors = overview.errors()
+        errors = overview_of([{"prices": [(deal, 8, 48, *[start] * 48, *[end] * 7)]} for
+                              deal, start, end in (("1", 10, 50), ("1", 20, 40), ("2", 30, 100))
+                              ]).errors()
         # The quotes err by 40, 20 and 70. The other deal closes at 100, or at 45 in the mean, and
         # rises by 70, or by 30.
         self.assertEqual([errors[way][0] for way in PREDICTORS],
                          [(40 + 20 + 70) / 3, (50 + 60 + 55) / 3, (30 + 50 + 40) / 3])
-        self.assertEqual({len(each) for each in errors.values()}, {8})
+        self.assertEqual(errors.shape, (8, 3))
         self.assertEqual(len(SIDES), 4)
 
 

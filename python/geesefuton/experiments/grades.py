@@ -20,11 +20,12 @@ def as_grades(summary: Summary) -> str:
     for standing in summary.standings:
         mean, half = standing.score.mean, standing.score.half
         ends = [""] * 2 if half is None else [f"{mean - half:.2f}", f"{mean + half:.2f}"]
-        letters = "".join(_letter(number) for number, group in enumerate(summary.groups)
-                          if standing.agent in group)
-        lines.append([standing.agent, f"{mean:.2f}", *ends, letters, standing.failed])
+        lines.append([standing.agent, f"{mean:.2f}", *ends, letters_of(summary, standing.agent),
+                      standing.failed])
     return csv_of(lines)
 
 
-def _letter(number: int) -> str:
-    return ascii_uppercase[number] if number < len(ascii_uppercase) else f"({number + 1})"
+def letters_of(summary: Summary, agent: str) -> str:
+    """The groups of an agent."""
+    return "".join(ascii_uppercase[number] if number < len(ascii_uppercase) else f"({number + 1})"
+                   for number, group in enumerate(summary.groups) if agent in group)

@@ -1,22 +1,51 @@
-"""The page of the games of a run: HTML that stands alone, as the report of a game."""
+"""The sections of a run's overview, and the page that shows them: HTML that stands alone, as the
+report of a game."""
 
 import html
-from statistics import mean, median
-from string import ascii_uppercase
-from typing import Dict, Iterator, List, Optional, Sequence
+from typing import Any, Iterator, List, NamedTuple, Sequence
 
-from geesefuton.experiments.forms import undecided
+import numpy as np
+import pandas as pd
+
+from geesefuton.experiments.forms import count_text, undecided
+from geesefuton.experiments.grades import letters_of
 from geesefuton.experiments.joining import WAYS
-from geesefuton.experiments.overview import (MINUTES, PREDICTORS, SIDES, Efficiency, Fill, Overview,
-                                             Parts)
+from geesefuton.experiments.overview import PARTS, PREDICTORS, SIDES, Overview
 from geesefuton.experiments.power import deals_to_detect
 from geesefuton.experiments.results import Row
 from geesefuton.experiments.summary import Difference, Summary
 from geesefuton.records.games import AUCTIONS, FLIGHTS, HOTELS, TICKETS, TICKS, name_of
 from geesefuton.records.report_page import STYLE, Cell, bar, chart, round_up, table
 
+Frame = Any  # of pandas
 SHOWN = range(0, TICKS + 1, 6)  # the ticks of a table of prices
-KINDS = ("trips", "flights", "rooms", "tickets", "penalties")  # the parts of a score
+LOWER, UPPER = ", lower quartile", ", upper quartile"
+
+
+class Section(NamedTuple):
+    """A section of the overview.
+
+    Attributes:
+        name: That of its picture.
+        title: What stands above it; "" where it goes on with the one before.
+        note: What it says, as HTML.
+        shown: The data of the picture.
+        told: The table, if it has others; texts, and numbers that are shown in whole dollars.
+        picture: As HTML; "" for bars.
+    """
+
+    name: str
+    title: str
+    note: str
+    shown: Frame
+    told: Frame
+    picture: str = ""
+
+
+def sections(overview: Overview) -> List[Section]:
+    """The sections of an overview."""
+    return [_errors(overview), _parts(overview), *_prices(overview), _tickets(overview),
+            _fills(overview), _distances(overview), _efficiencies(overview)]
 
 
 def page(overview: Overview, name: str, row: Row, summary: Summary) -> str:
@@ -28,46 +57,59 @@ def page(overview: Overview, name: str, row: Row, summary: Summary) -> str:
         row: One of its rows.
         summary: The summary of its rows.
     """
-    agents = [html.escape(agent) for agent in overview.order()]
-    title = html.escape(name)
-    return "\n".join([
+    agents = ", ".join(map(html.escape, overview.order))
+    games, deals = len(overview.games), overview.seats.deal.nunique()
+    parts = [
         '<!doctype html><html lang="en"><meta charset="utf-8">'
         '<meta name="viewport" content="width=device-width, initial-scale=1">'
-        f"<title>Games of {', '.join(agents)}</title>"
-        f"<style>{STYLE.read_text(encoding='ascii')}</style>",
-        f"<h1>Games of {', '.join(agents)}</h1><p>The folder {title}: {_games(overview.games)} of "
-        f"{_count(len(overview.deals), 'deal')}, played {WAYS[row.kind]}. All amounts are in "
-        "dollars.</p>",
-        *_ranking(summary), *_differences(summary), *_errors(overview), *_parts(overview),
-        *_prices(overview), *_tickets(overview), *_fills(overview), *_distances(overview),
-        *_efficiencies(overview)]) + "</html>\n"
+        f"<title>Games of {agents}</title><style>{STYLE.read_text(encoding='ascii')}</style>",
+        f"<h1>Games of {agents}</h1><p>The folder {html.escape(name)}: {count_text(games, 'game')} "
+        f"of {count_text(deals, 'deal')}, played {WAYS[row.kind]}. All amounts are in dollars.</p>",
+        *_ranking(summary), *_differences(summary)]
+    for each in sections(overview):
+        parts.append((f"<h2>{each.title}</h2><p>{each.note}</p>" if each.title else "")
+                     + (each.picture or _bars(each.shown)))
+        told = each.told.reset_index()
+        parts.append(table([str(column).replace("|", "<br>") for column in told],
+                           [list(map(_cell, line)) for line in told.itertuples(index=False)],
+                           range(each.told.index.nlevels)))
+    return "\n".join(parts) + "</html>\n"
+
+
+def _cell(value: object) -> str:
+    if isinstance(value, str):
+        return html.escape(value)
+    return "–" if pd.isna(value) else f"{value:.0f}"
+
+
+def _bars(frame: Frame) -> str:
+    """Bars of the values of each row, all on one scale."""
+    numbers = frame.fillna(0).round().astype(int)
+    low, high = min(0, int(numbers.min().min())), max(1, int(numbers.max().max()))
+    rows = [[html.escape(str(name)), *(bar(value, low, high) for value in line)]
+            for name, line in zip(numbers.index, numbers.to_numpy().tolist())]
+    return table(["", *map(str, numbers)], rows, range(len(numbers.columns) + 1))
 
 
 def _ranking(summary: Summary) -> Iterator[str]:
     yield ("<h2>Ranking</h2><p>Mean scores with 95 % intervals (Student's t, by deals). These "
-           "games do not separate agents that have a letter in common: Holm's test over all pairs finds "
-           "no difference.</p>")
+           "games do not separate agents that have a letter in common: Holm's test over all pairs "
+           "finds no difference.</p>")
     told = [(standing, standing.score.half or 0.0) for standing in summary.standings]
     low = min((standing.score.mean - half for standing, half in told), default=0.0)
     high = max((standing.score.mean + half for standing, half in told), default=1.0)
+    scale = 100 / max(1.0, high - low)  # of a picture that has at least a dollar
     rows: List[List[Cell]] = []
     for number, (standing, half) in enumerate(told, 1):
-        letters = "".join(letter for letter, group in zip(ascii_uppercase, summary.groups)
-                          if standing.agent in group)
-        rows.append([number, html.escape(standing.agent), f"<b>{standing.score.mean:.0f}</b>",
-                     "?" if standing.score.half is None else f"± {half:.0f}",
-                     _interval(standing.score.mean, half, low, high), letters, standing.seats,
-                     standing.failed or "–"])
+        mean = standing.score.mean
+        picture = (f'<span class="bar"><i class="fill" style="left:{(mean - half - low) * scale:.1f}'
+                   f'%;width:{2 * half * scale:.1f}%"></i>'
+                   f'<i class="zero" style="left:{(mean - low) * scale:.1f}%"></i></span>')
+        rows.append([number, html.escape(standing.agent), f"<b>{mean:.0f}</b>",
+                     "?" if standing.score.half is None else f"± {half:.0f}", picture,
+                     letters_of(summary, standing.agent), standing.seats, standing.failed or "–"])
     yield table(["", "agent", "mean", "", f"{low:.0f} to {high:.0f}", "groups", "seats",
                  "not played<br>to the end"], rows, (1, 5))
-
-
-def _interval(mean_score: float, half: float, low: float, high: float) -> str:
-    """A picture of a mean with its interval, on a scale of at least a dollar."""
-    scale = 100 / max(1.0, high - low)
-    return (f'<span class="bar"><i class="fill" style="left:{(mean_score - half - low) * scale:.1f}%;'
-            f'width:{2 * half * scale:.1f}%"></i>'
-            f'<i class="zero" style="left:{(mean_score - low) * scale:.1f}%"></i></span>')
 
 
 def _differences(summary: Summary) -> Iterator[str]:
@@ -94,8 +136,7 @@ def _differences(summary: Summary) -> Iterator[str]:
         yield table([*heads, "deals more"], neighbours, (0,))
     if others:
         yield f"<details><summary>All other pairs</summary>{table(heads, others, (0,))}</details>"
-    told = undecided(summary)
-    yield "".join(f"<p>{html.escape(line)}.</p>" for line in told)
+    yield "".join(f"<p>{html.escape(line)}.</p>" for line in undecided(summary))
 
 
 def _more_deals(pair: Difference) -> Cell:
@@ -107,144 +148,122 @@ def _more_deals(pair: Difference) -> Cell:
     return max(1, (deals_to_detect(pair.score, abs(pair.score.mean)) or 0) - pair.score.count)
 
 
-def _count(number: int, what: str) -> str:
-    return f"{number:,} {what}{'' if number == 1 else 's'}"
-
-
-def _games(number: int) -> str:
-    return _count(number, "game")
-
-
-def _bars(values: Dict[str, Sequence[float]], heads: Sequence[str]) -> str:
-    """Bars of several values of each name, all on one scale."""
-    numbers = [round(value) for row in values.values() for value in row]
-    low, high = min([0, *numbers]), max([1, *numbers])
-    rows = [[html.escape(name), *(bar(round(value), low, high) for value in row)]
-            for name, row in values.items()]
-    return table(["", *heads], rows, range(len(heads) + 1))
-
-
-def _parts(overview: Overview) -> Iterator[str]:
-    means: Dict[str, Parts] = {agent: overview.mean_parts(agent) for agent in overview.order()}
-    yield ("<h2>The parts of scores</h2><p>Means over an agent's seats: what the trips are worth, "
-           "what was earned less what was paid for each kind of goods, and 200 for each ticket "
-           "short. The score is their sum.</p>")
-    yield _bars(dict(means.items()), KINDS)
-    rows: List[List[Cell]] = [
-        [html.escape(agent), len(overview.parts[agent]), *(f"{part:.0f}" for part in parts),
-         f"<b>{parts.score:.0f}</b>"] for agent, parts in means.items()]
-    yield table(["agent", "seats", *KINDS, "score"], rows, (0,))
-
-
-def _prices(overview: Overview) -> Iterator[str]:
-    yield ("<h2>Prices</h2><p>The median of all games at each tick, 0 at the left to 54, in the "
-           "band of the middle half of the games. A night that is closed keeps its price.</p>")
-    for goods, step in ((FLIGHTS, 50), (HOTELS, 100)):
-        bands = {good: overview.quartiles(good) for good in goods}
-        high = round_up(max([step, *(top for band in bands.values() for _, _, top in band)]), step)
-        low = 0
-        if goods is FLIGHTS:
-            low = int(min(least for band in bands.values() for least, _, _ in band)) // step * step
-            high = max(high, low + step)
-        for group in (goods[:4], goods[4:]):
-            charts = []
-            for good in group:
-                below, middle, above = (list(enumerate(each)) for each in zip(*bands[good]))
-                day = f"{'day' if good in FLIGHTS else 'night'} {AUCTIONS[good].day}"
-                charts.append(chart(f"{day}: <b>{middle[0][1]:.0f} to {middle[-1][1]:.0f}</b>",
-                                    middle, low, high, False, (below, above)))
-            yield f"<h3>{AUCTIONS[group[0]].group}</h3>"
-            yield f'<div class="charts">{"".join(charts)}</div>'
-            yield table(["median at tick", *map(str, SHOWN)],
-                        [[name_of(good), *(f"{bands[good][tick][1]:.0f}" for tick in SHOWN)]
-                         for good in group], (0,))
-
-
-def _tickets(overview: Overview) -> Iterator[str]:
-    yield "<h2>Ticket prices</h2><p>Mean number of units traded a game, and the price of each.</p>"
-    if not any(overview.trades.values()):
-        yield "<p>No ticket was traded.</p>"
-        return
-    means: Dict[str, Sequence[float]] = {}
-    rows: List[List[Cell]] = []
-    for good in TICKETS:
-        trades = overview.trades[good]
-        units = sum(count for count, _ in trades)
-        prices = [price for _, price in trades]
-        cost = sum(count * price for count, price in trades)
-        means[name_of(good)] = [cost / units if units else 0]
-        rows.append([name_of(good), f"{units / overview.games:.1f}", *(
-            [min(prices), f"{cost / units:.0f}", max(prices)] if units else ["–"] * 3)])
-    yield _bars(means, ["mean price"])
-    yield table(["ticket", "traded", "lowest", "mean", "highest"], rows, (0,))
-
-
-def _fills(overview: Overview) -> Iterator[str]:
-    yield ("<h2>Units asked for, and got</h2><p>A bid asks for the units by which it exceeds its "
-           "agent's standing units there. The bars show what share of them traded.</p>")
-    rates: Dict[str, Sequence[float]] = {}
-    rows: List[List[Cell]] = []
-    for agent in overview.order():
-        rates[agent] = [rate or 0 for rate in overview.rates(agent)]
-        seats = len(overview.parts[agent])
-        for side, rate in zip(SIDES, overview.rates(agent)):
-            fill = overview.fills[agent].get(side, Fill())
-            rows.append([html.escape(agent), side, f"{fill.asked / seats:.1f}",
-                         f"{fill.filled / seats:.1f}", "–" if rate is None else f"{rate:.0f} %"])
-    yield _bars(rates, SIDES)
-    yield table(["agent", "", "asked for<br>a seat", "got<br>a seat", "rate"], rows, (0, 1))
-
-
-def _errors(overview: Overview) -> Iterator[str]:
-    yield ("<h2>Errors of predicted room prices</h2><p>The mean error in dollars of three "
-           "predictions of a night's closing price, over the nights that are open after a tick: "
-           "the quote at the tick, the mean closing price of that night in the games of other "
-           "deals, and the quote plus its mean rise in those games.</p>")
+def _errors(overview: Overview) -> Section:
+    note = ("The mean error in dollars of three predictions of a night's closing price, over the "
+            "nights that are open after a tick: the quote at the tick, the mean closing price of "
+            "that night in the games of other deals, and the quote plus its mean rise in those "
+            "games.")
     errors = overview.errors()
-    most = max([1.0, *(error for each in errors.values() for error in each if error is not None)])
-    paths = {f"{predictor} ({line})": [(tick, error) for tick, error in zip(
-        MINUTES, errors[predictor]) if error is not None]
-        for predictor, line in zip(PREDICTORS, ("line", "dashed", "dotted"))}
+    paths = {f"{predictor} ({line})": list(errors[predictor].dropna().items())
+             for predictor, line in zip(PREDICTORS, ("line", "dashed", "dotted"))}
     title = "; ".join(f"{name}: <b>{path[0][1]:.0f} to {path[-1][1]:.0f}</b>"
                       for name, path in paths.items() if path)
     first, *more = filter(None, paths.values())
-    yield chart(title, first, 0, round_up(most, 50), False, more=more)
-    yield table(["mean error at tick", *map(str, MINUTES)],
-                [[predictor, *map(_whole, errors[predictor])] for predictor in PREDICTORS], (0,))
+    picture = chart(title, first, 0, round_up(max(1.0, errors.max().max()), 50), False, more=more)
+    return Section("errors", "Errors of predicted room prices", note, errors,
+                   errors.T.rename_axis("mean error at tick"), picture)
 
 
-def _whole(number: Optional[float]) -> str:
-    return "–" if number is None else f"{number:.0f}"
+def _parts(overview: Overview) -> Section:
+    seats = overview.seats.groupby("agent")
+    means = seats[[*PARTS, "score"]].mean().loc[overview.order]
+    told = means.copy()
+    told.insert(0, "seats", seats.size())
+    return Section("parts", "The parts of scores", (
+        "Means over an agent's seats: what the trips are worth, what was earned less what was paid "
+        "for each kind of goods, and 200 for each ticket short. The score is their sum."),
+        means[PARTS], told)
 
 
-def _distances(overview: Overview) -> Iterator[str]:
-    yield ("<h2>The distance to the best plan at closing prices</h2><p>How far a seat's score is "
-           "below the worth of its best plan, if the plan bought what it lacks at the last prices "
-           "of flights and rooms and the mean prices of tickets. A score with a distance below 0 "
-           "is better, for example because flights became dearer later.</p>")
-    rows: List[List[Cell]] = []
-    for agent in overview.order():
-        each = overview.distances[agent]
-        rows.append([html.escape(agent), len(each), f"<b>{mean(each):.0f}</b>", min(each),
-                     f"{median(each):.0f}", max(each)])
-    yield _bars({agent: [mean(overview.distances[agent])] for agent in overview.order()}, ["mean"])
-    yield table(["agent", "seats", "mean", "least", "median", "most"], rows, (0,))
+def _prices(overview: Overview) -> Iterator[Section]:
+    note = ("The median of all games at each tick, 0 at the left to 54, in the band of the middle "
+            "half of the games. A night that is closed keeps its price.")
+    for name, goods, step in (("flights", FLIGHTS, 50), ("rooms", HOTELS, 100)):
+        bands = pd.concat({good: overview.quartiles(good) for good in goods}, axis=1)
+        high = round_up(max(step, bands.max().max()), step)
+        low = 0
+        if goods is FLIGHTS:
+            low = int(bands.min().min()) // step * step
+            high = max(high, low + step)
+        picture = ""
+        for group in (goods[:4], goods[4:]):
+            charts = []
+            for good in group:
+                below, middle, above = (list(bands[good][part].items()) for part in (.25, .5, .75))
+                day = f"{'day' if good in FLIGHTS else 'night'} {AUCTIONS[good].day}"
+                charts.append(chart(f"{day}: <b>{middle[0][1]:.0f} to {middle[-1][1]:.0f}</b>",
+                                    middle, low, high, False, (below, above)))
+            picture += f'<h3>{AUCTIONS[group[0]].group}</h3><div class="charts">{"".join(charts)}' \
+                       "</div>"
+        shown = pd.DataFrame({f"{name_of(good)}{end}": bands[good][part]
+                              for part, end in ((.5, ""), (.25, LOWER), (.75, UPPER))
+                              for good in goods}).rename_axis("tick")
+        medians = shown.loc[list(SHOWN), list(map(name_of, goods))].T
+        yield Section(name, "Prices" if goods is FLIGHTS else "", note, shown,
+                      medians.rename_axis("median at tick"), picture)
 
 
-def _efficiencies(overview: Overview) -> Iterator[str]:
-    yield ("<h2>Efficiency over the 64 clients</h2><p>The worth of all trips of a game, less the "
-           "cost of all seats at the flights' first prices and 200 for each ticket short, as a "
-           "share of the best known allocation of its rooms and tickets to its 64 clients. No "
-           "allocation is worth more than the bound.</p>")
-    tables = overview.efficiencies
-    rates = {agents: [100 * each.had / each.best for each in tables[agents] if each.best]
-             for agents in sorted(tables)}
-    yield _bars({agents: [mean(each or [0])] for agents, each in rates.items()}, ["mean, in %"])
-    rows: List[List[Cell]] = []
-    for agents, each in rates.items():
-        games: Sequence[Efficiency] = tables[agents]
-        rows.append([html.escape(agents), len(games), f"<b>{mean(each or [0]):.0f} %</b>",
-                     f"{min(each, default=0):.0f} %", f"{max(each, default=0):.0f} %",
-                     *(f"{mean(values):.0f}" for values in zip(*games))])
-    yield table(["agents", "games", "mean", "least", "most", "worth", "best known", "bound"],
-                rows, (0,))
+def _tickets(overview: Overview) -> Section:
+    trades = overview.trades.assign(cost=overview.trades.units * overview.trades.price)
+    goods = trades.groupby("good")
+    units, cost = goods.units.sum(), goods.cost.sum()
+    told = pd.DataFrame({"traded": units / len(overview.games), "lowest": goods.price.min(),
+                         "mean": cost / units, "highest": goods.price.max()}, list(TICKETS))
+    told.index = pd.Index(map(name_of, TICKETS), name="ticket")
+    told["traded"] = told.traded.fillna(0).map("{:.1f}".format)
+    return Section("tickets", "Ticket prices",
+                   "Mean number of units traded a game, and the price of each.",
+                   told[["mean"]].rename(columns={"mean": "mean price"}), told)
+
+
+def _fills(overview: Overview) -> Section:
+    sides = pd.MultiIndex.from_product([overview.order, SIDES], names=["agent", "side"])
+    sums = overview.fills.groupby(["agent", "side"]).sum().reindex(sides, fill_value=0)
+    seats = overview.seats.groupby("agent").size().reindex(sides, level="agent")
+    rates = 100 * sums.got / sums.asked.replace(0, np.nan)
+    told = pd.DataFrame({
+        **{f"{name}|a seat": (sums[column] / seats).map("{:.1f}".format)
+           for column, name in (("asked", "asked for"), ("got", "got"))},
+        "rate": rates.map(lambda rate: "–" if pd.isna(rate) else f"{rate:.0f} %")})
+    return Section("fills", "Units asked for, and got", (
+        "A bid asks for the units by which it exceeds its agent's standing units there. The bars "
+        "show what share of them traded."), rates.unstack().loc[overview.order, list(SIDES)], told)
+
+
+def _distances(overview: Overview) -> Section:
+    found = overview.seats.groupby("agent").distance.agg(
+        ["size", "mean", "min", "median", "max"]).loc[overview.order]
+    found.columns = ["seats", "mean", "least", "median", "most"]
+    return Section("distances", "The distance to the best plan at closing prices", (
+        "How far a seat's score is below the worth of its best plan, if the plan bought what it "
+        "lacks at the last prices of flights and rooms and the mean prices of tickets. A score with "
+        "a distance below 0 is better, for example because flights became dearer later."),
+        found[["mean"]].rename(columns={"mean": "mean distance"}), found)
+
+
+def _efficiencies(overview: Overview) -> Section:
+    games = overview.games.assign(rate=100 * overview.games.had
+                                  / overview.games.best.replace(0, np.nan)).groupby("agents")
+    found = games.rate.agg(["size", "mean", "min", "max"]).fillna(0)
+    told = pd.concat([found, games[["had", "best", "bound"]].mean()], axis=1)
+    told.columns = ["games", "mean, in %", "least", "most", "worth", "best known", "bound"]
+    return Section("efficiencies", "Efficiency over the 64 clients", (
+        "The worth of all trips of a game, less the cost of all seats at the flights' first prices "
+        "and 200 for each ticket short, as a share of the best known allocation of its rooms and "
+        "tickets to its 64 clients. No allocation is worth more than the bound."),
+        told[["mean, in %"]].rename(columns={"mean, in %": "efficiency in %"}), told)
+
+
+def pictures(overview: Overview, summary: Summary) -> "dict[str, Frame]":
+    """The data of each picture by its name, also of the ranking and the differences."""
+    ranking: Sequence[Any] = [(each.agent, each.score, None, None)
+                              for each in summary.standings[::-1]]
+    pairs = [(f"{each.first} less {each.second}", each.score, each.bonferroni, each.holm)
+             for each in summary.differences[::-1] if each.score]
+    found = {}
+    for name, told in (("ranking", ranking), ("differences", pairs)):
+        found[name] = pd.DataFrame(
+            [(score.mean, score.half, *more) for _, score, *more in told],
+            [who for who, *_ in told], ["mean", "half", "all_pairs_half", "holm_p"], dtype=float)
+    found["ranking"] = found["ranking"][["mean", "half"]]
+    return {**found, **{each.name: each.shown for each in sections(overview)}}

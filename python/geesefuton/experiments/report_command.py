@@ -120,7 +120,7 @@ def _over(folder: Path, figures: Optional[Path]) -> Tuple[str, List[str]]:
     from geesefuton.experiments import overview_page  # which needs the libraries
     from geesefuton.experiments.overview_work import gathered
     overview, faults = gathered(folder, source.rows)
-    if not overview.games:
+    if overview.games.empty:
         return "", told + faults
     summary = summarize(source.rows)
     if figures is not None:
