@@ -61,7 +61,7 @@ class Texts(unittest.TestCase):
         rows = [row("1", 0, seat, "a", 7, end) for seat, end in enumerate(ends)]
         self.assertIn(" 4 of 5: 1 crashed, 2 hung, 1 refused\n", as_text(summarize(rows)))
         self.assertEqual(json.loads(as_json(summarize(rows)))["agents"][0]["ends"],
-                         {"played": 1, "absent": 0, "crashed": 1, "hung": 2, "refused": 1})
+                         {"played": 1, "crashed": 1, "hung": 2, "refused": 1})
         line = next(csv.DictReader(io.StringIO(as_csv(summarize(rows)))))
         self.assertEqual([line[end] for end in ("played", "absent", "crashed", "hung", "refused")],
                          ["1", "0", "1", "2", "1"])
@@ -84,8 +84,8 @@ class Texts(unittest.TestCase):
         first, second, pair = csv.DictReader(io.StringIO(as_csv(summarize(rows))))
         self.assertEqual(list(first), ["what", "agent", "other", "mean", "half", "adjusted",
                                        "adjusted_half", "deals", "seats", "played", "absent",
-                                       "crashed", "hung", "refused", "luck", "played_mean",
-                                       "played_half", "paired_by", "left_out", "all_pairs_half",
+                                       "crashed", "hung", "killed", "refused", "luck",
+                                       "played_mean", "played_half", "paired_by", "left_out", "all_pairs_half",
                                        "student_p", "holm_p", "wilcoxon_p", "deals_needed"])
         self.assertEqual([first["luck"], second["luck"], second["mean"], second["adjusted"],
                           second["adjusted_half"]], ["10.67", "5.33", "6.33", "9.0", "0.0"])
@@ -96,11 +96,11 @@ class Texts(unittest.TestCase):
         self.assertAlmostEqual(value["agents"][1]["luck"], 16 / 3)
         self.assertAlmostEqual(value["agents"][1]["adjusted"]["mean"], 9.0)
         self.assertAlmostEqual(value["agents"][1]["adjusted"]["half"], 0.0)
-        self.assertEqual((value["agents"][1]["seats"], value["agents"][1]["score"]["deals"]),
+        self.assertEqual((value["agents"][1]["seats"], value["agents"][1]["score"]["count"]),
                          (3, 3))
         told = value["differences"][0]
         self.assertEqual((told["first"], told["second"], told["score"]["mean"]), ("a", "b", 13.0))
-        self.assertEqual(told["adjusted"]["deals"], 3)
+        self.assertEqual(told["adjusted"]["count"], 3)
 
     def test_games_in_turns_are_counted(self) -> None:
         rows = [row(deal, 0, seat, "a", 5, kind=kind) for deal, kind in
@@ -132,8 +132,7 @@ class Texts(unittest.TestCase):
             "not separated, with p (Holm) above 0.05: b, c"])
         pair, value = summary.differences[0], json.loads(as_json(summary))
         told = value["differences"][0]
-        self.assertEqual((told["all_pairs_half"], told["student_p"], told["holm_p"],
-                          told["wilcoxon_p"]),
+        self.assertEqual((told["bonferroni"], told["student"], told["holm"], told["wilcoxon"]),
                          (pair.bonferroni, pair.student, pair.holm, pair.wilcoxon))
         self.assertEqual(value["groups"], [["a"], ["b", "c"]])
         line = list(csv.DictReader(io.StringIO(as_csv(summary))))[3]
@@ -152,8 +151,7 @@ class Texts(unittest.TestCase):
         self.assertEqual(lines[-1], "with so many games, 80 % of experiments detect a difference "
                                     "of 100 dollars, for the largest spread that these games leave "
                                     "possible (80 % upper limit)")
-        self.assertEqual(json.loads(as_json(summary))["differences"][0]["deals_needed"],
-                         pair.needed)
+        self.assertEqual(json.loads(as_json(summary))["differences"][0]["needed"], pair.needed)
         self.assertEqual(list(csv.DictReader(io.StringIO(as_csv(summary))))[2]["deals_needed"],
                          str(pair.needed))
         self.assertRegex(as_text(summarize(SWAPPED[:2], detect=100)), r"(?m)^b less a .* - +\?$")
@@ -211,14 +209,14 @@ class Texts(unittest.TestCase):
     def test_json(self) -> None:
         value = json.loads(as_json(self.summary))
         self.assertEqual((value["games"], value["deals"]), (4, 2))
-        self.assertEqual([pair["paired_by"] for pair in value["differences"]],
-                         ["clients", "games", "games"])
+        self.assertEqual([pair["by_clients"] for pair in value["differences"]],
+                         [True, False, False])
         self.assertEqual(value["agents"][0]["score"]["mean"], 200.0)
-        self.assertEqual(value["agents"][2]["ends"]["absent"], 1)
+        self.assertEqual(value["agents"][2]["ends"], {"absent": 1})
         self.assertEqual(value["agents"][0]["played"], value["agents"][0]["score"])
         self.assertEqual((value["agents"][2]["score"]["mean"], value["agents"][2]["played"]),
                          (7.0, None))
-        self.assertEqual(value["differences"][0]["score"]["deals"], 2)
+        self.assertEqual(value["differences"][0]["score"]["count"], 2)
         self.assertEqual(value["lost"], ["game 7.0 is lost: why"])
 
     def test_nothing_played(self) -> None:

@@ -274,7 +274,7 @@ class Rows(unittest.TestCase):
 
     def test_each_end_and_each_kind_has_its_word(self) -> None:
         self.assertEqual([end.value for end in Outcome],
-                         ["played", "absent", "crashed", "hung", "refused"])
+                         ["played", "absent", "crashed", "hung", "killed", "refused"])
         self.assertEqual([kind.value for kind in Kind], ["served", "turns2", "unrepeatable2"])
         self.assertIs(Row("1", 0, 0, "a", 5, Outcome.PLAYED, 0).kind, Kind.SERVED)
 

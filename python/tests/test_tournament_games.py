@@ -78,7 +78,7 @@ class InTurns(unittest.TestCase):
         self.assertGreater(by_name["quits"]["ends"]["played"], 0)
         self.assertEqual(by_name["quits"]["score"], by_name["plays"]["score"])
         self.assertGreater(by_name["quits"]["played"]["mean"], by_name["plays"]["played"]["mean"])
-        self.assertEqual(value["differences"][0]["score"], {"mean": 0.0, "half": 0.0, "deals": 2})
+        self.assertEqual(value["differences"][0]["score"], {"mean": 0.0, "half": 0.0, "count": 2})
 
 
 @needs_program
@@ -103,8 +103,7 @@ class Real(unittest.TestCase):
                     self.assertNotEqual(row.score, 0)
             value = json.loads((place / "s.json").read_text())
             self.assertEqual(value["agents"][0]["agent"], "buyer")
-            self.assertEqual(value["agents"][1]["ends"], {"played": 0, "absent": 2, "crashed": 4,
-                                                          "hung": 0, "refused": 2})
+            self.assertEqual(value["agents"][1]["ends"], {"absent": 2, "crashed": 4, "refused": 2})
             log = place / "run" / "games" / "1.0.log"
             self.assertTrue(log.read_text().startswith("taclog 1\n"))
             self.assertTrue(re.search("failing at seat [0-7] .failingb. counts as crashed: ended "

@@ -28,36 +28,22 @@ class Estimate:
     count: int
 
 
-def _beta_fraction(a: float, b: float, x: float) -> float:
-    """The continued fraction of the incomplete beta function, from its front by Lentz's way."""
-    tiny = 1e-300
-    numerator = 1.0
-    denominator = 1.0 - (a + b) * x / (a + 1.0)
-    denominator = 1.0 / (denominator or tiny)
-    value = denominator
-    for step in range(1, 1000):
-        even = step * (b - step) * x / ((a + 2 * step - 1) * (a + 2 * step))
-        odd = -(a + step) * (a + b + step) * x / ((a + 2 * step) * (a + 2 * step + 1))
-        change = 1.0
-        for term in (even, odd):
-            denominator = 1.0 / (1.0 + term * denominator or tiny)
-            numerator = 1.0 + term / numerator or tiny
-            change = denominator * numerator
-            value *= change
-        if abs(change - 1.0) < 1e-15:
-            break
-    return value
+def student_outside(freedom: int, bound: float) -> float:
+    """The probability of Student's t at least as far from 0 as a bound, by its sum for whole degrees
+    of freedom.
 
-
-def incomplete_beta(a: float, b: float, x: float) -> float:
-    """The regularized incomplete beta function, for a and b above 0 and x from 0 to 1."""
-    if x <= 0.0 or x >= 1.0:
-        return 0.0 if x <= 0.0 else 1.0
-    front = math.exp(math.lgamma(a + b) - math.lgamma(a) - math.lgamma(b)
-                     + a * math.log(x) + b * math.log1p(-x))
-    if x < (a + 1.0) / (a + b + 2.0):
-        return front * _beta_fraction(a, b, x) / a
-    return 1.0 - front * _beta_fraction(b, a, 1.0 - x) / b
+    Args:
+        freedom: The degrees of freedom, 1 or more.
+        bound: 0 or more.
+    """
+    angle, odd = math.atan2(bound, math.sqrt(freedom)), freedom % 2
+    square, total = math.cos(angle) ** 2, 0.0
+    term = math.cos(angle) if odd else 1.0
+    for power in range(odd, freedom - 1, 2):
+        total += term
+        term *= square * (power + 1) / (power + 2)
+    inside = math.sin(angle) * total
+    return max(0.0, 1.0 - (2.0 / math.pi * (angle + inside) if odd else inside))
 
 
 @functools.lru_cache(maxsize=1024)
@@ -68,15 +54,12 @@ def student_quantile(freedom: int, level: float = LEVEL) -> float:
         freedom: The degrees of freedom, 1 or more.
         level: The probability, above 0 and below 1.
     """
-    def outside(bound: float) -> float:
-        return incomplete_beta(freedom / 2.0, 0.5, freedom / (freedom + bound * bound))
-
     low, high = 0.0, 1.0
-    while outside(high) > 1.0 - level:
+    while student_outside(freedom, high) > 1.0 - level:
         high *= 2.0
     while high - low > 1e-13 * high:
         middle = (low + high) / 2.0
-        if outside(middle) > 1.0 - level:
+        if student_outside(freedom, middle) > 1.0 - level:
             low = middle
         else:
             high = middle
@@ -98,35 +81,15 @@ def estimate(values: Sequence[float]) -> Estimate:
     return Estimate(mean, half, count)
 
 
-def half_at(value: Estimate, level: float) -> Optional[float]:
-    """Half the width of the interval of a mean at another level; None where there is none.
-
-    Args:
-        value: What `estimate` gives.
-        level: Above 0 and below 1.
-    """
-    if value.half is None:
-        return None
-    freedom = value.count - 1
-    return value.half * student_quantile(freedom, level) / student_quantile(freedom)
-
-
 def student_p(value: Estimate) -> Optional[float]:
-    """The probability by Student's t of a mean at least as far from 0 if the true one is 0.
-
-    Args:
-        value: What `estimate` gives.
-
-    Returns:
-        The probability, of both sides; None where there is no interval.
-    """
+    """The probability by Student's t of a mean at least as far from 0 if the true one is 0, on
+    either side; None where there is no interval."""
     if value.half is None:
         return None
     if value.half == 0.0:
         return 1.0 if value.mean == 0.0 else 0.0
     freedom = value.count - 1
-    bound = value.mean / value.half * student_quantile(freedom)
-    return incomplete_beta(freedom / 2.0, 0.5, freedom / (freedom + bound * bound))
+    return student_outside(freedom, abs(value.mean) / value.half * student_quantile(freedom))
 
 
 def holm(chances: Sequence[Optional[float]]) -> List[Optional[float]]:
@@ -148,14 +111,11 @@ def holm(chances: Sequence[Optional[float]]) -> List[Optional[float]]:
 
 def bonferroni_halves(values: Sequence[Optional[Estimate]]) -> List[Optional[float]]:
     """Half the widths of intervals that all together have their true values in at least 95 % of
-    experiments.
-
-    Args:
-        values: What `estimate` gives; None, or no interval, is left out of the count.
-    """
+    experiments. None, or no interval, is left out of the count."""
     count = sum(value is not None and value.half is not None for value in values)
-    return [None if value is None or not count else half_at(value, 1.0 - (1.0 - LEVEL) / count)
-            for value in values]
+    return [None if value is None or value.half is None else
+            value.half * student_quantile(value.count - 1, 1.0 - (1.0 - LEVEL) / count)
+            / student_quantile(value.count - 1) for value in values]
 
 
 def groups_of(count: int, apart: Set[FrozenSet[int]]) -> List[List[int]]:

@@ -15,6 +15,7 @@ from collections import Counter
 from dataclasses import dataclass
 from functools import lru_cache
 from itertools import combinations
+from statistics import NormalDist
 from typing import Any, List, Sequence, Tuple
 
 import numpy as np
@@ -198,7 +199,7 @@ def resampled(samples: Array, count: int) -> Array:
         count: How many.
     """
     size, source = len(samples), random.Random(1)
-    wider = math.sqrt(size / (size - 1)) * student_quantile(size - 1) / student_quantile(1 << 20)
+    wider = math.sqrt(size / (size - 1)) * student_quantile(size - 1) / NormalDist().inv_cdf(0.975)
     drawn = [Counter(source.choices(range(size), k=size)) for _ in range(count)]
     parts = np.array([[counts[place] / size for place in range(size)] for counts in drawn])
     centre = samples.mean(axis=0)

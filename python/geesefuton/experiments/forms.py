@@ -2,6 +2,7 @@
 
 import json
 import math
+from dataclasses import asdict
 from typing import Any, Callable, Dict, List, Optional, Sequence
 
 from geesefuton.experiments.comparisons import LEVEL, POWER, Estimate
@@ -186,28 +187,11 @@ def as_csv(summary: Summary) -> str:
 
 
 def as_json(summary: Summary) -> str:
-    """The summary as one JSON object."""
-    def of(value: Optional[Estimate]) -> Optional[Dict[str, Any]]:
-        return None if value is None else {"mean": value.mean, "half": value.half,
-                                           "deals": value.count}
-
-    agents = [{"agent": standing.agent, "seats": standing.seats,
-               "ends": {end.value: standing.ends.get(end, 0) for end in Outcome},
-               "score": of(standing.score), "played": of(standing.played), "luck": standing.luck,
-               "adjusted": of(standing.adjusted), "missed_ticks": standing.missed}
-              for standing in summary.standings]
-    pairs = [{"first": pair.first, "second": pair.second, "score": of(pair.score),
-              "adjusted": of(pair.adjusted), "paired_by": _way(pair) if pair.score else None,
-              "left_out": pair.left_out, "all_pairs_half": pair.bonferroni,
-              "student_p": pair.student, "holm_p": pair.holm, "wilcoxon_p": pair.wilcoxon,
-              "deals_needed": pair.needed}
-             for pair in summary.differences]
-    value = {"planned": summary.planned or summary.games, "stopped": summary.is_stopped,
-             "games": summary.games, "deals": summary.deals, "level": LEVEL,
-             "kinds": {kind.value: count for kind, count in summary.kinds.items()},
-             "detect": summary.detect, "agents": agents, "differences": pairs,
-             "groups": summary.groups, "undecided": undecided(summary), "lost": summary.lost}
-    return json.dumps(value, indent=1) + "\n"
+    """The summary as one JSON object, in exact numbers."""
+    told = asdict(summary)
+    agents = told.pop("standings")
+    return json.dumps({**told, "agents": agents, "level": LEVEL, "undecided": undecided(summary)},
+                      indent=1) + "\n"
 
 
 FORMS: Dict[str, Callable[[Summary], str]] = {".txt": as_text, ".csv": as_csv, ".json": as_json}

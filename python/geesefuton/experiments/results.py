@@ -10,7 +10,7 @@ from geesefuton.records.games import SEATS
 from geesefuton.records.tables import csv_of
 
 
-class Kind(enum.Enum):
+class Kind(str, enum.Enum):
     """How a game was played."""
 
     SERVED = "served"  # by a clock
@@ -18,7 +18,7 @@ class Kind(enum.Enum):
     UNREPEATABLE = "unrepeatable2"  # in turns, of which some were passed over
 
 
-class Outcome(enum.Enum):
+class Outcome(str, enum.Enum):
     """How an agent's game went."""
 
     PLAYED = "played"
