@@ -217,8 +217,7 @@ class Refusals(Case):
         status, text = self.data()
         self.assertEqual(status, 1)
         self.assertEqual(text, f"data: {games}/9.0.log: No such file or directory\n"
-                               f"data: {games}/11.0.script: good 13 has no call of the clock "
-                               "at tick 6\n")
+                               f"data: {games}/11.0.script: it lacks entry 1 of good 13\n")
         self.assertEqual([row["name"] for row in read_data(self.out)["games"]], ["10.0"])
 
     def test_files_that_do_not_belong_together(self) -> None:
@@ -228,7 +227,7 @@ class Refusals(Case):
         status, text = self.data()
         self.assertEqual(status, 1)
         self.assertIn("10.0.log: its scores differ from the run's rows\n", text)
-        self.assertIn("11.0.script: good 1 has no call of the clock at tick 1\n", text)
+        self.assertRegex(text, r"11.0.script: it lacks entry 0 of good \d+\n")
 
     def test_a_journal_without_a_call_of_the_log(self) -> None:
         file = self.folder / "games" / "10.0.journal"

@@ -1,25 +1,23 @@
 """The games that a tournament's run has kept in its folder, with the ticks of their calls.
 
-A log has no times. A game in turns keeps its script, and a game by the clock its journal, in which
-each line lies between two ticks of the lobby's clock, and each call of an auction between two calls
-of the clock. Runs of earlier versions kept neither: then the ticks come from the log.
+A game in turns keeps its script, and a game by the clock its journal, from which the ticks follow;
+where there is neither they come from the log.
 """
 
 from collections import defaultdict
-from dataclasses import dataclass, replace
+from dataclasses import dataclass
 from pathlib import Path
-from typing import Dict, Iterable, Iterator, List, Optional, Sequence, Tuple
+from typing import Dict, Iterable, Iterator, List, Sequence, Tuple
 
 from geesefuton.experiments.results import Row
 from geesefuton.experiments.runs import GAMES
-from geesefuton.hosting.journal import JournalError, JournalReader, Schedule, read_journal
-from geesefuton.hosting.recovery import KnownHistory, RecoveryError
+from geesefuton.hosting.journal import JournalError, read_journal
 from geesefuton.processes import why
-from geesefuton.records.dialects import CASH
-from geesefuton.records.games import CLOCK, GOODS, SEATS, Game, GameError, read_game
-from geesefuton.records.logs import Log, LogError, Post, read_log
-from geesefuton.records.ticks import (ScriptError, Ticks, ticks_by_log, ticks_by_script,
-                                      ticks_of_cash)
+from geesefuton.records.games import Game, GameError, read_game
+from geesefuton.records.logs import Log, LogError, read_log
+from geesefuton.records.replies import read_request
+from geesefuton.records.ticks import (Ticks, Timed, TicksError, requests_of, ticks_by_log,
+                                      ticks_by_requests)
 
 
 class KeptError(Exception):
@@ -107,59 +105,18 @@ def read_kept(folder: Path, rows: Sequence[Row]) -> KeptGame:
         for source in ("script", "journal"):
             file = base / f"{name_of(rows)}.{source}"
             if file.exists():
-                return KeptGame(rows, game, log, _ticks(game, log, file), source)
-    except (GameError, LogError, ScriptError, JournalError, RecoveryError) as fault:
+                ticks = ticks_by_requests(game, log, _requests(file))
+                return KeptGame(rows, game, log, ticks, source)
+    except (GameError, LogError, TicksError, JournalError) as fault:
         raise KeptError(f"{file}: {fault}") from None
     return KeptGame(rows, game, log, ticks_by_log(game, log), "log")
 
 
-def _ticks(game: Game, log: Log, file: Path) -> Ticks:
-    """The ticks by a script or a journal."""
+def _requests(file: Path) -> Iterator[Timed]:
+    """The requests of a script or a journal."""
     if file.suffix == ".script":
-        return ticks_by_script(game, log, file.read_bytes().decode("latin-1"))
-    return ticks_by_journal(log, read_journal(file))
-
-
-def ticks_by_journal(log: Log, reader: JournalReader) -> Ticks:
-    """The ticks of a log's entries, by the journal of its game. An entry has the tick after which
-    its line was passed on, or a later one where the clock's calls before it say so.
-
-    Raises:
-        JournalError: The log is not that of the journal.
-        RecoveryError: As it.
-    """
-    assert reader.schedule is not None
-    histories = [KnownHistory(good, reader.schedule) for good in GOODS]
-    readings: Dict[int, int] = {}
-    for call in reader.calls:
-        if call.asked.keyword == "quote" or call.at is None:
-            continue
-        if call.asked.good == CASH:
-            readings[call.at] = call.tick
-        else:
-            histories[call.asked.good].place(call)
-    for call in reader.pending():
-        histories[call.asked.good].pending[call.agent] = call
-    ticks = [_placed(history, log, reader.schedule) for history in histories]
-    known: List[Optional[int]] = [readings.get(place) for place, entry in enumerate(log.cash)
-                                  if not isinstance(entry, Post)]
-    return Ticks(ticks, ticks_of_cash(log, ticks, known))
-
-
-def _placed(known: KnownHistory, log: Log, schedule: Schedule) -> List[int]:
-    """The ticks of an auction's entries."""
-    history, clock = log.histories[known.good], schedule.ticks[known.good]
-    for position, entry in enumerate(history):
-        call = known.calls.get(position)
-        if call is None and entry.caller in known.pending:
-            # Its reply was lost with its link or at the end.
-            call = replace(known.pending.pop(entry.caller), at=position)
-            known.calls[position] = call
-        if (CLOCK if call is None else call.agent) != entry.caller:
-            raise JournalError(f"it lacks entry {position} of good {known.good}")
-    if len(history) != len(known.calls) + len(clock):
-        raise JournalError(f"the log lacks calls of good {known.good}")
-    ticks = {call.at: tick for tick, call in known.items(quotes=False)}
-    of_clock = iter(clock)
-    return [ticks[position] if position in ticks else next(of_clock)
-            for position in range(len(history))]
+        yield from requests_of(file.read_bytes().decode("latin-1"))
+        return
+    reader = read_journal(file)
+    for call in [*reader.calls, *reader.pending()]:
+        yield call.tick, call.agent, read_request(call.asked.text)

@@ -1,25 +1,28 @@
 """The ticks of a log's entries: when its calls were made.
 
-A log has no times. A script has the ticks between the calls, so it fixes them. By the log alone, an
-entry of a flight or a hotel has the tick of the clock's last call there. A trade of a ticket has
-the tick of the last such trade before it in the cash book, which has all trades in order; another
-entry of tickets, and a reading of cash, has the tick of the trade before it. These may have come
-later.
+A log has no times, but a script has the ticks between the requests, and a journal those at which
+they were passed on: an entry has the tick of its request, as far as the clock's calls around it
+leave that possible. By the log alone, an entry of a flight or a hotel has the tick of the clock's
+last call there. A trade of a ticket has the tick of the last such trade before it in the cash book,
+which has all trades in order; another entry of tickets, and a reading of cash, has the tick of the
+trade before it. These may have come later.
 """
 
-from typing import Iterator, List, NamedTuple, Optional, Sequence, Tuple
+from collections import defaultdict, deque
+from typing import Deque, Dict, Iterable, Iterator, List, NamedTuple, Optional, Sequence, Tuple
 
 from geesefuton.records.books import Board, Books
 from geesefuton.records.games import CLOCK, GOODS, TICKETS, TICKS, Game
 from geesefuton.records.logs import Entry, Log, Post
-from geesefuton.records.replies import read_request
+from geesefuton.records.replies import Request, read_request
 from geesefuton.records.rules import clock_ticks
 
 Placed = Tuple[int, int, Entry]  # good, position and entry
+Timed = Tuple[int, int, Optional[Request]]  # a tick, an agent, and what it asked
 
 
-class ScriptError(Exception):
-    """A script that is not that of a log."""
+class TicksError(Exception):
+    """Requests that are not those of a log."""
 
 
 class Ticks(NamedTuple):
@@ -76,49 +79,52 @@ def ticks_of_cash(log: Log, ticks: Sequence[Sequence[int]],
     return cash
 
 
-def ticks_by_script(game: Game, log: Log, script: str) -> Ticks:
-    """The ticks of a log's entries, by the script that was played.
+def ticks_by_requests(game: Game, log: Log, requests: Iterable[Timed]) -> Ticks:
+    """The ticks of a log's entries, by the requests of all agents, those of each one in order. A
+    request that was refused before an auction was asked has no entry.
 
     Raises:
-        ScriptError: The log is not that of the script.
+        TicksError: A request of the log is not among them.
     """
-    clock = [clock_ticks(game, good) for good in GOODS]
-    ticks: List[List[int]] = [[] for _ in GOODS]
-    callers = iter([entry.agent for entry in log.cash if not isinstance(entry, Post)])
-    reader, readings = next(callers, None), list[int]()
-    for tick, line in _timed_lines(script):
-        request = None if line == "tick" else read_request(line[2:])
-        for good in [good for good in GOODS if tick in clock[good]] if line == "tick" else ():
-            history = log.histories[good]
-            if len(ticks[good]) == len(history) or history[len(ticks[good])].caller != CLOCK:
-                raise ScriptError(f"good {good} has no call of the clock at tick {tick}")
-            ticks[good].append(tick)
-        if request is None:
-            continue
-        asked, agent = request.auction, int(line[0])
-        if request.do == "cash" and reader == agent:
-            readings.append(tick)
-            reader = next(callers, None)
-        elif asked is not None and asked in GOODS:
-            # A request that was refused before its auction was asked has no entry.
-            at, history = len(ticks[asked]), log.histories[asked]
-            if at < len(history) and history[at].caller == agent and \
-                    (history[at].call.do, history[at].call.points) == (request.do, request.points):
-                ticks[asked].append(tick)
+    asked: Dict[Tuple[int, Optional[int], str], Deque[Tuple[int, Request]]] = defaultdict(deque)
+    for tick, agent, request in requests:
+        if request is not None:
+            asked[agent, request.auction, request.do].append((tick, request))
+    ticks = []
     for good in GOODS:
-        if len(ticks[good]) != len(log.histories[good]):
-            raise ScriptError(f"it lacks calls of good {good}")
-    return Ticks(ticks, ticks_of_cash(log, ticks, readings))
+        clock, low, now = deque(clock_ticks(game, good)), 0, list[int]()
+        for position, entry in enumerate(log.histories[good]):
+            if entry.caller == CLOCK:
+                low = clock.popleft() if clock else TICKS
+            else:
+                high = clock[0] - 1 if clock else TICKS
+                low = min(max(low, _asked(asked, good, position, entry)), high)
+            now.append(low)
+        ticks.append(now)
+    readings = (asked[entry.agent, None, "cash"] for entry in log.cash
+                if not isinstance(entry, Post))
+    return Ticks(ticks, ticks_of_cash(log, ticks, [
+        each.popleft()[0] if each else None for each in readings]))
 
 
-def _timed_lines(script: str) -> Iterator[Tuple[int, str]]:
-    """The lines of a script, each with its tick, and the ticks that come after the last one."""
+def _asked(asked: Dict[Tuple[int, Optional[int], str], Deque[Tuple[int, Request]]], good: int,
+           position: int, entry: Entry) -> int:
+    """The tick of the request of an entry."""
+    waiting = asked[entry.caller, good, entry.call.do]
+    while waiting:
+        tick, request = waiting.popleft()
+        if request.points == entry.call.points:
+            return tick
+    raise TicksError(f"it lacks entry {position} of good {good}")
+
+
+def requests_of(script: str) -> Iterator[Timed]:
+    """The requests of a script."""
     tick = 0
     for line in script.splitlines():
         tick += line == "tick"
-        yield tick, line
-    for left in range(tick + 1, TICKS + 1):
-        yield left, "tick"
+        if line != "tick":
+            yield tick, int(line[0]), read_request(line[2:])
 
 
 def entries_by_tick(ticks: Ticks, log: Log) -> List[List[Placed]]:
