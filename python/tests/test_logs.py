@@ -3,8 +3,8 @@ import unittest
 from typing import List
 
 from geesefuton.records.games import Package
-from geesefuton.records.logs import (Call, Entry, Log, LogError, Post, Reading, Trade, Verdict,
-                                     read_log, read_scores, trades_of)
+from geesefuton.records.logs import (Call, Entry, Log, LogError, Post, Reading, Trade, read_log,
+                                     read_scores, trades_of)
 from geesefuton.records.replies import Below, Done, No, Own, Sold, Taken
 from tests.helpers import PLAYED, SERVED_LOG, served_log
 
@@ -15,12 +15,10 @@ class Served(unittest.TestCase):
 
     def test_the_head(self) -> None:
         self.assertEqual(self.log.kind, "serve")
-        self.assertEqual(self.log.links, tuple(Verdict("seated", seat) for seat in range(8)))
-        self.assertEqual(dict(self.log.ends), {0: "quit", 1: "quit", 2: "quit", 3: "end", 4: "end",
+        self.assertEqual(self.log.ends, {0: "quit", 1: "quit", 2: "quit", 3: "end", 4: "end",
                                                5: "quit", 6: "end", 7: "quit"})
         self.assertEqual(self.log.missed, 0)
-        self.assertEqual(self.log.seats(), list(range(8)))
-        self.assertEqual((self.log.end_of(3), self.log.end_of(7)), ("end", "quit"))
+        self.assertEqual(self.log.seats, tuple(range(8)))
 
     def test_every_entry_is_there(self) -> None:
         text = SERVED_LOG.read_text().split("\n")
@@ -97,8 +95,7 @@ class PlayedText(unittest.TestCase):
     def test_a_log_of_a_script_has_no_links(self) -> None:
         text = PLAYED.read_text()
         log = read_log(text[text.index("taclog 1"):])
-        self.assertEqual((log.kind, log.links, log.ends), ("play", (), ()))
-        self.assertEqual(log.seats(), list(range(8)))
+        self.assertEqual((log.kind, log.ends, log.seats), ("play", {}, tuple(range(8))))
         self.assertEqual([score.score for score in log.scores],
                          [1491, -516, 45, 0, 0, 0, 0, 0])
 
@@ -135,11 +132,8 @@ class Faults(unittest.TestCase):
                 "link 4 syntax", "link 5 lost", "end 5 writefault", "end 0 readfault",
                 "end 6 budget", "missed 255"]
         log = read_log("\n".join([*self.lines[:2], *head, *self.lines[self.place("missed"):], ""]))
-        self.assertEqual(log.links, (Verdict("wrongword"), Verdict("seated", 5), Verdict("taken"),
-                                     Verdict("seated", 0), Verdict("syntax"), Verdict("lost")))
-        self.assertEqual((log.seats(), log.missed), ([0, 5], 255))
-        self.assertEqual([log.end_of(agent) for agent in (0, 1, 5, 6)],
-                         ["readfault", "", "writefault", "budget"])
+        self.assertEqual((log.seats, log.missed), ((0, 5), 255))
+        self.assertEqual(log.ends, {0: "readfault", 5: "writefault", 6: "budget"})
 
     def test_what_numbers_of_a_line_mean(self) -> None:
         place = self.place("8 update")
@@ -166,83 +160,42 @@ class Faults(unittest.TestCase):
         log = self.accept(self.place("package 1 2 "), "package 1 2 none")
         self.assertIsNone(log.scores[1].packages[2])
 
-    def test_first_lines(self) -> None:
-        self.refuse(1, "taclog 2", "expected the line `taclog 1`")
-        self.refuse(2, "served", "expected `play` or `serve`")
-        self.refuse(2, "play", "expected a line `auction 0 N`", 3)
-
-    def test_heads(self) -> None:
-        self.refuse(4, "link 1 seated 8", "expected a line `link`")
-        self.refuse(4, "link 1 gone", "expected a line `link`")
-        self.refuse(4, "linked", "expected a line `missed N`")
-        line = self.place("end ")
-        self.refuse(line, "end 0 gone", "expected a line `end`")
-        self.refuse(line, "end 8 quit", "expected a line `end`")
-        missed = self.place("missed")
-        self.refuse(missed, "missed", "expected a line `missed N`")
-        self.refuse(missed, "missed 0\nmissed 0", "expected a line `auction 0 N`", missed + 1)
-
-    def test_auctions(self) -> None:
-        line = self.place("auction 1 ")
-        self.refuse(line, "auction 2 54", "expected a line `auction 1 N`")
-        entries = int(self.lines[line - 1].split()[2])
-        after = self.place("auction 2 ")
-        self.refuse(line, f"auction 1 {entries - 1}", "expected a line `auction 2 N`", after - 1)
-        self.refuse(line, f"auction 1 {entries + 1}", f"entry {entries} of auction 1, not", after)
-
-    def test_entries(self) -> None:
-        line = self.place("8 update")
-        for bad in ("9 update 1 0 = done", "8 update 1 = done", "8 update 1 0 = done ",
-                    "8 update 1 0", "8 raise = done", "8 bid () = done x", "-1 own = own 0 ()",
-                    "8 update 54 0 = done", "8 update 0 0 = done", "8 update 1 0 = fine"):
-            self.refuse(line, bad, "")
-        for tick in (1, 53):
-            self.accept(line, f"8 update {tick} 4294967295 = done")
-
-    def test_points(self) -> None:
-        line = self.place("[0-7] bid")
-        many = " ".join(["(1 5)"] * 16)
-        for bad in ("()", "((0 5))", "((1 0))", "((17 5))", "((99999999 5))", f"({many} (1 5))",
-                    "((01 5))", "((1  5))", "(1 5)"):
-            self.refuse(line, f"0 bid {bad} = taken 0 0", "expected entry")
-        for good in (f"({many})", "((16 10000))", "((-16 1))", "((15 1) (-1 1))"):
-            self.accept(line, f"0 bid {good} = taken 0 0")
-
-    def test_trades(self) -> None:
-        line = self.place("trade")
-        self.refuse(line, "trade 9 8 1 5", "expected a trade")
-        self.refuse(line, "trade 0 8 1", "expected a trade")
-
-    def test_the_cash_book(self) -> None:
-        self.refuse(self.place("cash "), "cash x", "expected a line `cash N`")
-        self.refuse(self.place("cash "), "cash 238048", "expected an entry of the cash book",
-                    self.place("sheet"))
-        post = self.place("[0-8] post")
-        self.refuse(post, "0 post 28 0 0 0 0 0 0 0 0 0 0", "expected an entry of the cash book")
-        self.refuse(post, "0 post 0 8256 0 0 0 0 0 0 0 0 0", "auction 0 has no entry 8256")
-        self.refuse(post, "0 post 0 0 0 0 0 0 0 0 0 0", "expected an entry of the cash book")
-        self.refuse(post, "8 read = 5", "expected an entry of the cash book")
-        self.refuse(post, "0 read = 1234567890123456789", "expected an entry of the cash book")
-
-    def test_scores(self) -> None:
-        line = self.place("score 1")
-        self.refuse(line, "score 2 0 -726 0 -726", "expected the score of agent 1")
-        self.refuse(line, "score 1 0 0 -1 0", "expected the score of agent 1")
+    def test_lines_that_say_nothing(self) -> None:
+        auction, update, post = map(self.place, ("auction 1 ", "8 update", "[0-8] post"))
+        entries = int(self.lines[auction - 1].split()[2])
+        many = " ".join(["(1 5)"] * 17)
+        for place, *bad in (
+                (1, "taclog 2"), (2, "served"), (4, "link 1 seated 8"), (4, "linked"),
+                (self.place("end "), "end 8 quit"), (self.place("missed"), "missed"),
+                (auction, "auction 2 54"),
+                (update, "9 update 1 0 = done", "8 update 1 = done", "8 update 1 0 = done ",
+                 "8 update 1 0", "8 raise = done", "8 bid () = taken 0 0", "8 bid (1 5) = done x",
+                 "-1 own = own 0 ()", "8 update 54 0 = done", "8 update 0 0 = done",
+                 "8 update 1 0 = fine", "8 update 1 0 = done\r", f"0 bid ({many}) = taken 0 0",
+                 "0 bid ((17 5)) = taken 0 0"),
+                (self.place("trade"), "trade 9 8 1 5", "trade 0 8 1"),
+                (self.place("cash "), "cash x"),
+                (post, "0 post 28 0 0 0 0 0 0 0 0 0 0", "0 post 0 8256 0 0 0 0 0 0 0 0 0",
+                 "0 post 0 0 0 0 0 0 0 0 0 0", "8 read = 5"),
+                (self.place("score 1"), "score 2 0 -726 0 -726", "score 1 0 0 0"),
+                (self.place("sheet"), "sheets"), (self.place("cert 1 "), "cert 2 1"),
+                (self.place("package 1 2 "), "package 2 2 none", "package 1 3 none",
+                 "package 1 2 2 1 3 0 0 0", "package 1 2 0 3 2 0 0 0", "package 1 2 0 1 3 1 1 0")):
+            for line in bad:
+                self.refuse(place, line, "")
+        self.refuse(2, "play", "expected a line `auction 0 `", 3)
+        self.refuse(auction, f"auction 1 {entries - 1}", "expected a line `auction 2 `",
+                    self.place("auction 2 ") - 1)
+        self.refuse(auction, f"auction 1 {entries + 1}", "", self.place("auction 2 "))
+        self.refuse(self.place("cash "), "cash 238048", "", self.place("sheet"))
         self.refuse(self.place("sheet"), "memory", "memory was refused for the scores")
-        self.refuse(self.place("sheet"), "sheets", "expected the line `sheet`")
-
-    def test_packages(self) -> None:
-        line = self.place("package 1 2 ")
-        for bad in ("package 2 2 none", "package 1 3 none", "package 1 2 2 1 3 0 0 0"):
-            self.refuse(line, bad, "expected the package of agent 1 for client 2")
-        for bad in ("0 3 2 0 0 0", "0 1 3 1 1 0", "0 1 3 3 0 0"):
-            self.refuse(line, f"package 1 2 {bad}", "no such package")
-
-    def test_certificates_are_passed_over(self) -> None:
-        line = self.place("cert 1 ")
-        self.refuse(line, "cert 2 1", "expected a line `cert 1 N`")
-        self.refuse(line, "cert 1 0", "expected the score of agent 2", line + 1)
-        self.refuse(line, "cert 1 100000", "the certificate of agent 1", len(self.lines) + 1)
+        self.refuse(self.place("cert 1 "), "cert 1 0", "expected a line `score 2 `",
+                    self.place("cert 1 ") + 1)
+        self.refuse(self.place("cert 1 "), "cert 1 100000", "", len(self.lines) + 1)
+        for tick in (1, 53):
+            self.accept(update, f"8 update {tick} 4294967295 = done")
+        for good in (f"({many[6:]})", "((16 10000))", "((-16 1))", "((15 1) (-1 1))"):
+            self.accept(update, f"0 bid {good} = taken 0 0")
 
     def test_ends_of_the_text(self) -> None:
         text = "\n".join(self.lines) + "\n"
@@ -260,8 +213,6 @@ class Faults(unittest.TestCase):
         self.refuse_text("\n".join(self.lines[:-30]) + "\n", len(self.lines) - 29, "")
 
     def test_other_bytes(self) -> None:
-        line = self.place("8 update")
-        self.refuse(line, "8 update 1 0 = done\r", "is not a reply")
         with self.assertRaises(LogError) as caught:
             read_log(b"taclog 1\n\xff\n")
         self.assertEqual(caught.exception.line, 2)
@@ -274,7 +225,7 @@ class Faults(unittest.TestCase):
     def test_a_sheet_alone(self) -> None:
         with self.assertRaises(LogError) as caught:
             read_scores("taclog 1\nplay\n")
-        self.assertIn("expected the line `sheet`", str(caught.exception))
+        self.assertIn("expected a line `sheet`", str(caught.exception))
         line = self.place("score 1")
         with self.assertRaises(LogError) as caught:
             read_scores("\n".join([*self.lines[:line - 1], "x", *self.lines[line:], ""]))

@@ -35,7 +35,7 @@ def scored(*scores: int) -> Log:
 
 class Ranks(unittest.TestCase):
     def test_equal_scores_share_a_rank(self) -> None:
-        log = replace(scored(50, 70, 50, 0, 50, 90, 0, 10), ends=tuple(
+        log = replace(scored(50, 70, 50, 0, 50, 90, 0, 10), ends=dict(
             (agent, "quit") for agent in range(8)))
         self.assertEqual(ranks(log), {0: 3, 1: 2, 2: 3, 3: 7, 4: 3, 5: 1, 6: 7, 7: 6})
 
@@ -44,7 +44,7 @@ class Ranks(unittest.TestCase):
 
     def test_a_seat_without_a_link_has_none(self) -> None:
         log = served_log()
-        self.assertNotIn(7, ranks(replace(log, links=log.links[:7])))
+        self.assertNotIn(7, ranks(replace(log, seats=log.seats[:7])))
 
 
 class Reasons(unittest.TestCase):
@@ -56,7 +56,7 @@ class Reasons(unittest.TestCase):
         self.assertEqual((told[3], told[5], told[6]), ("made no call",) * 3)
         self.assertEqual(told[4], "no seats out, no rooms")
         self.assertEqual(told[7], "")
-        empty = replace(log, links=log.links[:7])
+        empty = replace(log, seats=log.seats[:7])
         self.assertEqual(why_nothing(empty, events, log.scores[7]), "")
         nothing = replace(log.scores[7], best=0)
         self.assertEqual(why_nothing(empty, events, nothing), "no link had the seat")
@@ -280,7 +280,7 @@ class Command(unittest.TestCase):
         cut.write_bytes(b"0 @0 done\n\xff\n" + SERVED_LOG.read_bytes()[:100])
         self.refused("counted after 2 lines", SERVED_GAME, cut)
         cut.write_bytes(b"")
-        self.refused("line 1: expected the line `taclog 1`, but the text ends", SERVED_GAME, cut)
+        self.refused("line 1: expected a line `taclog 1`, but the text ends", SERVED_GAME, cut)
 
     def test_outputs_that_take_no_more(self) -> None:
         with open("/dev/full", "wb") as full:

@@ -32,7 +32,7 @@ def text_of(log: Log = LOG, *trades: MarketEvent) -> str:
 def scored(*scores: int) -> Log:
     """The log with other scores, of seats whose agents have quit."""
     rows = tuple(replace(row, score=score) for row, score in zip(LOG.scores, scores))
-    return replace(LOG, scores=rows, ends=tuple((agent, "quit") for agent in range(8)))
+    return replace(LOG, scores=rows, ends=dict((agent, "quit") for agent in range(8)))
 
 
 def table_of(text: str, heading: str) -> List[List[str]]:
@@ -86,7 +86,7 @@ class Money(unittest.TestCase):
 
 class Scores(unittest.TestCase):
     def test_the_best_come_first_and_those_without_a_rank_last(self) -> None:
-        log = replace(scored(-5, 30, 30, 900, 0, 70, 800, 20), ends=tuple(
+        log = replace(scored(-5, 30, 30, 900, 0, 70, 800, 20), ends=dict(
             (agent, "end" if agent in (3, 6) else "quit") for agent in range(8)))
         rows = table_of(text_of(log), "Scores")[1:]
         self.assertEqual([row[0] for row in rows], ["1", "2", "2", "4", "5", "6", "–", "–"])
@@ -95,7 +95,7 @@ class Scores(unittest.TestCase):
 
     def test_how_it_went(self) -> None:
         causes = ("quit", "end", "readfault", "writefault", "budget", "quit", "quit", "quit")
-        log = replace(scored(8, 7, 6, 5, 4, 3, 2, 1), ends=tuple(enumerate(causes)),
+        log = replace(scored(8, 7, 6, 5, 4, 3, 2, 1), ends=dict(enumerate(causes)),
                       scores=tuple(replace(NOBODY, agent=agent, best=1, score=8 - agent)
                                    for agent in range(8)))
         told = {row[1]: row[8] for row in table_of(text_of(log), "Scores")[1:]}

@@ -1,17 +1,15 @@
 """The one reader of logs.
 
-It reads lines by their forms, and finds each number where it is used. Whether a log is complete and
-by the rules is judged by `tac audit` alone: ranges that nothing here rests on, and certificates,
-are passed over.
+Whether a log is complete and by the rules is judged by `tac audit` alone. This finds what each line
+says, and refuses what it cannot find, or what would name an agent or a good that is none; other
+ranges, and certificates, are passed over.
 """
 
-import re
 from dataclasses import dataclass
-from typing import List, NoReturn, Optional, Sequence, Tuple, Union
+from typing import Dict, List, Optional, Sequence, Tuple, Union
 
-from geesefuton.records.games import GOODS, PACKAGES, SEATS, Package
-from geesefuton.records.replies import (NUMBER, SIGNED, Points, Reply, ReplyError,
-                                        read_entry_reply, read_points)
+from geesefuton.records.games import CLIENTS, CLOCK, GOODS, PACKAGES, SEATS, TICKS, Package
+from geesefuton.records.replies import Points, Reply, ReplyError, read_entry_reply, read_points
 
 MOST_BYTES = 67_108_864
 
@@ -26,14 +24,6 @@ class LogError(Exception):
     def __init__(self, line: int, why: str) -> None:
         super().__init__(f"line {line}: {why}")
         self.line = line
-
-
-@dataclass(frozen=True)
-class Verdict:
-    """What became of a link: `seated`, `syntax`, `wrongword`, `taken` or `lost`."""
-
-    word: str
-    agent: Optional[int] = None
 
 
 @dataclass(frozen=True)
@@ -110,8 +100,8 @@ class Log:
 
     Attributes:
         kind: `serve` if the game was played over links, `play` if from a script.
-        links: What became of each link, after `serve`.
-        ends: Agents and causes of the ended sessions, after `serve`.
+        seats: The agents that had a seat; all eight after `play`.
+        ends: Why the sessions of agents ended, such as `quit`, after `serve`.
         missed: How many ticks lapsed.
         histories: The entries of each of the 28 auctions.
         cash: The cash book.
@@ -119,41 +109,23 @@ class Log:
     """
 
     kind: str
-    links: Tuple[Verdict, ...]
-    ends: Tuple[Tuple[int, str], ...]
+    seats: Tuple[int, ...]
+    ends: Dict[int, str]
     missed: int
     histories: Tuple[Tuple[Entry, ...], ...]
     cash: Tuple[Union[Post, Reading], ...]
     scores: Tuple[Score, ...]
-
-    def seats(self) -> List[int]:
-        """The agents that had a seat; all eight where the game was played from a script."""
-        if self.kind == "play":
-            return list(range(8))
-        return sorted(link.agent for link in self.links if link.agent is not None)
-
-    def end_of(self, agent: int) -> str:
-        """Why an agent's session ended, such as `quit`; "" if it had none."""
-        return dict(self.ends).get(agent, "")
 
     def calls_of(self, agent: int) -> int:
         """How many calls of auctions an agent made, refused ones included."""
         return sum(entry.caller == agent for history in self.histories for entry in history)
 
 
-_GOOD = r"(1?[0-9]|2[0-7])"
-_POINT = r"\(-?(?:[1-9]|1[0-6]) [1-9][0-9]{0,4}\)"  # units, and dollars for each
-_LINK = re.compile(rf"link {NUMBER} (?:seated ([0-7])|(syntax|wrongword|taken|lost))")
-_END = re.compile(r"end ([0-7]) (quit|end|readfault|writefault|budget)")
-_ENTRY = re.compile(
-    rf"([0-8]) (?:bid (?P<points>\({_POINT}(?: {_POINT}){{0,15}}\))"
-    rf"|update (?P<tick>[1-9]|[1-4][0-9]|5[0-3]) (?P<draw>{NUMBER})"
-    r"|(?P<plain>withdraw|own|publish|close)) = (?P<reply>.*)")
-_TRADE = re.compile(rf"trade ([0-8]) ([0-8]) ({NUMBER}) ({NUMBER})")
-_CASH = re.compile(rf"([0-8]) post {_GOOD} ({NUMBER})((?: {SIGNED}){{9}})|([0-7]) read = ({SIGNED})")
-_SCORE = rf"({NUMBER}) ({SIGNED}) ({NUMBER}) ({SIGNED})"
-_PACKAGE = r"(?:none|([01]) ([1-4]) ([2-5]) ([0-4]) ([0-4]) ([0-4]))"
-_KNOWN = frozenset(PACKAGES)
+_AGENTS = {str(agent): agent for agent in range(SEATS)}
+_PARTIES = {**_AGENTS, str(CLOCK): CLOCK}
+_PACKAGES: Dict[str, Optional[Package]] = {"none": None, **{" ".join(map(str, (
+    each.hotel, each.arrive, each.depart, *each.nights))): each for each in PACKAGES}}
+MOST_POINTS = 16  # of a bid, and units of each
 
 
 class _Lines:
@@ -175,45 +147,43 @@ class _Lines:
         """The next line, which is not taken; "" at the end."""
         return self._lines[self.number] if self.number < len(self._lines) - 1 else ""
 
-    def take(self, form: Union[str, "re.Pattern[str]"], due: str) -> "re.Match[str]":
-        """The next line, which has to have a form. `due` says what is due there."""
-        self.skip(1, due)
-        line = self._lines[self.number - 1]
-        found = re.fullmatch(form, line)
-        if found is None:
-            self.fail(f"expected {due}, not {line[:60]!r}")
-        return found
-
-    def skip(self, count: int, due: str) -> None:
-        """Goes over lines."""
-        self.number += count
-        if self.number >= len(self._lines):
-            self.number, rest = len(self._lines), self._lines[-1]
-            self.fail(f"the last line, {rest[:60]!r}, has no line end" if rest
-                      else f"expected {due}, but the text ends")
-
-    def exact(self, line: str) -> None:
-        """Takes the next line, which has to be this one."""
-        self.take(re.escape(line), f"the line `{line}`")
+    def take(self, words: str = "") -> str:
+        """What follows these words in the next line, which has to begin with them."""
+        if self.number >= len(self._lines) - 1:
+            rest = self._lines[-1]
+            raise LogError(len(self._lines), f"the last line, {rest[:60]!r}, has no line end"
+                           if rest else f"expected a line `{words}`, but the text ends")
+        line = self._lines[self.number]
+        self.number += 1
+        if not line.startswith(words):
+            raise LogError(self.number, f"expected a line `{words}`, not {line[:60]!r}")
+        return line[len(words):]
 
     def count(self, words: str) -> int:
         """The number at the end of the next line, which has to begin with these words."""
-        return int(self.take(rf"{words} ({NUMBER})", f"a line `{words} N`")[1])
+        return int(self.take(words + " "))
+
+    def exact(self, line: str) -> None:
+        """Takes the next line, which has to be this one."""
+        if self.take(line):
+            raise ValueError
+
+    def skip(self, count: int) -> None:
+        """Goes over lines."""
+        self.number = min(self.number + count, len(self._lines) - 1)
 
     def end(self) -> None:
         """Sees that no line is left."""
         if self._lines[self.number:] != [""]:
-            self.number += 1
-            self.fail("a line follows the end of the log")
+            raise LogError(self.number + 1, "a line follows the end of the log")
 
     def find(self, line: str) -> None:
-        """Goes to a line."""
-        if line not in self._lines:
-            self.skip(len(self._lines), f"the line `{line}`")
-        self.number = self._lines.index(line)
+        """Goes to a line, or to the end if there is none such."""
+        self.number = self._lines.index(line) if line in self._lines else len(self._lines) - 1
 
-    def fail(self, why: str) -> NoReturn:
-        raise LogError(self.number, why)
+    def fault(self) -> LogError:
+        """That the line that was taken last says nothing."""
+        return LogError(self.number, f"{self._lines[self.number - 1][:60]!r} is not such a line")
 
 
 def read_scores(text: Union[str, bytes]) -> Tuple[Score, ...]:
@@ -224,7 +194,10 @@ def read_scores(text: Union[str, bytes]) -> Tuple[Score, ...]:
     """
     lines = _Lines(text)
     lines.find("sheet")
-    return _read_sheet(lines)
+    try:
+        return _read_sheet(lines)
+    except (ValueError, LookupError):
+        raise lines.fault() from None
 
 
 def read_log(text: Union[str, bytes]) -> Log:
@@ -234,54 +207,70 @@ def read_log(text: Union[str, bytes]) -> Log:
         LogError: The text is no log; the error names the first bad line.
     """
     lines = _Lines(text)
+    try:
+        return _read_log(lines)
+    except (ValueError, LookupError, ReplyError):
+        raise lines.fault() from None
+
+
+def _read_log(lines: _Lines) -> Log:
     lines.exact("taclog 1")
-    kind = lines.take("play|serve", "`play` or `serve`")[0]
-    links: List[Verdict] = []
-    ends: List[Tuple[int, str]] = []
-    missed = 0
+    kind, seats, ends, missed = lines.take(), list(_AGENTS.values()), dict[int, str](), 0
     if kind == "serve":
+        seats = []
         while lines.look().startswith("link "):
-            found = lines.take(_LINK, "a line `link`")
-            links.append(Verdict("seated", int(found[1])) if found[1] else Verdict(found[2]))
+            _, _, word, *agent = lines.take().split(" ")
+            seats += [_AGENTS[agent[0]]] if word == "seated" else []
         while lines.look().startswith("end "):
-            found = lines.take(_END, "a line `end`")
-            ends.append((int(found[1]), found[2]))
+            seat, why = lines.take("end ").split(" ")
+            ends[_AGENTS[seat]] = why
         missed = lines.count("missed")
+    elif kind != "play":
+        raise ValueError
     histories = tuple(_read_history(lines, good) for good in GOODS)
-    cash = tuple(_read_cash(lines, histories) for _ in range(lines.count("cash")))
+    cash = tuple(_read_cash(lines.take(), histories) for _ in range(lines.count("cash")))
     if lines.look() == "memory":
-        lines.skip(1, "the line `sheet`")
-        lines.fail("memory was refused for the scores, so the log has none")
-    return Log(kind, tuple(links), tuple(ends), missed, histories, cash, _read_sheet(lines))
+        raise LogError(lines.number + 1, "memory was refused for the scores, so the log has none")
+    return Log(kind, tuple(sorted(seats)), ends, missed, histories, cash, _read_sheet(lines))
 
 
 def _read_history(lines: _Lines, good: int) -> Tuple[Entry, ...]:
     entries: List[Entry] = []
-    for position in range(lines.count(f"auction {good}")):
-        found = lines.take(_ENTRY, f"entry {position} of auction {good}")
-        call = (Call(found["plain"]) if found["plain"]
-                else Call("bid", read_points(found["points"])) if found["points"]
-                else Call("update", (), int(found["tick"]), int(found["draw"])))
-        try:
-            reply = read_entry_reply(found["reply"])
-        except ReplyError as fault:
-            lines.fail(str(fault))
-        trades: List[Trade] = []
+    for _ in range(lines.count(f"auction {good}")):
+        left, said = lines.take().split(" = ")
+        caller, do, *rest = left.split(" ", 2)
+        call, reply, trades = _call(do, *rest), read_entry_reply(said), list[Trade]()
         while lines.look().startswith("trade "):
-            trade = lines.take(_TRADE, "a trade")
-            trades.append(Trade(*map(int, trade.groups())))
-        entries.append(Entry(int(found[1]), call, reply, tuple(trades)))
+            buyer, seller, units, price = lines.take("trade ").split(" ")
+            trades.append(Trade(_PARTIES[buyer], _PARTIES[seller], int(units), int(price)))
+        entries.append(Entry(_PARTIES[caller], call, reply, tuple(trades)))
     return tuple(entries)
 
 
-def _read_cash(lines: _Lines, histories: Sequence[Sequence[Entry]]) -> Union[Post, Reading]:
-    found = lines.take(_CASH, "an entry of the cash book")
-    if found[5]:
-        return Reading(int(found[5]), int(found[6]))
-    good, position = int(found[2]), int(found[3])
-    if position >= len(histories[good]):
-        lines.fail(f"auction {good} has no entry {position}")
-    return Post(int(found[1]), good, position, tuple(map(int, found[4].split())))
+def _call(do: str, rest: str = "") -> Call:
+    """A call by its word and what follows that."""
+    if do == "bid":
+        points = read_points(rest)
+        if 0 < len(points) <= MOST_POINTS and \
+                all(0 < abs(units) <= MOST_POINTS for units, _ in points):
+            return Call(do, points)
+    elif do == "update":
+        tick, draw = map(int, rest.split(" "))
+        if 0 < tick < TICKS:
+            return Call(do, (), tick, draw)
+    elif do in ("withdraw", "own", "publish", "close") and not rest:
+        return Call(do)
+    raise ValueError
+
+
+def _read_cash(line: str, histories: Sequence[Sequence[Entry]]) -> Union[Post, Reading]:
+    caller, what, *rest = line.split(" ")
+    if what == "read":
+        return Reading(_AGENTS[caller], int(rest[1]))
+    good, position, *nets = map(int, rest)
+    if good not in GOODS or not 0 <= position < len(histories[good]) or len(nets) != SEATS + 1:
+        raise ValueError
+    return Post(_PARTIES[caller], good, position, tuple(nets))
 
 
 def _read_sheet(lines: _Lines) -> Tuple[Score, ...]:
@@ -293,23 +282,11 @@ def _read_sheet(lines: _Lines) -> Tuple[Score, ...]:
 
 
 def _read_score(lines: _Lines, agent: int) -> Score:
-    found = lines.take(f"score {agent} {_SCORE}", f"the score of agent {agent}")
-    packages = tuple(_read_package(lines, agent, client) for client in range(8))
-    lines.skip(lines.count(f"cert {agent}"), f"the certificate of agent {agent}")
-    best, cash, short, score = map(int, found.groups())
+    best, cash, short, score = map(int, lines.take(f"score {agent} ").split(" "))
+    packages = tuple(_PACKAGES[lines.take(f"package {agent} {client} ")]
+                     for client in range(CLIENTS))
+    lines.skip(lines.count(f"cert {agent}"))
     return Score(agent, best, cash, short, score, packages)
-
-
-def _read_package(lines: _Lines, agent: int, client: int) -> Optional[Package]:
-    found = lines.take(f"package {agent} {client} {_PACKAGE}",
-                       f"the package of agent {agent} for client {client}")
-    if found[1] is None:
-        return None
-    hotel, arrive, depart, first, second, third = map(int, found.groups())
-    package = Package(hotel, arrive, depart, (first, second, third))
-    if package not in _KNOWN:
-        lines.fail("there is no such package")
-    return package
 
 
 def trades_of(histories: Sequence[Sequence[Entry]]) -> int:

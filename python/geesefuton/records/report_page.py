@@ -38,13 +38,13 @@ class Heading:
 
 def is_idle(log: Log, agent: int) -> bool:
     """Whether nobody may have played a seat: it made no call, and did not say `quit`."""
-    return log.calls_of(agent) == 0 and log.end_of(agent) != "quit"
+    return log.calls_of(agent) == 0 and log.ends.get(agent) != "quit"
 
 
 def ranks(log: Log) -> Dict[int, int]:
     """The rank of each agent that played: 1 plus how many of them have a greater score."""
     scores = {score.agent: score.score for score in log.scores
-              if score.agent in log.seats() and not is_idle(log, score.agent)}
+              if score.agent in log.seats and not is_idle(log, score.agent)}
     return {agent: 1 + sum(other > score for other in scores.values())
             for agent, score in scores.items()}
 
@@ -54,7 +54,7 @@ def why_nothing(log: Log, events: Sequence[MarketEvent], score: Score) -> str:
     agent = score.agent
     if score.best:
         return ""
-    if agent not in log.seats():
+    if agent not in log.seats:
         return "no link had the seat"
     if log.calls_of(agent) == 0:
         return "made no call"
@@ -105,7 +105,7 @@ def _scores(names: Sequence[str], log: Log, events: Sequence[MarketEvent]) -> st
     rows: List[List[Cell]] = []
     for score in _order(log):
         home = sum(package is None for package in score.packages)
-        told = [why_nothing(log, events, score), ENDS.get(log.end_of(score.agent), "")]
+        told = [why_nothing(log, events, score), ENDS.get(log.ends.get(score.agent, ""), "")]
         rows.append([place.get(score.agent, "–"), html.escape(names[score.agent]),
                      f"<b>{score.score}</b>", bar(score.score, low, high), score.best, score.cash,
                      f"{home} of {CLIENTS}", score.short,
