@@ -27,12 +27,12 @@ from __future__ import annotations
 
 from functools import cached_property
 from importlib import import_module
-from typing import Any, Dict, List, Optional, Sequence, Tuple
+from typing import Any, Dict, List, Mapping, Optional, Sequence, Tuple
 
 import numpy
 
-from geesefuton.learning.environment import Environment
-from geesefuton.learning.interfaces import Env, Parallel, register
+from geesefuton.learning.environment import Environment, Step
+from geesefuton.learning.interfaces import Env, register
 from geesefuton.learning.trips import NEVER, chosen
 from geesefuton.records.games import FLIGHTS, GOODS, HOTELS, TICKETS, TICKS
 
@@ -134,44 +134,33 @@ class _Spaces:
         return action_space()
 
 
-class Seats(Parallel):
-    """Games of all seats that no rival has, by PettingZoo's parallel interface in numbers.
+class Seats(Environment):
+    """Games of all seats that no rival has, by PettingZoo's parallel interface in numbers. It is
+    made, and ends, as an `Environment`."""
 
-    Args:
-        settings: Those of `Environment`, such as `rivals` and `rooms`.
-    """
+    metadata = {**Environment.metadata, "name": "geesefuton_numeric_v2"}
 
-    metadata = {"name": "geesefuton_numeric_v2", "render_modes": ["ansi"],
-                "is_parallelizable": True}
-
-    def __init__(self, **settings: Any) -> None:
-        self._games = Environment(**settings)
+    def __init__(self, *given: Any, **settings: Any) -> None:
+        super().__init__(*given, **settings)
         self._views: Dict[str, View] = {}
-        self.possible_agents = self._games.possible_agents
-        self.render_mode = self._games.render_mode
-        self._spaces = {agent: _Spaces() for agent in self.possible_agents}
-
-    @property
-    def agents(self) -> List[str]:
-        """Those that play now."""
-        return self._games.agents
+        self._numeric = {agent: _Spaces() for agent in self.possible_agents}
 
     def observation_space(self, agent: str) -> Any:
         """The space of an agent's observations, the same at each call."""
-        return self._spaces[agent].observations
+        return self._numeric[agent].observations
 
     def action_space(self, agent: str) -> Any:
         """The space of an agent's actions, the same at each call."""
-        return self._spaces[agent].actions
+        return self._numeric[agent].actions
 
     def reset(self, seed: Optional[int] = None,
               options: Optional[Dict[str, Any]] = None) -> Tuple[Dict[str, Any], Dict[str, Any]]:
         """Begins a game, as `Environment.reset`. Gives for each agent its observation and infos."""
-        seen, infos = self._games.reset(seed, options)
+        seen, infos = super().reset(seed, options)
         self._views = {agent: View(each) for agent, each in seen.items()}
-        return self._observations(), infos
+        return self._arrays(), infos
 
-    def step(self, actions: Dict[str, Any]) -> Tuple[Dict[str, Any], ...]:
+    def step(self, actions: Mapping[str, Any]) -> Step:
         """Plays a step, as `Environment.step`. An agent without an action asks nothing.
 
         Raises:
@@ -180,31 +169,14 @@ class Seats(Parallel):
         """
         asked = {agent: self._views[agent].requests(action) if agent in self._views else []
                  for agent, action in actions.items()}
-        seen, scores, ends, breaks, infos = self._games.step(asked)
+        seen, scores, ends, breaks, infos = super().step(asked)
         before, self._views = self._views, {agent: View(each) for agent, each in seen.items()}
         rewards = {agent: view.reward(before[agent], ends[agent], scores[agent], infos[agent])
                    for agent, view in self._views.items()}
-        return self._observations(), rewards, ends, breaks, infos
+        return self._arrays(), rewards, ends, breaks, infos
 
-    def _observations(self) -> Dict[str, Any]:
+    def _arrays(self) -> Dict[str, Any]:
         return {agent: view.observation() for agent, view in self._views.items()}
-
-    def render(self) -> str:
-        """The boards as text."""
-        return self._games.render()
-
-    def state(self) -> Any:
-        """What the environment knows of the whole game, as `Environment.state`."""
-        return self._games.state()
-
-    @property
-    def state_space(self) -> Any:
-        """The space of `state`."""
-        return self._games.state_space
-
-    def close(self) -> None:
-        """Ends the game that is played."""
-        self._games.close()
 
 
 class Seat(Env):  # type: ignore[misc]
