@@ -5,9 +5,8 @@ from typing import List, Tuple
 
 from geesefuton.experiments import study
 from geesefuton.experiments.comparisons import (Estimate, bonferroni_halves, estimate, groups_of,
-                                                holm, mean_of, student_outside, student_p,
+                                                holm, mean_of, signed_rank_p, student_outside, student_p,
                                                 student_quantile)
-from geesefuton.experiments.ranks import signed_rank_p
 from tests.helpers import needs_study
 
 if not study.missing("comparing with scipy"):

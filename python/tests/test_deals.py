@@ -6,11 +6,11 @@ from pathlib import Path
 from typing import List
 from unittest import mock
 
-from geesefuton.experiments import deals, luck
+from geesefuton.experiments import deals
 from geesefuton.experiments.deals import (Deal, DealError, Rule, kept_secret, read_rooms,
                                           shared_secret, tables)
 from geesefuton.records.drawing import classic_endowments, drawn_rooms
-from geesefuton.records.games import PACKAGES, Client, read_game
+from geesefuton.records.games import read_game
 from geesefuton.records.secret_deals import commitment, deal_seed
 from tests.helpers import SERVED_GAME, TOP, served_game
 
@@ -113,38 +113,6 @@ class Endowments(unittest.TestCase):
         self.assertEqual(clumped, plain.with_endowments(classic_endowments(3)))
         self.assertNotEqual(clumped.endow, plain.endow)
         self.assertEqual(read_game(clumped.text()), clumped)
-
-
-class Lucks(unittest.TestCase):
-    def test_a_best_trip_by_hand(self) -> None:
-        # Two nights in Shanties, and one in Towers; no ticket is worth its price.
-        seats = 2 * luck.SEAT
-        plain = Client(1, 3, 50, (10, 20, 30))
-        self.assertEqual(luck.best_trip(plain), 1000 - seats - 2 * luck.SHANTIES)
-        towers = Client(1, 2, 150, (0, 0, 0))
-        self.assertEqual(luck.best_trip(towers), 1150 - seats - luck.TOWERS)
-        tickets = Client(2, 4, 50, (200, 0, 180))
-        self.assertEqual(luck.best_trip(tickets),
-                         1380 - seats - 2 * luck.SHANTIES - 2 * luck.TICKET)
-
-    def test_it_is_the_best_of_all_trips(self) -> None:
-        for clients in served_game().clients:
-            for client in clients:
-                gains = [client.worth(package) - sum(luck.PRICES[good] for good in package.goods())
-                         for package in PACKAGES]
-                self.assertEqual(luck.best_trip(client), max(0, *gains))
-
-    def test_a_seat_has_its_clients(self) -> None:
-        game = served_game()
-        for seat in range(8):
-            trips = sum(luck.best_trip(client) for client in game.clients[seat])
-            self.assertEqual(luck.worth_of(game, seat), trips)
-        self.assertEqual(luck.worths_of(game), [luck.worth_of(game, seat) for seat in range(8)])
-
-    def test_each_good_has_its_price(self) -> None:
-        self.assertEqual((luck.SEAT, luck.SHANTIES, luck.TOWERS, luck.TICKET), (350, 80, 120, 80))
-        prices = [luck.SEAT] * 8 + [luck.SHANTIES] * 4 + [luck.TOWERS] * 4 + [luck.TICKET] * 12
-        self.assertEqual(list(luck.PRICES), prices)
 
 
 class Secrets(unittest.TestCase):

@@ -428,7 +428,7 @@ class Games(unittest.TestCase):
             scores = {**dict.fromkeys(agents, 0), agents[0]: -price,
                       agents[4]: 16 * 30 - 200 * short, agents[5]: -16 * 30}
             self.assertEqual({agent: info["hindsight"] for agent, info in told[-1].items()}, scores)
-            with mock.patch("geesefuton.learning.scores.solve", side_effect=AssertionError):
+            with mock.patch("geesefuton.learning.market.solve", side_effect=AssertionError):
                 told = environment.step({agents[4]: ["own 16", "cash", "quote 0", "what"]})
             self.assertEqual({agent: info["hindsight"] for agent, info in told[-1].items()}, scores)
             # Two rooms at 7 dollars or less, of 16: they cost nothing.

@@ -1,7 +1,7 @@
 import unittest
 from dataclasses import replace
 
-from geesefuton.experiments.grades import as_grades
+from geesefuton.experiments.forms import as_grades
 from geesefuton.experiments.results import Outcome, Row
 from geesefuton.experiments.summary import summarize
 

@@ -8,7 +8,7 @@ from unittest import mock
 from geesefuton.records.best_plans import Plan, best_plan
 from geesefuton.records.games import CLOCK, HOUSE, SEATS, TICKS, Client, name_of
 from geesefuton.records.hindsight import Decision, Story, stories
-from geesefuton.records.hindsight_page import story_html
+from geesefuton.records.report_page import story_html
 from geesefuton.records.logs import Call, Entry, Log, Post, Trade
 from geesefuton.records.replies import read_entry_reply
 from geesefuton.records.rules import next_price

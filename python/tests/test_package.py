@@ -6,7 +6,7 @@ import unittest
 from typing import Iterator, List
 
 import geesefuton
-from geesefuton.records import hindsight_page
+from geesefuton.records import report_page
 from tests.helpers import PACKAGE, TOP
 
 OLDEST = (3, 9)  # the version of Python that pyproject.toml asks for
@@ -47,7 +47,7 @@ class Package(unittest.TestCase):
     def test_scripts_of_pages_put_texts_in_as_texts(self) -> None:
         pages = [file.read_text() for file in (PACKAGE / "geesefuton").rglob("*.html")]
         self.assertEqual(len(pages), 4)
-        for page in (*pages, hindsight_page.SCRIPT):
+        for page in (*pages, report_page.SCRIPT):
             self.assertIn("<script>", page)
             self.assertNotRegex(page, r"innerHTML|outerHTML|insertAdjacentHTML|document\.write|"
                                       r"createContextualFragment|\beval\(|setHTML|srcdoc")

@@ -5,7 +5,7 @@ import unittest
 from typing import Sequence
 from unittest import mock
 
-from geesefuton.experiments.ranks import signed_rank_p
+from geesefuton.experiments.comparisons import signed_rank_p
 
 
 def chance(values: Sequence[float]) -> float:
@@ -58,7 +58,7 @@ class SignedRanks(unittest.TestCase):
         source = random.Random(2)
         for size in (0.0, 0.1, 0.25, 0.4):
             values = [round(source.gauss(size, 1.0), 1) for _ in range(60)]
-            with mock.patch("geesefuton.experiments.ranks.MOST_EXACT", 60):
+            with mock.patch("geesefuton.experiments.comparisons.MOST_EXACT", 60):
                 exact = chance(values)
             self.assertAlmostEqual(chance(values), exact, delta=0.003)
         self.assertLess(chance([1.0] * 60), 1e-9)

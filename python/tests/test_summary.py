@@ -4,8 +4,8 @@ from dataclasses import replace
 from typing import Any, List
 
 from geesefuton.experiments import study
-from geesefuton.experiments.comparisons import bonferroni_halves, estimate, holm, student_p
-from geesefuton.experiments.ranks import signed_rank_p
+from geesefuton.experiments.comparisons import (bonferroni_halves, estimate, holm, signed_rank_p,
+                                                student_p)
 from geesefuton.experiments.results import (HEAD, Kind, Outcome, ResultsError, Row, read_rows,
                                             text_of)
 from geesefuton.experiments.summary import summarize

@@ -18,7 +18,7 @@ from geesefuton.experiments import tournament
 from geesefuton.experiments.deals import Deal, Rule, Table
 from geesefuton.experiments.entrants import Entrant
 from geesefuton.experiments.forms import as_text
-from geesefuton.experiments.luck import worths_of
+from geesefuton.experiments.covariates import covariates_of
 from geesefuton.experiments.messages import Message, Note, Result
 from geesefuton.experiments.plan import MARGIN, Plan
 from geesefuton.experiments.results import HEAD, Kind, Outcome, Row, read_rows
@@ -150,7 +150,7 @@ class Playing(unittest.TestCase):
             self.assertEqual(sorted(row.agent for row in game), list("aaaabbbb"))
         self.assertTrue(all(one.agent != other.agent for one, other in zip(rows, rows[8:16])))
         self.assertEqual([row.end for row in rows[:8]], [Outcome.PLAYED] * 7 + [Outcome.HUNG])
-        self.assertEqual([row.luck for row in rows[:8]], worths_of(served_game()))
+        self.assertEqual([row.luck for row in rows[:8]], [drawn.luck for drawn in covariates_of(served_game())])
         self.assertEqual({row.kind for row in rows}, {Kind.SERVED})
         self.assertEqual((made.report.lost, self.left), ([], 0))
         self.assertRegex(self.told[-1], r"^game 4 of 4 \([12]\.[01]\): scored; 0:00 left$")

@@ -1,8 +1,9 @@
-"""A summary as text, as CSV and as JSON."""
+"""A summary as text, as CSV and as JSON, and the grades of its agents."""
 
 import json
 import math
 from dataclasses import asdict
+from string import ascii_uppercase
 from typing import Any, Callable, Dict, List, Optional, Sequence
 
 from geesefuton.experiments.comparisons import LEVEL, POWER, Estimate
@@ -14,6 +15,7 @@ from geesefuton.records.tables import csv_of
 MARK = "*"  # at a mean with seats that nobody took
 ADJUSTED = "adjusted for the draw"
 MOST_MISSED = 0.1  # of the ticks, without a warning
+GRADES_HEAD = ["entrant", "mean", "low", "high", "groups", "games_not_finished"]
 
 
 def number_text(value: Optional[Estimate]) -> str:
@@ -192,6 +194,28 @@ def as_json(summary: Summary) -> str:
     agents = told.pop("standings")
     return json.dumps({**told, "agents": agents, "level": LEVEL, "undecided": undecided(summary)},
                       indent=1) + "\n"
+
+
+def as_grades(summary: Summary) -> str:
+    """Grades as CSV, the best first: an agent's mean, the ends of its interval in dollars, its
+    groups, and how many of its seats did not play to the end.
+
+    A group is a letter. These games do not separate agents that have a letter in common, by Holm's
+    test over all pairs.
+    """
+    lines: List[Sequence[object]] = [GRADES_HEAD]
+    for standing in summary.standings:
+        mean, half = standing.score.mean, standing.score.half
+        ends = [""] * 2 if half is None else [f"{mean - half:.2f}", f"{mean + half:.2f}"]
+        lines.append([standing.agent, f"{mean:.2f}", *ends, letters_of(summary, standing.agent),
+                      standing.failed])
+    return csv_of(lines)
+
+
+def letters_of(summary: Summary, agent: str) -> str:
+    """The groups of an agent."""
+    return "".join(ascii_uppercase[number] if number < len(ascii_uppercase) else f"({number + 1})"
+                   for number, group in enumerate(summary.groups) if agent in group)
 
 
 FORMS: Dict[str, Callable[[Summary], str]] = {".txt": as_text, ".csv": as_csv, ".json": as_json}

@@ -7,8 +7,7 @@ from typing import Any, Iterator, List, NamedTuple, Sequence
 import numpy as np
 import pandas as pd
 
-from geesefuton.experiments.forms import count_text, undecided
-from geesefuton.experiments.grades import letters_of
+from geesefuton.experiments.forms import count_text, letters_of, undecided
 from geesefuton.experiments.joining import WAYS
 from geesefuton.experiments.overview import PARTS, PREDICTORS, SIDES, Overview
 from geesefuton.experiments.power import deals_to_detect

@@ -13,10 +13,10 @@ from typing import Callable, Dict, List, Mapping, Optional, Sequence, Set, Tuple
 
 from geesefuton.experiments import study
 from geesefuton.experiments.comparisons import (LEVEL, Estimate, bonferroni_halves, estimate,
-                                                groups_of, holm, mean_of, student_p)
+                                                groups_of, holm, mean_of, signed_rank_p,
+                                                student_p)
 from geesefuton.experiments.covariates import MEAN_FIRST_PRICE, MEAN_LUCK, MEAN_NIGHTS
 from geesefuton.experiments.provenance import read_settings
-from geesefuton.experiments.ranks import signed_rank_p
 from geesefuton.experiments.results import Kind, Outcome, Row
 
 Seats = Mapping[int, List[Row]]  # rows by seat

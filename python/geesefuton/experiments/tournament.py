@@ -50,8 +50,7 @@ from geesefuton.arguments import Parser
 from geesefuton.experiments.covariates import covariates_of
 from geesefuton.experiments.deals import SHORT, DealError, Table, place_of, tables
 from geesefuton.experiments.entrants import PACKAGE, Entrant, seat_words
-from geesefuton.experiments.forms import FORMS, as_text
-from geesefuton.experiments.grades import as_grades
+from geesefuton.experiments.forms import FORMS, as_grades, as_text
 from geesefuton.experiments.joining import joined, missing, pooled, read_source, whole_deals
 from geesefuton.experiments.messages import PROGRAM, Job, Note, Result
 from geesefuton.experiments.plan import Plan, make_parser, read_plan, text_of

@@ -38,9 +38,8 @@ from pathlib import Path
 from typing import Any, Callable, Dict, List, Mapping, Optional, Sequence, Tuple, Union
 
 from geesefuton.learning.interfaces import Parallel
-from geesefuton.learning.market import LimitError, Market
+from geesefuton.learning.market import LimitError, Market, Scorer
 from geesefuton.learning.rivals import Maker, Players, Rivals, maker_of
-from geesefuton.learning.scores import Scorer
 from geesefuton.records.books import Board, Books, text_of
 from geesefuton.records.drawing import MOST_SEED, varied
 from geesefuton.records.games import CLIENTS, GOODS, MOST_ROOMS, SEATS, TICKS, Game, read_game

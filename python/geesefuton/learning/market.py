@@ -8,12 +8,14 @@ from typing import Any, Dict, List, Optional, Sequence, Tuple
 
 from geesefuton import program
 from geesefuton.learning.stepping import Stepped
+from geesefuton.link import solve
 from geesefuton.records.books import Books
 from geesefuton.records.dialects import MOST_LINE
 from geesefuton.records.games import SEATS, TICKS, Game
 from geesefuton.records.logs import MOST_BYTES
 from geesefuton.records.order import first_seat
 from geesefuton.records.replies import read_points
+from geesefuton.records.rules import PENALTY
 
 MOST_LINES = 65_536  # of an agent in a game
 TICK = b"tick\n"
@@ -174,3 +176,32 @@ def score_rows(log: bytes) -> List[Tuple[int, ...]]:
     """For each agent its best total, its cash, its tickets short and its score, from a log."""
     lines = _SCORES.findall(log, log.rindex(b"\nsheet\n"))
     return [tuple(map(int, line.split(b" ")[1:])) for line in lines]
+
+
+class Scorer:
+    """The scores that seats would have if nobody asked anything more. Each new holding of a seat
+    takes a process of `tac solve`, and is kept."""
+
+    def __init__(self, game: Game) -> None:
+        self._game = game
+        self._known: Dict[Tuple[int, Tuple[int, ...]], int] = {}
+
+    def scores(self, books: Books) -> List[int]:
+        """The score of each seat in dollars, if nobody asks anything more.
+
+        Raises:
+            ProgramError: There is no program, or it ended with an error.
+        """
+        end = books.at_the_end()
+        owed = [sum(-units for units in held if units < 0) for held in end.holdings]
+        return [self._best(seat, tuple(held)) + cash - PENALTY * short
+                for seat, (held, cash, short) in enumerate(zip(end.holdings, end.cash, owed))]
+
+    def _best(self, seat: int, held: Tuple[int, ...]) -> int:
+        """The best total of a seat with these holdings."""
+        if (seat, held) not in self._known:
+            total = solve(held, self._game.clients[seat])
+            if total is None:
+                raise program.ProgramError("the program did not solve an account")
+            self._known[seat, held] = total
+        return self._known[seat, held]

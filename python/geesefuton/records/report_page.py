@@ -1,6 +1,7 @@
 """The page of a played game: self-contained HTML, for a projector and a phone."""
 
 import html
+import json
 from collections import defaultdict
 from dataclasses import dataclass
 from importlib.resources import files
@@ -8,8 +9,7 @@ from typing import Dict, Iterable, Iterator, List, Optional, Sequence, Tuple, Un
 
 from geesefuton.records.games import (AUCTIONS, CLIENTS, FLIGHTS, GOODS, HOTELS, ROOMS, TICKETS,
                                       TICKS, Game, Package, name_of)
-from geesefuton.records.hindsight import Story
-from geesefuton.records.hindsight_page import SCRIPT, story_html
+from geesefuton.records.hindsight import Moment, Story
 from geesefuton.records.logs import Log, Score, trades_of
 from geesefuton.records.prices import MarketEvent
 
@@ -19,6 +19,30 @@ KINDS: Tuple[Tuple[str, range], ...] = (("flights", FLIGHTS), ("Shanties", range
                                         ("Towers", range(12, 16)), ("tickets", TICKETS))
 ENDS = {"quit": "quit", "end": "left without `quit`", "readfault": "lost its link",
         "writefault": "lost its link", "budget": "used up its lines"}
+
+
+SCRIPT = """<script>
+"use strict";
+for (const team of document.querySelectorAll(".story")) {
+  const moments = JSON.parse(team.querySelector("script").textContent);
+  const slider = team.querySelector("input"), said = team.querySelector("output");
+  const body = team.querySelector("tbody");
+  const number = value => value.toLocaleString("en-US").replace("-", "\\u2212");
+  const show = () => {
+    const { worth, cash, goods } = moments[slider.value];
+    const money = cash > 0 ? `earned ${number(cash)}` : `paid ${number(-cash)}`;
+    said.textContent = `Tick ${slider.value}: best plan worth ${number(worth)}, ${money}`;
+    body.replaceChildren(...goods.map(cells => {
+      const row = document.createElement("tr");
+      for (const text of cells) row.insertCell().textContent = text;
+      row.cells[0].className = "t";
+      return row;
+    }));
+  };
+  slider.addEventListener("input", show);
+  show();
+}
+</script>"""
 
 
 @dataclass(frozen=True)
@@ -273,6 +297,30 @@ def _teams(game: Game, names: Sequence[str], log: Log, events: Sequence[MarketEv
                "<h3>What each client wanted, and got on which nights</h3>"
                f"{table(clients, _client_rows(game, score), (6,))}<h3>Trades</h3>"
                f"{table(trades, _trade_rows(events, score.agent), (0,))}</details>")
+
+
+def story_html(story: Story) -> str:
+    """A team's story."""
+    told = "".join(f"<li>{html.escape(decision.text)}</li>" for decision in story.decisions)
+    moments = json.dumps([_moment(moment) for moment in story.moments], separators=(",", ":"))
+    note = ("A plan is worth what its trips bring, less what was paid and what is still to be "
+            "bought at the prices of that tick. A log has no times: a trade of tickets may have "
+            "come later than it says.")
+    decisions = f"<ol>{told}</ol>" if told else "<p>No decision lowered the worth of its plans.</p>"
+    return (f'<h3>What cost most</h3>{decisions}<h3>Tick by tick</h3><div class="story">'
+            f'<label>Tick <input type="range" min="0" max="{TICKS}" value="{TICKS}"></label> '
+            f'<output></output><div class="wide"><table><thead><tr><th class="t">good</th>'
+            "<th>held</th><th>wanted more</th><th>bid</th></tr></thead><tbody></tbody></table>"
+            f'</div><script type="application/json">{moments}</script></div><p>{note}</p>')
+
+
+def _moment(moment: Moment) -> Dict[str, object]:
+    """A moment as the page's script reads it."""
+    goods: List[Sequence[object]] = [
+        [name_of(good), moment.held[good] or "", moment.wanted[good] or "",
+         moment.bids.get(good, "")]
+        for good in GOODS if moment.held[good] or moment.wanted[good] or good in moment.bids]
+    return {"worth": moment.worth, "cash": moment.cash, "goods": goods}
 
 
 def _head(game: Game, log: Log, heading: Heading) -> str:
