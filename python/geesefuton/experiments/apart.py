@@ -24,17 +24,11 @@ START = 10.0  # seconds that a sandbox has to start
 
 
 class Limits(NamedTuple):
-    """What an agent may use in a game.
+    """What an agent may use in a game."""
 
-    Attributes:
-        memory: Bytes of data, for each of its processes.
-        processes: How many there may be of them at a time.
-        seconds: Of a processor, for each of them.
-    """
-
-    memory: int = 1 << 30
-    processes: int = 64
-    seconds: int = 600
+    memory: int = 1 << 30  # bytes of data, for each of its processes
+    processes: int = 64  # how many there may be of them at a time
+    seconds: int = 600  # of a processor, for each of them
 
     def by_name(self) -> "dict[str, int]":
         """By the names of the module `resource`, without `RLIMIT_`."""

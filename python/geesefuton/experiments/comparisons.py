@@ -19,17 +19,12 @@ MOST_EXACT = 50  # values of Wilcoxon's test; above, the normal distribution is 
 
 @dataclass(frozen=True)
 class Estimate:
-    """A mean with its interval.
+    """A mean with its interval."""
 
-    Attributes:
-        mean: The estimate.
-        half: Half the width of the 95 % interval; None where there are too few values for one.
-        count: How many values it comes from.
-    """
-
-    mean: float
+    mean: float  # the estimate
+    # half the width of the 95 % interval; None where there are too few values for one
     half: Optional[float]
-    count: int
+    count: int  # how many values it comes from
 
 
 def student_outside(freedom: int, bound: float) -> float:

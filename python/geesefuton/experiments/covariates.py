@@ -24,17 +24,11 @@ MEAN_LUCK, MEAN_NIGHTS, MEAN_FIRST_PRICE = 2153.43, 2.0, 325.0
 
 @dataclass(frozen=True)
 class Covariates:
-    """What is told of a seat's draw.
+    """What is told of a seat's draw."""
 
-    Attributes:
-        luck: What its clients are worth at fixed prices, in dollars.
-        nights: How many nights they want to stay, in the mean.
-        first_price: The mean of the eight flights' first prices, in dollars.
-    """
-
-    luck: int
-    nights: float
-    first_price: float
+    luck: int  # what its clients are worth at fixed prices, in dollars
+    nights: float  # how many nights they want to stay, in the mean
+    first_price: float  # the mean of the eight flights' first prices, in dollars
 
 
 def best_trip(client: Client) -> int:

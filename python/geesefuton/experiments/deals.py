@@ -28,23 +28,16 @@ class DealError(Exception):
 
 @dataclass(frozen=True)
 class Rule:
-    """How the deals are made.
+    """How the deals are made."""
 
-    Attributes:
-        secret: What deals and agents' seeds are drawn from.
-        seed: The seed of the first deal, if the seeds are known; then each has the next one.
-        file: A game file that is played each time in place of made games.
-        rooms: The least and the most rooms of a hotel night; None for 16.
-        live: Whether each admitted bid publishes a hotel's price.
-        is_clumped: Whether tickets are endowed as in the original game.
-    """
-
-    secret: bytes = bytes(32)
+    secret: bytes = bytes(32)  # what deals and agents' seeds are drawn from
+    # the seed of the first deal, if the seeds are known; then each has the next one
     seed: Optional[int] = None
-    file: Optional[Path] = None
+    file: Optional[Path] = None  # a game file that is played each time in place of made games
+    # the least and the most rooms of a hotel night; None for 16
     rooms: Optional[Tuple[int, int]] = None
-    live: bool = False
-    is_clumped: bool = False
+    live: bool = False  # whether each admitted bid publishes a hotel's price
+    is_clumped: bool = False  # whether tickets are endowed as in the original game
 
     @property
     def drawn(self) -> Dict[str, object]:
@@ -59,15 +52,10 @@ class Rule:
 
 @dataclass(frozen=True)
 class Deal:
-    """A deal.
+    """A deal."""
 
-    Attributes:
-        number: Its number in the run, from 1.
-        game: Its game, with the seat words of the file or of made games.
-    """
-
-    number: int
-    game: Game
+    number: int  # its number in the run, from 1
+    game: Game  # its game, with the seat words of the file or of made games
 
     @cached_property
     def name(self) -> str:

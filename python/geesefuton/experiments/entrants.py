@@ -24,19 +24,12 @@ class EntrantError(CommandError):
 
 @dataclass(frozen=True)
 class Entrant:
-    """An agent that takes part.
+    """An agent that takes part."""
 
-    Attributes:
-        command: As it was given: a Python file, a program, or a command in quotes.
-        words: The words that run it, before HOST PORT WORD.
-        name: Its name in results.
-        root: The beginning of its seat words.
-    """
-
-    command: str
-    words: Tuple[str, ...]
-    name: str
-    root: str
+    command: str  # as it was given: a Python file, a program, or a command in quotes
+    words: Tuple[str, ...]  # the words that run it, before HOST PORT WORD
+    name: str  # its name in results
+    root: str  # the beginning of its seat words
 
 
 def read_entrant(command: str) -> Entrant:

@@ -208,37 +208,25 @@ def resampled(samples: Array, count: int) -> Array:
 
 @dataclass(frozen=True)
 class Equilibrium:
-    """A symmetric equilibrium of the mean payoffs.
+    """A symmetric equilibrium of the mean payoffs."""
 
-    Attributes:
-        mixture: The shares of the strategies that rivals have.
-        gains: What a player gains by each strategy, with its interval.
-        times: In how many resamples there is an equilibrium near to it.
-        is_single: Whether there are no others arbitrarily near, as where two strategies are alike.
-    """
-
-    mixture: Mixture
-    gains: List[Estimate]
-    times: int
+    mixture: Mixture  # the shares of the strategies that rivals have
+    gains: List[Estimate]  # what a player gains by each strategy, with its interval
+    times: int  # in how many resamples there is an equilibrium near to it
+    # whether there are no others arbitrarily near, as where two strategies are alike
     is_single: bool
 
 
 @dataclass(frozen=True)
 class Findings:
-    """What payoffs tell of symmetric equilibria.
+    """What payoffs tell of symmetric equilibria."""
 
-    Attributes:
-        equilibria: Those of the mean payoffs; none where the search found none, though there is
-            one.
-        resamples: How many resamples there were; 0 with a single deal.
-        others: In how many of them there is one that is near to none of these, or none.
-        shares: For each strategy the least and the most share that it has in the equilibria of
-            resamples, without the outermost twentieth at each end; none without resamples.
-    """
-
+    # those of the mean payoffs; none where the search found none, though there is one
     equilibria: List[Equilibrium]
-    resamples: int
-    others: int
+    resamples: int  # how many resamples there were; 0 with a single deal
+    others: int  # in how many of them there is one that is near to none of these, or none
+    # for each strategy the least and the most share that it has in the equilibria of resamples,
+    # without the outermost twentieth at each end; none without resamples
     shares: List[Tuple[float, float]]
 
     @property

@@ -26,21 +26,13 @@ class KeptError(Exception):
 
 @dataclass(frozen=True)
 class KeptGame:
-    """A game of a run.
+    """A game of a run."""
 
-    Attributes:
-        rows: Those of its eight seats.
-        game: The game.
-        log: Its log.
-        ticks: The ticks of the log's entries.
-        source: By what they are known: `script`, `journal` or `log`.
-    """
-
-    rows: Sequence[Row]
-    game: Game
-    log: Log
-    ticks: Ticks
-    source: str
+    rows: Sequence[Row]  # those of its eight seats
+    game: Game  # the game
+    log: Log  # its log
+    ticks: Ticks  # the ticks of the log's entries
+    source: str  # by what they are known: `script`, `journal` or `log`
 
     @property
     def name(self) -> str:

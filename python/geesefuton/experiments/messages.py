@@ -24,39 +24,24 @@ PROGRAM = "import sys; from geesefuton.experiments.match import main; sys.exit(m
 
 @dataclass(frozen=True)
 class Job:
-    """A game that is to be played.
+    """A game that is to be played."""
 
-    Attributes:
-        name: The name of its files.
-        folder: Where they are written: NAME.game, NAME.log, NAME.events, NAME.out.WORD with what
-            an agent printed, and NAME.script in turns or NAME.journal by the clock.
-        game: The text of the game file.
-        entrants: The agents of the eight seats.
-        words: Their seat words.
-        seeds: What they draw from in a game in turns.
-        keys: The words that they say for their seats.
-        limits: What each may use; None if agents are not kept apart.
-        form: What they speak, `words` or `json`.
-        pace: The milliseconds from tick to tick.
-        start: The seconds that the game waits for its agents.
-        linger: The seconds after the last tick until the links that are left are ended.
-        turns: How many turns each agent has between two ticks; 0 for a game by the clock.
-        patience: In turns: the seconds without a word after which an agent is passed over.
-    """
-
-    name: str
+    name: str  # the name of its files
+    # where they are written: NAME.game, NAME.log, NAME.events, NAME.out.WORD with what an agent
+    # printed, and NAME.script in turns or NAME.journal by the clock
     folder: Path
-    game: str
-    entrants: Tuple[Entrant, ...]
-    words: Tuple[str, ...]
-    seeds: Tuple[int, ...]
-    keys: Tuple[str, ...]
-    limits: Optional[Limits] = None
-    form: str = "words"
-    pace: int = 100
-    start: float = 20.0
-    linger: float = 5.0
-    turns: int = 0
+    game: str  # the text of the game file
+    entrants: Tuple[Entrant, ...]  # the agents of the eight seats
+    words: Tuple[str, ...]  # their seat words
+    seeds: Tuple[int, ...]  # what they draw from in a game in turns
+    keys: Tuple[str, ...]  # the words that they say for their seats
+    limits: Optional[Limits] = None  # what each may use; None if agents are not kept apart
+    form: str = "words"  # what they speak, `words` or `json`
+    pace: int = 100  # the milliseconds from tick to tick
+    start: float = 20.0  # the seconds that the game waits for its agents
+    linger: float = 5.0  # the seconds after the last tick until the links that are left are ended
+    turns: int = 0  # how many turns each agent has between two ticks; 0 for a game by the clock
+    # in turns: the seconds without a word after which an agent is passed over
     patience: float = PATIENCE
 
 
@@ -69,20 +54,14 @@ class Note:
 
 @dataclass(frozen=True)
 class Result:
-    """What a game came to.
+    """What a game came to."""
 
-    Attributes:
-        scores: The scores of the eight seats in dollars; none if the game was lost.
-        outcomes: How each seat's game went.
-        fault: Why the game was lost; "" if it was not.
-        kind: How it was played.
-        missed: In how many ticks each agent says that it could not act; None where it does not say.
-    """
-
+    # the scores of the eight seats in dollars; none if the game was lost
     scores: Tuple[int, ...] = ()
-    outcomes: Tuple[Outcome, ...] = ()
-    fault: str = ""
-    kind: Kind = Kind.SERVED
+    outcomes: Tuple[Outcome, ...] = ()  # how each seat's game went
+    fault: str = ""  # why the game was lost; "" if it was not
+    kind: Kind = Kind.SERVED  # how it was played
+    # in how many ticks each agent says that it could not act; None where it does not say
     missed: Tuple[Optional[int], ...] = (None,) * SEATS
 
 

@@ -22,23 +22,14 @@ LOWER, UPPER = ", lower quartile", ", upper quartile"
 
 
 class Section(NamedTuple):
-    """A section of the overview.
+    """A section of the overview."""
 
-    Attributes:
-        name: That of its picture.
-        title: What stands above it; "" where it goes on with the one before.
-        note: What it says, as HTML.
-        shown: The data of the picture.
-        told: The table, if it has others; texts, and numbers that are shown in whole dollars.
-        picture: As HTML; "" for bars.
-    """
-
-    name: str
-    title: str
-    note: str
-    shown: Frame
-    told: Frame
-    picture: str = ""
+    name: str  # that of its picture
+    title: str  # what stands above it; "" where it goes on with the one before
+    note: str  # what it says, as HTML
+    shown: Frame  # the data of the picture
+    told: Frame  # the table, if it has others; texts, and numbers that are shown in whole dollars
+    picture: str = ""  # as HTML; "" for bars
 
 
 def sections(overview: Overview) -> List[Section]:

@@ -35,52 +35,31 @@ LINGER, LINGER_IN_TURNS = 5.0, 30.0  # seconds
 
 @dataclass(frozen=True)
 class Plan:
-    """The plan of a tournament.
+    """The plan of a tournament."""
 
-    Attributes:
-        entrants: The agents, and after them those of the pool.
-        rule: How deals are made.
-        games: How many games are played.
-        rotations: How many of each deal.
-        at_once: How many at a time.
-        pace: The milliseconds from tick to tick, in games by the clock.
-        turns: How many turns each agent has between two ticks; 0 for games by the clock.
-        patience: In turns: the seconds without a word after which an agent is passed over.
-        form: What agents speak, `words` or `json`.
-        start: The seconds that a game waits for its agents.
-        linger: The seconds after the last tick until links are ended.
-        summaries: The files that the summary is written to.
-        out: The folder that the run stands in.
-        seating: Who sits where, by the numbers of the agents.
-        is_resumed: Whether it goes on with what is there.
-        settings: What else decides what can be compared.
-        agents: What the agents are, by their names.
-        detect: The difference of which the summary tells how many games tell it.
-        lineups: The agents of the eight seats in each game of a deal, where these are no seating;
-            each deal moves them on.
-        limits: What each agent may use; None if agents are not kept apart.
-    """
-
-    entrants: Sequence[Entrant]
-    rule: Rule
-    games: int
-    rotations: int
-    at_once: int
-    pace: int
-    turns: int
-    patience: float
-    form: str
-    start: float
-    linger: float
-    summaries: Sequence[Path]
-    out: Path
-    seating: Seating
-    is_resumed: bool = False
+    entrants: Sequence[Entrant]  # the agents, and after them those of the pool
+    rule: Rule  # how deals are made
+    games: int  # how many games are played
+    rotations: int  # how many of each deal
+    at_once: int  # how many at a time
+    pace: int  # the milliseconds from tick to tick, in games by the clock
+    turns: int  # how many turns each agent has between two ticks; 0 for games by the clock
+    patience: float  # in turns: the seconds without a word after which an agent is passed over
+    form: str  # what agents speak, `words` or `json`
+    start: float  # the seconds that a game waits for its agents
+    linger: float  # the seconds after the last tick until links are ended
+    summaries: Sequence[Path]  # the files that the summary is written to
+    out: Path  # the folder that the run stands in
+    seating: Seating  # who sits where, by the numbers of the agents
+    is_resumed: bool = False  # whether it goes on with what is there
+    # what else decides what can be compared
     settings: Mapping[str, object] = field(default_factory=dict)
-    agents: Mapping[str, Agent] = field(default_factory=dict)
-    detect: Optional[int] = None
+    agents: Mapping[str, Agent] = field(default_factory=dict)  # what the agents are, by their names
+    detect: Optional[int] = None  # the difference of which the summary tells how many games tell it
+    # the agents of the eight seats in each game of a deal, where these are no seating; each deal
+    # moves them on
     lineups: Sequence[Sequence[Entrant]] = ()
-    limits: Optional[Limits] = None
+    limits: Optional[Limits] = None  # what each agent may use; None if agents are not kept apart
 
     def seated(self, table: Table) -> List[Entrant]:
         """The agents of the eight seats of a game."""

@@ -51,20 +51,14 @@ def package_digest() -> str:
 
 @dataclass(frozen=True)
 class Agent:
-    """What an agent is: its name, its command, and what decides how it plays.
+    """What an agent is: its name, its command, and what decides how it plays."""
 
-    Attributes:
-        name: Its name in results.
-        command: As it was given.
-        words: The words of its command but for the Python that runs it, files by their names alone.
-        files: The digests of its files, by their names.
-        libraries: The versions of the installed libraries that its Python files import.
-    """
-
-    name: str
-    command: str
+    name: str  # its name in results
+    command: str  # as it was given
+    # the words of its command but for the Python that runs it, files by their names alone
     words: Sequence[str]
-    files: Mapping[str, str]
+    files: Mapping[str, str]  # the digests of its files, by their names
+    # the versions of the installed libraries that its Python files import
     libraries: Mapping[str, str] = field(default_factory=dict)
 
     @property

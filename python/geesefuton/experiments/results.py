@@ -31,45 +31,27 @@ class Outcome(str, enum.Enum):
 
 @dataclass(frozen=True)
 class Row:
-    """What a seat of a game came to.
+    """What a seat of a game came to."""
 
-    Attributes:
-        deal: The beginning of the SHA-256 of what was dealt (`deals.Deal.name`). Games with the
-            same deal are alike, wherever they were played.
-        rotation: Which of the deal's games it is, from 0.
-        seat: The seat, 0 to 7.
-        agent: The agent's name.
-        score: In dollars.
-        end: How it went.
-        luck: What the seat's clients are worth at fixed prices, in dollars (`luck.worth_of`).
-        kind: How the game was played.
-        nights: How many nights the seat's clients want to stay, in the mean.
-        first_price: The mean of the flights' first prices, in dollars.
-        run: The number of the run that played it, from 1, in a folder that has several.
-        settings: What else decides what can be compared (`provenance.settings_text`).
-        files: The beginning of the SHA-256 of the agent's files.
-        missed: In how many ticks the agent says that it could not act in time; None if it says
-            nothing.
-        number: The number of the deal in its run, from 1.
-        source: The folder that it comes from, where several are compared; not in the CSV.
-    """
-
+    # the beginning of the SHA-256 of what was dealt (`deals.Deal.name`). Games with the same deal
+    # are alike, wherever they were played.
     deal: str
-    rotation: int
-    seat: int
-    agent: str
-    score: int
-    end: Outcome
-    luck: int
-    kind: Kind = Kind.SERVED
-    nights: float = 0.0
-    first_price: float = 0.0
-    run: int = 1
-    settings: str = ""
-    files: str = ""
+    rotation: int  # which of the deal's games it is, from 0
+    seat: int  # the seat, 0 to 7
+    agent: str  # the agent's name
+    score: int  # in dollars
+    end: Outcome  # how it went
+    luck: int  # what the seat's clients are worth at fixed prices, in dollars (`covariates`)
+    kind: Kind = Kind.SERVED  # how the game was played
+    nights: float = 0.0  # how many nights the seat's clients want to stay, in the mean
+    first_price: float = 0.0  # the mean of the flights' first prices, in dollars
+    run: int = 1  # the number of the run that played it, from 1, in a folder that has several
+    settings: str = ""  # what else decides what can be compared (`provenance.settings_text`)
+    files: str = ""  # the beginning of the SHA-256 of the agent's files
+    # in how many ticks the agent says that it could not act in time; None if it says nothing
     missed: Optional[int] = None
-    number: int = 1
-    source: str = ""
+    number: int = 1  # the number of the deal in its run, from 1
+    source: str = ""  # the folder that it comes from, where several are compared; not in the CSV
 
     @property
     def place(self) -> Tuple[int, int]:
@@ -91,15 +73,10 @@ class ResultsError(Exception):
 
 @dataclass
 class Found:
-    """What a CSV has.
+    """What a CSV has."""
 
-    Attributes:
-        rows: Of games that have all eight.
-        told: What was left out, each in a line.
-    """
-
-    rows: List[Row] = field(default_factory=list)
-    told: List[str] = field(default_factory=list)
+    rows: List[Row] = field(default_factory=list)  # of games that have all eight
+    told: List[str] = field(default_factory=list)  # what was left out, each in a line
 
 
 def text_of(rows: Iterable[Row]) -> str:

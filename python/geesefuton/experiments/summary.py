@@ -26,28 +26,19 @@ UNTAKEN = (Outcome.ABSENT, Outcome.REFUSED)  # seats that nobody took, or played
 
 @dataclass(frozen=True)
 class Standing:
-    """What an agent came to.
+    """What an agent came to."""
 
-    Attributes:
-        agent: Its name.
-        seats: How many seats it had.
-        ends: How many of them went how.
-        score: The mean of the scores of all its seats, in dollars.
-        played: The mean of the seats that played to the end; None if there is none.
-        luck: The mean of the luck of its draws in dollars.
-        adjusted: The mean that it would have with draws that are as those of all made games in the
-            mean, or of all agents for other games; None where it cannot be told.
-        missed: In how many ticks it could not act, by what it tells, in the mean; None if it tells
-            nothing.
-    """
-
-    agent: str
-    seats: int
-    ends: Dict[Outcome, int]
-    score: Estimate
+    agent: str  # its name
+    seats: int  # how many seats it had
+    ends: Dict[Outcome, int]  # how many of them went how
+    score: Estimate  # the mean of the scores of all its seats, in dollars
+    # the mean of the seats that played to the end; None if there is none
     played: Optional[Estimate]
-    luck: float
+    luck: float  # the mean of the luck of its draws in dollars
+    # the mean that it would have with draws that are as those of all made games in the mean, or of
+    # all agents for other games; None where it cannot be told
     adjusted: Optional[Estimate]
+    # in how many ticks it could not act, by what it tells, in the mean; None if it tells nothing
     missed: Optional[float] = None
 
     @property
@@ -63,35 +54,24 @@ class Standing:
 
 @dataclass(frozen=True)
 class Difference:
-    """How much more one agent scored than another, in dollars, by deals that both had.
+    """How much more one agent scored than another, in dollars, by deals that both had."""
 
-    Attributes:
-        first: The agent with the higher mean.
-        second: The other.
-        by_clients: Whether they are compared by clients that both had, and otherwise by games.
-        left_out: In how many deals both played, but without a client that both had.
-        score: The mean difference; None if there is no deal in which they can be compared.
-        adjusted: The difference that there would be with equal draws that are as those of all made
-            games in the mean; None where it cannot be told.
-        student: The probability by Student's t of such a difference if there is none; None without
-            an interval.
-        wilcoxon: The same by Wilcoxon's signed ranks.
-        holm: `student`, made larger so that it allows for all pairs.
-        bonferroni: Half the width of an interval that allows for all pairs.
-        needed: How many deals tell a difference of the size that was asked for; None if none was,
-            or it cannot be told.
-    """
-
-    first: str
-    second: str
-    by_clients: bool
-    left_out: int
+    first: str  # the agent with the higher mean
+    second: str  # the other
+    by_clients: bool  # whether they are compared by clients that both had, and otherwise by games
+    left_out: int  # in how many deals both played, but without a client that both had
+    # the mean difference; None if there is no deal in which they can be compared
     score: Optional[Estimate]
+    # the difference that there would be with equal draws that are as those of all made games in the
+    # mean; None where it cannot be told
     adjusted: Optional[Estimate] = None
+    # the probability by Student's t of such a difference if there is none; None without an interval
     student: Optional[float] = None
-    wilcoxon: Optional[float] = None
-    holm: Optional[float] = None
-    bonferroni: Optional[float] = None
+    wilcoxon: Optional[float] = None  # the same by Wilcoxon's signed ranks
+    holm: Optional[float] = None  # `student`, made larger so that it allows for all pairs
+    bonferroni: Optional[float] = None  # half the width of an interval that allows for all pairs
+    # how many deals tell a difference of the size that was asked for; None if none was, or it
+    # cannot be told
     needed: Optional[int] = None
 
     @property
@@ -102,37 +82,24 @@ class Difference:
 
 @dataclass(frozen=True)
 class Summary:
-    """The standings of a tournament, the best first, and the difference of each pair.
+    """The standings of a tournament, the best first, and the difference of each pair."""
 
-    Attributes:
-        standings: One for each agent.
-        differences: One for each pair.
-        groups: The agents of which no two are shown to differ, in the order of the standings.
-        games: How many games were scored.
-        deals: How many deals they had.
-        partial: How many of these lack games that were planned.
-        kinds: How many of the games were played how.
-        lost: What was lost or could not be written, each in a line.
-        detect: The size of a difference, in dollars, of which is told how many deals tell it; None
-            if that was not asked.
-        missing: Why there are no adjusted figures, and none of what tells a difference; "" if there
-            are.
-        planned: How many games there were to be; 0 if that is not known.
-        is_stopped: Whether a run was stopped before it had played them.
-    """
-
-    standings: List[Standing]
-    differences: List[Difference]
+    standings: List[Standing]  # one for each agent
+    differences: List[Difference]  # one for each pair
+    # the agents of which no two are shown to differ, in the order of the standings
     groups: List[List[str]]
-    games: int
-    deals: int
-    partial: int
-    kinds: Dict[Kind, int]
-    lost: List[str]
+    games: int  # how many games were scored
+    deals: int  # how many deals they had
+    partial: int  # how many of these lack games that were planned
+    kinds: Dict[Kind, int]  # how many of the games were played how
+    lost: List[str]  # what was lost or could not be written, each in a line
+    # the size of a difference, in dollars, of which is told how many deals tell it; None if that
+    # was not asked
     detect: Optional[float] = None
+    # why there are no adjusted figures, and none of what tells a difference; "" if there are
     missing: str = ""
-    planned: int = 0
-    is_stopped: bool = False
+    planned: int = 0  # how many games there were to be; 0 if that is not known
+    is_stopped: bool = False  # whether a run was stopped before it had played them
 
 
 def summarize(rows: Sequence[Row], lost: Sequence[str] = (), detect: Optional[float] = None,

@@ -90,15 +90,10 @@ class Running:
 
 @dataclass
 class Report:
-    """What was played so far, and what was lost.
+    """What was played so far, and what was lost."""
 
-    Attributes:
-        rows: By the number of the game.
-        lost: A line for each loss.
-    """
-
-    rows: Dict[int, List[Row]] = field(default_factory=dict)
-    lost: List[str] = field(default_factory=list)
+    rows: Dict[int, List[Row]] = field(default_factory=dict)  # by the number of the game
+    lost: List[str] = field(default_factory=list)  # a line for each loss
 
     def lose(self, text: str) -> None:
         """Tells a loss now, and again in the summary."""

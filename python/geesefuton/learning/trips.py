@@ -19,15 +19,10 @@ Wishes = Tuple[int, ...]  # arrival, departure, premium, and the values of the t
 
 
 class Trips(NamedTuple):
-    """Trips of a seat's clients.
+    """Trips of a seat's clients."""
 
-    Attributes:
-        wanted: How many units of each good they use.
-        worth: What they are worth less what is still to be bought costs, in dollars.
-    """
-
-    wanted: List[int]
-    worth: int
+    wanted: List[int]  # how many units of each good they use
+    worth: int  # what they are worth less what is still to be bought costs, in dollars
 
 
 def chosen(clients: Sequence[Wishes], prices: Sequence[int], holdings: Sequence[int]) -> Trips:

@@ -40,21 +40,15 @@ _tickets_of_each = itemgetter(*map(_TICKETS.index, _TICKETS_OF))
 
 @dataclass(frozen=True)
 class Plan:
-    """A plan for a seat.
+    """A plan for a seat."""
 
-    Attributes:
-        value: What its trips are worth, less what is still to be bought and what tickets short
-            cost, in dollars.
-        packages: The trip of each client; None for staying at home.
-        missing: How many units of each good are still to be bought for the trips.
-        bound: No plan is worth more; `value` where the search was exact.
-        prices: Those of what is held, by which the bound was found.
-    """
-
+    # what its trips are worth, less what is still to be bought and what tickets short cost, in
+    # dollars
     value: int
-    packages: Tuple[Optional[Package], ...]
-    missing: Tuple[int, ...]
-    bound: int
+    packages: Tuple[Optional[Package], ...]  # the trip of each client; None for staying at home
+    missing: Tuple[int, ...]  # how many units of each good are still to be bought for the trips
+    bound: int  # no plan is worth more; `value` where the search was exact
+    # those of what is held, by which the bound was found
     prices: Tuple[float, ...] = field(compare=False, repr=False)
 
 

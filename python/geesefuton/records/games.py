@@ -166,27 +166,16 @@ class Hotel:
 
 @dataclass(frozen=True)
 class Game:
-    """What is fixed of a game before it begins.
+    """What is fixed of a game before it begins."""
 
-    Attributes:
-        words: The seat words of the eight agents.
-        flights: The flights 0 to 7.
-        closing: The hotel nights 8 to 15 in the order in which they close.
-        endow: For each agent its tickets of the goods 16 to 27.
-        clients: For each agent its eight clients.
-        rooms: The rooms of the hotel nights 8 to 15.
-        live: Whether each admitted bid publishes a hotel's price, too.
-        version: Of its form: 1, or 2 where rooms and quotes can be set.
-    """
-
-    words: Tuple[str, ...]
-    flights: Tuple[Flight, ...]
-    closing: Tuple[int, ...]
-    endow: Tuple[Tuple[int, ...], ...]
-    clients: Tuple[Tuple[Client, ...], ...]
-    rooms: Tuple[int, ...] = (ROOMS,) * 8
-    live: bool = False
-    version: int = 1
+    words: Tuple[str, ...]  # the seat words of the eight agents
+    flights: Tuple[Flight, ...]  # the flights 0 to 7
+    closing: Tuple[int, ...]  # the hotel nights 8 to 15 in the order in which they close
+    endow: Tuple[Tuple[int, ...], ...]  # for each agent its tickets of the goods 16 to 27
+    clients: Tuple[Tuple[Client, ...], ...]  # for each agent its eight clients
+    rooms: Tuple[int, ...] = (ROOMS,) * 8  # the rooms of the hotel nights 8 to 15
+    live: bool = False  # whether each admitted bid publishes a hotel's price, too
+    version: int = 1  # of its form: 1, or 2 where rooms and quotes can be set
 
     @cached_property
     def hotels(self) -> Tuple[Hotel, ...]:

@@ -19,20 +19,13 @@ MOST = 3  # decisions that are told of a team
 
 
 class Moment(NamedTuple):
-    """A team after a tick.
+    """A team after a tick."""
 
-    Attributes:
-        worth: What its best plan is worth with its cash, in dollars.
-        cash: What it was paid less what it paid.
-        held: Its units of the 28 goods.
-        wanted: The units that are missing for its best plan.
-        bids: What stands of its bids for flights and rooms, by goods, such as `2 at 130`.
-    """
-
-    worth: int
-    cash: int
-    held: Tuple[int, ...]
-    wanted: Tuple[int, ...]
+    worth: int  # what its best plan is worth with its cash, in dollars
+    cash: int  # what it was paid less what it paid
+    held: Tuple[int, ...]  # its units of the 28 goods
+    wanted: Tuple[int, ...]  # the units that are missing for its best plan
+    # what stands of its bids for flights and rooms, by goods, such as `2 at 130`
     bids: Dict[int, str]
 
 

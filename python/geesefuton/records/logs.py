@@ -28,19 +28,12 @@ class LogError(Exception):
 
 @dataclass(frozen=True)
 class Call:
-    """A call: `bid`, `withdraw`, `own`, `update`, `publish` or `close`.
+    """A call: `bid`, `withdraw`, `own`, `update`, `publish` or `close`."""
 
-    Attributes:
-        do: Its word.
-        points: Of a bid.
-        tick: Of an update.
-        draw: Of an update.
-    """
-
-    do: str
-    points: Points = ()
-    tick: int = 0
-    draw: int = 0
+    do: str  # its word
+    points: Points = ()  # of a bid
+    tick: int = 0  # of an update
+    draw: int = 0  # of an update
 
 
 @dataclass(frozen=True)
@@ -96,25 +89,15 @@ class Score:
 
 @dataclass(frozen=True)
 class Log:
-    """A log.
+    """A log."""
 
-    Attributes:
-        kind: `serve` if the game was played over links, `play` if from a script.
-        seats: The agents that had a seat; all eight after `play`.
-        ends: Why the sessions of agents ended, such as `quit`, after `serve`.
-        missed: How many ticks lapsed.
-        histories: The entries of each of the 28 auctions.
-        cash: The cash book.
-        scores: The rows of the eight agents.
-    """
-
-    kind: str
-    seats: Tuple[int, ...]
-    ends: Dict[int, str]
-    missed: int
-    histories: Tuple[Tuple[Entry, ...], ...]
-    cash: Tuple[Union[Post, Reading], ...]
-    scores: Tuple[Score, ...]
+    kind: str  # `serve` if the game was played over links, `play` if from a script
+    seats: Tuple[int, ...]  # the agents that had a seat; all eight after `play`
+    ends: Dict[int, str]  # why the sessions of agents ended, such as `quit`, after `serve`
+    missed: int  # how many ticks lapsed
+    histories: Tuple[Tuple[Entry, ...], ...]  # the entries of each of the 28 auctions
+    cash: Tuple[Union[Post, Reading], ...]  # the cash book
+    scores: Tuple[Score, ...]  # the rows of the eight agents
 
     def calls_of(self, agent: int) -> int:
         """How many calls of auctions an agent made, refused ones included."""

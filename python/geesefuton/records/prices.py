@@ -15,26 +15,17 @@ from geesefuton.records.ticks import ticks_by_clock
 
 
 class MarketEvent(NamedTuple):
-    """Something that happened in an auction: a row of the report's CSV.
+    """Something that happened in an auction: a row of the report's CSV."""
 
-    Attributes:
-        what: `price`, the published price from this entry on; `close`, that of a hotel's closing;
-            `trade`, what an agent bought (units above 0) or sold (below 0).
-        tick: The tick; None where it is not known.
-        good: The auction.
-        position: The position of the entry; None before the first.
-        agent: Who traded; None for prices.
-        units: Of a trade; None for prices.
-        dollars: The price, of a trade for each unit.
-    """
-
+    # `price`, the published price from this entry on; `close`, that of a hotel's closing; `trade`,
+    # what an agent bought (units above 0) or sold (below 0)
     what: str
-    tick: Optional[int]
-    good: int
-    position: Optional[int]
-    agent: Optional[int]
-    units: Optional[int]
-    dollars: int
+    tick: Optional[int]  # the tick; None where it is not known
+    good: int  # the auction
+    position: Optional[int]  # the position of the entry; None before the first
+    agent: Optional[int]  # who traded; None for prices
+    units: Optional[int]  # of a trade; None for prices
+    dollars: int  # the price, of a trade for each unit
 
 
 def events_of(game: Game, good: int, history: Sequence[Entry],

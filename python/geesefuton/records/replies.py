@@ -87,19 +87,12 @@ class Below:
 
 @dataclass(frozen=True)
 class No:
-    """A refusal.
+    """A refusal."""
 
-    Attributes:
-        at: The position of its entry; None if there is none.
-        reason: One word, such as `closed`, `belowquote`, `bid` or `syntax`.
-        fault: The fault of a bid's points, 1 to 5; 0 for other reasons.
-        below: For `belowquote` what was due.
-    """
-
-    at: Optional[int]
-    reason: str
-    fault: int = 0
-    below: Optional[Below] = None
+    at: Optional[int]  # the position of its entry; None if there is none
+    reason: str  # one word, such as `closed`, `belowquote`, `bid` or `syntax`
+    fault: int = 0  # the fault of a bid's points, 1 to 5; 0 for other reasons
+    below: Optional[Below] = None  # for `belowquote` what was due
 
 
 @dataclass(frozen=True)

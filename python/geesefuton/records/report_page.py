@@ -47,17 +47,11 @@ for (const team of document.querySelectorAll(".story")) {
 
 @dataclass(frozen=True)
 class Heading:
-    """What stands at the head of the page.
+    """What stands at the head of the page."""
 
-    Attributes:
-        game: The name of the game file.
-        written: When the log was written, in words.
-        warning: Why the page may be wrong; "" if the log is sound.
-    """
-
-    game: str
-    written: str
-    warning: str = ""
+    game: str  # the name of the game file
+    written: str  # when the log was written, in words
+    warning: str = ""  # why the page may be wrong; "" if the log is sound
 
 
 def is_idle(log: Log, agent: int) -> bool:
