@@ -191,13 +191,7 @@ def _stands_in(name: str, folder: Path) -> bool:
 
 
 def run(words: List[str], variables: Dict[str, str], limits: Dict[str, int]) -> int:
-    """Runs an agent in this process. Returns its exit status, unless its end raises `SystemExit`.
-
-    Args:
-        words: What runs it: this Python and a file, or a program, and its arguments.
-        variables: Its environment.
-        limits: By names of `resource`, without `RLIMIT_`.
-    """
+    """Runs an agent in this process. Returns its exit status, unless that is raised as SystemExit."""
     for name, most in limits.items():
         number = getattr(resource, f"RLIMIT_{name}")
         resource.setrlimit(number, (most, most))

@@ -150,11 +150,7 @@ class AgentProcess:
 
 
 class Agents:
-    """The processes of the agents of a run, in one game after another.
-
-    Args:
-        children: By which they are started.
-    """
+    """The processes of the agents of a run, in one game after another."""
 
     def __init__(self, children: Children) -> None:
         self._children = children
@@ -200,10 +196,5 @@ class Agents:
 
 
 def limits_of(limits: Optional[Limits], printed: int) -> Dict[str, int]:
-    """An agent's limits by name.
-
-    Args:
-        limits: What it may use; None if it is not kept apart.
-        printed: How many bytes it may print.
-    """
+    """An agent's limits by name, if it is kept apart, and how many bytes it may print."""
     return {"FSIZE": printed, **(limits.by_name() if limits else {})}

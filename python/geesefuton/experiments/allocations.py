@@ -62,13 +62,9 @@ def _rules(clients: int) -> Tuple[object, List[float]]:
 
 def best_allocation(clients: Sequence[Client], held: Sequence[int],
                     prices: Sequence[Optional[int]]) -> Optimum:
-    """The worth of the best trips, less what is bought for them.
-
-    Args:
-        clients: The clients, who share everything.
-        held: The units of the 28 goods that they have, 0 or more.
-        prices: What a unit more of each good costs in dollars; None if there is none to be had.
-    """
+    """The worth of the best trips of clients who share everything, less what is bought for them.
+    `held` has their units of the 28 goods, and `prices` what a unit more of each costs in dollars;
+    None if there is none to be had."""
     rules, limits = _rules(len(clients))
     worths = [[*map(client.worth, STAYS), *(client.values[kind] for kind, _ in SEATED)]
               for client in clients]

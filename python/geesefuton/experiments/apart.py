@@ -64,11 +64,7 @@ def own_files(entrant: Entrant) -> List[Path]:
 
 
 def folder_of(entrant: Entrant, secret: Sequence[Path]) -> Optional[Path]:
-    """The folder that an agent sees as its own: that of its first file; None if it has none.
-
-    Args:
-        entrant: The agent.
-        secret: Folders of which it may see nothing.
+    """The folder that an agent sees as its own, that of its first file; None if it has none.
 
     Raises:
         ValueError: The folder holds one of these, or the home folder.
@@ -86,12 +82,8 @@ def folder_of(entrant: Entrant, secret: Sequence[Path]) -> Optional[Path]:
 
 
 def sandbox(entrant: Entrant, tac: str, secret: Sequence[Path]) -> List[str]:
-    """The words before a command that let it run in an agent's sandbox, in its folder.
-
-    Args:
-        entrant: The agent.
-        tac: The file of `tac`.
-        secret: Folders of which it may see nothing, such as that of the run.
+    """The words before a command that let it run in an agent's sandbox, in its folder, where it
+    sees nothing of the secret folders, such as that of the run.
 
     Raises:
         ValueError: Its folder holds one of these.

@@ -28,13 +28,8 @@ class Estimate:
 
 
 def student_outside(freedom: int, bound: float) -> float:
-    """The probability of Student's t at least as far from 0 as a bound, by its sum for whole degrees
-    of freedom.
-
-    Args:
-        freedom: The degrees of freedom, 1 or more.
-        bound: 0 or more.
-    """
+    """The probability of Student's t at least as far from 0 as a bound, for whole degrees of
+    freedom, 1 or more, by its sum."""
     angle, odd = math.atan2(bound, math.sqrt(freedom)), freedom % 2
     square, total = math.cos(angle) ** 2, 0.0
     term = math.cos(angle) if odd else 1.0
@@ -47,12 +42,8 @@ def student_outside(freedom: int, bound: float) -> float:
 
 @functools.lru_cache(maxsize=1024)
 def student_quantile(freedom: int, level: float = LEVEL) -> float:
-    """The bound that Student's t stays within on both sides, with the probability `level`.
-
-    Args:
-        freedom: The degrees of freedom, 1 or more.
-        level: The probability, above 0 and below 1.
-    """
+    """The bound that Student's t stays within on both sides, with the probability `level`, above 0
+    and below 1."""
     low, high = 0.0, 1.0
     while student_outside(freedom, high) > 1.0 - level:
         high *= 2.0
@@ -93,11 +84,8 @@ def student_p(value: Estimate) -> Optional[float]:
 
 def holm(chances: Sequence[Optional[float]]) -> List[Optional[float]]:
     """The probabilities of several comparisons, made larger so that all together show a difference
-    that is not there, by one below 5 %, in at most 5 % of experiments (Holm's procedure).
-
-    Args:
-        chances: That of each comparison; None is left out of the count.
-    """
+    that is not there, by one below 5 %, in at most 5 % of experiments (Holm's procedure). None is
+    left out of the count."""
     places = sorted((place for place, chance in enumerate(chances) if chance is not None),
                     key=lambda place: chances[place] or 0.0)
     larger: List[Optional[float]] = [None] * len(chances)
@@ -118,12 +106,7 @@ def bonferroni_halves(values: Sequence[Optional[Estimate]]) -> List[Optional[flo
 
 
 def groups_of(count: int, apart: Set[FrozenSet[int]]) -> List[List[int]]:
-    """The largest groups of things of which no two are apart, in their order.
-
-    Args:
-        count: How many things there are, numbered from 0.
-        apart: The pairs that are.
-    """
+    """The largest groups of things, numbered from 0, of which no two are apart, in their order."""
     groups = {frozenset(range(count))}
     for pair in apart:
         split = {group - {one} for group in groups for one in (pair if pair <= group else [-1])}

@@ -118,26 +118,14 @@ def _read(file: Path) -> Game:
 
 def place_of(rule: Rule, number: int, rotations: int) -> Tuple[int, int]:
     """The number of the deal, and the rotation, of the game of a number, from 0. All games of a
-    file are of one deal.
-
-    Args:
-        rule: How the deals are made.
-        number: Which game it is.
-        rotations: How many there are of each deal.
-    """
+    file are of one deal."""
     return (1, number) if rule.file else (number // rotations + 1, number % rotations)
 
 
 def tables(rule: Rule, games: int, rotations: int,
            finished: Container[Tuple[int, int]] = ()) -> Iterator[Table]:
-    """The games of a tournament in order, all games of a deal one after the other.
-
-    Args:
-        rule: How the deals are made.
-        games: How many games there are in all.
-        rotations: How many there are of each deal.
-        finished: Those that are left out, by the numbers of their deals and their rotations.
-    """
+    """The games of a tournament in order, all games of a deal one after the other, without those
+    that are finished."""
     deal: Optional[Deal] = None
     for game in range(games):
         number, rotation = place_of(rule, game, rotations)

@@ -193,10 +193,6 @@ def resampled(samples: Array, count: int) -> Array:
     Means of deals that are drawn again lie too close together, and the more so the fewer deals
     there are. So each one's distance from the mean of all is widened until a payoff scatters as
     wide as its interval by Student's t.
-
-    Args:
-        samples: Two or more.
-        count: How many.
     """
     size, source = len(samples), random.Random(1)
     wider = math.sqrt(size / (size - 1)) * student_quantile(size - 1) / NormalDist().inv_cdf(0.975)
@@ -239,14 +235,8 @@ class Findings:
 
 
 def find(players: int, samples: Array, mixed: int = 0, resamples: int = RESAMPLES) -> Findings:
-    """What the payoffs of one or more deals tell of symmetric equilibria.
-
-    Args:
-        players: How many there are.
-        samples: The payoffs of each deal.
-        mixed: How many of the strategies, the first, rivals have; 0 for all.
-        resamples: How often deals are drawn again.
-    """
+    """What the payoffs of one or more deals tell of symmetric equilibria, where rivals have only the
+    first `mixed` strategies; 0 for all."""
     samples = np.asarray(samples, dtype=float)
     mean = SymmetricGame(players, samples.mean(axis=0)[None], mixed)
     mixtures, again = equilibria(mean)[0], list[List[Mixture]]()

@@ -16,12 +16,7 @@ HOW = ("pictures need matplotlib: install it by `apt-get install python3-matplot
 
 def write_figures(folder: Path, overview: Overview, summary: Summary) -> List[str]:
     """Writes NAME.csv, NAME.svg and NAME.pdf for each picture that has data, and gives what failed.
-
-    Args:
-        folder: A folder, which is made if it is not there; its files of these names are replaced.
-        overview: The figures of a run.
-        summary: The summary of its rows.
-    """
+    The folder is made if it is not there; its files of these names are replaced."""
     can_draw = find_spec("matplotlib") is not None
     try:
         folder.mkdir(parents=True, exist_ok=True)

@@ -59,13 +59,8 @@ def games_of(rows: Iterable[Row]) -> List[List[Row]]:
 
 
 def read_games(folder: Path, rows: Iterable[Row], told: List[str]) -> Iterator[KeptGame]:
-    """The games of a run's folder that have these rows.
-
-    Args:
-        folder: The run's.
-        rows: Those of its games.
-        told: Gets a line for each game that cannot be read.
-    """
+    """The games of a run's folder that have these rows; `told` gets a line for each game that
+    cannot be read."""
     for each in games_of(rows):
         try:
             yield read_kept(folder, each)
@@ -76,11 +71,7 @@ def read_games(folder: Path, rows: Iterable[Row], told: List[str]) -> Iterator[K
 
 
 def read_kept(folder: Path, rows: Sequence[Row]) -> KeptGame:
-    """Reads a game of a run.
-
-    Args:
-        folder: The run's.
-        rows: Those of the game's eight seats.
+    """Reads the game of a run that has these eight rows.
 
     Raises:
         KeptError: A file is broken, or does not belong to the others.

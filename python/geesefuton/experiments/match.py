@@ -108,14 +108,7 @@ def repeated(seed: int) -> Dict[str, str]:
 
 
 class Match:
-    """A game with its agents.
-
-    Args:
-        job: What is to be played.
-        children: By which the game's own processes are started.
-        agents: The processes of the agents.
-        send: Takes what is sent back.
-    """
+    """A game with its agents; `send` takes what is sent back."""
 
     def __init__(self, job: Job, children: Children, agents: Agents,
                  send: Callable[[Message], None]) -> None:
@@ -219,12 +212,8 @@ class Match:
             pass  # the lobby has ended
 
     def _result(self, status: int, passed: Optional[List[int]]) -> Result:
-        """What the game came to.
-
-        Args:
-            status: The lobby's.
-            passed: In how many turns each agent was passed over; None for a game by the clock.
-        """
+        """What the game came to, by the lobby's status, and in how many turns each agent was passed
+        over; None for a game by the clock."""
         job = self._job
         try:
             text = self._log.read_bytes() if self._log.exists() else b""

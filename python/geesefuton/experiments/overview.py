@@ -83,12 +83,7 @@ def overview_of(games: Iterable[Figures]) -> Overview:
 
 
 def figures_of(kept: KeptGame, best: Optimum) -> Figures:
-    """The figures of a game.
-
-    Args:
-        kept: The game.
-        best: The optimum of its deal.
-    """
+    """The figures of a game, with the optimum of its deal."""
     game, log, deal = kept.game, kept.log, kept.rows[0].deal
     boards = boards_by_tick(game, log, kept.ticks)
     prices = [(deal, good, game.hotels[good - HOTELS.start].closes if good in HOTELS else TICKS,

@@ -39,14 +39,8 @@ def sections(overview: Overview) -> List[Section]:
 
 
 def page(overview: Overview, name: str, row: Row, summary: Summary) -> str:
-    """The page of a run.
-
-    Args:
-        overview: Its figures.
-        name: The name of its folder.
-        row: One of its rows.
-        summary: The summary of its rows.
-    """
+    """The page of a run, by its figures, the name of its folder, one of its rows, and the summary
+    of all of them."""
     agents = ", ".join(map(html.escape, overview.order))
     games, deals = len(overview.games), overview.seats.deal.nunique()
     parts = [

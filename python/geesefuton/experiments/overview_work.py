@@ -20,12 +20,7 @@ PROGRAM = "from geesefuton.experiments.overview_work import work; work()"
 
 
 def gathered(folder: Path, rows: Sequence[Row]) -> Tuple[Overview, List[str]]:
-    """The figures of the games of a run, and what could not be read, each in a line.
-
-    Args:
-        folder: The run's.
-        rows: Those of its games.
-    """
+    """The figures of the games of a run, and what could not be read, each in a line."""
     parts = max(1, min(os.cpu_count() or 1, len({row.deal for row in rows}) // FEW))
     with Children() as children:
         path = os.pathsep.join(filter(None, [str(PACKAGE), os.environ.get("PYTHONPATH")]))

@@ -268,14 +268,8 @@ def _limits(parser: Parser, given: argparse.Namespace,
 
 
 def _settings(plan: Plan, pool: int, first: str, tac: str) -> Dict[str, object]:
-    """What decides, beside the deals, what can be compared with the plan's results.
-
-    Args:
-        plan: The plan.
-        pool: How many of its agents are in the pool.
-        first: The name of its first deal.
-        tac: The digest of the program.
-    """
+    """What decides, beside the deals, what can be compared with the results of a plan, of whose
+    agents some are in the pool."""
     rule = plan.rule
     names = [entrant.name for entrant in plan.entrants]
     pace = {"turns": plan.turns} if plan.turns else {"pace": plan.pace}

@@ -12,12 +12,8 @@ FAR = 40.0  # standard errors, by which a difference is told for sure
 
 
 def power(deals: int, errors: float) -> float:
-    """How often the 95 % interval of a mean of values excludes 0.
-
-    Args:
-        deals: How many values there are, 2 or more.
-        errors: The true mean, in standard deviations of a value.
-    """
+    """How often the 95 % interval of a mean of values excludes 0, where the true mean is so many
+    standard deviations of a value."""
     shift, bound = errors * math.sqrt(deals), stats.t.isf((1.0 - LEVEL) / 2.0, deals - 1)
     if shift > FAR * bound:
         return 1.0

@@ -39,10 +39,6 @@ class Study:
         plan: The plan of all games.
         names: The strategies that the command names.
         players: How many players the game has.
-
-    Args:
-        parser: What refuses the folder if it is another's.
-        given: The words of the command.
     """
 
     def __init__(self, parser: Parser, given: argparse.Namespace) -> None:
@@ -259,12 +255,7 @@ def _searched(study: Study) -> Tuple[int, Payoffs]:
 
 
 def run(parser: Parser, given: argparse.Namespace) -> int:
-    """Plays what is missing, writes and prints; the exit status.
-
-    Args:
-        parser: The parser of the command.
-        given: Its words.
-    """
+    """Plays what is missing, writes and prints; the exit status."""
     folder: Path = given.out
     study = Study(parser, given)
     if given.search:

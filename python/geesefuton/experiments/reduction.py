@@ -50,13 +50,7 @@ def profiles_of(strategy: int, rivals: Sequence[int]) -> List[Counts]:
 
 def needed_profiles(strategies: int, players: int, mixed: int = 0) -> List[Counts]:
     """The profiles that give all payoffs. Those of fewer strategies, the first ones, come first, so
-    one more strategy changes the number of none.
-
-    Args:
-        strategies: How many there are.
-        players: How many there are in the game, full or reduced.
-        mixed: How many of the strategies, the first, rivals have; 0 for all.
-    """
+    one more strategy changes the number of none."""
     fill = (0,) * (strategies - (mixed or strategies))
     needed: Set[Counts] = {
         profile for strategy in range(strategies)

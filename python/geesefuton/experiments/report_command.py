@@ -105,12 +105,8 @@ def csv_text(game: Game, log: Log) -> str:
 
 
 def _over(folder: Path, figures: Optional[Path]) -> Tuple[str, List[str]]:
-    """The page of a folder, "" if it has no games, and its faults, each in a line.
-
-    Args:
-        folder: The folder of a run.
-        figures: A folder that gets the page's pictures; None for none.
-    """
+    """The page of a run's folder, "" if it has no games, and its faults, each in a line; a folder
+    of figures gets the page's pictures."""
     missing = study.missing("pages and pictures of a run")
     if missing or not folder.is_dir():
         return "", [missing or f"{folder} is not a folder"]

@@ -51,12 +51,7 @@ class Seating:
         self._rest, self._bases = _bases(entrants), [[list(range(SEATS))]][:0]
 
     def game(self, deal: int, rotation: int) -> Game:
-        """The agents of a game.
-
-        Args:
-            deal: The number of the deal, from 0.
-            rotation: Which of its games it is, from 0.
-        """
+        """The agents of a game of a deal, both numbered from 0."""
         if self._pool:
             own = deal % SEATS
             return [rotation if seat == own else
@@ -106,12 +101,8 @@ def _stride(agents: int) -> int:
 
 
 def _line(slope: int, shift: int) -> Game:
-    """A line of the affine plane of order 8: a game of agents 8 x + y.
-
-    Args:
-        slope: 0 to 7; 8 for the lines of equal x.
-        shift: Which of these lines, 0 to 7.
-    """
+    """A line of the affine plane of order 8, a game of agents 8 x + y: its slope, 0 to 7, or 8 for
+    the lines of equal x, and its shift, 0 to 7."""
     if slope == SEATS:
         return [SEATS * shift + y for y in range(SEATS)]
     return [SEATS * (seat ^ slope) + (_product(slope, seat ^ slope) ^ shift)
@@ -213,13 +204,7 @@ def _mix(base: List[Game], met: List[int], drawn: Random) -> None:
 
 def _order(base: List[Game], followed: List[int], drawn: Random) -> None:
     """Exchanges seats within games until all differences of agents that follow one another occur
-    equally often.
-
-    Args:
-        base: The games.
-        followed: How often each difference occurred so far; gains those of the games.
-        drawn: What is tried.
-    """
+    equally often. `followed` has how often each occurred so far, and gains those of the games."""
     def count(game: Game, sign: int) -> int:
         """Counts a game, or no more; gives what that costs."""
         cost, before = 0, game[-1]

@@ -12,10 +12,6 @@ HOW = ("install them by `apt-get install python3-numpy python3-scipy python3-pan
 
 
 def missing(what: str) -> str:
-    """Why something cannot be had, and how to get it, in a line; "" if all libraries are installed.
-
-    Args:
-        what: What needs them.
-    """
+    """Why something cannot be had, and how to get it, in a line; "" if all libraries are there."""
     absent = [name for name in LIBRARIES if find_spec(name) is None]
     return f"{what} need {' and '.join(absent)}: {HOW}" if absent else ""

@@ -104,15 +104,8 @@ class Summary:
 
 def summarize(rows: Sequence[Row], lost: Sequence[str] = (), detect: Optional[float] = None,
               planned: int = 0, is_stopped: bool = False) -> Summary:
-    """The summary of rows, of one tournament or of several with different deals.
-
-    Args:
-        rows: The rows.
-        lost: What was lost, each in a line.
-        detect: A difference in dollars, of which is told how many deals tell it.
-        planned: How many games there were to be; 0 if that is not known.
-        is_stopped: Whether a run was stopped before it had played them.
-    """
+    """The summary of rows, of one tournament or of several with different deals, and what else is
+    told of them (`Summary`)."""
     by_agent: Dict[str, List[Row]] = defaultdict(list)
     for row in rows:
         by_agent[row.agent].append(row)

@@ -356,16 +356,9 @@ def _main() -> int:
 
 def play_in_folder(parser: Parser, plan: Plan, elsewhere: AbstractSet[Tuple[int, int]] = frozenset()
                    ) -> Tuple[int, List[Row], List[str]]:
-    """Plays what the folder of a plan lacks.
+    """Plays what the folder of a plan lacks, but for games that are played elsewhere.
 
-    Args:
-        parser: What refuses the folder if it is another's.
-        plan: The plan.
-        elsewhere: The games that are not played here either.
-
-    Returns:
-        The exit status, the rows of all runs of the folder, and what was lost.
-    """
+    Returns the exit status, the rows of all runs of the folder, and what was lost."""
     try:
         folder = RunFolder(plan, sys.argv[1:])
     except RunError as fault:

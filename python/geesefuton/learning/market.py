@@ -37,10 +37,6 @@ class Market:
         changes: How many bids and withdrawals were answered by an auction.
         scores: The score of each seat in dollars, once the game is over; before, there are none.
 
-    Args:
-        game: The game.
-        text: Its canonical text, if that is at hand.
-
     Raises:
         ProgramError: There is no program.
         OSError: There is no room for pipes.

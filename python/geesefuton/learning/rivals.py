@@ -129,13 +129,7 @@ def maker_of(rival: Union[str, Maker]) -> Maker:
 
 
 class Players:
-    """Rivals at some seats of a market. Each is made when it is first told to act.
-
-    Args:
-        market: The market.
-        makers: What makes the rival of each seat.
-        seed: From which, with their seats, follows what they draw.
-    """
+    """Rivals at some seats of a market. Each is made when it is first told to act."""
 
     def __init__(self, market: Market, makers: Mapping[int, Maker], seed: int) -> None:
         self._market, self._makers, self._seed = market, makers, seed
@@ -152,12 +146,8 @@ class Players:
 
 
 def played(game: Game, makers: Mapping[int, Maker], seed: int) -> Iterator[Market]:
-    """Plays a game in which nobody plays but these, each once between two ticks.
-
-    Args:
-        game: The game.
-        makers: What makes the agent of each seat.
-        seed: From which, with their seats, follows what they draw.
+    """Plays a game in which nobody plays but these, each once between two ticks. What they draw
+    follows from the seed and their seats.
 
     Yields:
         The market, after each tick. After the last one it has the scores.

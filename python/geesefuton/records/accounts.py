@@ -10,11 +10,7 @@ from geesefuton.records.logs import Log
 
 
 class Accounts(Books):
-    """The books of a game, with the best plans of its agents.
-
-    Args:
-        game: The game.
-    """
+    """The books of a game, with the best plans of its agents."""
 
     def __init__(self, game: Game) -> None:
         super().__init__(game)

@@ -20,11 +20,8 @@ CLOSING = 6  # ticks from one closing of a hotel to the next
 
 
 def first_seat(text: str) -> int:
-    """The seat that is asked first in a game, as if it were drawn.
-
-    Args:
-        text: The canonical text of the game file; its line of words does not count.
-    """
+    """The seat that is asked first in a game, as if it were drawn from its canonical text, whose
+    line of words does not count."""
     lines = [line for line in text.split("\n") if not line.startswith("words ")]
     return hashlib.sha256("\n".join(lines).encode("ascii")).digest()[0] % SEATS
 

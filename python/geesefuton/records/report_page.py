@@ -331,16 +331,8 @@ def _head(game: Game, log: Log, heading: Heading) -> str:
 
 def page(game: Game, log: Log, events: Sequence[MarketEvent], heading: Heading,
          names: Sequence[str], stories: Sequence[Story] = ()) -> str:
-    """The page of a game.
-
-    Args:
-        game: The game.
-        log: Its log.
-        events: The prices and trades of all auctions (`prices.all_events`).
-        heading: What stands at its head.
-        names: How the eight agents are called (`seat_names.names_of`).
-        stories: Those of the eight agents (`hindsight.stories`), or none.
-    """
+    """The page of a game, with the prices and trades of its auctions (`prices.all_events`), what
+    the eight agents are called, and their stories, if there are any."""
     title = html.escape(", ".join(names))
     parts = ['<!doctype html><html lang="en"><meta charset="utf-8">'
              '<meta name="viewport" content="width=device-width, initial-scale=1">'

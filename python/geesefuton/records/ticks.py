@@ -61,13 +61,8 @@ def ticks_by_clock(game: Game, good: int, history: Sequence[Entry]) -> List[int]
 
 def ticks_of_cash(log: Log, ticks: Sequence[Sequence[int]],
                   readings: Sequence[Optional[int]] = ()) -> List[int]:
-    """The ticks of the entries of the cash book.
-
-    Args:
-        log: The log.
-        ticks: Those of the entries of each auction.
-        readings: Those of the readings, in their order, as far as they are known.
-    """
+    """The ticks of the entries of the cash book, by those of the auctions' entries, and those of
+    the readings in their order, as far as they are known."""
     known, cash, now = iter(readings), [], 0
     for entry in log.cash:
         if isinstance(entry, Post):
