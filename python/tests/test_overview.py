@@ -160,7 +160,8 @@ class Games(Case):
                                 for name in ("Ranking", "Differences"))
         cells = cells_of(ranking)
         self.assertEqual([(line[0], line[1], line[2], line[5]) for line in cells[1:]],
-                         [("1", "a", "3000", "A"), ("2", "b", "1030", "B"), ("3", "c", "1000", "B")])
+                         [("1", "a", "3000", "A"), ("2", "b", "1030", "B"),
+                          ("3", "c", "1000", "B")])
         self.assertEqual(ranking.count('class="bar"'), 3)
         lines = cells_of(differences)
         self.assertEqual([(line[0], line[-1]) for line in lines[1:2]],

@@ -191,7 +191,7 @@ def _stands_in(name: str, folder: Path) -> bool:
 
 
 def run(words: List[str], variables: Dict[str, str], limits: Dict[str, int]) -> int:
-    """Runs an agent in this process. Returns its exit status, unless that is raised as SystemExit."""
+    """Runs an agent in this process. Returns its exit status, or raises it as SystemExit."""
     for name, most in limits.items():
         number = getattr(resource, f"RLIMIT_{name}")
         resource.setrlimit(number, (most, most))

@@ -69,7 +69,7 @@ def _written(plan: Plan, name: str, rows: List[Row]) -> str:
              if pair.first == agent}
 
     def rounded(value: Estimate) -> object:
-        return {key: each if each is None else round(each, 2) for key, each in asdict(value).items()}
+        return {key: each and round(each, 2) for key, each in asdict(value).items()}
 
     agents, table = [], [["", "agent", "mean", f"{shown(agent)} less it", "p (Student)"]]
     for place, standing in enumerate(summary.standings, 1):

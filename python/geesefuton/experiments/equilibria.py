@@ -235,7 +235,7 @@ class Findings:
 
 
 def find(players: int, samples: Array, mixed: int = 0, resamples: int = RESAMPLES) -> Findings:
-    """What the payoffs of one or more deals tell of symmetric equilibria, where rivals have only the
+    """What the payoffs of one or more deals tell of symmetric equilibria, where rivals have the
     first `mixed` strategies; 0 for all."""
     samples = np.asarray(samples, dtype=float)
     mean = SymmetricGame(players, samples.mean(axis=0)[None], mixed)

@@ -102,8 +102,8 @@ def figures_of(kept: KeptGame, best: Optimum) -> Figures:
         plan = best_allocation(clients, [0] * TICKETS.start + list(endow), closing)
         seats.append((deal, agent, score.best, *gains, -PENALTY * score.short, score.score,
                       plan.value - score.score))
-    fills = [(kept.agents[seat], SIDES[2 + is_selling if good in TICKETS else good in HOTELS], *fill)
-             for good in GOODS
+    fills = [(kept.agents[seat], SIDES[2 + is_selling if good in TICKETS else good in HOTELS],
+              *fill) for good in GOODS
              for (seat, is_selling), fill in fills_of(log.histories[good]).items()]
     had = sum(score.best - PENALTY * score.short for score in log.scores)
     had -= sum(trade.units * game.flights[good].first for good in FLIGHTS

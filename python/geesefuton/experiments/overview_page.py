@@ -86,9 +86,10 @@ def _ranking(summary: Summary) -> Iterator[str]:
     rows: List[List[Cell]] = []
     for number, (standing, half) in enumerate(told, 1):
         mean = standing.score.mean
-        picture = (f'<span class="bar"><i class="fill" style="left:{(mean - half - low) * scale:.1f}'
-                   f'%;width:{2 * half * scale:.1f}%"></i>'
-                   f'<i class="zero" style="left:{(mean - low) * scale:.1f}%"></i></span>')
+        left, middle = ((each - low) * scale for each in (mean - half, mean))
+        picture = (f'<span class="bar"><i class="fill" style="left:{left:.1f}%;'
+                   f'width:{2 * half * scale:.1f}%"></i>'
+                   f'<i class="zero" style="left:{middle:.1f}%"></i></span>')
         rows.append([number, html.escape(standing.agent), f"<b>{mean:.0f}</b>",
                      "?" if standing.score.half is None else f"± {half:.0f}", picture,
                      letters_of(summary, standing.agent), standing.seats, standing.failed or "–"])
@@ -220,8 +221,8 @@ def _distances(overview: Overview) -> Section:
     found.columns = ["seats", "mean", "least", "median", "most"]
     return Section("distances", "The distance to the best plan at closing prices", (
         "How far a seat's score is below the worth of its best plan, if the plan bought what it "
-        "lacks at the last prices of flights and rooms and the mean prices of tickets. A score with "
-        "a distance below 0 is better, for example because flights became dearer later."),
+        "lacks at the last prices of flights and rooms and the mean prices of tickets. A score "
+        "with a distance below 0 is better, for example because flights became dearer later."),
         found[["mean"]].rename(columns={"mean": "mean distance"}), found)
 
 

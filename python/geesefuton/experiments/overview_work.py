@@ -36,7 +36,7 @@ def gathered(folder: Path, rows: Sequence[Row]) -> Tuple[Overview, List[str]]:
                 try:
                     more, lines = pickle.load(worker.stdout)
                 except EOFError:
-                    more, lines = [], [f"{folder}: a process that read some of its games has failed"]
+                    more, lines = [], [f"{folder}: a process that read its games has failed"]
             figures, told = figures + more, told + lines
     return overview_of(figures), told
 
