@@ -196,21 +196,19 @@ def run(command: str, *words: Word, given: bytes = b"", allowed: Sequence[int] =
     return text
 
 
-def start(file: str, words: List[str], moves: Moves, in_own_group: bool = False) -> int:
+def start(file: str, words: List[str], moves: Moves) -> int:
     """Starts a process of tac, and gives its number.
 
     Args:
         file: The file of tac.
         words: What it is called, and its arguments.
         moves: Where its descriptors come from (`file_actions` of `os.posix_spawn`).
-        in_own_group: Whether it is in a process group of its own, not in that of this process.
 
     Raises:
         OSError: It cannot be run.
     """
-    group: Any = {"setpgroup": 0} if in_own_group else {}
     return os.posix_spawn(file, words, {**HEAP, **os.environb}, file_actions=moves,
-                          setsigdef=[signal.SIGPIPE, signal.SIGXFSZ], **group)
+                          setsigdef=[signal.SIGPIPE, signal.SIGXFSZ])
 
 
 def exit_status(process: int, timeout: Optional[float] = None) -> int:

@@ -205,7 +205,7 @@ class Ends(unittest.TestCase):
     def test_the_process_ends_with_a_script_that_is_killed(self) -> None:
         code = ("import time\nfrom geesefuton.learning.stepping import Stepped\n"
                 "game = Stepped('my.game'); game.ask(['0 own 8'])\n"
-                "print(game._process, flush=True); time.sleep(300)")
+                "print(game._process.pid, flush=True); time.sleep(300)")
         with tempfile.TemporaryDirectory() as folder:
             body = "while read -r line; do echo \"${line%% *} @0 done\"; done\n"
             script = subprocess.Popen(python(code), stdout=subprocess.PIPE,

@@ -13,15 +13,14 @@ without any effect on the game, and no game can be copied or pickled.
 
 import os
 import select
-import signal
+import subprocess
 import weakref
 from types import TracebackType
-from typing import List, NoReturn, Optional, Sequence, Type, Union
+from typing import List, NoReturn, Optional, Sequence, Tuple, Type, Union
 
-from geesefuton.program import (INPUT, OK, Moves, ProgramError, Word, ended, exit_status,
-                                find_runnable, moved, nameless_file, start)
+from geesefuton.program import (HEAP, INPUT, OK, ProgramError, Word, ended, find_runnable,
+                                nameless_file)
 
-GAME = 63  # the descriptor at which the process finds the text of a game; seldom one in use here
 MOST_READ = 1 << 16  # bytes read at once, which is what a pipe holds
 FIRST_PAUSE, PAUSE = 20, 1  # milliseconds before the first read of a log and before a further one
 
@@ -38,29 +37,28 @@ class Stepped:
     """
 
     def __init__(self, game: Union[Word, bytes]) -> None:
-        self._process: Optional[int] = None
-        self._script = self._replies = -1
-        self._owner = os.getpid()
+        self._process: Optional["subprocess.Popen[bytes]"] = None
+        self._owner, self._script, self._replies = os.getpid(), -1, -1
         _open_games.add(self)
-        held: List[int] = []  # what only the process needs
-        try:
-            script, self._script = map(_apart, os.pipe())
-            held.append(script)
-            self._replies, replies = map(_apart, os.pipe())
-            held.append(replies)
-            os.set_blocking(self._script, False)
-            moves: Moves = [(os.POSIX_SPAWN_DUP2, script, 0), (os.POSIX_SPAWN_DUP2, replies, 1)]
-            if isinstance(game, bytes):
-                held.append(_apart(nameless_file(game)))
-                moves.append((os.POSIX_SPAWN_DUP2, held[-1], GAME))
-                game = f"/dev/fd/{GAME}"
-            self._process = _spawn(find_runnable(), ["tac", "step", str(game), INPUT], moves)
-        except BaseException:
-            self.close()
-            raise
+        file, held = find_runnable(), []
+        if isinstance(game, bytes):
+            held.append(nameless_file(game))
+            game = f"/dev/fd/{held[0]}"
+        try:  # in a session of its own, which ctrl-C at a terminal does not reach
+            self._process = subprocess.Popen(
+                ["tac", "step", str(game), INPUT], executable=file, bufsize=0, pass_fds=held,
+                stdin=subprocess.PIPE, stdout=subprocess.PIPE, start_new_session=True,
+                env={**HEAP, **os.environb})
+        except OSError as fault:
+            if fault.filename is None:
+                raise
+            raise ProgramError(f"cannot run the file of tac: {fault.strerror}") from None
         finally:
             for each in held:
                 os.close(each)
+        assert self._process.stdin is not None and self._process.stdout is not None
+        self._script, self._replies = self._process.stdin.fileno(), self._process.stdout.fileno()
+        os.set_blocking(self._script, False)
 
     def ask(self, lines: Sequence[str]) -> List[str]:
         """Plays lines of a script, each without its line end.
@@ -110,25 +108,21 @@ class Stepped:
             ProgramError: As `ask`.
         """
         self._need_script()
-        self._script = _closed(self._script)
-        log = self._rest()
-        status = self._wait()
+        log, status = self._rest()
         if status != OK:
             raise ended("step", status, _last(log))
         return log
 
     def close(self) -> None:
         """Ends the process, if it has not ended. In a forked process only its pipes are closed."""
-        self._script = _closed(self._script)
-        self._replies = _closed(self._replies)
-        if self._owner != os.getpid():
-            self._process = None
+        self._script = -1
         if self._process is not None:
-            try:
-                os.kill(self._process, signal.SIGKILL)
-            except ProcessLookupError:
-                pass  # somebody else has waited for it
-            self._wait()
+            for stream in (self._process.stdin, self._process.stdout):
+                assert stream is not None
+                stream.close()
+            if self._owner == os.getpid():
+                self._process.kill()
+                self._process.wait()
 
     def _need_script(self) -> None:
         """Sees that the script can go on.
@@ -162,10 +156,13 @@ class Stepped:
                     raise self._fault(parts) from None
         return parts
 
-    def _rest(self) -> bytes:
-        """What the process still writes, to its end. It writes this in parts, and to wait for each
-        would cost a change of processes: so it waits for the end, unless the pipe is full."""
-        parts: List[bytes] = []
+    def _rest(self) -> Tuple[bytes, int]:
+        """Ends the script. Gives what the process still writes, and its exit status, negative for a
+        signal. It writes in parts, and to wait for each would cost a change of processes: so this
+        waits for the end, unless the pipe is full."""
+        assert self._process is not None and self._process.stdin is not None
+        self._process.stdin.close()
+        self._script, parts = -1, list[bytes]()
         pause, poll = FIRST_PAUSE, select.poll()
         poll.register(self._replies, 0)  # its end alone
         while True:
@@ -173,21 +170,13 @@ class Stepped:
             parts.append(os.read(self._replies, MOST_READ))
             is_full = len(parts[-1]) == MOST_READ
             if is_ended and not is_full:
-                return b"".join(parts)
+                return b"".join(parts), self._process.wait()
             pause = 0 if is_full else PAUSE
-
-    def _wait(self) -> int:
-        """The exit status of the process, negative for a signal."""
-        assert self._process is not None
-        status = exit_status(self._process)
-        self._process = None
-        return status
 
     def _fault(self, parts: Sequence[bytes]) -> ProgramError:
         """Why the process has ended before the end of the script, after these parts of its text."""
-        self._script = _closed(self._script)
-        line = _last(b"".join([*parts, self._rest()]))
-        return ended("step", self._wait(), line)
+        rest, status = self._rest()
+        return ended("step", status, _last(b"".join([*parts, rest])))
 
     def __enter__(self) -> "Stepped":
         return self
@@ -214,26 +203,6 @@ def _close_inherited() -> None:
 
 
 os.register_at_fork(after_in_child=_close_inherited)
-
-
-def _apart(number: int) -> int:
-    """A descriptor, moved away from those that the process gets."""
-    return number if number > 2 and number != GAME else moved(number, GAME + 1)
-
-
-def _closed(number: int) -> int:
-    """Closes a descriptor if it is open, and gives one that is not."""
-    if number >= 0:
-        os.close(number)
-    return -1
-
-
-def _spawn(file: str, words: List[str], moves: Moves) -> int:
-    """Starts a process in a group of its own, which ctrl-C at a terminal does not reach."""
-    try:
-        return start(file, words, moves, in_own_group=True)
-    except OSError as fault:
-        raise ProgramError(f"cannot run the file of tac: {fault.strerror}") from None
 
 
 def _last(text: bytes) -> str:
