@@ -23,7 +23,7 @@ except ImportError as fault:
 from geesefuton import program
 from geesefuton.arguments import whole
 from geesefuton.learning.numeric import LEVELS, SEATS, Seat
-from geesefuton.learning.rivals import Shipped, scores_of
+from geesefuton.learning.rivals import maker_of, scores_of
 from geesefuton.processes import command
 from geesefuton.records.games import read_game
 
@@ -87,7 +87,7 @@ def main():
     best, seeds = table.argmax(axis=-1), range(UNSEEN, UNSEEN + given.unseen)
     mine = [play(environment, seed, best)[1] for seed in seeds]
     environment.close()
-    planners = dict.fromkeys(range(8), Shipped("planner"))
+    planners = dict.fromkeys(range(8), maker_of("planner"))
     theirs = [scores_of(read_game(program.make(seed)), planners, seed)[0] for seed in seeds]
     gains = [own - other for own, other in zip(mine, theirs)]
     error = statistics.stdev(gains) / len(gains) ** 0.5

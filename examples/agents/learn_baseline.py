@@ -20,7 +20,7 @@ from typing import Dict, List, Sequence, Tuple
 import baseline
 
 from geesefuton.arguments import whole
-from geesefuton.learning.rivals import Shipped, played
+from geesefuton.learning.rivals import maker_of, played
 from geesefuton.processes import command
 from geesefuton.records.drawing import MOST_SEED, drawn_rooms
 from geesefuton.records.games import Game
@@ -53,7 +53,7 @@ def rises(game: Game, quotes: Sequence[Sequence[int]], few: bool) -> Dict[Entry,
 def quotes_of(game: Game, seed: int) -> List[List[int]]:
     """The prices of the hotel nights in a game of eight baselines, as `rises` takes them."""
     quotes = [[0] * 8]
-    for market in played(game, dict.fromkeys(range(8), Shipped("baseline")), seed):
+    for market in played(game, dict.fromkeys(range(8), maker_of("baseline")), seed):
         quotes.append([ask for _, ask, _ in market.books.boards[8:16]])
     return quotes
 

@@ -42,7 +42,7 @@ for seat, hawk in enumerate(hawks):
     text = text.replace(b"I%d\\n" % (9000 + seat), b"I%d\\n" % score)
 give(text)
 """)
-WORDS = ["--games", "3", "--seed", "1", "--files", "*.py", "--out", "study"]
+WORDS = ["--games", "3", "--seed", "1", "--files", "*.py", "--out", "study", "--no-apart"]
 
 
 @needs_study

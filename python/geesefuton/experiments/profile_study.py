@@ -1,7 +1,6 @@
 """The games of the command `profiles`, and what it prints. It needs the extra `study`."""
 
 import argparse
-import json
 import os
 import re
 from dataclasses import replace
@@ -12,7 +11,7 @@ import numpy as np
 
 from geesefuton.arguments import Parser
 from geesefuton.experiments.comparisons import Estimate
-from geesefuton.experiments.deals import RUN, SECRET, place_of, shared_secret
+from geesefuton.experiments.deals import SECRET, place_of, shared_secret
 from geesefuton.experiments.entrants import Entrant
 from geesefuton.experiments.equilibria import NEAR, SymmetricGame, equilibria, find, gains
 from geesefuton.experiments.forms import columns, count_text, number_text, shown
@@ -21,7 +20,7 @@ from geesefuton.experiments.payoffs import FILES, Payoffs
 from geesefuton.experiments.plan import Plan, read_plan
 from geesefuton.experiments.reduction import Counts, needed_profiles, text_of_profile
 from geesefuton.experiments.results import Row
-from geesefuton.experiments.runs import RunError, compare, is_being_written, is_run
+from geesefuton.experiments.runs import RunError, compare, is_being_written, is_run, read_record
 from geesefuton.experiments.tournament import play_in_folder
 from geesefuton.processes import Output, tell, why
 from geesefuton.records.games import SEATS
@@ -87,11 +86,9 @@ class Study:
         known: List[str] = []
         for folder in folders:
             try:
-                agents = json.loads((folder / RUN).read_bytes())["agents"]
-                names = [str(agent["name"]) for agent in agents]
-            except (ValueError, LookupError, TypeError):
-                self._parser.error(f"--out {folder}: its {RUN} is not of a tournament of this "
-                                   "version")
+                names = [str(agent["name"]) for agent in read_record(folder)["agents"]]
+            except RunError as fault:
+                self._parser.error(f"--out {folder}: {fault}")
             shared = min(len(names), len(known))
             if names[:shared] != known[:shared]:
                 self._parser.error(f"--out {folder}: its strategies came in another order than "

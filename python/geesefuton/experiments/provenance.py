@@ -15,6 +15,7 @@ import sys
 from dataclasses import dataclass, field
 from functools import lru_cache
 from importlib import metadata
+from itertools import groupby
 from pathlib import Path
 from typing import Any, Dict, Iterable, Iterator, List, Mapping, Sequence, Set, Tuple
 from urllib.parse import quote
@@ -159,12 +160,7 @@ def _installed() -> Dict[str, List[Tuple[str, str]]]:
 
 def names_text(names: Sequence[str]) -> str:
     """The names of agents in their order, each as in an address, with how often in a row."""
-    runs: List[List[Any]] = []
-    for name in names:
-        if runs and runs[-1][0] == name:
-            runs[-1][1] += 1
-        else:
-            runs.append([name, 1])
+    runs = [(name, len(list(run))) for name, run in groupby(names)]
     return "+".join(quote(name, safe="") + (f"*{count}" if count > 1 else "")
                     for name, count in runs)
 

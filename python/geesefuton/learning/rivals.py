@@ -5,7 +5,7 @@ from __future__ import annotations
 import importlib
 import random
 import sys
-from types import ModuleType
+from functools import partial
 from typing import (Callable, Dict, Iterator, List, Mapping, Optional, Protocol, Tuple, Union,
                     cast)
 
@@ -85,47 +85,32 @@ Maker = Callable[[SeatLink], Acting]  # makes an agent for its seat
 Rivals = Dict[str, Union[str, Maker]]  # by the names of their seats
 
 
-class Shipped:
-    """Makes a shipped agent.
-
-    Raises:
-        ValueError: No agent of this name is shipped, or there is no folder of examples.
-    """
-
-    def __init__(self, name: str) -> None:
-        if name not in SHIPPED:
-            raise ValueError(f"expected an agent of {', '.join(SHIPPED)}, not {name!r:.60}")
-        try:
-            program.examples()
-        except program.ProgramError as fault:
-            raise ValueError(str(fault)) from None
-        self.name = name
-
-    def __call__(self, link: SeatLink) -> Acting:
-        """Makes the agent for its seat."""
-        agent = getattr(_module(self.name), self.name.capitalize())
-        return cast(Acting, agent(link, link.source) if SHIPPED[self.name] else agent(link))
-
-
-def _module(name: str) -> ModuleType:
-    """The module of a shipped agent."""
-    folder = str(program.examples() / "agents")
-    sys.path.insert(0, folder)  # one takes parts of another
-    try:
-        return importlib.import_module(name)
-    finally:
-        sys.path.remove(folder)
-
-
 def maker_of(rival: Union[str, Maker]) -> Maker:
     """What makes a rival: the class of an agent, or what makes the shipped one of a name.
 
     Raises:
-        ValueError: As `Shipped`.
+        ValueError: No agent of this name is shipped, or there is no folder of examples.
     """
-    if isinstance(rival, str):
-        return Shipped(rival)
-    return rival
+    if not isinstance(rival, str):
+        return rival
+    if rival not in SHIPPED:
+        raise ValueError(f"expected an agent of {', '.join(SHIPPED)}, not {rival!r:.60}")
+    try:
+        program.examples()
+    except program.ProgramError as fault:
+        raise ValueError(str(fault)) from None
+    return partial(_shipped, rival)
+
+
+def _shipped(name: str, link: SeatLink) -> Acting:
+    """Makes a shipped agent for its seat."""
+    folder = str(program.examples() / "agents")
+    sys.path.insert(0, folder)  # one takes parts of another
+    try:
+        agent = getattr(importlib.import_module(name), name.capitalize())
+    finally:
+        sys.path.remove(folder)
+    return cast(Acting, agent(link, link.source) if SHIPPED[name] else agent(link))
 
 
 class Players:
