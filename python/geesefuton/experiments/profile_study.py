@@ -20,7 +20,8 @@ from geesefuton.experiments.payoffs import FILES, Payoffs
 from geesefuton.experiments.plan import Plan, read_plan
 from geesefuton.experiments.reduction import Counts, needed_profiles, text_of_profile
 from geesefuton.experiments.results import Row
-from geesefuton.experiments.runs import RunError, compare, is_being_written, is_run, read_record
+from geesefuton.experiments.runs import (RunError, compare, is_being_written, is_run, read_record,
+                                         write_whole)
 from geesefuton.experiments.tournament import play_in_folder
 from geesefuton.processes import Output, tell, why
 from geesefuton.records.games import SEATS
@@ -209,19 +210,14 @@ def _write(folder: Path, payoffs: Payoffs) -> List[str]:
     """Writes the files of payoffs, and returns what failed."""
     failed = []
     for name, form in FILES.items():
-        text, file, new = form(payoffs), folder / name, folder / f".{name}.new"
+        text, file = form(payoffs), folder / name
         if not text:
             tell(f"profiles: skipped {file}: it would have too many outcomes")
             continue
-        out = Output(new)
-        out.write(text)
-        out.close()
         try:
-            if out.fault is None:
-                os.replace(new, file)
+            write_whole(file, text)
         except OSError as fault:
-            out.fault = why(fault)
-        failed += [f"{file} was not written: {out.fault}"] if out.fault is not None else []
+            failed.append(f"{file} was not written: {why(fault)}")
     return failed
 
 

@@ -299,16 +299,24 @@ class RunFolder:
         self._replace(RUN, json.dumps(self._value, indent=1) + "\n")
 
     def _replace(self, name: str, text: str, mode: int = 0o666) -> None:
-        """Writes a file so that it is there whole, or as it was."""
-        new = self._folder / f".{name}.new"
-        with contextlib.suppress(FileNotFoundError):
-            new.unlink()
-        with open(new, "w", encoding="utf-8",
-                  opener=lambda path, how: os.open(path, how | os.O_EXCL, mode)) as file:
-            file.write(text)
-            file.flush()
-            os.fsync(file.fileno())
-        os.replace(new, self._folder / name)
+        write_whole(self._folder / name, text, mode)
+
+
+def write_whole(file: Path, text: str, mode: int = 0o666) -> None:
+    """Writes a file so that it is there whole, or as it was.
+
+    Raises:
+        OSError: It cannot be written.
+    """
+    new = file.with_name(f".{file.name}.new")
+    with contextlib.suppress(FileNotFoundError):
+        new.unlink()
+    with open(new, "w", encoding="utf-8",
+              opener=lambda path, how: os.open(path, how | os.O_EXCL, mode)) as out:
+        out.write(text)
+        out.flush()
+        os.fsync(out.fileno())
+    os.replace(new, file)
 
 
 def secret_of(folder: Path) -> bytes:

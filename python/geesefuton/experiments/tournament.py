@@ -43,7 +43,8 @@ import time
 from dataclasses import dataclass, field
 from multiprocessing.connection import Connection, Pipe, wait
 from pathlib import Path
-from typing import AbstractSet, Dict, Iterator, List, NamedTuple, Optional, Sequence, Tuple
+from typing import (AbstractSet, Dict, Iterator, List, Mapping, NamedTuple, Optional, Sequence,
+                    Tuple, Union)
 
 from geesefuton import program
 from geesefuton.arguments import Parser
@@ -279,18 +280,6 @@ def _end_all(players: Sequence[Player], children: Children) -> None:
         player.connection.close()
 
 
-def _write_summary(summary: Summary, files: Sequence[Path]) -> List[str]:
-    """Writes the summary to files, each in the form of its suffix. Returns what failed."""
-    failed = []
-    for file in files:
-        out = Output(file)
-        out.write(FORMS[file.suffix](summary))
-        out.close()
-        if out.fault is not None:
-            failed.append(f"the summary was not written to {file}: {out.fault}")
-    return failed
-
-
 def _join(given: argparse.Namespace) -> int:
     """Summarizes earlier tournaments."""
     sources, told = [], []
@@ -316,19 +305,28 @@ def _join(given: argparse.Namespace) -> int:
     summary = summarize(rows, detect=given.detect, is_stopped=any(
         source.is_stopped for source in sources), planned=sum(
             source.planned for source in sources))
-    return 1 if _print_summary(summary, given.summary) or told else 0
+    return 1 if _print_summary(summary, _texts(summary, given.summary)) or told else 0
 
 
-def _print_summary(summary: Summary, summaries: Sequence[Path]) -> bool:
-    """Writes the summary to standard output and to files, tells what failed, and returns whether
-    anything did."""
-    out = Output(1)
-    out.write(as_text(summary))
-    failed = _write_summary(summary, summaries)
-    failed += [f"the summary was not written to {out.name}: {out.fault}"] if out.fault else []
-    for text in failed:
-        tell(f"tournament: {text}")
-    return bool(failed)
+def _print_summary(summary: Summary, texts: Mapping[Path, str]) -> bool:
+    """Writes the summary to standard output, and texts to files; tells what failed, and gives
+    whether anything did."""
+    targets: List[Tuple[Union[int, Path], str]] = [(1, as_text(summary)), *texts.items()]
+    failed = False
+    for target, text in targets:
+        out = Output(target)
+        out.write(text)
+        if target != 1:
+            out.close()
+        if out.fault:
+            tell(f"tournament: the summary was not written to {out.name}: {out.fault}")
+            failed = True
+    return failed
+
+
+def _texts(summary: Summary, files: Sequence[Path]) -> Dict[Path, str]:
+    """The summary in the forms of the suffixes of files."""
+    return {file: FORMS[file.suffix](summary) for file in files}
 
 
 def _main() -> int:
@@ -345,13 +343,9 @@ def _main() -> int:
         return 1 if out.fault else 0
     status, rows, lost = play_in_folder(parser, plan)
     summary = summarize(rows, lost, plan.detect, plan.games, status > 128)
-    failed = _print_summary(summary, plan.summaries)
-    grades = Output(plan.out / GRADES)
-    grades.write(as_grades(summary))
-    grades.close()
-    if grades.fault:
-        tell(f"tournament: {grades.name}: {grades.fault}")
-    return status or (1 if failed or grades.fault else 0)
+    failed = _print_summary(summary, {**_texts(summary, plan.summaries),
+                                      plan.out / GRADES: as_grades(summary)})
+    return status or (1 if failed else 0)
 
 
 def play_in_folder(parser: Parser, plan: Plan, elsewhere: AbstractSet[Tuple[int, int]] = frozenset()

@@ -185,30 +185,30 @@ def read_words(line: str) -> Reply:
     return No(None, found[1] or "bid", int(found[2] or 0))
 
 
+_WORDS = {Taken: "taken {0.bought} {0.sold}", Done: "done", Sold: "sold {0.units} {0.price}",
+          Cash: "cash {0.dollars}", Bye: "bye"}
+
+
 def entry_words(reply: Reply) -> str:
     """The words of a reply without its position, as a log has them."""
-    if isinstance(reply, Taken):
-        return f"taken {reply.bought} {reply.sold}"
-    if isinstance(reply, Done):
-        return "done"
-    if isinstance(reply, Sold):
-        return f"sold {reply.units} {reply.price}"
     if isinstance(reply, Own):
         return f"own {reply.holding} {text_of_points(reply.points)}"
-    if isinstance(reply, Cash):
-        return f"cash {reply.dollars}"
     if isinstance(reply, Quote):
         return f"quote {reply.bid} {reply.ask} {'closed' if reply.closed else 'open'}"
-    if isinstance(reply, Bye):
-        return "bye"
+    if not isinstance(reply, No):
+        return _WORDS[type(reply)].format(reply)
     if reply.below is not None:
         return f"no belowquote {reply.below.need} {reply.below.price} {reply.below.offered}"
     return f"no bid {reply.fault}" if reply.reason == "bid" else f"no {reply.reason}"
 
 
+def _position(reply: Reply) -> Optional[int]:
+    return reply.count if isinstance(reply, Quote) else getattr(reply, "at", None)
+
+
 def words_of(reply: Reply) -> str:
     """The line of words of a reply, without a line end."""
-    at = reply.count if isinstance(reply, Quote) else getattr(reply, "at", None)
+    at = _position(reply)
     return entry_words(reply) if at is None else f"@{at} {entry_words(reply)}"
 
 
@@ -246,31 +246,23 @@ def read_json(line: str) -> Reply:
 
 def reply_json(reply: Reply) -> str:
     """The JSON object of a reply, without a line end."""
-    value: dict[str, Any] = {}
-    at = reply.count if isinstance(reply, Quote) else getattr(reply, "at", None)
-    if at is not None:
-        value["at"] = at
-    if isinstance(reply, Taken):
-        value["taken"] = [reply.bought, reply.sold]
-    elif isinstance(reply, Done):
-        value["done"] = True
-    elif isinstance(reply, Sold):
-        value["sold"] = [reply.units, reply.price]
-    elif isinstance(reply, Own):
+    at = _position(reply)
+    value: dict[str, Any] = {} if at is None else {"at": at}
+    word, *rest = entry_words(reply).split(" ")
+    if isinstance(reply, Own):
         value.update(own=reply.holding, points=[list(point) for point in reply.points])
-    elif isinstance(reply, Cash):
-        value["cash"] = reply.dollars
     elif isinstance(reply, Quote):
         value.update(quote=[reply.bid, reply.ask], open=not reply.closed)
-    elif isinstance(reply, Bye):
-        value["bye"] = True
-    else:
+    elif isinstance(reply, No):
         value["no"] = reply.reason
         if reply.below is not None:
             below = reply.below
             value.update(need=below.need, price=below.price, offered=below.offered)
         if reply.reason == "bid":
             value["fault"] = reply.fault
+    else:  # `done` and `bye` have no number, `cash` has one, and the others two
+        numbers = list(map(int, rest))
+        value[word] = True if not rest else numbers[0] if len(numbers) == 1 else numbers
     return json.dumps(value, separators=(",", ":"))
 
 

@@ -17,6 +17,7 @@ STYLE = files("geesefuton.records").joinpath("report.css")
 Cell = Union[str, int]
 KINDS: Tuple[Tuple[str, range], ...] = (("flights", FLIGHTS), ("Shanties", range(8, 12)),
                                         ("Towers", range(12, 16)), ("tickets", TICKETS))
+Sums = Dict[Tuple[int, int, bool], Tuple[int, int]]  # agent, good, whether sold: units and dollars
 ENDS = {"quit": "quit", "end": "left without `quit`", "readfault": "lost its link",
         "writefault": "lost its link", "budget": "used up its lines"}
 
@@ -67,6 +68,17 @@ def ranks(log: Log) -> Dict[int, int]:
             for agent, score in scores.items()}
 
 
+def sums_of(events: Sequence[MarketEvent]) -> Sums:
+    """What each agent bought and sold of each good."""
+    sums: Sums = defaultdict(lambda: (0, 0))
+    for event in events:
+        if event.agent is not None and event.units:
+            key, count = (event.agent, event.good, event.units < 0), abs(event.units)
+            units, dollars = sums[key]
+            sums[key] = units + count, dollars + count * event.dollars
+    return sums
+
+
 def why_nothing(log: Log, events: Sequence[MarketEvent], score: Score) -> str:
     """Why an agent's trips are worth nothing; "" if they are worth something."""
     agent = score.agent
@@ -77,9 +89,9 @@ def why_nothing(log: Log, events: Sequence[MarketEvent], score: Score) -> str:
     if log.calls_of(agent) == 0:
         return "made no call"
     held: Dict[str, int] = defaultdict(int)
-    for event in events:
-        if event.agent == agent and event.units:
-            held[AUCTIONS[event.good].group] += event.units
+    for (trader, good, is_sold), (units, _) in sums_of(events).items():
+        if trader == agent:
+            held[AUCTIONS[good].group] += -units if is_sold else units
     if not held:
         return "bought nothing"
     rooms = held["Shoreline Shanties"] + held["Tampa Towers"]
@@ -141,16 +153,10 @@ def _code(text: str) -> str:
 
 def _spending(names: Sequence[str], log: Log, events: Sequence[MarketEvent]) -> str:
     """What each agent paid and earned, by kind of goods."""
-    sums: Dict[Tuple[int, str, bool], int] = defaultdict(int)
-    kind_of = {good: kind for kind, goods in KINDS for good in goods}
-    for event in events:
-        if event.agent is not None and event.units:
-            sold = event.units < 0
-            sums[event.agent, kind_of[event.good], sold] += abs(event.units) * event.dollars
-    rows: List[List[Cell]] = []
+    sums, rows = sums_of(events), list[List[Cell]]()
     for agent in [score.agent for score in _order(log)]:
-        paid = [sums[agent, kind, False] for kind, _ in KINDS]
-        earned = sums[agent, "tickets", True]
+        paid = [sum(sums[agent, good, False][1] for good in goods) for _, goods in KINDS]
+        earned = sum(sums[agent, good, True][1] for good in TICKETS)
         rows.append([html.escape(names[agent]), *paid, earned, earned - sum(paid)])
     heads = ["team", *(kind for kind, _ in KINDS), "tickets sold", "cash"]
     return f"<h2>What each team paid and earned</h2>{table(heads, rows, (0,))}"
@@ -266,13 +272,9 @@ def _trip(package: Optional[Package]) -> List[Cell]:
 
 def _trade_rows(events: Sequence[MarketEvent], agent: int) -> Iterator[List[Cell]]:
     """An agent's trades by good: units bought and sold, and the dollars paid and earned."""
-    sums: Dict[int, List[int]] = {good: [0, 0, 0, 0] for good in GOODS}
-    for event in events:
-        if event.agent == agent and event.units:
-            side = 0 if event.units > 0 else 2
-            sums[event.good][side] += abs(event.units)
-            sums[event.good][side + 1] += abs(event.units) * event.dollars
-    for good, (bought, paid, sold, earned) in sums.items():
+    sums = sums_of(events)
+    for good in GOODS:
+        (bought, paid), (sold, earned) = (sums[agent, good, is_sold] for is_sold in (False, True))
         if bought or sold:
             yield [name_of(good), bought or "", paid if bought else "", sold or "",
                    earned if sold else "", earned - paid]
