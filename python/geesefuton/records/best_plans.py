@@ -195,64 +195,43 @@ class _Search:
     def try_all(self) -> bool:
         """Tries all trips that may be better than the best known; whether it came to the end."""
         costs = _costs(self.prices)
-        choices: List[Tuple[int, List[Tuple[float, int]]]] = []
+        room = self.bound - self.best - 1 + CLOSE
+        self._choices: List[Tuple[int, List[Tuple[float, int]]]] = []
         for client, worths in enumerate(self._worths):
             gains = list(map(sub, worths, costs))
             most = max(gains)
-            room = self.bound - self.best - 1 + CLOSE
-            choices.append((client, sorted((most - gain, trip) for trip, gain in enumerate(gains)
-                                           if most - gain <= room)))
-        choices.sort(key=lambda choice: len(choice[1]))
-        return _Trial(self, choices, self.prices).run()
-
-    def take(self, trips: Sequence[int]) -> None:
-        """Keeps trips that are better than the best known."""
-        value = self._value(trips, self.need(trips))
-        if value > self.best:
-            self.best, self.trips = value, list(trips)
-
-    def over(self, prices: Sequence[float]) -> Dict[int, float]:
-        """What each unit beyond those held costs more than at these prices."""
-        return {good: self._costs[good] - prices[good] for good in self._free}
-
-
-class _Trial:
-    """Tries the trips of one client after the other."""
-
-    def __init__(self, search: _Search, choices: List[Tuple[int, List[Tuple[float, int]]]],
-                 prices: Sequence[float]) -> None:
-        self._search, self._choices, self._over = search, choices, search.over(prices)
-        self._prices = prices
-        self._need = [0] * (_NOTHING + 1)
-        self._trips = [0] * len(choices)
+            self._choices.append((client, sorted(
+                (most - gain, trip) for trip, gain in enumerate(gains) if most - gain <= room)))
+        self._choices.sort(key=lambda choice: len(choice[1]))
+        # What each unit beyond those held costs more than at these prices.
+        self._over = {good: self._costs[good] - self.prices[good] for good in self._free}
+        self._need, self._tried = [0] * (_NOTHING + 1), [0] * len(self._choices)
         self._tries = 0
+        return self._try(0, 0.0)
 
-    def run(self) -> bool:
-        """Whether all were tried."""
-        return self._go(0, 0.0)
-
-    def _go(self, place: int, lost: float) -> bool:
+    def _try(self, place: int, lost: float) -> bool:
         """Tries the clients from a place on, where so much of the bound is lost before."""
-        search = self._search
         if place == len(self._choices):
-            search.take(self._trips)
+            value = self._value(self._tried, self._need)
+            if value > self.best:
+                self.best, self.trips = value, list(self._tried)
             return True
         client, choices = self._choices[place]
         for slack, trip in choices:
-            if search.bound - lost - slack < search.best + 1 - CLOSE:
+            if self.bound - lost - slack < self.best + 1 - CLOSE:
                 break
             self._tries += 1
             if self._tries > TRIES:
                 return False
             more = slack
             for good in _GOODS[trip]:
-                if good in self._over and self._need[good] >= search.held[good]:
+                if good in self._over and self._need[good] >= self.held[good]:
                     more += self._over[good]
                 self._need[good] += 1
-            self._trips[client] = trip
+            self._tried[client] = trip
             left = self._unused(len(self._choices) - place - 1)
-            is_done = search.bound - lost - more - left < search.best + 1 - CLOSE \
-                or self._go(place + 1, lost + more)
+            is_done = self.bound - lost - more - left < self.best + 1 - CLOSE \
+                or self._try(place + 1, lost + more)
             for good in _GOODS[trip]:
                 self._need[good] -= 1
             if not is_done:
@@ -261,5 +240,5 @@ class _Trial:
 
     def _unused(self, clients: int) -> float:
         """What the bound counts for units that so many further clients can no longer use."""
-        return sum(self._prices[good] * max(0, self._search.held[good] - self._need[good] - clients)
+        return sum(self.prices[good] * max(0, self.held[good] - self._need[good] - clients)
                    for good in self._over)
