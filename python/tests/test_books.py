@@ -39,7 +39,7 @@ class Logs(unittest.TestCase):
                     self.assertNotIsInstance(auction, NightBook)
                     auction.withdraw(entry.caller)  # type: ignore[union-attr]
                 elif entry.call.do == "update" and flight:
-                    made = flight.update(entry.call.tick)
+                    made = flight.move(flight.prices[entry.call.tick])
                 elif entry.call.do == "publish" and night:
                     night.publish()
                 elif entry.call.do == "close" and night:
@@ -124,10 +124,10 @@ class Auctions(unittest.TestCase):
         flight = FlightBook([300, 290, 310])
         self.assertEqual(flight.bid(2, ((1, 300), (2, 295), (1, 280))), [(2, 1, 300)])
         other = flight.copied()
-        self.assertEqual(flight.update(1), [(2, 2, 290)])
-        self.assertEqual(other.update(1), [(2, 2, 290)])
+        self.assertEqual(flight.move(290), [(2, 2, 290)])
+        self.assertEqual(other.move(290), [(2, 2, 290)])
         flight.withdraw(2)
-        self.assertEqual(flight.update(2), [])
+        self.assertEqual(flight.move(310), [])
         self.assertEqual(flight.board(), (0, 310))
 
     def test_boards_are_shown_in_lines(self) -> None:

@@ -12,7 +12,7 @@ from itertools import repeat
 from typing import Any, Dict, List, Optional, Sequence, Set, Tuple, TypeVar, Union
 
 from geesefuton.records.games import (AUCTIONS, CLOCK, FLIGHTS, HOTELS, HOUSE, SEATS, TICKETS,
-                                      TICKS, Auction, Game)
+                                      TICKS, Game)
 from geesefuton.records.logs import Call, Entry
 from geesefuton.records.replies import No, Points
 from geesefuton.records.rules import MINUTE, next_price, prices_of
@@ -64,15 +64,10 @@ class FlightBook(_Book):
         """Nothing stands any more."""
         self.bids = {}
 
-    def update(self, tick: int) -> List[Side]:
-        """The price of a tick comes, 1 to 53."""
-        self.price = self.prices[tick]
-        return self._sell(list(self.bids)) if self.bids else []
-
-    def move(self, price: int) -> None:
+    def move(self, price: int) -> List[Side]:
         """A price comes, and takes what stands at it or above."""
         self.price = price
-        self._sell(list(self.bids))
+        return self._sell(list(self.bids)) if self.bids else []
 
     def _sell(self, agents: List[int]) -> List[Side]:
         trades = []
@@ -285,7 +280,7 @@ class Books:
             return
         self.boards[:HOTELS.start] = self._fares[self.tick]
         for good in self._bid_for:
-            self._book(good, self._flights[good].update(self.tick))
+            self._book(good, self._moved(good))
         if self.tick % MINUTE == 0 and self.tick <= MINUTE * len(HOTELS):
             closing = self._closing[self.tick // MINUTE - 1]
             self._book(closing, self._nights[closing - HOTELS.start].close())
@@ -314,8 +309,11 @@ class Books:
     def _timed(self, good: int) -> Union[FlightBook, NightBook, TicketBook]:
         """An auction as of this tick. A flight in which no bid stands is not updated before."""
         if good in FLIGHTS:
-            self._flights[good].update(self.tick)
+            self._moved(good)
         return self._auction(good)
+
+    def _moved(self, flight: int) -> List[Side]:
+        return self._flights[flight].move(self._flights[flight].prices[self.tick])
 
     def _auction(self, good: int) -> Union[FlightBook, NightBook, TicketBook]:
         if good in FLIGHTS:
@@ -332,15 +330,9 @@ class Books:
 
 def text_of(boards: Sequence[Board]) -> str:
     """Boards of all goods as lines of text, four goods in each; none for no boards."""
-    lines = []
-    for first in range(0, len(boards), 4):
-        told = map(_text_of, AUCTIONS[first:first + 4], boards[first:first + 4])
-        lines.append(f"{AUCTIONS[first].group:20}{''.join(told)}".rstrip() + "\n")
-    return "".join(lines)
-
-
-def _text_of(auction: Auction, board: Board) -> str:
-    """A good's part of a line."""
-    bid, ask, is_closed = board
-    price = f"{bid}/{ask}" if auction.number in TICKETS else str(ask)
-    return f"  {auction.name[auction.name.index(',') + 2:]} {price}{' x' if is_closed else ''}"
+    text = ""
+    for auction, (bid, ask, is_closed) in zip(AUCTIONS, boards):
+        text += "" if auction.number % 4 else f"\n{auction.group:20}"
+        price = f"{bid}/{ask}" if auction.number in TICKETS else str(ask)
+        text += f"  {auction.name[auction.name.index(',') + 2:]} {price}{' x' if is_closed else ''}"
+    return text[1:] + "\n" if boards else ""
