@@ -8,7 +8,7 @@ import tempfile
 import unittest
 from collections import Counter
 from pathlib import Path
-from typing import Any, Callable, Dict, List
+from typing import Any, Dict, List
 from unittest import mock
 
 from geesefuton import program

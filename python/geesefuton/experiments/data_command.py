@@ -16,7 +16,7 @@ others. The exit status is 0 if it wrote all games.
 import os
 import sys
 from pathlib import Path
-from typing import Dict, Iterable, Iterator, List, Sequence, Set
+from typing import Iterable, Iterator, Sequence, Set, Tuple
 
 from geesefuton.arguments import Parser
 from geesefuton.experiments.joining import read_source
@@ -25,7 +25,7 @@ from geesefuton.processes import Output, command, tell, why
 from geesefuton.records.accounts import gains_of
 from geesefuton.records.data import SCHEMA, TABLES, file_of, schema_text
 from geesefuton.records.games import AUCTIONS, CLOCK, FLIGHTS, GOODS, HOTELS, HOUSE, TICKETS
-from geesefuton.records.logs import Post, Score
+from geesefuton.records.logs import Entry, Post
 from geesefuton.records.replies import No, entry_words
 from geesefuton.records.rules import PENALTY
 from geesefuton.records.tables import csv_of
@@ -111,30 +111,31 @@ def _quotes(kept: KeptGame) -> Iterator[Cells]:
 
 
 def _bids(kept: KeptGame) -> Iterator[Cells]:
-    for good in GOODS:
-        ticks = kept.ticks.entries[good]
-        for position, entry in enumerate(kept.log.histories[good]):
-            seat, call, reply = entry.caller, entry.call, entry.reply
-            if seat == CLOCK or call.do not in ("bid", "withdraw"):
-                continue
-            said = reply.reason if isinstance(reply, No) else entry_words(reply).split(" ")[0]
-            points: Iterable[Cells] = call.points or [("", "")]
-            for units, price in points:
-                yield (ticks[position], good, position, seat, kept.agents[seat], call.do, units,
-                       price, said)
+    for tick, good, position, entry in _entries(kept):
+        seat, call, reply = entry.caller, entry.call, entry.reply
+        if seat == CLOCK or call.do not in ("bid", "withdraw"):
+            continue
+        said = reply.reason if isinstance(reply, No) else entry_words(reply).split(" ")[0]
+        points: Iterable[Cells] = call.points or [("", "")]
+        for units, price in points:
+            yield tick, good, position, seat, kept.agents[seat], call.do, units, price, said
 
 
 def _trades(kept: KeptGame) -> Iterator[Cells]:
+    for tick, good, position, entry in _entries(kept):
+        for trade in entry.trades:
+            for seat, other, units in ((trade.buyer, trade.seller, trade.units),
+                                       (trade.seller, trade.buyer, -trade.units)):
+                if seat != HOUSE:
+                    yield (tick, good, position, seat, kept.agents[seat], other, units,
+                           trade.price, -units * trade.price)
+
+
+def _entries(kept: KeptGame) -> Iterator[Tuple[int, int, int, Entry]]:
+    """All entries of auctions, each with its tick, its good and its position."""
     for good in GOODS:
         for position, entry in enumerate(kept.log.histories[good]):
-            tick = kept.ticks.entries[good][position]
-            for trade in entry.trades:
-                sides = ((trade.buyer, trade.seller, trade.units),
-                         (trade.seller, trade.buyer, -trade.units))
-                for seat, other, units in sides:
-                    if seat != HOUSE:
-                        yield (tick, good, position, seat, kept.agents[seat], other, units,
-                               trade.price, -units * trade.price)
+            yield kept.ticks.entries[good][position], good, position, entry
 
 
 def _cash(kept: KeptGame) -> Iterator[Cells]:
@@ -156,15 +157,11 @@ def _scores(kept: KeptGame) -> Iterator[Cells]:
 
 
 def _trips(kept: KeptGame) -> Iterator[Cells]:
-    for score in kept.log.scores:
-        for number, trip in enumerate(_trips_of(kept, score)):
-            yield (score.agent, kept.agents[score.agent], number, *trip)
-
-
-def _trips_of(kept: KeptGame, score: Score) -> List[Cells]:
-    return [("", "", "", "", "", "", 0) if package is None else
-            (package.hotel, package.arrive, package.depart, *package.nights, client.worth(package))
-            for client, package in zip(kept.game.clients[score.agent], score.packages)]
+    for score, clients in zip(kept.log.scores, kept.game.clients):
+        for number, (client, package) in enumerate(zip(clients, score.packages)):
+            trip: Cells = [""] * 6 if package is None else (
+                package.hotel, package.arrive, package.depart, *package.nights)
+            yield (score.agent, kept.agents[score.agent], number, *trip, client.worth(package))
 
 
 ROWS = {"games": _game, "quotes": _quotes, "bids": _bids, "trades": _trades, "cash": _cash,

@@ -17,7 +17,7 @@ from geesefuton.experiments.equilibria import NEAR, SymmetricGame, equilibria, f
 from geesefuton.experiments.forms import columns, count_text, number_text, shown
 from geesefuton.experiments.joining import Source, read_source, twice
 from geesefuton.experiments.payoffs import FILES, Payoffs
-from geesefuton.experiments.plan import Plan, read_plan
+from geesefuton.experiments.plan import read_plan
 from geesefuton.experiments.reduction import Counts, needed_profiles, text_of_profile
 from geesefuton.experiments.results import Row
 from geesefuton.experiments.runs import (RunError, compare, is_being_written, is_run, read_record,

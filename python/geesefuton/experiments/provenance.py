@@ -20,7 +20,6 @@ from pathlib import Path
 from typing import Any, Dict, Iterable, Iterator, List, Mapping, Sequence, Set, Tuple
 from urllib.parse import quote
 
-from geesefuton.experiments.deals import SHORT
 from geesefuton.experiments.entrants import PACKAGE, Entrant, EntrantError
 
 MOST_FILES, MOST_BYTES = 2000, 1 << 30  # of an agent

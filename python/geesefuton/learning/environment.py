@@ -6,22 +6,10 @@
             actions = {agent: ["own 16"] for agent in environment.agents}
             observations, rewards, terminations, truncations, infos = environment.step(actions)
 
-An action is a list of request lines as in docs/PROTOCOL.md; an agent without an action asks
-nothing. Each step makes the requests seat by seat, and then a tick comes. No seat gains by its
-place: each step begins one seat later, and the first seat of a game is pseudorandom
-(`geesefuton.records.order`). An observation has
-
-    tick        how many ticks have passed, 0 to 54
-    round       the round in this tick; with several rounds a tick, the tick follows the last one
-    quotes      of all 28 goods, each (bid, ask, closed)
-    holdings    how many units of the 28 goods the agent has; below 0 it owes them
-    cash        what it earned so far less what it paid, in dollars
-    clients     for each of its eight clients the arrival, the departure, the premium and the values
-                of the three ticket types
-
-The infos of an agent have `replies`, those to its requests in this step; at reset they have
-`endow`, its tickets of the goods 16 to 27, instead. After the last step the game is over: the
-rewards are the scores, in dollars; before, they are 0.
+An action is a list of request lines as in docs/PROTOCOL.md. Each step makes the requests seat by
+seat, and then a tick comes. No seat gains by its place: each step begins one seat later, and the
+first seat of a game is pseudorandom (`geesefuton.records.order`). docs/LEARNING.md says what an
+observation and the infos have. The rewards are 0 before the last step, and then the scores.
 
 The same requests give the same game, and its log is what `tac play` writes for the game's file and
 script. A game is one process of `tac step`.
@@ -185,10 +173,7 @@ class Environment(Parallel):
             seed: What the game is made from, 0 to 18446744073709551615; None for a number that is
                 drawn by the seed that was given last, or by the system's entropy if none was. A
                 game of a file is the same for each, but what its rivals draw is not.
-            options: There are none; what is given is ignored.
-
-        Returns:
-            For each agent its observation and its infos.
+            options: What is given is ignored.
 
         Raises:
             ValueError: The seed is none. Nothing has changed.
@@ -232,10 +217,6 @@ class Environment(Parallel):
             actions: For each agent that asks something the list of its request lines, without line
                 ends. One of more than 512 bytes is answered `no toolong`, as over a link, and
                 `quit` is not asked, but answered `no syntax`.
-
-        Returns:
-            For each agent its observation, its reward in dollars, whether the game is over, whether
-            it broke off (never), and its infos.
 
         Raises:
             ActionError: There is no game, or an action cannot be asked. Nothing has changed.
@@ -425,7 +406,6 @@ def _seed(seed: Any) -> int:
 
 
 def _are_rooms(rooms: Any) -> bool:
-    """Whether these are a least and a most number of rooms."""
     return (isinstance(rooms, (list, tuple)) and len(rooms) == 2
             and all(isinstance(number, int) for number in rooms)
             and 1 <= rooms[0] <= rooms[1] <= MOST_ROOMS)

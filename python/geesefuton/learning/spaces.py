@@ -1,11 +1,9 @@
 """The observations and actions of a game in steps, as spaces of `gymnasium`, which this module
 needs: `pip install 'geesefuton[learn]'`.
 
-An observation has the tick, the round in it, the quotes of the 28 goods, each a bid and an ask in
-dollars and whether the auction is closed, the agent's holdings and cash, and its clients'
-preferences: all of them whole numbers, so that `gymnasium.spaces.flatten` makes one array of them.
-An action is a list of requests, lines of at most 512 bytes; a line that is not a request is
-answered `no syntax`.
+All that an observation has are whole numbers, so that `gymnasium.spaces.flatten` makes one array of
+them. An action is a list of lines of at most 512 bytes; one that is no request is answered
+`no syntax`.
 """
 
 from typing import Any
