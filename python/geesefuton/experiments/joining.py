@@ -100,30 +100,18 @@ def whole_deals(source: Source) -> Tuple[Source, int]:
 
 def differences(first: Source, other: Source) -> List[str]:
     """Why the rows of two sources do not belong together, each in a line; none if they do."""
-    texts = [*_unlike_kinds(first, other), *_unlike_settings(first, other),
-             *_unlike_files(first, other)]
-    return [f"{other.name} does not belong to {first.name}: {text}" for text in texts]
-
-
-def _unlike_kinds(first: Source, other: Source) -> List[str]:
     ways, others = ({WAYS[row.kind] for row in source.rows} for source in (first, other))
-    if ways == others:
-        return []
-    return [f"its games are {' and '.join(sorted(others))}, not {' and '.join(sorted(ways))}"]
-
-
-def _unlike_settings(first: Source, other: Source) -> List[str]:
+    texts = [] if ways == others else [
+        f"its games are {' and '.join(sorted(others))}, not {' and '.join(sorted(ways))}"]
     ours, theirs = ({row.settings for row in source.rows} for source in (first, other))
-    return next((unlike(read_settings(our), read_settings(their)) for our in sorted(ours)
-                 for their in sorted(theirs) if our != their), [])
-
-
-def _unlike_files(first: Source, other: Source) -> List[str]:
+    texts += next((unlike(read_settings(our), read_settings(their)) for our in sorted(ours)
+                   for their in sorted(theirs) if our != their), [])
     files: Dict[str, Set[str]] = {}
     for row in [*first.rows, *other.rows]:
         files.setdefault(row.agent, set()).add(row.files)
-    return [f"the files, libraries or words of {agent} differ" for agent, digests in files.items()
-            if len(digests) > 1]
+    texts += [f"the files, libraries or words of {agent} differ"
+              for agent, digests in files.items() if len(digests) > 1]
+    return [f"{other.name} does not belong to {first.name}: {text}" for text in texts]
 
 
 def twice(sources: Sequence[Source]) -> List[str]:

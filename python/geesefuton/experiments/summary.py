@@ -9,6 +9,7 @@ games of one deal are alike: an agent's value for a deal is the mean over its se
 from collections import Counter, defaultdict
 from dataclasses import dataclass, replace
 from itertools import combinations
+from operator import attrgetter
 from typing import Callable, Dict, List, Mapping, Optional, Sequence, Set, Tuple
 
 from geesefuton.experiments import study
@@ -21,6 +22,9 @@ from geesefuton.experiments.results import Kind, Outcome, Row
 
 Seats = Mapping[int, List[Row]]  # rows by seat
 Cells = Dict[str, Dict[int, List[Row]]]  # of one agent: its rows by deal and seat
+Value = Callable[[Row], float]
+SCORE: Value = attrgetter("score")
+COVARIATES: Sequence[Value] = tuple(map(attrgetter, ("luck", "nights", "first_price")))
 UNTAKEN = (Outcome.ABSENT, Outcome.REFUSED)  # seats that nobody took, or played
 
 
@@ -141,31 +145,12 @@ def _cells_of(rows: Sequence[Row]) -> Cells:
     return deals
 
 
-def _by_deal(rows: Sequence[Row], value: Callable[[Row], float]) -> List[float]:
+def _by_deal(rows: Sequence[Row], value: Value) -> List[float]:
     """The mean of a value over an agent's seats, for each deal."""
     deals: Dict[str, List[float]] = defaultdict(list)
     for row in rows:
         deals[row.deal].append(value(row))
     return [mean_of(values) for values in deals.values()]
-
-
-def _score(row: Row) -> float:
-    return float(row.score)
-
-
-def _luck(row: Row) -> float:
-    return float(row.luck)
-
-
-def _nights(row: Row) -> float:
-    return row.nights
-
-
-def _first_price(row: Row) -> float:
-    return row.first_price
-
-
-COVARIATES = (_luck, _nights, _first_price)
 
 
 class _Draws:
@@ -214,9 +199,9 @@ class _Draws:
 
 def _standing(agent: str, rows: Sequence[Row], draws: _Draws) -> Standing:
     ends = dict(Counter(row.end for row in rows))
-    scores = _by_deal(rows, _score)
+    scores = _by_deal(rows, SCORE)
     drawn = [_by_deal(rows, value) for value in COVARIATES]
-    played = _by_deal([row for row in rows if row.end is Outcome.PLAYED], _score)
+    played = _by_deal([row for row in rows if row.end is Outcome.PLAYED], SCORE)
     missed = [row.missed for row in rows if row.missed is not None]
     return Standing(agent, len(rows), ends, estimate(scores), estimate(played) if played else None,
                     mean_of(drawn[0]), draws.mean(scores, drawn),
@@ -239,14 +224,14 @@ def _difference(first: str, second: str, ours: Cells, theirs: Cells, draws: _Dra
     left_out = len(deals) - len(sides)
     if not sides:
         return Difference(first, second, False, left_out, None)
-    scores = [_mean_of_seats(our, _score) - _mean_of_seats(their, _score) for our, their in sides]
+    scores = [_mean_of_seats(our, SCORE) - _mean_of_seats(their, SCORE) for our, their in sides]
     score = estimate(scores)
     return Difference(first, second, by_clients, left_out, score, draws.difference(scores, sides),
                       student_p(score), signed_rank_p(scores) if score.half is not None else None,
                       needed=draws.needed(score, detect))
 
 
-def _mean_of_seats(seats: Seats, value: Callable[[Row], float]) -> float:
+def _mean_of_seats(seats: Seats, value: Value) -> float:
     """The mean over seats of the mean over each one's rows."""
     return mean_of([mean_of([value(row) for row in rows]) for rows in seats.values()])
 
