@@ -14,7 +14,7 @@ from typing import Any, Dict, List, Optional, Tuple
 from unittest import mock
 
 from geesefuton.experiments.agent_host import namespaces
-from geesefuton.experiments.agents import HOST, AgentProcess, Agents, limits_of
+from geesefuton.experiments.agents import HOST, AgentProcess, Agents
 from geesefuton.experiments.apart import Limits, folder_of, sandbox, why_not
 from geesefuton.experiments.entrants import Entrant, environment, read_entrants
 from geesefuton.experiments.messages import Job
@@ -98,7 +98,7 @@ class Places(unittest.TestCase):
              outside: int = 1) -> Tuple[int, Dict[str, Any]]:
         """Runs the spy in a game at a listener. Its status, and what it has seen."""
         with tempfile.TemporaryFile() as out:
-            limits = limits_of(Limits() if process.listener else None, 1 << 20)
+            limits = {"FSIZE": 1 << 20, **(Limits().by_name() if process.listener else {})}
             process.begin(["localhost", str(port), "red"], self.variables(outside, AGENT_SEED="5"),
                           limits, out)
             listener.settimeout(60)

@@ -13,11 +13,11 @@ from unittest import mock
 
 from geesefuton import program
 from geesefuton.learning.environment import ActionError, Environment
-from geesefuton.learning.market import score_rows
 from geesefuton.learning.rivals import SeatLink, maker_of, scores_of
 from geesefuton.program import ProgramError
 from geesefuton.records.drawing import classic_endowments, drawn_rooms
 from geesefuton.records.games import FLIGHTS, HOTELS, TICKS, Game, GameError, read_game
+from geesefuton.records.logs import read_scores
 from geesefuton.records.made_games import made_game
 from geesefuton.records.order import first_seat, order_of_turn
 from geesefuton.records.rules import prices_of
@@ -544,7 +544,7 @@ class Rivals(unittest.TestCase):
             _, rewards, *_ = rest(environment)
             self.assertEqual(rewards, dict.fromkeys(environment.possible_agents, 0))
             assert environment.log is not None
-            scores = [row[-1] for row in score_rows(environment.log)]
+            scores = [row.score for row in read_scores(environment.log)]
             self.assertEqual(scores[7], 0)
             self.assertTrue(all(scores[seat] > 1000 for seat in (1, 4, 5)), scores)
             first = environment.script

@@ -326,7 +326,7 @@ class Matches(unittest.TestCase):
         for status, log, told in ((5, b"fault links\n", "exit status 5 (its port is taken"),
                                   (-9, b"", "exit status -9 (the log is empty)"),
                                   (-9, b"hm\nx\n", "exit status -9 (hm)"),
-                                  (0, b"", "its log: line 1: expected the line `sheet`")):
+                                  (0, b"", "its log: line 1: expected a line `sheet`")):
             self.lobby.status, self.lobby.log = status, log
             result = self.play()
             self.assertEqual((result.scores, result.outcomes), ((), ()))

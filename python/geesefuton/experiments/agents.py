@@ -14,7 +14,7 @@ from typing import Any, BinaryIO, Dict, List, Optional, Sequence, Tuple
 
 from geesefuton import program
 from geesefuton.experiments.agent_host import namespaces
-from geesefuton.experiments.apart import Limits, sandbox
+from geesefuton.experiments.apart import sandbox
 from geesefuton.experiments.entrants import Entrant, environment
 from geesefuton.experiments.messages import Job
 from geesefuton.processes import Children
@@ -192,8 +192,3 @@ class Agents:
         for process in self._running.values():
             process.close()
         self._running.clear()
-
-
-def limits_of(limits: Optional[Limits], printed: int) -> Dict[str, int]:
-    """An agent's limits by name, if it is kept apart, and how many bytes it may print."""
-    return {"FSIZE": printed, **(limits.by_name() if limits else {})}

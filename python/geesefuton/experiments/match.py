@@ -18,7 +18,7 @@ from pathlib import Path
 from typing import Callable, Dict, List, Optional, Tuple
 
 from geesefuton import program
-from geesefuton.experiments.agents import AgentProcess, Agents, limits_of
+from geesefuton.experiments.agents import AgentProcess, Agents
 from geesefuton.experiments.entrants import environment
 from geesefuton.experiments.messages import PATIENCE, Job, Message, Note, Result
 from geesefuton.experiments.results import Kind, Outcome
@@ -183,7 +183,8 @@ class Match:
             if job.turns:
                 variables.update(repeated(job.seeds[seat]))
             with self._printed(seat).open("wb") as out:
-                process.begin(words, variables, limits_of(job.limits, MOST_PRINTED), out)
+                process.begin(words, variables, {
+                    "FSIZE": MOST_PRINTED, **(job.limits.by_name() if job.limits else {})}, out)
             self._running[seat] = process
 
     def _printed(self, seat: int) -> Path:

@@ -3,7 +3,6 @@
 from __future__ import annotations
 
 import copy
-import re
 from typing import Any, Dict, List, Optional, Sequence, Tuple
 
 from geesefuton import program
@@ -12,14 +11,13 @@ from geesefuton.link import solve
 from geesefuton.records.books import Books
 from geesefuton.records.dialects import MOST_LINE
 from geesefuton.records.games import SEATS, TICKS, Game
-from geesefuton.records.logs import MOST_BYTES
+from geesefuton.records.logs import MOST_BYTES, read_scores
 from geesefuton.records.order import first_seat
 from geesefuton.records.replies import read_points
 from geesefuton.records.rules import PENALTY
 
 MOST_LINES = 65_536  # of an agent in a game
 TICK = b"tick\n"
-_SCORES = re.compile(rb"\nscore (.*)")
 Requests = Sequence[Tuple[int, str]]  # each a seat and a line
 
 
@@ -138,10 +136,10 @@ class Market:
         """
         self._exchange(b"", 0)
         log = self._process.finish()
-        rows = score_rows(log)
-        if [row[1] for row in rows] != self.books.cash:
+        rows = read_scores(log)
+        if [row.cash for row in rows] != self.books.cash:
             raise program.ProgramError("the cash of the log differs from that of the books")
-        self.scores = [row[-1] for row in rows]
+        self.scores = [row.score for row in rows]
         return log
 
     def __deepcopy__(self, memory: Dict[int, Any]) -> Market:
@@ -166,12 +164,6 @@ def _size(line: str) -> int:
 def _unasked(line: str) -> str:
     """The reply to a line that is not asked of the game; "" for one that is."""
     return "no syntax" if line == "quit" else "no toolong" if _size(line) > MOST_LINE else ""
-
-
-def score_rows(log: bytes) -> List[Tuple[int, ...]]:
-    """For each agent its best total, its cash, its tickets short and its score, from a log."""
-    lines = _SCORES.findall(log, log.rindex(b"\nsheet\n"))
-    return [tuple(map(int, line.split(b" ")[1:])) for line in lines]
 
 
 class Scorer:
