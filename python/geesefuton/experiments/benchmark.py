@@ -18,7 +18,6 @@ The exit status is that of `tournament`.
 import hashlib
 import json
 import shlex
-import sys
 from dataclasses import asdict, replace
 from pathlib import Path
 from typing import List
@@ -123,7 +122,3 @@ def _main() -> int:
 def main() -> int:
     """The command `benchmark`."""
     return command("benchmark", _main)
-
-
-if __name__ == "__main__":
-    sys.exit(main())

@@ -14,7 +14,6 @@ others. The exit status is 0 if it wrote all games.
 """
 
 import os
-import sys
 from pathlib import Path
 from typing import Iterable, Iterator, Sequence, Set, Tuple
 
@@ -202,7 +201,3 @@ def _main() -> int:
 def main() -> int:
     """The command `data`."""
     return command("data", _main)
-
-
-if __name__ == "__main__":
-    sys.exit(main())

@@ -7,7 +7,6 @@ be the one of the commitment that the run began with. The exit status is 0 if al
 the secret.
 """
 
-import sys
 from pathlib import Path
 from typing import List
 
@@ -65,7 +64,3 @@ def _main() -> int:
 def main() -> int:
     """The command `deals`."""
     return command("deals", _main)
-
-
-if __name__ == "__main__":
-    sys.exit(main())

@@ -22,7 +22,6 @@ the signal's number if a signal stopped it. The command needs numpy, scipy and p
 
 import argparse
 import re
-import sys
 from pathlib import Path
 from typing import Tuple
 
@@ -70,7 +69,3 @@ def _main() -> int:
 def main() -> int:
     """The command `profiles`."""
     return command("profiles", _main)
-
-
-if __name__ == "__main__":
-    sys.exit(main())

@@ -27,7 +27,6 @@ they were from the best plans. It needs numpy, scipy and pandas, and takes part 
 With --figures FOLDER the pictures are written for a paper, too, which needs matplotlib.
 """
 
-import sys
 import time
 from pathlib import Path
 from typing import List, Optional, Tuple
@@ -188,7 +187,3 @@ def _write(text: str, told: List[str]) -> int:
 def main() -> int:
     """The command `report`."""
     return command("report", _main)
-
-
-if __name__ == "__main__":
-    sys.exit(main())

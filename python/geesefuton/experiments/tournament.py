@@ -392,7 +392,3 @@ def play_in_folder(parser: Parser, plan: Plan, elsewhere: AbstractSet[Tuple[int,
 def main() -> int:
     """The command `tournament`."""
     return command("tournament", _main)
-
-
-if __name__ == "__main__":
-    sys.exit(main())
