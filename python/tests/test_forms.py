@@ -15,7 +15,7 @@ from tests.helpers import needs_study
 from tests.test_summary import SWAPPED, row
 
 if not study.missing("these tests"):
-    from geesefuton.experiments.power import deals_to_detect
+    from geesefuton.experiments.study import deals_to_detect
 
 
 class Texts(unittest.TestCase):

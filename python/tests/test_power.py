@@ -7,7 +7,7 @@ from geesefuton.experiments.comparisons import Estimate, estimate, student_quant
 from tests.helpers import needs_study
 
 if not study.missing("these tests"):
-    from geesefuton.experiments.power import deals_to_detect, power
+    from geesefuton.experiments.study import deals_to_detect, power
 
 
 def spread(deviation: float, deals: int) -> Estimate:

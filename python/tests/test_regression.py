@@ -9,7 +9,7 @@ from tests.helpers import needs_study
 if not study.missing("these tests"):
     import numpy as np
 
-    from geesefuton.experiments.regression import adjusted
+    from geesefuton.experiments.study import adjusted
 
 
 @needs_study

@@ -13,7 +13,7 @@ from geesefuton.records.tables import csv_of
 from tests.helpers import needs_study
 
 if not study.missing("these tests"):
-    from geesefuton.experiments.regression import adjusted
+    from geesefuton.experiments.study import adjusted
 
 def row(deal: str, rotation: int, seat: int, agent: str, score: int,
         end: Outcome = Outcome.PLAYED, luck: int = 100, kind: Kind = Kind.SERVED) -> Row:

@@ -10,8 +10,8 @@ import pandas as pd
 from geesefuton.experiments.forms import count_text, letters_of, undecided
 from geesefuton.experiments.joining import WAYS
 from geesefuton.experiments.overview import PARTS, PREDICTORS, SIDES, Overview
-from geesefuton.experiments.power import deals_to_detect
 from geesefuton.experiments.results import Row
+from geesefuton.experiments.study import deals_to_detect
 from geesefuton.experiments.summary import Difference, Summary
 from geesefuton.records.games import AUCTIONS, FLIGHTS, HOTELS, TICKETS, TICKS, name_of
 from geesefuton.records.report_page import STYLE, Cell, bar, chart, round_up, table

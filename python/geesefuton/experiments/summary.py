@@ -186,15 +186,13 @@ class _Draws:
         """How many deals tell a difference; None if that was not asked, or cannot be told."""
         if not detect or self.missing:
             return None
-        from geesefuton.experiments.power import deals_to_detect
-        return deals_to_detect(score, detect)
+        return study.deals_to_detect(score, detect)
 
     def _adjusted(self, values: Sequence[float], drawn: Sequence[Sequence[float]],
                   at: Sequence[float]) -> Optional[Estimate]:
         if self.missing:
             return None
-        from geesefuton.experiments.regression import adjusted
-        return adjusted(values, drawn, at)
+        return study.adjusted(values, drawn, at)
 
 
 def _standing(agent: str, rows: Sequence[Row], draws: _Draws) -> Standing:
