@@ -96,7 +96,8 @@ class Benchmarks(unittest.TestCase):
         self.assertEqual(self.plans[0].games, 28)
 
     def test_a_reference_agent_is_played_once(self) -> None:
-        _, told, _ = self.run_list("classic", TOP / "examples" / "agents" / "planner.py")
+        file = os.path.relpath(TOP / "examples" / "agents" / "planner.py")
+        _, told, _ = self.run_list("classic", file)
         self.assertEqual(sorted(each["agent"] for each in told["agents"]), sorted(REFERENCES))
 
 

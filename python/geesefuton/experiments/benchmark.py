@@ -25,7 +25,7 @@ from typing import List
 from geesefuton import program
 from geesefuton.arguments import Parser, whole
 from geesefuton.experiments.comparisons import Estimate
-from geesefuton.experiments.forms import columns, number_text, shown
+from geesefuton.experiments.forms import columns, count_text, number_text, shown
 from geesefuton.experiments.plan import Plan, make_parser, read_plan
 from geesefuton.experiments.results import Row
 from geesefuton.experiments.summary import Difference, summarize
@@ -43,13 +43,14 @@ def _file_of(name: str) -> Path:
 
 def _words(name: str, agent: str, deals: int) -> List[str]:
     """The words of the tournament that plays a list, or some of its deals."""
-    told = json.loads(_file_of(name).read_bytes())
-    pool, others = ([shlex.quote(str(program.examples() / file)) for file in told[part]]
-                    for part in ("pool", "references"))
-    others = [other for other in others if other != shlex.quote(agent)]  # it may be one of them
+    told, folder = json.loads(_file_of(name).read_bytes()), program.examples()
+    others = [folder / file for file in told["references"]]
+    if Path(agent).resolve() in others:  # it is one of them
+        others.remove(Path(agent).resolve())
     return [*told["settings"], "--seed", str(told["seed"]),
             "--games", str((deals or told["deals"]) * (1 + len(others))),
-            *(f"--against={each}" for each in pool), agent, *others]
+            *(f"--against={shlex.quote(str(folder / file))}" for file in told["pool"]),
+            agent, *(shlex.quote(str(file)) for file in others)]
 
 
 def _against(agent: str, pair: Difference) -> Difference:
@@ -87,8 +88,8 @@ def _written(plan: Plan, name: str, rows: List[Row]) -> str:
     out.close()
     if out.fault:
         tell(f"benchmark: {out.name}: {out.fault}")
-    return "\n".join([f"{name}, {summary.deals} deals; dollars with 95 % intervals by deals "
-                      "(Student's t)", *columns(table)]) + "\n"
+    return "\n".join([f"{name}, {count_text(summary.deals, 'deal')}; dollars with 95 % intervals "
+                      "by deals (Student's t)", *columns(table)]) + "\n"
 
 
 def _main() -> int:

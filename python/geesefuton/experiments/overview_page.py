@@ -14,7 +14,7 @@ from geesefuton.experiments.results import Row
 from geesefuton.experiments.study import deals_to_detect
 from geesefuton.experiments.summary import Difference, Summary
 from geesefuton.records.games import AUCTIONS, FLIGHTS, HOTELS, TICKETS, TICKS, name_of
-from geesefuton.records.report_page import STYLE, Cell, bar, chart, round_up, table
+from geesefuton.records.report_page import Cell, bar, chart, document, round_up, scale_of, table
 
 Frame = Any  # of pandas
 SHOWN = range(0, TICKS + 1, 6)  # the ticks of a table of prices
@@ -44,9 +44,6 @@ def page(overview: Overview, name: str, row: Row, summary: Summary) -> str:
     agents = ", ".join(map(html.escape, overview.order))
     games, deals = len(overview.games), overview.seats.deal.nunique()
     parts = [
-        '<!doctype html><html lang="en"><meta charset="utf-8">'
-        '<meta name="viewport" content="width=device-width, initial-scale=1">'
-        f"<title>Games of {agents}</title><style>{STYLE.read_text(encoding='ascii')}</style>",
         f"<h1>Games of {agents}</h1><p>The folder {html.escape(name)}: {count_text(games, 'game')} "
         f"of {count_text(deals, 'deal')}, played {WAYS[row.kind]}. All amounts are in dollars.</p>",
         *_ranking(summary), *_differences(summary)]
@@ -57,7 +54,7 @@ def page(overview: Overview, name: str, row: Row, summary: Summary) -> str:
         parts.append(table([str(column).replace("|", "<br>") for column in told],
                            [list(map(_cell, line)) for line in told.itertuples(index=False)],
                            range(each.told.index.nlevels)))
-    return "\n".join(parts) + "</html>\n"
+    return document(f"Games of {agents}", parts)
 
 
 def _cell(value: object) -> str:
@@ -163,13 +160,9 @@ def _parts(overview: Overview) -> Section:
 def _prices(overview: Overview) -> Iterator[Section]:
     note = ("The median of all games at each tick, 0 at the left to 54, in the band of the middle "
             "half of the games. A night that is closed keeps its price.")
-    for name, goods, step in (("flights", FLIGHTS, 50), ("rooms", HOTELS, 100)):
+    for name, goods in (("flights", FLIGHTS), ("rooms", HOTELS)):
         bands = pd.concat({good: overview.quartiles(good) for good in goods}, axis=1)
-        high = round_up(max(step, bands.max().max()), step)
-        low = 0
-        if goods is FLIGHTS:
-            low = int(bands.min().min()) // step * step
-            high = max(high, low + step)
+        low, high = scale_of(goods, bands.to_numpy().ravel().tolist())
         picture = ""
         for group in (goods[:4], goods[4:]):
             charts = []

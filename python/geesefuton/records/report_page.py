@@ -222,6 +222,17 @@ def chart(title: str, points: PricePath, low: int, high: int, steps: bool,
             f'<span class="top">{high}</span><span class="low">{low}</span></div></figure>')
 
 
+def scale_of(goods: range, prices: Iterable[float]) -> Tuple[int, int]:
+    """The least and the most dollars of the charts of flights, or of hotel nights, which begin at
+    0."""
+    step, all_prices = 50 if goods is FLIGHTS else 100, list(prices)
+    high, low = round_up(max([step, *all_prices]), step), 0
+    if goods is FLIGHTS:
+        low = int(min(all_prices)) // step * step
+        high = max(high, low + step)
+    return low, high
+
+
 def _price_rows(game: Game, events: Sequence[MarketEvent]) -> Iterator[str]:
     paths: Dict[int, List[Tuple[int, int]]] = defaultdict(list)
     for event in events:
@@ -229,13 +240,8 @@ def _price_rows(game: Game, events: Sequence[MarketEvent]) -> Iterator[str]:
             paths[event.good].append((event.tick, event.dollars))
     for good in FLIGHTS:
         paths[good].append((TICKS, paths[good][-1][1]))
-    for goods, step in ((FLIGHTS, 50), (HOTELS, 100)):
-        top = max([step, *(dollars for good in goods for _, dollars in paths[good])])
-        high = round_up(top, step)
-        low = 0
-        if goods is FLIGHTS:
-            low = min(dollars for good in goods for _, dollars in paths[good]) // step * step
-            high = max(high, low + step)
+    for goods in (FLIGHTS, HOTELS):
+        low, high = scale_of(goods, (dollars for good in goods for _, dollars in paths[good]))
         for group in (goods[:4], goods[4:]):
             charts = []
             for good in group:
@@ -335,12 +341,16 @@ def page(game: Game, log: Log, events: Sequence[MarketEvent], heading: Heading,
          names: Sequence[str], stories: Sequence[Story] = ()) -> str:
     """The page of a game, with the prices and trades of its auctions (`prices.all_events`), what
     the eight agents are called, and their stories, if there are any."""
-    title = html.escape(", ".join(names))
-    parts = ['<!doctype html><html lang="en"><meta charset="utf-8">'
-             '<meta name="viewport" content="width=device-width, initial-scale=1">'
-             f"<title>A game of {title}</title><style>{STYLE.read_text(encoding='ascii')}</style>",
-             _head(game, log, heading), _scores(names, log, events),
-             _spending(names, log, events), _prices(game, events), _tickets(events),
-             "<h2>Teams</h2>", *_teams(game, names, log, events, stories),
-             *([SCRIPT] if stories else [])]
-    return "\n".join(parts) + "</html>\n"
+    return document(f"A game of {html.escape(', '.join(names))}", [
+        _head(game, log, heading), _scores(names, log, events), _spending(names, log, events),
+        _prices(game, events), _tickets(events), "<h2>Teams</h2>",
+        *_teams(game, names, log, events, stories), *([SCRIPT] if stories else [])])
+
+
+def document(title: str, parts: Iterable[str]) -> str:
+    """A page that stands alone. All is given as HTML."""
+    return "\n".join([
+        '<!doctype html><html lang="en"><meta charset="utf-8">'
+        '<meta name="viewport" content="width=device-width, initial-scale=1">'
+        f"<title>{title}</title><style>{STYLE.read_text(encoding='ascii')}</style>",
+        *parts]) + "</html>\n"
