@@ -13,7 +13,7 @@ from geesefuton.experiments import benchmark
 from geesefuton.experiments.plan import Plan
 from geesefuton.experiments.results import Outcome, Row
 from geesefuton.processes import Output
-from tests.helpers import SERVED_GAME, TOP, fake_program
+from tests.helpers import SERVED_GAME, TOP, fake_program, refusal
 
 REFERENCES = ["baseline", "equilibrium", "scenarios", "planner", "trader", "starter"]
 
@@ -99,6 +99,13 @@ class Benchmarks(unittest.TestCase):
         file = os.path.relpath(TOP / "examples" / "agents" / "planner.py")
         _, told, _ = self.run_list("classic", file)
         self.assertEqual(sorted(each["agent"] for each in told["agents"]), sorted(REFERENCES))
+
+    def test_another_agent_with_the_name_of_a_reference_agent(self) -> None:
+        other = self.mine.with_name("planner.py")
+        other.write_text("")
+        status, text = refusal("experiments.benchmark", "classic", other, "--out", self.place / "x")
+        self.assertEqual((status, text.count("\n"), (self.place / "x").exists()), (2, 1, False))
+        self.assertIn("a reference agent has this name", text)
 
 
 if __name__ == "__main__":

@@ -45,8 +45,10 @@ def _words(name: str, agent: str, deals: int) -> List[str]:
     """The words of the tournament that plays a list, or some of its deals."""
     told, folder = json.loads(_file_of(name).read_bytes()), program.examples()
     others = [folder / file for file in told["references"]]
-    if Path(agent).resolve() in others:  # it is one of them
-        others.remove(Path(agent).resolve())
+    own = Path(agent).resolve()
+    if own in others:  # it is one of them
+        others.remove(own)
+        agent = shlex.quote(str(own))
     return [*told["settings"], "--seed", str(told["seed"]),
             "--games", str((deals or told["deals"]) * (1 + len(others))),
             *(f"--against={shlex.quote(str(folder / file))}" for file in told["pool"]),
@@ -109,6 +111,8 @@ def _main() -> int:
     more = ["--resume"] if given.resume else []
     plan = read_plan(parser, make_parser(None).parse_args(
         [*words, *more, f"--out={given.out}"]))
+    if any("/" in entrant.name for entrant in plan.entrants):
+        parser.error(f"{given.agent}: a reference agent has this name: give it another one")
     status, rows, lost = play_in_folder(parser, plan)
     for text in lost:
         tell(f"benchmark: {text}")
