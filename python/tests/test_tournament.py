@@ -344,7 +344,7 @@ class Playing(unittest.TestCase):
             self.assertEqual(self.command("--games", "4", "--summary", str(place)), 143)
         value = json.loads(place.read_text())
         self.assertEqual((len(read_scores(self.place / "run").rows), value["games"]), (8, 1))
-        self.assertEqual((value["planned"], value["stopped"]), (4, True))
+        self.assertEqual((value["planned"], value["is_stopped"]), (4, True))
         self.assertIn("1 of 4 planned games were played: the run was stopped", value["undecided"])
         self.assertIn("tournament: stopped", self.told)
         record = json.loads((self.place / "run" / "run.json").read_text())

@@ -11,7 +11,8 @@ from geesefuton.experiments.results import Outcome
 from geesefuton.experiments.runs import read_scores
 from tests.helpers import PACKAGE, TOP, needs_program, needs_step, run
 
-# An agent that buys the trip of its first client, and one that fails in each of several ways.
+# An agent that buys the trip of its first client, and one that fails in another of four ways each
+# time that it is started.
 BUYER = """
 import sys, time
 from geesefuton.link import Link, inbound, outbound, room
@@ -28,20 +29,26 @@ link.quit()
 FAILING = """
 import os, socket, sys, time
 from geesefuton.link import Link
-word = sys.argv[3]
-if word == "failing":
+def made(folder):
+    try:
+        os.mkdir(folder)
+    except FileExistsError:
+        return False
+    return True
+word, count = sys.argv[3], 0
+while not made(f"{sys.argv[0]}.{count}"):
+    count += 1
+if count % 4 == 0:
     sys.exit(0)
-if word == "failingb":
+if count % 4 == 1:
     raise ValueError("before the game")
-if word == "failingc":
+if count % 4 == 2:
     link = socket.create_connection((sys.argv[1], int(sys.argv[2])))
-    link.sendall(b"HELLO failingc\\n")
+    link.sendall(b"HELLO %s\\n" % word.encode())
     time.sleep(60)
 link = Link.greet(sys.argv[1], int(sys.argv[2]), word)
 link.bid(0, (1, 600))
-if word == "failingd":
-    os.abort()
-time.sleep(60)
+os.abort()
 """
 # An agent that buys a seat at once, and one that does the same but fails where the seat was dear.
 # In four games 32 of them start, so they load no more than they need.
@@ -67,10 +74,12 @@ ask("quit")
 class InTurns(unittest.TestCase):
     def test_an_agent_gains_nothing_by_failing_where_it_does_badly(self) -> None:
         with tempfile.TemporaryDirectory() as folder:
-            for name in ("plays.py", "quits.py"):
+            names = ("agents/plays.py", "agents/quits.py")
+            (Path(folder) / "agents").mkdir()
+            for name in names:
                 (Path(folder) / name).write_text(SEAT_BUYER.replace("{dear}", "325"))
-            done = run("experiments.tournament", "plays.py", "quits.py", "--games", "4", "--turns",
-                       "2", "--seed", "1", "--out", "run", "--summary", "s.json", cwd=folder)
+            done = run("experiments.tournament", *names, "--games", "4", "--turns", "2", "--seed",
+                       "1", "--out", "run", "--summary", "s.json", cwd=folder)
             self.assertEqual(done.returncode, 0, done.stderr)
             value = json.loads((Path(folder) / "s.json").read_text())
         by_name = {agent["agent"]: agent for agent in value["agents"]}
@@ -88,10 +97,10 @@ class Real(unittest.TestCase):
             place = Path(folder)
             (place / "buyer.py").write_text(BUYER)
             (place / "failing.py").write_text(FAILING)
-            # Each of two has four seats, whose words end with nothing, `b`, `c` and `d`.
-            done = run("experiments.tournament", "failing.py", "buyer.py", "--games", "2", "--pace",
-                       "25", "--start", "4", "--after", "0.5", "--out", "run", "--summary",
-                       "s.json", cwd=folder)
+            # Each of two has four seats. Not kept apart, the failing ones count themselves.
+            done = run("experiments.tournament", "failing.py", "buyer.py", "--no-apart", "--games",
+                       "2", "--pace", "25", "--start", "4", "--after", "0.5", "--out", "run",
+                       "--summary", "s.json", cwd=folder)
             self.assertEqual(done.returncode, 0, done.stderr)
             rows = read_scores(place / "run").rows
             ends = sorted(row.end.value for row in rows if row.agent == "failing")
@@ -106,7 +115,7 @@ class Real(unittest.TestCase):
             self.assertEqual(value["agents"][1]["ends"], {"absent": 2, "crashed": 4, "refused": 2})
             log = place / "run" / "games" / "1.0.log"
             self.assertTrue(log.read_text().startswith("taclog 1\n"))
-            self.assertTrue(re.search("failing at seat [0-7] .failingb. counts as crashed: ended "
+            self.assertTrue(re.search("failing at seat [0-7] .failing[b-d]?. counts as crashed: ended "
                                       "with status 1; its last line: ValueError: before the game",
                                       done.stderr))
             made = run("experiments.deals_command", place / "run")
