@@ -78,8 +78,9 @@ class Telling(unittest.TestCase):
         self.assertTrue(text[-1].endswith("with them (--pending) no score changes"), text)
 
     def test_changes_have_their_signs(self) -> None:
-        with mock.patch("geesefuton.hosting.recover_command._scores_of",
-                        side_effect=[[5] * 8, [5, 5, 5, 20, 5, 5, 5, -12]]):
+        rows = [[mock.Mock(score=score) for score in scores]
+                for scores in ([5] * 8, [5, 5, 5, 20, 5, 5, 5, -12])]
+        with mock.patch("geesefuton.hosting.recover_command.read_scores", side_effect=rows):
             _, text = self.run_it([*self.HEAD, asks(4, "own 22")])
         self.assertTrue(text[-1].endswith(f"change: {GAME.words[3]} +15, {GAME.words[7]} -17"),
                         text)

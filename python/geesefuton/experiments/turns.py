@@ -131,10 +131,7 @@ class TurnServer:
             if game.is_stopped:
                 return
             self._exchange(table, b"tick\n", 0)
-            lines = [turner.asked for turner in self._turners]
-            if tick == TICKS:
-                game.last_tick()
-            game.tick(tick, lines)
+            game.tick(tick, [turner.asked for turner in self._turners])
         for turn in range(LAST_TURNS):
             self._take_turns(game, table, TICKS, range(turn, turn + 1))
             if all(turner.is_over or turner.is_silent for turner in self._turners):

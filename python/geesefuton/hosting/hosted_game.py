@@ -21,6 +21,7 @@ from geesefuton.hosting.page_process import SideProcess
 from geesefuton.hosting.relay import Relay
 from geesefuton.hosting.settings import LobbySettings
 from geesefuton.processes import Children
+from geesefuton.records.games import TICKS
 
 LOOK = 0.2  # seconds between two looks at what has waited too long
 
@@ -71,14 +72,13 @@ class HostedGame:
             self.turn(LOOK)
 
     def tick(self, number: int, lines: List[int]) -> None:
-        """A tick has come, before which each agent has sent so many lines."""
+        """A tick has come, before which each agent has sent so many lines. After the last one
+        agents that have not left have a while to do so."""
+        if number == TICKS:
+            self._last = time.monotonic()
+            self.relay.release()
+            self.control.phase = Phase.ENDING
         self.emit(events.Ticked(time.time(), number, tuple(lines)))
-
-    def last_tick(self) -> None:
-        """The last tick has passed: agents that have not left have a while to do so."""
-        self._last = time.monotonic()
-        self.relay.release()
-        self.control.phase = Phase.ENDING
 
     def seconds_left(self) -> float:
         """How long agents that have not left after the last tick are still waited for."""

@@ -16,7 +16,6 @@ from __future__ import annotations
 import argparse
 import sys
 from pathlib import Path
-from typing import List
 
 from geesefuton import program
 from geesefuton.arguments import Parser
@@ -50,10 +49,6 @@ def _summary(reader: JournalReader) -> str:
             "nobody asks anything more")
 
 
-def _scores_of(log: str) -> List[int]:
-    return [row.score for row in read_scores(log)]
-
-
 def _tell_pending(reader: JournalReader, recovery: Recovery, player: Player, log: str) -> None:
     """Tells which requests without a reply are in the log, and what the others would change."""
     assert reader.game is not None
@@ -64,9 +59,9 @@ def _tell_pending(reader: JournalReader, recovery: Recovery, player: Player, log
     if not recovery.left:
         return
     other, _ = Recovery(reader, player, pending=True).log()
-    changed = [f"{word} {there - here:+}"
-               for word, here, there in zip(words, _scores_of(log), _scores_of(other))
-               if here != there]
+    changed = [f"{word} {there.score - here.score:+}"
+               for word, here, there in zip(words, read_scores(log), read_scores(other))
+               if here.score != there.score]
     tell("  the journal does not show whether those left out were made; with them (--pending) "
          + (f"scores change: {', '.join(changed)}" if changed else "no score changes"))
 

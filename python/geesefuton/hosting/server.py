@@ -71,22 +71,15 @@ class ClockServer:
             if relay.started is not None and tick < TICKS:
                 passed = (time.monotonic() - relay.started) * 1000 / game.settings.pace
                 if passed >= tick + 1:
-                    tick = min(TICKS, int(passed))
-                    self._tell_tick(game, tick)
+                    tick = min(TICKS, int(passed))  # some before it may have been passed over
+                    relay.journal.timed(tick=tick)
+                    game.tick(tick, [session.lines for session in relay.sessions])
                 wait = max(0.0, tick + 1 - passed) * game.settings.pace / 1000
             elif tick == TICKS and not is_finished and not game.seconds_left():
                 is_finished = True
                 relay.finish()
             game.turn(wait)
         return server.wait() if output.closed else STOPPED
-
-    def _tell_tick(self, game: HostedGame, tick: int) -> None:
-        """A tick has come; some before it may have been passed over."""
-        game.relay.journal.timed(tick=tick)
-        lines = [session.lines for session in game.relay.sessions]
-        if tick == TICKS:
-            game.last_tick()
-        game.tick(tick, lines)
 
 
 class Server:
