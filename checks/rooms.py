@@ -3,10 +3,10 @@
 
     checks/rooms.py
 
-It fails if a module of python/geesefuton imports from a room above its own or beside it, if it uses
-a private member that another module defines, be it by a class that it extends, if it has 500 lines
-or more, or if the map in python/README.md does not name it. The rooms are listed below, the lowest
-first; those of one line stand beside each other.
+It fails if a module of python/geesefuton imports from a room above its own or beside it, or names a
+module there in a text; if it uses a private member that another module defines, be it by a class
+that it extends; if it has 500 lines or more; or if the map in python/README.md does not name it.
+The rooms are listed below, the lowest first; those of one line stand beside each other.
 """
 
 import ast
@@ -73,8 +73,11 @@ def read_modules(package: Path) -> Dict[str, Module]:
 
 
 def imports_of(module: Module, modules: Dict[str, Module]) -> Iterator[Import]:
-    """What a module imports of the package."""
+    """What a module imports of the package. A text that names a module imports it as well."""
     for node in ast.walk(module.tree):
+        if isinstance(node, ast.Constant) and isinstance(node.value, str):
+            if node.value.partition(":")[0] in modules:
+                yield Import(node.lineno, node.value.partition(":")[0], None, "")
         if isinstance(node, ast.Import):
             for alias in node.names:
                 yield Import(node.lineno, alias.name, None, alias.asname or alias.name)

@@ -47,6 +47,12 @@ class Rooms(unittest.TestCase):
                 self.assertEqual(len(found), 1)
                 self.assertIn("may not import geesefuton.", found[0])
 
+    def test_a_text_that_names_a_module_imports_it(self) -> None:
+        for text in ('RUN = "geesefuton.hosting.lobby"\n', 'RUN = "geesefuton.hosting.lobby:X"\n'):
+            found = self.faults(link=text, hosting_lobby="")
+            self.assertEqual(found, ["link.py:1: link may not import geesefuton.hosting.lobby"])
+            self.assertEqual(self.faults(practice_room=text, hosting_lobby=""), [])
+
     def test_a_room_has_to_be_listed(self) -> None:
         self.assertIn("the room attic is not listed", self.faults(attic_things="")[0])
 
