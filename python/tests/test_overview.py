@@ -24,7 +24,7 @@ from tests.test_summary import row
 if not study.missing("these tests"):
     from geesefuton.experiments.overview import (PARTS, PREDICTORS, SIDES, figures_of, fills_of,
                                                  optimum, overview_of, table_of)
-    from geesefuton.experiments.overview_page import page
+    from geesefuton.experiments.overview_page import page, sections
 
 TAKEN, DONE = read_entry_reply("taken 0 0"), read_entry_reply("done")
 
@@ -138,6 +138,12 @@ class Games(Case):
         best = self.overview.order[0]
         means = self.by_agent[best][[*PARTS, "score"]].mean()
         self.assertEqual(rows[0], [best, "3", *(f"{part:.0f}" for part in means)])
+
+    def test_games_without_trades_have_all_sections(self) -> None:
+        empty = overview_of([{**figures, "trades": [], "fills": []} for figures in self.figures])
+        for each in sections(empty):
+            self.assertTrue(all(kind.kind in "fi" for kind in each.shown.dtypes), each.name)
+        self.assertEqual(page(empty, "run", self.rows[0], summarize(self.rows)).count("<h2>"), 9)
 
     def test_names_are_escaped(self) -> None:
         rows = [replace(row, agent=f"<zz{row.agent} & co") for row in self.rows]

@@ -34,6 +34,7 @@ COLUMNS: Dict[str, List[object]] = {
     "prices": ["deal", "good", "closes", *range(TICKS + 1)],
     "trades": ["good", "units", "price"],
     "games": ["agents", "had", "best", "bound"]}
+TEXTS = ("deal", "agent", "side", "agents")  # columns that are no numbers
 Figures = Dict[str, List[Sequence[object]]]  # of a game: rows of each table
 
 
@@ -78,7 +79,8 @@ def overview_of(games: Iterable[Figures]) -> Overview:
     for game in games:
         for table, more in game.items():
             rows[table] += more
-    return Overview(*(pd.DataFrame(rows[table], columns=columns)
+    return Overview(*(pd.DataFrame(rows[table], columns=columns).astype(
+        {column: float for column in columns if column not in TEXTS})
                       for table, columns in COLUMNS.items()))
 
 
