@@ -4,11 +4,11 @@
 
     checks/by_hand.py [--pace 3000]
 
-Each seat buys its flights, bids for rooms, offers a ticket and takes it back, asks the solver, and
-is refused once. In the end the log has to be sound, with bids of all eight agents that were
-admitted, and `tac vouch` has to find in it the whole of each seat's link, whose bytes the journal
-has. It takes some four minutes. It ends with 0 if all that was seen, with 1 if not, and is
-skipped, with 0, if there is no Chromium or no program.
+Each seat buys what its board of trips lacks, offers a ticket and takes it back, and is refused
+once. In the end each page has to show the seat's rank, the log has to be sound, with bids of all
+eight agents that were admitted, and `tac vouch` has to find in it the whole of each seat's link,
+whose bytes the journal has. It takes some four minutes. It ends with 0 if all that was seen, with 1
+if not, and is skipped, with 0, if there is no Chromium or no program.
 """
 
 import re
@@ -32,22 +32,23 @@ from geesefuton.records.logs import Log, read_log
 from geesefuton.records.replies import Taken
 
 LIMIT = 600.0  # seconds that all of it may take besides its ticks, on a busy machine
-DUE = ("a ticket is offered", "an offer is taken back", "the solver is asked",
-       "a refusal says why", "the score is shown")  # what each seat has to see
+SOON = 10.0  # seconds that an answer may take, on a busy machine
+DUE = ("a ticket is offered", "an offer is taken back", "a refusal says why",
+       "the rank is shown")  # what each seat has to see
 
 
 class ByHandError(Exception):
     """The game could not be played by hand."""
 
 
-def bid(tab: Tab, tile: str, button: str, sell: bool = False) -> bool:
+def bid(tab: Tab, tile: str, button: str, sell: bool = False, kind: str = "button.tile") -> bool:
     """Bids by two taps, or three to sell; whether the panel could be used so."""
-    if not tab.tap("button.tile", tile):
+    if not tab.tap(kind, tile):
         return False
     if sell:
         tab.tap("label", "Sell")
     has_tapped = tab.tap("dialog button", button)
-    until = time.monotonic() + 3
+    until = time.monotonic() + SOON
     while tab.value("document.querySelector('dialog').open") and time.monotonic() < until:
         if tab.value("document.getElementById('refused').textContent"):
             break
@@ -76,15 +77,12 @@ class Player:
         elif step == 1:
             self.tab.tap("button.tile", f"Museum, night {first}")
             self._note("an offer is taken back", self.tab.tap("dialog button", "Withdraw"))
-        elif step == 2:
-            self._note("the solver is asked", self.tab.tap("button", "Best plan"))
-        elif step in (3, 4, 5):
+        elif step in (2, 3, 4):
             bid(self.tab, f"(Shanties|Towers), night {other}", "Bid to buy")
-        elif step == 6:
+        elif step == 5:
             self._refused(other)
         else:
-            wants = r"Flights .*: price .*you have (\d) of (?!\1)[1-8] wanted"
-            bid(self.tab, wants, "Buy") or bid(self.tab, "Towers, night .* wanted$", "Bid to buy")
+            bid(self.tab, "Client .*to be had", "uy", kind="button.part")
 
     def _refused(self, night: int) -> None:
         """A bid for 17 units, which is more than the buttons allow."""
@@ -92,7 +90,7 @@ class Player:
         self.tab.tap("dialog input", "^$")
         self.tab.call("Input.insertText", text="17")
         self.tab.tap("dialog button.main", "uy")
-        until = time.monotonic() + 3
+        until = time.monotonic() + SOON
         while not self.tab.sees("at most 16 units") and time.monotonic() < until:
             time.sleep(0.05)
         self._note("a refusal says why", self.tab.sees("at most 16 units"))
@@ -132,7 +130,7 @@ def play(children: Children, folder: Path, pace: int) -> List[Player]:
             if player.tab.sees("[0-9] of 54"):
                 player.play()
             elif player.tab.sees("Game over"):
-                player.seen["the score is shown"] = player.tab.sees("Your score is")
+                player.seen["the rank is shown"] = player.tab.sees("agent [0-7]: [1-8][a-z]+ of 8")
         time.sleep(0.1)
     if lobby.poll() is None:
         raise ByHandError("the game did not end")

@@ -39,8 +39,7 @@ link.sendall(f"hello {sys.argv[3]}\\n".encode())
 while True:
     time.sleep(1)
 """
-# A browser: it opens the seat whose address it reads, asks the solver, and stays until the game is
-# over.
+# A browser: it opens the seat whose address it reads, and stays until the game is over.
 BROWSER = """import json, sys, time, urllib.request
 def ask(what, given):
     body = json.dumps(given).encode()
@@ -51,8 +50,6 @@ place = sys.stdin.readline().split()[1]
 page, phase = ask("open", {})["page"], ""
 while phase not in ("over", "failed"):
     phase = ask("state", {"page": page})["phase"]
-    if phase == "running":
-        ask("advice", {"page": page})
     time.sleep(0.2)
 """
 

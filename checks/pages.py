@@ -4,8 +4,8 @@ was cut off is back by itself, and starters are handed out.
 
     checks/pages.py [--pictures FOLDER] [--pace 2000]
 
-It looks at the seat's page at 390 and 1280 pixels, light and dark, before a stand-in of a server:
-each thing that can be used has a name for a screen reader, and the keyboard reaches it. With
+It looks at the seat's page at 320, 390 and 1280 pixels, light and dark, before a stand-in of a
+server: each thing that can be used has a name for a screen reader, and the keyboard reaches it. With
 --pictures it plays a game of eight agents besides, and keeps pictures of the board at 1280 x 720
 and 390 pixels, light and dark, while it waits, at ticks 14, 36 and 54, and after the game; there
 texts have to be large enough. That needs the program, and takes some minutes. It ends with 0 if all
@@ -75,6 +75,7 @@ class Look(NamedTuple):
 
 LOOKS = [Look(width, height, theme) for width, height in ((1280, 720), (390, 844))
          for theme in ("light", "dark")]
+NARROW = Look(320, 700, "light")
 
 
 def wait_for(what: str, is_there: Callable[[], bool], most: float = MOST) -> None:
@@ -99,7 +100,7 @@ def asked(server: SeatServer, line: str) -> None:
 def seat(children: Children, server: SeatServer) -> Iterator[str]:
     """Runs the command that serves the page of a seat, whose address is given."""
     words = [sys.executable, str(TOP / "tools" / "seat"), "127.0.0.1", str(server.port), "seat3",
-             "--page", str(free_port()), "--pace", "60000", "--no-advice"]
+             "--page", str(free_port()), "--pace", "60000"]
     process = children.start(words, stdin=subprocess.DEVNULL, stdout=subprocess.PIPE,
                              stderr=subprocess.STDOUT)
     assert process.stdout is not None
@@ -157,6 +158,11 @@ def play_by_keys(tab: Tab, server: SeatServer) -> None:
     """Bids, is refused, sells and withdraws, by the keyboard alone."""
     keys = Keyboard(tab)
     wait_for("the market", lambda: tab.sees("Flights in"))
+    keys.reach("^Client 1: Flights in, day 1")
+    keys.press("Enter")
+    keys.reach("^(Bid to b|B)uy ")
+    keys.press("Escape")
+    keys.reach("^Client .: Flights in, day 2", "ArrowRight")
     keys.reach("^Flights in, day 1")
     keys.reach("^Shoreline Shanties, night 1: price 0", "ArrowDown")
     keys.press("Enter")
@@ -203,7 +209,7 @@ def nameless(tab: Tab) -> List[str]:
 def look_at_seats(children: Children, browser: Browser, folder: Optional[Path]) -> List[str]:
     """What is wrong with the seat's page."""
     faults = []
-    for look in LOOKS:
+    for look in (*LOOKS, NARROW):
         server = SeatServer()
         with contextlib.closing(server), seat(children, server) as address:
             tab = look.tab(browser, address)

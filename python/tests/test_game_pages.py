@@ -247,7 +247,8 @@ class Told(unittest.TestCase):
         told = self.told(1.0, page=7080, start=20.0, late=3, names=True, form="json")
         self.assertEqual(told, {
             "port": 7000, "form": "json", "pace": 500, "page": 7080, "journal": "my.journal",
-            "late": 3, "names": True, "by_hand": None, "advice": True, "seats": [], "begins": 19.0})
+            "late": 3, "names": True, "words": WORDS, "by_hand": None,
+            "advice": True, "seats": [], "begins": 19.0})
         told = self.told(25.0, by_hand=7090, start=20.0, advice=False)
         self.assertEqual((told["page"], told["by_hand"], told["begins"], told["advice"]),
                          (None, 7090, 0.0, False))

@@ -58,9 +58,22 @@ class Filled(unittest.TestCase):
     def test_where_the_starters_are_not_installed_nothing_is_handed_out(self) -> None:
         with mock.patch.object(program, "examples", lambda: Path("/nowhere")):
             handouts = Handouts(7000)
-        self.assertFalse(handouts.are_there)
-        self.assertIsNone(handouts.answer("/join", ""))
+        self.assertIn("<section hidden>", text_of(handouts, "join"))
         self.assertIsNone(handouts.answer("/starter.py", ""))
+
+    def test_a_game_in_json_has_no_starters(self) -> None:
+        handouts = Handouts(7000, has_starters=False)
+        self.assertIn("<section hidden>", text_of(handouts, "join"))
+        self.assertNotIn("<section hidden>", text_of(Handouts(7000), "join"))
+        self.assertIsNone(handouts.answer("/starter.py", ""))
+
+    def test_screens_say_where_to_join(self) -> None:
+        with mock.patch("geesefuton.hosting.handouts.qr_picture", lambda text: f"code {text}"):
+            self.assertEqual(Handouts(7000, "10.0.0.1", 7080).told, {
+                "port": 7000, "address": "10.0.0.1", "join": "http://10.0.0.1:7080/join",
+                "code": "code http://10.0.0.1:7080/join"})
+            self.assertEqual(Handouts(7000, "", 7080).told["code"], "")
+            self.assertEqual(Handouts(7000, "10.0.0.1").told["join"], "")
 
     def test_the_page_loads_nothing_from_elsewhere(self) -> None:
         page = text_of(Handouts(7000), "join")

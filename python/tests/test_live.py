@@ -41,14 +41,14 @@ class Page(unittest.TestCase):
         self.assertEqual(re.findall(r"<link[^>]*>", text), ['<link rel="icon" href="data:,">'])
 
     def test_a_screen_waits_for_two_beats_until_it_says_that_it_hears_nothing(self) -> None:
-        quiet = re.findall(r"QUIET = (\d+)", PAGE.read_text())
+        quiet = re.findall(rb"QUIET = (\d+)", read_page(PAGE))
         self.assertEqual(len(quiet), 1)
         self.assertGreaterEqual(int(quiet[0]), 2 * 1000 * BEAT)
 
 
 def projection(tick: int) -> Projection:
-    return Projection(tick, [[tick, 0, 0]] * 8, [[tick, 0, 0, tick]] * 8, [], [], [tick] * 8, [],
-                      [])
+    return Projection(tick, [[tick, 0, 0, 0]] * 8, [[tick, 0, 0, tick]] * 8, [], [], [tick] * 8,
+                      [], [], [])
 
 
 class Lateness(unittest.TestCase):

@@ -6,8 +6,9 @@ from typing import Dict, List
 
 from tests.helpers import PACKAGE
 
-PAGES = ("hosting/live.html", "hosting/join.html", "playing/seat.html", "practice/room.html")
-TEXTS = ("ink", "soft", "faint", "accent", "good", "warn", "c0", "c1", "c2", "c3")
+PAGES = ("hosting/live.html", "hosting/join.html", "playing/seat.html", "practice/room.html",
+         "records/report.css")
+TEXTS = ("ink", "soft", "faint", "accent", "good", "warn", "c0", "c1", "c2", "c3", "c4")
 SHAPES = ("edge", "bar", "minus")
 
 
@@ -47,16 +48,22 @@ class Colours(unittest.TestCase):
     def test_all_pages_have_these_colours_and_no_others(self) -> None:
         for page in PAGES:
             text = (PACKAGE / "geesefuton" / page).read_text(encoding="utf-8")
-            style = text[text.index("<style>"):text.index("</style>")]
-            self.assertEqual(style.count("/* style.css */"), 1, page)
+            style = text if page.endswith(".css") else \
+                text[text.index("<style>"):text.index("</style>")]
+            self.assertEqual(style.count("/* style.css */"), style is not text, page)
+            style = style.replace("#000", "")  # what a mask shows
             self.assertEqual(re.findall(r"#[0-9a-f]{3,8}\b|--\w+: #", style), [], page)
-            self.assertLessEqual(set(re.findall(r"var\(--(\w+)\)", text)) - {"row", "place"},
+            self.assertLessEqual(set(re.findall(r"var\(--(\w+)\)", text)) - {"row", "fade"},
                                  set(THEMES[0]), page)
 
     def test_texts(self) -> None:
         self.check(TEXTS, 4.5)
         for colours in THEMES:
-            self.assertGreaterEqual(contrast(colours["on"], colours["accent"]), 4.5)
+            for name, ground in (("on", "accent"), ("good", "track"), ("warn", "track"),
+                                 ("soft", "track"), ("accent", "tint"),
+                                 ("ink", "tint"), ("paper", "ink"), ("paper", "warn")):
+                with self.subTest(name=name, ground=ground):
+                    self.assertGreaterEqual(contrast(colours[name], colours[ground]), 4.5)
 
     def test_edges_and_bars(self) -> None:
         self.check(SHAPES, 3.0)

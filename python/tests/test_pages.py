@@ -341,13 +341,15 @@ class Telling(unittest.TestCase):
 
 
 class Style(unittest.TestCase):
-    def test_a_page_has_the_style_in_it(self) -> None:
+    def test_a_page_has_what_all_share_in_it(self) -> None:
         with tempfile.TemporaryDirectory() as folder:
             file = Path(folder, "a.html")
-            file.write_text("<style>\n/* style.css */\nb { c: d }\n</style>")
+            file.write_text("<style>\n/* style.css */\nb { c: d }\n</style>\n"
+                            "<script>\n/* page.js */\n\ne();\n</script>")
             text = read_page(file).decode()
-        self.assertRegex(text, r"(?s)^<style>\n:root \{.*\}\nb \{ c: d \}\n</style>$")
-        self.assertNotIn(pages.STYLE, text)
+        self.assertRegex(text, r"(?s)^<style>\n:root \{.*\}\nb \{ c: d \}\n</style>\n"
+                               r"<script>\n\"use strict\";\n.*;\n\ne\(\);\n</script>$")
+        self.assertFalse([name for name in pages.SHARED if name in text])
 
 
 if __name__ == "__main__":

@@ -115,7 +115,7 @@ class Plans(unittest.TestCase):
         return project(begun(tick=tick), [], player).plans
 
     def test_in_the_end_they_are_the_scores(self) -> None:
-        self.assertEqual(self.plans(54), [[row.score, row.cash, 0] for row in self.LOG.scores])
+        self.assertEqual(self.plans(54), [[row.score, row.cash, 0, 0] for row in self.LOG.scores])
 
     def test_before_it_the_clocks_later_calls_do_not_count(self) -> None:
         ticks = ticks_by_log(GAME, self.LOG).entries
@@ -132,11 +132,11 @@ class Plans(unittest.TestCase):
                                 cash[agent] += sign * trade.units * trade.price
             plans = self.plans(tick)
             self.assertEqual([plan[1] for plan in plans], cash)
-            for agent, (total, _, to_buy) in enumerate(plans):
+            for agent, (total, _, to_buy, _) in enumerate(plans):
                 best, prices = accounts.plan(agent), accounts.prices_for(agent)
                 due = sum(units * (prices[good] or 0) for good, units in enumerate(best.missing))
                 self.assertEqual((total - cash[agent], to_buy), (best.value, due))
-            self.assertTrue(all(to_buy for *_, to_buy in plans) or tick)
+            self.assertTrue(all(to_buy for *_, to_buy, _ in plans) or tick)
 
 
 def replies_to_bids() -> Dict[Tuple[int, int], float]:
@@ -160,11 +160,11 @@ class Views(unittest.TestCase):
         return View(late, by_word).state(reader, nights, secret, is_final)
 
     def secret(self, **more: Any) -> Projection:
-        return Projection(**{"tick": 3, "plans": [[9, agent, 0] for agent in range(8)],
+        return Projection(**{"tick": 3, "plans": [[9, agent, 0, 0] for agent in range(8)],
                              "scores": [[agent, 0, 0, agent] for agent in range(8)],
                              "asks": [night.asks for night in nights_of(begun())],
                              "trades": [], "asked": list(range(8)),
-                             "silent": [], "refused": [], **more})
+                             "silent": [], "refused": [], "empty": [], **more})
 
     def test_before_the_game(self) -> None:
         reader = JournalReader()
@@ -213,7 +213,7 @@ class Views(unittest.TestCase):
         self.assertEqual(state["asks"], asks)
         self.assertEqual([(agent["plan"], agent["score"], agent["asked"])
                           for agent in state["agents"]],
-                         [([9, agent, 0], [agent, 0, 0, agent], agent) for agent in range(8)])
+                         [([9, agent, 0, 0], [agent, 0, 0, agent], agent) for agent in range(8)])
         plain = self.state(begun(tick=9))
         self.assertEqual([set(agent) for agent in plain["agents"]], [{"name", "here"}] * 8)
         self.assertFalse({"asks", "trades", "traded"} & set(plain))
@@ -254,8 +254,8 @@ class Showing(unittest.TestCase):
         reader = of_text(LINES[:next(place for place, line in enumerate(LINES)
                                      if line.startswith('{"tick":20,'))])
         nights = nights_of(reader)
-        made = Projection(9, [[4000, -3, 70]] * 8, [], [], [[3.0, 20, 1, 2, 70]] * 401,
-                          [7] * 8, [1, 5], [4])
+        made = Projection(9, [[4000, -3, 70, 9]] * 8, [], [], [[3.0, 20, 1, 2, 70]] * 401,
+                          [7] * 8, [1, 5], [4], [6])
         early = View(6, False).state(reader, nights, None, False)
         late = View(6, False).state(reader, nights, made, False)
         self.assertFalse({"asks", "trades", "traded"} & set(early))
@@ -273,7 +273,9 @@ class Showing(unittest.TestCase):
         self.assertEqual(late["agents"][4]["doing"], "refused")
         self.assertEqual(late["agents"][1].get("doing"), "silent" if reader.agents[1].is_here
                          else None)
-        self.assertEqual(late["agents"][0]["plan"], [4000, -3, 70])
+        self.assertEqual(late["agents"][0]["plan"], [4000, -3, 70, 9])
+        self.assertEqual([agent["empty"] for agent in late["agents"]],
+                         [agent == 6 for agent in range(8)])
         self.assertNotIn("score", late["agents"][0])
         at_once = View(0, False).state(reader, nights, made, False)
         self.assertEqual([len(night["closed"]) for night in at_once["hotels"] if night["closed"]],

@@ -196,9 +196,11 @@ class Teams(Case):
         file = self.place / "teams.csv"
         file.write_text("<Red>,r3d\nB & C,b7\n")
         teams = read_teams(file, self.path)
-        text = slips_of(teams, "10.0.0.1", 7000, False)
+        text = slips_of(teams, "10.0.0.1", 7000, 7080, False)
         self.assertIn("python3 mine.py 10.0.0.1 7000 r3d --again", text)
-        page = slips_of(teams, "10.0.0.1", 7000, True)
+        self.assertIn("Join at http://10.0.0.1:7080/join, or run:", text)
+        self.assertNotIn("Join", slips_of(teams, "10.0.0.1", 7000, None, False))
+        page = slips_of(teams, "10.0.0.1", 7000, 7080, True)
         self.assertEqual((page.count("<section>"), page.count("&lt;Red&gt;"), "<Red>" in page),
                          (2, 1, False))
         self.assertIn("<h2>B &amp; C</h2>", page)

@@ -138,7 +138,7 @@ class Rooms(Case):
         self.assertEqual([row[:2] + row[3:] for row in last["table"]],
                          [[1, "seat0", first, None, first, first],
                           [2, "seat1", second, None, second, second]])
-        self.assertEqual((last["commitment"], last["last"]), ("", [2, "8"]))
+        self.assertEqual((last["commitment"], last["last"][:2]), ("", [2, "8"]))
         self.assertEqual(self.told, [
             "game 1 of `tac make 7` counts; first of 1: seat0",
             "game 2 of `tac make 8` counts; first of 2: seat0",

@@ -48,6 +48,9 @@ class Live:
             raise Live.fault
         await asyncio.Event().wait()
 
+    def results(self) -> List[Tuple[str, int]]:
+        return [("seat0", 700), ("seat1", 300)]
+
     async def project(self) -> None:
         if Live.fails:
             raise KeyError("hotel 9")
@@ -62,7 +65,7 @@ class Pages(unittest.TestCase):
         self.place = Path(place.name)
         self.now, self.told = 1000.0, list[str]()
         self.steps: List[Step] = []
-        self.screens = Screens(b"")
+        self.screens = Screens(b"", 7080)
         self.until, sleep = 0.0, asyncio.sleep
         self.last: List[int] = []  # which states were said to be the last one
         self.shown: List[Tuple[float, Dict[str, Any], bytes]] = []
@@ -94,6 +97,7 @@ class Pages(unittest.TestCase):
         file = self.place / (journal or "")
         (self.place / "board").write_text(json.dumps({
             "journal": journal and str(file), "names": names, "is_over": is_over,
+            "words": {"red7k": "red"},
             "room": {"phase": "room", "begins": begins, "port": 7000, "address": "10.0.0.1",
                      **room}}))
 
@@ -125,7 +129,8 @@ class Pages(unittest.TestCase):
         self.assertEqual([(state["left"], state["game"]) for _, state, _ in self.shown],
                          [(None, 1), (2, 1), (1, 1), (0, 1)])
         self.assertEqual({shown for *_, shown in self.shown}, {ROOM})
-        self.assertEqual({state["starters"] for _, state, _ in self.shown}, {True})
+        self.assertEqual({state["join"] for _, state, _ in self.shown},
+                         {"http://10.0.0.1:7080/join"})
         self.assertTrue(2.0 <= self.shown[1][0] <= 2.3)
 
     def test_starters_are_handed_out_with_the_port_of_the_room_in_them(self) -> None:
@@ -179,6 +184,18 @@ class Pages(unittest.TestCase):
                           for _, state, _ in self.shown],
                          [["red", "house planner"], ["red", "blue"]])
         self.assertEqual({shown for *_, shown in self.shown}, {LIVE})
+
+    def test_who_has_played_by_hand_gets_the_scores_once(self) -> None:
+        tables = [mock.Mock(results=[], seat=mock.Mock(phase=phase)) for phase in ("over", "idle")]
+        tables[0].end.side_effect = lambda results: setattr(tables[0], "results", results)
+        self.screens.site.tables.extend(tables)
+        name = self.journal("0001.journal")
+        self.board(name, ["red", "house planner"])
+        self.run_it(9.0, (3.0, lambda: setattr(Live, "is_done", True)))
+        tables[0].end.assert_called_once_with([("red", 700), ("house planner", 300)])
+        tables[1].end.assert_not_called()
+        self.assertEqual((self.screens.site.host.port, self.screens.site.host.names),
+                         (7000, {"red7k": "red"}))
 
     def test_a_game_that_cannot_be_shown_is_told_once_and_the_room_is(self) -> None:
         self.board("none.journal")

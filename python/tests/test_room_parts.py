@@ -260,8 +260,9 @@ class Boards(Case):
             {"board": str(file), "port": 7080, "late": 6}).encode() + b"\n")
         self.assertEqual(self.shown(), {
             "journal": None, "names": ["a"], "room": {"game": 1, "address": "10.0.0.1"},
-            "is_over": False})
-        made.show(Path("0001.journal"), ["b"], {"game": 1})
+            "words": {}, "is_over": False})
+        made.show(Path("0001.journal"), ["b"], {"game": 1}, {"red7k": "red"})
+        self.assertEqual(self.shown()["words"], {"red7k": "red"})
         self.assertEqual(self.shown()["journal"], "0001.journal")
         self.assertEqual(self.children.start.call_count, 1)
         self.assertEqual([each.name for each in self.path.iterdir()], [file.name])

@@ -81,8 +81,7 @@ class Seats(Case):
         state = self.wait(lambda state: bool(state["calls"]))
         self.assertEqual(state["goods"][9][1], ((2, 70),))
         self.assertEqual(state["calls"][0]["what"], "Shoreline Shanties, night 2: buy 2 at 70")
-        self.assertEqual(self.seat.holdings(), [0] * 28)
-        self.assertEqual(self.seat.holdings(with_standing=True)[9], 2)
+        self.assertEqual(self.seat.state()["goods"][9], [0, ((2, 70),)])
 
     def test_a_withdrawal(self) -> None:
         self.begin()

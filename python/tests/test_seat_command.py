@@ -111,7 +111,7 @@ class SeatCommands(unittest.TestCase):
 
     def test_what_is_printed(self) -> None:
         seats = [("red", "aa"), ("blue", "bb")]
-        with mock.patch.object(seat_command.shutil, "which", lambda _: None):
+        with mock.patch("geesefuton.network.addresses.shutil.which", lambda _: None):
             self.assertEqual(list(address_lines(seats, 7090, "fe80::1")), [
                 "red: http://[fe80::1]:7090/aa/", "blue: http://[fe80::1]:7090/bb/"])
             for found, lines in (

@@ -4,13 +4,14 @@ import json
 import re
 import threading
 import unittest
-from typing import Any, Dict, Optional, Tuple
+from typing import Any, Dict, List, Optional, Tuple
 from unittest import mock
 
 from geesefuton.network.addresses import listen
-from geesefuton.network.pages import Faults, PageServer, page_gate
-from geesefuton.playing.seat_page import Pages, Site, Table, make_site
-from geesefuton.program import ProgramError
+from geesefuton.network.gate import Gate, Visit
+from geesefuton.network.pages import Faults, PageServer, Request, page_gate
+from geesefuton.playing.seat_page import Host, Pages, Site, Table
+from geesefuton.playing.trip_board import HELD, TripBoard
 from tests.test_seat import MOST, Case
 
 TOKEN = "abcdefgh23"
@@ -72,8 +73,11 @@ class Served(Case):
 
         async def serve() -> None:
             self.loop, self.ended = asyncio.get_running_loop(), asyncio.Event()
-            self.table = Table(self.seat, Pages(), asyncio.Lock(), TOKEN)
-            server = PageServer(Site([self.table]).answer, page_gate(), Faults(self.fail))
+            host = Host("127.0.0.1", self.server.port)
+            self.table = Table(self.seat, Pages(), TripBoard(True), TOKEN, "red7k", host)
+            site = Site(host)
+            site.tables.append(self.table)
+            server = PageServer(site.answer, page_gate(), Faults(self.fail))
             with listen(0) as listener:
                 self.port = listener.getsockname()[1]
                 serving = asyncio.ensure_future(server.serve(listener))
@@ -87,9 +91,6 @@ class Served(Case):
         self.addCleanup(thread.join)
         ready.wait(MOST)
         self.addCleanup(lambda: self.loop.call_soon_threadsafe(self.ended.set))
-        patch = mock.patch("geesefuton.playing.seat_page.PAUSE", 0.0)
-        patch.start()
-        self.addCleanup(patch.stop)
 
     def wait(self, holds: Any) -> Dict[str, Any]:
         """The first state that is so; the table is told of each."""
@@ -146,7 +147,7 @@ class Served(Case):
     def test_a_page_that_is_opened_takes_the_seat_and_bids(self) -> None:
         page = self.open()
         state = self.state(page)
-        self.assertEqual((state["plays"], state["advice"], len(state["clients"])), (True, True, 8))
+        self.assertEqual((state["plays"], state["again"], len(state["clients"])), (True, True, 8))
         status, answer = self.ask("bid", page=page, good=9, points=[[2, 70]])
         self.assertEqual((status, answer["done"]), (200, True))
         self.assertIn("bid 9 ((2 70))", self.server.heard)
@@ -197,108 +198,109 @@ class Served(Case):
             for given in (None, "7", 7.5):  # none of these is a version
                 version = self.ask("state", page=page, after=given)[1]["version"]
             self.assertGreater(self.ask("state", page=page, after=version)[1]["version"], version)
-        self.table._solver = None
         self.end()
         version = self.state(page)["version"]
         with mock.patch("geesefuton.playing.seat_page.WAIT", 0.01):  # and not longer than so
             self.assertEqual(self.ask("state", page=page, after=version)[1]["version"], version)
 
-    def test_advice_is_asked_for_and_can_be_switched_off(self) -> None:
+    def test_a_state_has_the_board_of_trips_and_the_name(self) -> None:
         page = self.open()
-        with mock.patch("geesefuton.playing.seat_page.counsel") as counsel:
-            counsel.return_value = {"total": 7}
-            self.server.standing[9] = "((2 70))"
-            self.ask("bid", page=page, good=9, points=[[2, 70]])
-            self.assertEqual(self.ask("advice", page=page), (200, {"total": 7}))
-            self.ask("advice", page=page, standing=True)
-            self.assertEqual([call[0][0][9] for call in counsel.call_args_list], [0, 2])
-            counsel.side_effect = ProgramError("there is no program")
-            status, answer = self.ask("advice", page=page)
-        self.assertEqual((status, answer["text"]),
-                         (503, "The solver cannot be asked: there is no program"))
-        self.table._solver = None
-        self.assertEqual(self.ask("advice", page=page)[0], 403)
-        self.assertFalse(self.state(page)["advice"])
+        state = self.state(page)
+        self.assertEqual((len(state["board"]["trips"]), state["me"], state["name"]),
+                         (8, 3, "red"))
+        self.server.units[0] = 2
+        self.ask("bid", page=page, good=0, points=[[2, 300]])
+        self.assertEqual([part for trip in self.state(page)["board"]["trips"]
+                          for part in trip["parts"] if part[0] == 0],
+                         [[0, HELD, None]] * 2)
 
-    def test_a_seat_asks_the_solver_one_thing_at_a_time(self) -> None:
-        page, begun, may_answer = self.open(), threading.Event(), threading.Event()
+    def test_two_pages_are_shown_the_same_board(self) -> None:
+        first, later = self.open(), self.open()
+        threads = [threading.Thread(target=lambda: boards.append(self.state(page)["board"]))
+                   for page in (first, later) * 4]
+        boards: List[Any] = []
+        for thread in threads:
+            thread.start()
+        for thread in threads:
+            thread.join(MOST)
+        self.assertEqual(boards, [boards[0]] * 8)
 
-        def solve(*_: Any) -> Dict[str, Any]:
-            begun.set()
-            may_answer.wait(MOST)
-            return {"total": 7}
-
-        with mock.patch("geesefuton.playing.seat_page.counsel", side_effect=solve) as counsel:
-            first = threading.Thread(target=lambda: self.ask("advice", page=page))
-            first.start()
-            begun.wait(MOST)
-            self.assertEqual([self.ask("advice", page=page)[0] for _ in range(9)], [429] * 9)
-            may_answer.set()
-            first.join(MOST)
-            self.assertEqual(self.ask("advice", page=page), (200, {"total": 7}))
-            self.assertEqual(counsel.call_count, 2)
-
-    def test_after_the_game_the_result_is_told(self) -> None:
+    def test_after_the_game_the_result_is_told_once_the_host_knows_it(self) -> None:
         page = self.open()
-        with mock.patch("geesefuton.playing.seat_page.counsel", return_value={"total": 7}):
-            self.end()
-            while self.state(page)["result"] is None:
-                pass  # a state is waited for
-            self.assertEqual(self.state(page)["result"], {"total": 7})
+        self.table._host.has_results = True
+        self.end()
+        self.assertEqual((self.state(page)["phase"], self.state(page)["results"]), ("over", []))
+        self.assertFalse(self.table.is_told)
+        self.table.end([(f"agent {agent}", 100 * agent) for agent in range(8)])
+        self.assertEqual(self.state(page)["results"][3], ["agent 3", 300])
         self.assertTrue(self.table.is_told)
         page = self.ask("open", page=page)[1]["page"]
         self.assertEqual(self.seat.phase, "over")
         self.assertFalse(self.ask("bid", page=page, good=9, points=[[1, 70]])[1]["done"])
 
-    def test_the_solver_is_asked_once_for_the_result_and_no_page_waits_for_it(self) -> None:
-        page, may_answer = self.open(), threading.Event()
-
-        def solve(*_: Any) -> Dict[str, Any]:
-            may_answer.wait(MOST)
-            return {"total": 7}
-
-        with mock.patch("geesefuton.playing.seat_page.counsel", side_effect=solve) as counsel:
-            self.end()
-            self.assertIsNone(self.state(page)["result"])
-            self.assertFalse(self.table.is_told)
-            may_answer.set()
-            while self.state(page)["result"] is None:
-                pass  # a state is waited for
-            self.assertEqual(self.state(page)["result"], {"total": 7})
-            self.assertEqual(counsel.call_count, 1)
-        self.assertTrue(self.table.is_told)
-
-    def test_without_a_solver_there_is_no_result(self) -> None:
+    def test_a_page_alone_knows_its_own_score(self) -> None:
         page = self.open()
-        self.table._solver = None
+        self.server.cash = -7
         self.end()
-        self.assertNotIn("result", self.state(page))
+        state = self.state(page)
+        self.assertEqual((state["results"], state["board"]["worth"]), ([], -7))
         self.assertTrue(self.table.is_told)
 
-    def test_one_that_cannot_be_asked_gives_no_result(self) -> None:
+    def test_the_next_game_has_no_result_yet(self) -> None:
         page = self.open()
-        with mock.patch("geesefuton.playing.seat_page.counsel", side_effect=ProgramError("none")):
-            self.end()
-            while self.state(page).get("result", 0) is None:
-                pass  # a state is waited for
-        self.assertNotIn("result", self.state(page))
+        self.end()
+        self.table.end([("agent 0", 1)] * 8)
+        self.server.closed = []
+        self.ask("again", page=page)
+        self.wait(lambda state: state["phase"] == "running")
+        self.assertEqual(self.state(page)["results"], [])
 
 
 class Sites(unittest.TestCase):
-    def test_each_seat_has_a_table_at_its_token_and_all_share_a_solver(self) -> None:
-        async def made(has_advice: bool) -> Site:
-            return make_site("localhost", 7000, [("red", "a"), ("blue", "b")], "json", 500,
-                             has_advice)
+    def site(self, *seats: Tuple[str, str]) -> Site:
+        host = Host("localhost", 7000, "json", 500, names={"red7k": "red", "blue4": "blue"})
+        return Site(host, seats)
 
-        for has_advice in (True, False):
-            site = asyncio.run(made(has_advice))
-            self.assertEqual([table.token for table in site.tables], ["a", "b"])
-            solvers = {table._solver for table in site.tables}
-            self.assertEqual((len(solvers), None in solvers), (1, not has_advice))
+    def join(self, site: Site, word: str, visit: Visit) -> Tuple[str, str]:
+        """The status and the text of the answer to somebody who has a word."""
+        answer = asyncio.run(site.join(Request("POST", "/play", {}, word.encode(), visit)))
+        return answer.status[:3], answer.body.decode()
+
+    def visit(self) -> Visit:
+        visit = Gate(lambda: 0.0, 9, 9, 0, 1.0).arrive("10.0.0.7")
+        assert visit is not None
+        return visit
+
+    def test_each_seat_has_a_table_at_its_token(self) -> None:
+        site = self.site(("red7k", "a"), ("blue4", "b"))
+        self.assertEqual([(table.token, table.name) for table in site.tables],
+                         [("a", "red"), ("b", "blue")])
         with mock.patch("geesefuton.playing.seat.Link.greet") as greet:
             site.tables[1].seat._greet()
-        greet.assert_called_once_with("localhost", 7000, "blue", "json")
+        greet.assert_called_once_with("localhost", 7000, "blue4", "json")
         self.assertEqual(site.tables[1].seat._pace, 0.5)
+
+    def test_who_has_the_word_of_a_seat_is_told_where_its_page_is(self) -> None:
+        site = self.site(("red7k", "a"))
+        self.assertEqual(self.join(site, "red7k", self.visit()), ("200", "a"))
+        made = self.join(site, "blue4", self.visit())
+        self.assertEqual(made, ("200", site.tables[1].token))
+        self.assertEqual((len(made[1]), site.tables[1].name), (10, "blue"))
+        self.assertEqual(self.join(site, "blue4", self.visit()), made)
+        self.assertEqual(len(site.tables), 2)
+
+    def test_a_wrong_word_makes_no_table_and_puts_off_the_next_one(self) -> None:
+        site, visit = self.site(), self.visit()
+        for word in ("", "red", "red7kk", "RED7K", "\u2713"):
+            self.assertEqual(self.join(site, word, visit)[0], "403")
+        self.assertEqual(site.tables, [])
+        self.assertGreater(visit._gate.put_off(visit.network, 0.0), 10.0)
+
+    def test_too_many_words_of_a_network_are_refused(self) -> None:
+        site, visit = self.site(), self.visit()
+        with mock.patch.object(visit, "whole", return_value=None):
+            self.assertEqual(self.join(site, "red7k", visit)[0], "429")
+        self.assertEqual(site.tables, [])
 
 
 if __name__ == "__main__":

@@ -1,4 +1,5 @@
-"""The process that serves the pages of a game: the board, and the seats that persons play.
+"""The process that serves the pages of a game: the board, and the seats that persons play, at ports
+of their own or at the board's.
 
 The lobby starts it, and alone decides when it ends. Standard input is a pipe: its first line says
 what is to be served, so that no seat word stands among the words of a process, which everybody on
@@ -24,10 +25,11 @@ from geesefuton.hosting.viewers import Viewers
 from geesefuton.network.addresses import listen, own_address
 from geesefuton.network.pages import Answering, Faults, PageServer, page_gate, read_page, run
 from geesefuton.playing.seat_command import address_lines
-from geesefuton.playing.seat_page import Site, make_site
+from geesefuton.playing.seat_page import Host, Site
 from geesefuton.processes import Children, command, give_way, tell, why
+from geesefuton.records.seat_names import names_of
 
-TELLING = 30.0  # seconds that players have, for which the solver is asked one after the other
+TELLING = 30.0  # seconds that players have to get the result
 LOOK = 0.05  # seconds between two looks at whether all have them
 GRACE = 0.5  # seconds for what is being sent
 
@@ -35,20 +37,20 @@ GRACE = 0.5  # seconds for what is being sent
 def _make_board(given: Dict[str, Any], journal: BinaryIO, viewers: Viewers, faults: Faults,
                 player: Player) -> Live:
     """What shows the game on screens."""
-    joining: Dict[str, Any] = {"port": given["port"], "address": own_address(), "seat": True}
-    if given["form"] == "words":  # starters send words
-        viewers.handouts = Handouts(joining["port"], joining["address"])
-        joining["starters"] = viewers.handouts.are_there
+    handouts = Handouts(given["port"], own_address(), given["page"], given["form"] == "words")
+    viewers.handouts = handouts
     begins = None if given["begins"] is None else time.monotonic() + given["begins"]
     view = View(given["late"], given["names"])
-    return Live(journal, view, player, viewers, faults, joining, begins)
+    return Live(journal, view, player, viewers, faults, handouts.told, begins)
 
 
-async def _follow(live: Live, ended: "asyncio.Future[None]") -> None:
+async def _follow(live: Live, site: Site, ended: "asyncio.Future[None]") -> None:
     """Shows the game until it is over. The seats go on without the board."""
     ended.add_done_callback(lambda _: live.cut())
     try:
         await asyncio.gather(live.follow(), live.project())
+        for table in site.tables:
+            table.end(live.results())
     except JournalError as fault:
         tell(f"the page shows nothing more of the game: {fault}")
 
@@ -69,9 +71,10 @@ async def _serve(given: Dict[str, Any], player: Player) -> None:
     """Serves the pages until the lobby has ended the game, and a while longer."""
     ended: "asyncio.Future[None]" = asyncio.get_running_loop().create_future()
     _watch_standard_input(ended)
-    faults, gate, viewers = Faults(tell), page_gate(), Viewers(read_page(PAGE))
-    site = make_site("127.0.0.1", given["port"], given["seats"], given["form"], given["pace"],
-                     given["advice"])
+    names = dict(zip(given["words"], names_of(given["words"], given["names"])))
+    site = Site(Host("127.0.0.1", given["port"], given["form"], given["pace"], given["advice"],
+                     names, False, given["journal"] is not None), given["seats"])
+    faults, gate, viewers = Faults(tell), page_gate(), Viewers(read_page(PAGE), site)
     tasks: "List[asyncio.Future[None]]" = []
     with contextlib.ExitStack() as stack:
 
@@ -87,9 +90,10 @@ async def _serve(given: Dict[str, Any], player: Player) -> None:
             for line in address_lines(given["seats"], given["by_hand"]):
                 tell(line)
         if given["page"] is not None:
-            journal = stack.enter_context(open(given["journal"], "rb"))
             begin(viewers.answer, given["page"])
-            await _follow(_make_board(given, journal, viewers, faults, player), ended)
+        if given["journal"] is not None:
+            journal = stack.enter_context(open(given["journal"], "rb"))
+            await _follow(_make_board(given, journal, viewers, faults, player), site, ended)
         await ended
         await _linger(viewers, site)
         for task in tasks:

@@ -25,7 +25,7 @@ import sys
 import time
 from collections import deque
 from pathlib import Path
-from typing import Any, BinaryIO, Deque, Dict, Optional, Tuple
+from typing import Any, BinaryIO, Deque, Dict, List, Optional, Tuple
 
 from geesefuton.arguments import Parser, whole
 from geesefuton.hosting.journal import JournalError, JournalReader
@@ -38,6 +38,7 @@ from geesefuton.network.pages import Faults, PageServer, page_gate, read_page, r
 from geesefuton.processes import Children, command, give_way, tell, why
 from geesefuton.records.games import TICKS
 from geesefuton.records.logs import LogError
+from geesefuton.records.seat_names import names_of
 
 LOOK = 0.2  # seconds between looks at the journal
 EACH = 1.0  # seconds between projections, at least; less if ticks are shorter
@@ -74,6 +75,14 @@ class Live:
     def cut(self) -> None:
         """Nobody writes the journal any more; what it has is still read."""
         self._is_cut = True
+
+    def results(self) -> List[Tuple[str, int]]:
+        """After the game the names and the scores of its agents; none if they are not known."""
+        game, newest = self._reader.game, self._newest
+        if game is None or newest is None:
+            return []
+        names = names_of(game.words, self._view.by_word)
+        return [(name, row[3]) for name, row in zip(names, newest.scores)]
 
     async def follow(self) -> None:
         """Reads what the lobby writes, until the game is over."""

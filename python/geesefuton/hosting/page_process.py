@@ -111,7 +111,8 @@ class PageProcess(SideProcess):
             return json.dumps({
                 "port": port, "form": settings.form, "pace": settings.pace, "page": settings.page,
                 "journal": journal and str(journal), "late": settings.late, "begins": left,
-                "names": settings.names, "by_hand": settings.by_hand, "seats": self.seats,
+                "names": settings.names, "words": words, "by_hand": settings.by_hand,
+                "seats": self.seats,
                 "advice": settings.advice}).encode("ascii") + b"\n"
 
         super().__init__(children, "the page", "geesefuton.hosting.game_pages", told)

@@ -15,6 +15,7 @@ from geesefuton.hosting.journal import JournalReader
 from geesefuton.hosting.nights import Night, PriceSteps, tick_of
 from geesefuton.hosting.recovery import Player, Recovery
 from geesefuton.records.accounts import Accounts
+from geesefuton.records.best_plans import parts_of
 from geesefuton.records.games import CLOCK, DRAWS, GOODS, SEATS, TICKETS
 from geesefuton.records.logs import Log, read_log
 from geesefuton.records.rules import prices_of
@@ -28,13 +29,16 @@ class Projection:
     """What the log of a game so far says."""
 
     tick: int  # the last one
-    plans: List[List[int]]  # each agent's: its worth with the cash, the cash, what is to be bought
+    # Each agent's: its worth with the cash, the cash, what is to be bought, and by how much that
+    # raises its worth.
+    plans: List[List[int]]
     scores: List[List[int]]  # after the game each agent's best total, cash, tickets short, score
     asks: List[PriceSteps]  # of the hotel nights 8 to 15
     trades: List[List[float]]  # of tickets: tick, good, buyer, seller and dollars
     asked: List[int]  # how many lines each agent has sent
     silent: List[int]  # the agents that are here and have said nothing for some ticks
     refused: List[int]  # those whose lines were all refused
+    empty: List[int]  # those that have neither a flight nor a room
 
 
 def project(reader: JournalReader, nights: List[Night], player: Player) -> Projection:
@@ -50,10 +54,10 @@ def project(reader: JournalReader, nights: List[Night], player: Player) -> Proje
     recovery = Recovery(reader, player, live=not is_over)
     _, text = player.play(game.text(), recovery.script(quotes=False).text)
     log = read_log(text)
-    agents = reader.agents
+    agents, accounts = reader.agents, _accounts(log, reader)
     return Projection(
         reader.tick,
-        _plans(log, reader),
+        [plan_of(accounts, agent) for agent in range(SEATS)],
         [[row.best, row.cash, row.short, row.score] for row in log.scores] if is_over else [],
         [night.asks for night in nights],
         _trades(log, reader),
@@ -61,12 +65,13 @@ def project(reader: JournalReader, nights: List[Night], player: Player) -> Proje
         [number for number, agent in enumerate(agents)
          if agent.is_here and agent.end is None and reader.tick - agent.last >= SILENT],
         [number for number, agent in enumerate(agents)
-         if agent.refused and agent.refused == agent.answered])
+         if agent.refused and agent.refused == agent.answered],
+        [agent for agent in range(SEATS) if is_empty(accounts, agent)])
 
 
-def _plans(log: Log, reader: JournalReader) -> List[List[int]]:
-    """What the plans of the agents are worth now. Of the log, which goes on to the end of the game,
-    the clock's calls after the last tick do not count, and what they sell neither."""
+def _accounts(log: Log, reader: JournalReader) -> Accounts:
+    """What the agents hold now. Of the log, which goes on to the end of the game, the clock's calls
+    after the last tick do not count, and what they sell neither."""
     assert reader.game is not None and reader.schedule is not None
     accounts = Accounts(reader.game)
     for good in GOODS:
@@ -76,12 +81,28 @@ def _plans(log: Log, reader: JournalReader) -> List[List[int]]:
             if clocks < 0:
                 break
             accounts.take(good, entry)
-    plans = []
-    for agent, cash in enumerate(accounts.cash):
-        plan, prices = accounts.plan(agent), accounts.prices_for(agent)
-        to_buy = sum(units * (price or 0) for units, price in zip(plan.missing, prices))
-        plans.append([cash + plan.value, cash, to_buy])
-    return plans
+    return accounts
+
+
+def plan_of(accounts: Accounts, agent: int) -> List[int]:
+    """What an agent's plan is worth now, as in a projection's `plans`. Of a trip that lacks
+    something, what is held of it counts by its price, and the rest is what is still to be bought
+    for."""
+    plan, prices = accounts.plan(agent), accounts.prices_for(agent)
+    cash, held, to_buy, hoped = accounts.cash[agent], accounts.holdings[agent], 0, 0
+    for client, trip, (own, lacking) in zip(accounts.clients[agent], plan.packages,
+                                            parts_of(plan.packages, held)):
+        cost = sum(prices[good] or 0 for good in lacking)
+        to_buy += cost
+        if lacking:
+            own_worth = sum(accounts.boards[good][1] for good in own if good not in TICKETS)
+            hoped += max(0, client.worth(trip) - cost - own_worth)
+    return [cash + plan.value, cash, to_buy, hoped]
+
+
+def is_empty(accounts: Accounts, agent: int) -> bool:
+    """Whether an agent has neither a flight nor a room."""
+    return not any(accounts.holdings[agent][:TICKETS.start])
 
 
 def _trades(log: Log, reader: JournalReader) -> List[List[float]]:
@@ -141,6 +162,7 @@ class View:
             if secret.scores:
                 agent["score"] = secret.scores[number]
             agent["asked"] = secret.asked[number]
+            agent["empty"] = number in secret.empty
             if number in secret.refused:
                 agent["doing"] = "refused"
             elif number in secret.silent and agent["here"] == "here" and reader.status is None:

@@ -35,7 +35,7 @@ class LobbySettings:
     names: bool = False  # whether it calls agents by their seat words, which are passwords
     stays: bool = False  # whether it stays after the game until the host stops it
     by_hand: Optional[int] = None  # the port of the pages by which persons play seats
-    advice: bool = True  # whether these may ask the solver
+    advice: bool = True  # whether these plan trips
     orders: Optional[TextIO] = None  # the host's commands
     vouches: bool = False  # whether the log is compared with the lobby's links after the game
     listeners: Sequence[socket.socket] = ()  # for agents; none for a new one at the port

@@ -7,6 +7,7 @@ from typing import AsyncGenerator, Optional
 
 from geesefuton.hosting.handouts import Handouts
 from geesefuton.network.pages import Bell, Request, Response
+from geesefuton.playing.seat_page import Site
 
 BEAT = 2.0  # seconds after which a screen hears that the page goes on
 NOT_FOUND = Response("404 Not Found", "text/plain", b"the page is at /\n")
@@ -14,10 +15,11 @@ NOT_FOUND = Response("404 Not Found", "text/plain", b"the page is at /\n")
 
 class Viewers:
     """The screens of a page. Each gets the newest state when it can take it, and misses those
-    between. The page may be replaced."""
+    between. The page may be replaced. Persons may play the seats of a site at the same port."""
 
-    def __init__(self, page: bytes) -> None:
+    def __init__(self, page: bytes, site: Optional[Site] = None) -> None:
         self.page, self.count = page, 0  # and how many screens follow the states
+        self._site = site
         self.handouts: Optional[Handouts] = None  # what authors of agents are given
         self._state, self._number, self._is_final = b"{}", 0, False
         self._bell = Bell()
@@ -29,7 +31,11 @@ class Viewers:
 
     async def answer(self, request: Request) -> Response:
         """Answers a request of a screen, or of anybody else."""
-        path = request.path
+        path, site = request.path, self._site
+        if site is not None and (path, request.method) == ("/play", "POST"):
+            return await site.join(request)
+        if site is not None and site.find(request) is not None:
+            return await site.answer(request)
         if request.method != "GET":
             return NOT_FOUND
         if path == "/":

@@ -31,7 +31,7 @@ FIRST = 3.0  # seconds for the head of a link's first request
 PATIENCE = 15.0  # seconds for a body, for a piece of an answer, and until the next head is whole
 AGAIN = 0.5  # seconds until links are taken again, after the system gave none
 SELDOM = 60.0  # seconds until a fault that lasts is told again
-STYLE = "/* style.css */"  # in a page, the place of what all pages share
+SHARED = ("style.css", "page.js")  # what all pages share; each has a comment in its place
 HEAD = (
     "HTTP/1.1 {}\r\nContent-Type: {}\r\nCache-Control: no-store\r\n"
     "X-Content-Type-Options: nosniff\r\nReferrer-Policy: no-referrer\r\n"
@@ -122,9 +122,12 @@ def page_gate() -> Gate:
 
 
 def read_page(file: Path) -> bytes:
-    """A page, with the style that all pages share."""
-    style = Path(__file__).with_name("style.css").read_text(encoding="utf-8")
-    return file.read_text(encoding="utf-8").replace(STYLE, style.rstrip("\n"), 1).encode()
+    """A page, with what all pages share."""
+    text = file.read_text(encoding="utf-8")
+    for name in SHARED:
+        part = Path(__file__).with_name(name).read_text(encoding="utf-8")
+        text = text.replace(f"/* {name} */", part.rstrip("\n"), 1)
+    return text.encode()
 
 
 class PageServer:

@@ -96,6 +96,7 @@ class Seat:
 
     def _reset(self) -> None:
         self.clients: List[Client] = []  # once the game has begun
+        self.number: Optional[int] = None  # that of its agent, from then on
         self._phase, self._fault = "waiting", ""
         self._goods = [Holding() for _ in GOODS]
         self._clock, self._clock_closed = GameClock(self._pace), 0
@@ -125,11 +126,6 @@ class Seat:
         phase: str = self._state["phase"]
         return phase
 
-    def holdings(self, with_standing: bool = False) -> List[int]:
-        """What the seat holds of each good, or would hold if all that stands were traded."""
-        return [units + (sum(count for count, _ in points) if with_standing else 0)
-                for units, points in self._state["goods"]]
-
     def order(self, request: Request) -> "Future[Answer]":
         """Asks a bid or a withdrawal, and gives what will come of it."""
         order = Order(request, Future())
@@ -158,7 +154,8 @@ class Seat:
                 "goods": [[each.units, each.points] for each in self._goods],
                 "quotes": [each.quote and [each.quote.bid, each.quote.ask, each.quote.closed]
                            for each in self._goods],
-                "cash": self._cash, "closed": list(self._closed), "calls": list(self._calls)}
+                "cash": self._cash, "settled": self._readings <= 0,
+                "closed": list(self._closed), "calls": list(self._calls)}
             self.version += 1
         self.tell()
 
@@ -203,7 +200,7 @@ class Seat:
     def _take(self, link: Link, is_fresh: bool) -> None:
         """The first look: what a program that was started anew has bought is read as well."""
         now = time.monotonic()
-        self.clients = link.clients
+        self.clients, self.number = link.clients, link.agent
         for good in GOODS:
             self._see(link, good)
         counts = [each.quote.count for each in self._goods[:8] if each.quote]

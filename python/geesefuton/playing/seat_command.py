@@ -6,25 +6,24 @@ the seat once a browser opens the page; until then an agent can take the seat. W
 has a page for each seat. It reconnects a lost link while the page is open in a browser.
 
 With --listen browsers on other machines can open the pages too, such as phones in the room, and if
-`qrencode` is installed the command also prints their addresses as QR codes. On request the pages
-show the advice of the proved solver, if the program is installed; --no-advice switches that off.
-The command runs until ctrl-C, also after the game, whose result the page shows.
+`qrencode` is installed the command also prints their addresses as QR codes. The pages show the
+trips of the best plan at the prices of the moment; with --no-advice they show each client on its
+own days instead. The command runs until ctrl-C, also after the game, whose result the page shows.
 """
 
 from __future__ import annotations
 
 import argparse
 import contextlib
-import shutil
 import socket
-import subprocess
 import sys
 from typing import Iterator, Sequence, Tuple
 
 from geesefuton.arguments import Parser, whole
-from geesefuton.network.addresses import listen, new_token, own_addresses, page_address
+from geesefuton.network.addresses import (listen, new_token, own_addresses, page_address,
+                                          qr_code)
 from geesefuton.network.pages import Faults, PageServer, page_gate, run
-from geesefuton.playing.seat_page import make_site
+from geesefuton.playing.seat_page import Host, Site
 from geesefuton.processes import command, give_way, tell, why
 
 NICE = 5  # by how much the priority is lower, as the solver's
@@ -44,7 +43,7 @@ def _arguments() -> argparse.Namespace:
     add("--pace", type=whole(1, 60000), metavar="MILLISECONDS",
         help="the time from tick to tick (default: measured)")
     add("--json", action="store_true", help="send JSON objects instead of words")
-    add("--no-advice", action="store_true", help="do not let the page ask the solver")
+    add("--no-advice", action="store_true", help="do not let the page plan trips")
     return parser.parse_args()
 
 
@@ -52,22 +51,19 @@ def address_lines(seats: Sequence[Tuple[str, str]], port: int, address: str = ""
     """What is printed: for each seat its word and the address of its page, by its token, also as a
     QR code. The pages are served at an address, or at all of this machine."""
     hosts = [address] if address else own_addresses() or ["localhost"]
-    coder = None if address == "127.0.0.1" else shutil.which("qrencode")
     for word, token in seats:
         place = page_address(hosts[0], port, token)
         yield f"{word}: {place}"
-        if coder is not None:
-            code = subprocess.run([coder, "-t", "UTF8", place], stdout=subprocess.PIPE,
-                                  stdin=subprocess.DEVNULL, check=False).stdout
-            yield code.decode("utf-8", "replace").rstrip("\n")
+        code = "" if address == "127.0.0.1" else qr_code(place, "UTF8")
+        yield from [code] if code else []
     if hosts[1:]:
         yield f"if {hosts[0]} cannot be reached, try {' or '.join(hosts[1:])} in its place"
 
 
 async def _serve(given: argparse.Namespace, listener: socket.socket) -> None:
     seats = [(word, new_token()) for word in given.words]
-    site = make_site(given.host, given.port, seats, "json" if given.json else "words", given.pace,
-                     not given.no_advice)
+    site = Site(Host(given.host, given.port, "json" if given.json else "words", given.pace,
+                     not given.no_advice), seats)
     everywhere = given.listen in ("0.0.0.0", "::")
     for line in address_lines(seats, listener.getsockname()[1], "" if everywhere else given.listen):
         print(line, flush=True)

@@ -13,24 +13,25 @@ import hmac
 import json
 import secrets
 import time
+from dataclasses import dataclass, field
 from http import HTTPStatus
 from pathlib import Path
-from typing import Any, Dict, Optional, Sequence, Tuple
+from typing import Any, Dict, Iterable, List, Optional, Tuple
 
 from geesefuton.network import pages as network
+from geesefuton.network.addresses import new_token
 from geesefuton.network.pages import Bell, Response
 from geesefuton.playing.answers import Answer, fault_of
-from geesefuton.playing.counsel import counsel
 from geesefuton.playing.seat import Seat, greeting
-from geesefuton.program import ProgramError
+from geesefuton.playing.trip_board import TripBoard
 from geesefuton.records.games import GOODS
 from geesefuton.records.replies import Points, Request
+from geesefuton.records.seat_names import name_of_word
 
 WAIT = 1.0  # seconds that a page's question for news is kept: browsers keep few for one host
 QUIET = 9.0  # seconds without a question after which another page may play without asking
 MOST_PAGES = 50  # of a seat that are known
 LATE = 20.0  # seconds until a browser is told that its order was not answered yet
-PAUSE = 1.0  # seconds between two questions of a seat to the solver, at least
 NOT_YET = Answer(False, "The server has not answered yet: what it answers will be listed below.")
 STALE = "This page is stale: reload it."
 OTHER = "Another browser plays this seat: take it over first."
@@ -91,25 +92,35 @@ class Pages:
         self._playing = page
 
 
-class Table:
-    """A seat at its address, and the pages that are open there.
+@dataclass
+class Host:
+    """Where games are, and what their pages are told."""
 
-    Args:
-        seat: The seat.
-        pages: Its pages.
-        solver: Is held while the solver is asked, which all seats share; None if it may not be.
-        token: The token in its address.
+    host: str  # of the server or the lobby
+    port: int
+    form: str = "words"
+    pace: Optional[int] = None  # in milliseconds; None if it is not known
+    has_plan: bool = True  # whether boards of trips plan
+    names: Dict[str, str] = field(default_factory=dict)  # what agents are called, by seat words
+    has_games: bool = True  # whether another game may come after each
+    has_results: bool = False  # whether the scores of all agents will be known after each
+
+
+class Table:
+    """A seat at the address with its token, its board of trips, and the pages that are open there.
 
     Attributes:
-        is_told: Whether the game is over, and a page has its result if there is one.
+        name: What the game's host calls it; "" if that is not known.
+        results: After the game the names and the scores of all agents, once they are known.
+        is_told: Whether the game is over, and a page has all that will be known of its result.
     """
 
-    def __init__(self, seat: Seat, pages: Pages, solver: Optional[asyncio.Lock], token: str
-                 ) -> None:
-        self.seat, self.pages, self.token, self.is_told = seat, pages, token, False
-        self._solver, self._is_solving, self._solved = solver, False, float("-inf")
-        self._bell = Bell()
-        self._ending: "Optional[asyncio.Future[Dict[str, Any]]]" = None
+    def __init__(self, seat: Seat, pages: Pages, board: TripBoard, token: str, word: str,
+                 host: Host) -> None:
+        self.seat, self.pages, self.token, self.word, self.is_told = seat, pages, token, word, False
+        self.name, self.results = host.names.get(word, ""), list[Tuple[str, int]]()
+        self._board, self._host, self._bell = board, host, Bell()
+        self._looking, self._shown, self._version = asyncio.Lock(), dict[str, Any](), -1
         seat.tell = self._bell.ring
 
     async def answer(self, what: str, given: Dict[str, Any]) -> Dict[str, Any]:
@@ -132,50 +143,34 @@ class Table:
             self.pages.take(page)
             self.seat.publish()
             return {}
-        if what == "advice":
-            return await self._advice(given.get("standing") is True)
         if what not in ("bid", "withdraw", "again"):
             raise Refused(404, "There is nothing here.")
         if not self.pages.plays(page):
             raise Refused(409, OTHER)
         if what == "again":
+            self.results = []
             self.seat.begin()
             return {}
         return await self._order(what, given)
 
     async def _state(self, page: str, after: Any) -> Dict[str, Any]:
         await self._bell.wait_until(lambda: bool(self.seat.version != after), WAIT)
-        told = self.seat.state()
-        told.update(plays=self.pages.plays(page), advice=self._solver is not None)
-        if told["phase"] != "over":
-            self._ending = None
-        elif self._solver is None:
-            self.is_told = True
-        else:
-            if self._ending is None:
-                self._ending = asyncio.ensure_future(self._result())
-            done, _ = await asyncio.wait([self._ending], timeout=WAIT)
-            self.is_told = bool(done)
-            told.update(self._ending.result() if done else {"result": None})
-        return told
+        async with self._looking:  # so that the board follows one state after the other
+            told = self.seat.state()
+            if told["version"] != self._version and told.get("clients") and all(told["quotes"]):
+                self._version = told["version"]
+                self._shown = await asyncio.to_thread(self._board.follow, told)
+        is_over, number = told["phase"] == "over", self.seat.number
+        self.is_told = is_over and bool(self.results or not self._host.has_results)
+        return {**told, "plays": self.pages.plays(page), "board": self._shown, "me": number,
+                "name": self.name or number is not None and name_of_word(self.word, number),
+                "again": self._host.has_games, "results": self.results,
+                "hosted": self._host.has_results}
 
-    async def _result(self) -> Dict[str, Any]:
-        """What the solver says of the end of a game: the `result`, or nothing if it cannot be
-        asked."""
-        try:
-            return {"result": await self._solve(False)}
-        except Refused:
-            return {}
-
-    async def _solve(self, with_standing: bool) -> Dict[str, Any]:
-        """What the solver says, which is asked one thing at a time, whoever asks."""
-        assert self._solver is not None
-        async with self._solver:
-            try:
-                return await asyncio.to_thread(counsel, self.seat.holdings(with_standing),
-                                               self.seat.clients)
-            except (ProgramError, ValueError) as fault:
-                raise Refused(503, f"The solver cannot be asked: {fault}") from None
+    def end(self, results: List[Tuple[str, int]]) -> None:
+        """Takes the names and the scores of the game's agents."""
+        self.results = results
+        self.seat.publish()
 
     async def _order(self, what: str, given: Dict[str, Any]) -> Dict[str, Any]:
         good = given.get("good")
@@ -191,20 +186,6 @@ class Table:
         await asyncio.wait([told], timeout=LATE)
         answer = told.result() if told.done() else NOT_YET
         return {"done": answer.is_done, "text": answer.text, "fix": answer.fix}
-
-    async def _advice(self, with_standing: bool) -> Dict[str, Any]:
-        if self._solver is None:
-            raise Refused(403, "The solver is switched off for this game.")
-        if not self.seat.clients:
-            raise Refused(409, "The solver can be asked once the game has begun.")
-        if self._is_solving:
-            raise Refused(429, "The solver is at work for this seat: wait for what it says.")
-        self._is_solving = True
-        try:
-            await asyncio.sleep(self._solved + PAUSE - time.monotonic())
-            return await self._solve(with_standing)
-        finally:
-            self._is_solving, self._solved = False, time.monotonic()
 
 
 def _is_whole(value: Any) -> bool:
@@ -225,17 +206,47 @@ def _points(value: Any) -> Points:
 
 
 class Site:
-    """The pages of some seats, each at its table."""
+    """The pages of seats, each at its table; for some of them the words and tokens are given."""
 
-    def __init__(self, tables: Sequence[Table]) -> None:
-        self.tables = tables
+    def __init__(self, host: Host, seats: Iterable[Tuple[str, str]] = ()) -> None:
+        self.host, self.tables = host, list[Table]()
         self._page = network.read_page(Path(__file__).with_name("seat.html"))
+        for word, token in seats:
+            self.add(word, token)
+
+    def add(self, word: str, token: str) -> Table:
+        """Makes the table of a seat, in the event loop in which its page is served."""
+        pages, given = Pages(), self.host
+        greet = greeting(given.host, given.port, word, given.form, pages.is_open)
+        seat = Seat(greet, given.pace and given.pace / 1000)
+        self.tables.append(Table(seat, pages, TripBoard(given.has_plan), token, word, given))
+        return self.tables[-1]
+
+    async def join(self, asked: network.Request) -> Response:
+        """Lets somebody who knows the word of a seat play it: the path of its page. Guesses wait
+        as those of agents do."""
+        wait = asked.visit.whole()
+        if wait is None:
+            return Response("429 Too Many Requests", TEXT, b"Try again in a while.\n")
+        await asyncio.sleep(wait)
+        word = next((word for word in self.host.names
+                     if hmac.compare_digest(word.encode(), asked.body)), None)
+        if word is None:
+            asked.visit.refuse()
+            return Response("403 Forbidden", TEXT, b"No seat has this word: check its letters.\n")
+        table = next((table for table in self.tables if table.word == word), None)
+        return Response("200 OK", TEXT, (table or self.add(word, new_token())).token.encode())
+
+    def find(self, asked: network.Request) -> Optional[Table]:
+        """The table whose token a request has in its path."""
+        token = asked.path.lstrip("/").partition("/")[0].encode()
+        return next((each for each in self.tables
+                     if hmac.compare_digest(each.token.encode(), token)), None)
 
     async def answer(self, asked: network.Request) -> Response:
         """Answers a request of a browser."""
         token, slash, what = asked.path.lstrip("/").partition("/")
-        table = next((each for each in self.tables
-                      if hmac.compare_digest(each.token.encode(), token.encode())), None)
+        table = self.find(asked)
         if table is not None:
             asked.visit.know(token)
         if asked.method == "POST":
@@ -264,18 +275,3 @@ class Site:
             if isinstance(given, dict):
                 return await table.answer(what, given)
         raise Refused(400, "A request must be a JSON object.")
-
-
-def make_site(host: str, port: int, seats: Sequence[Tuple[str, str]], form: str,
-              pace: Optional[int], has_advice: bool) -> Site:
-    """The pages of some seats of a server, each with its word and its token, in the event loop in
-    which they are served. The pace is in milliseconds, and None if it is not known.
-    """
-    solver = asyncio.Lock() if has_advice else None
-
-    def table(word: str, token: str) -> Table:
-        pages = Pages()
-        greet = greeting(host, port, word, form, pages.is_open)
-        return Table(Seat(greet, pace and pace / 1000), pages, solver, token)
-
-    return Site([table(*seat) for seat in seats])

@@ -9,7 +9,8 @@ from __future__ import annotations
 import json
 import os
 from pathlib import Path
-from typing import Any, Callable, Dict, Optional, Sequence
+from types import MappingProxyType
+from typing import Any, Callable, Dict, Mapping, Optional, Sequence
 
 from geesefuton.hosting.page_process import SideProcess
 from geesefuton.processes import Children, why
@@ -37,10 +38,13 @@ class Board:
                                     lambda: given.encode("ascii") + b"\n")
         self._shown: Dict[str, Any] = {}
 
-    def show(self, journal: Optional[Path], names: Sequence[str], room: Dict[str, Any]) -> None:
-        """Shows the game of a journal, or the room while there is none."""
+    def show(self, journal: Optional[Path], names: Sequence[str], room: Dict[str, Any],
+             words: Mapping[str, str] = MappingProxyType({})) -> None:
+        """Shows the game of a journal, whose agents have names, or the room while there is none;
+        `words` says how who has a seat word is called."""
         self._shown = {"journal": None if journal is None else str(journal), "names": list(names),
-                       "room": {**room, "address": self._address}, "is_over": False}
+                       "words": dict(words), "room": {**room, "address": self._address},
+                       "is_over": False}
         self._write()
 
     def close(self, is_stopped: Callable[[], bool]) -> None:

@@ -22,6 +22,7 @@ from geesefuton.hosting.recovery import Player
 from geesefuton.hosting.viewers import Viewers
 from geesefuton.network.addresses import listen
 from geesefuton.network.pages import Faults, PageServer, page_gate, read_page, run
+from geesefuton.playing.seat_page import Host, Site
 from geesefuton.processes import Children, command, give_way, tell, why
 
 LOOK = 0.25  # seconds between two looks at what the room shows
@@ -30,11 +31,14 @@ STOPPED = 3.0  # seconds for which a game stays that was stopped
 
 
 class Screens(Viewers):
-    """The screens of a room. No state of a game is the last one, and seats are called by their
-    players."""
+    """The screens of a room's page, which has a port. No state of a game is the last one, and
+    seats are called by their players."""
 
-    names: List[str] = []
-    last = b"{}"  # the state that was sent last
+    def __init__(self, page: bytes, port: Optional[int] = None) -> None:
+        self.port, self.names = port, list[str]()
+        self.last = b"{}"  # the state that was sent last
+        self.site = Site(Host("127.0.0.1", 0))
+        super().__init__(page, self.site)
 
     async def show(self, state: bytes, is_final: bool) -> None:
         """Sends a new state to all screens."""
@@ -69,6 +73,7 @@ class RoomPage:
         self._faults = faults
         self._room, self._live = map(read_page, (Path(__file__).with_name("room.html"), PAGE))
         self._shown = b""
+        self._handouts: Optional[Handouts] = None
 
     async def follow(self) -> None:
         """Shows what the room says, until it is over and all screens have its last state."""
@@ -90,18 +95,19 @@ class RoomPage:
         except OSError as fault:
             self._faults.tell("room: cannot make the page", why(fault))
             return None
+        self._screens.site.host.port = what["room"]["port"]
+        self._screens.site.host.names = what["words"]
+        self._screens.site.host.has_results = "tables" not in what["room"]
         return what
 
     async def _show_room(self, what: Dict[str, Any]) -> None:
         """Shows the room, with the seconds until its game begins."""
         room, begins = what["room"], what["room"]["begins"]
-        handouts = self._screens.handouts
-        if handouts is None or handouts.port != room["port"]:
-            handouts = Handouts(room["port"], room["address"], again=True)
-            self._screens.handouts = handouts
+        if self._handouts is None or self._handouts.told["port"] != room["port"]:
+            self._handouts = self._screens.handouts = Handouts(
+                room["port"], room["address"], self._screens.port, again=True)
         left = None if begins is None else max(0, round(begins - time.time()))
-        starters = handouts.are_there
-        text = json.dumps({**room, "left": left, "starters": starters}).encode("ascii")
+        text = json.dumps({**room, **self._handouts.told, "left": left}).encode("ascii")
         if text != self._shown:
             self._shown, self._screens.page = text, self._room
             await self._screens.show(text, False)
@@ -122,6 +128,8 @@ class RoomPage:
                     if is_going:
                         screens.names = what["names"]
                     has_scores = tasks[1].done()
+                    if has_scores:
+                        self._tell_seats(live)
                     if not has_scores if live.is_over() else is_going:
                         last = time.monotonic()
                     if what["is_over"] and has_scores or \
@@ -132,6 +140,14 @@ class RoomPage:
                 await _end(tasks)
         except Exception as fault:  # it costs the screens this game, and not the room's page
             self._faults.tell(f"room: cannot show {journal}", why(fault) or repr(fault))
+
+
+    def _tell_seats(self, live: Live) -> None:
+        """Gives the scores of a game that is over to those who have played in it by hand."""
+        results = [(name, score) for name, (_, score) in zip(self._screens.names, live.results())]
+        for table in self._screens.site.tables:
+            if results and not table.results and table.seat.phase in ("over", "failed"):
+                table.end(results)
 
 
 def _have_failed(tasks: "Sequence[asyncio.Future[None]]") -> bool:
@@ -149,7 +165,7 @@ async def _end(tasks: "Sequence[asyncio.Future[None]]") -> None:
 
 async def _run(given: Dict[str, Any], player: Player) -> None:
     faults = Faults(tell)
-    screens = Screens(b"")
+    screens = Screens(b"", given["port"])
     page = RoomPage(Path(given["board"]), screens, player, given["late"], faults)
     with contextlib.closing(listen(given["port"])) as listener:
         server = PageServer(screens.answer, page_gate(), faults)

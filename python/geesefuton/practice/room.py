@@ -15,7 +15,7 @@ import threading
 import time
 from collections import Counter
 from dataclasses import replace
-from typing import Callable, Dict, List, Optional, Sequence
+from typing import Callable, Dict, List, Optional, Sequence, Tuple
 
 from geesefuton import program
 from geesefuton.hosting.lobby import LobbyError, listener_at, recovery_line
@@ -273,6 +273,13 @@ class Room:
         leaders = self._named([row.name for row in self._rows if row.rank == 1])
         return f"first of {len(self._rows)}: {' and '.join(leaders) or 'nobody'}"
 
+    def _winner(self, game: Finished) -> Tuple[str, int]:
+        """Who has won a game that counts, and with how many dollars; "" if nobody has played."""
+        score, _, name = max(((score, -seat, name) for seat, (name, score)
+                              in enumerate(zip(game.players, game.scores)) if name),
+                             default=(0, 0, ""))
+        return self._named([name])[0], score
+
     def _named(self, names: Sequence[str]) -> List[str]:
         """How players are shown."""
         return [self._shown.get(name, name) for name in names]
@@ -286,16 +293,19 @@ class Room:
         state = {"phase": "room", "game": table.deal.number, "port": table.port,
                  "wait": given.wait, "table": rows, "played": len(finished),
                  "commitment": self._folder.commitment,
-                 "last": last and [last.number, str(last.seed)]}
+                 "last": last and [last.number, str(last.seed), *self._winner(last)]}
         if self._door is not None:
             waiting = self._named(self._door.places(self._played))
             tables = [[table.deal.number, self._named(table.guests.names())]
                       for table in self._running]
+            words = {team.word: team.name for team in self._teams}
             return self._board.show(None, [], {**state, "begins": None, "seats": [],
-                                               "tables": tables, "waiting": waiting})
+                                               "tables": tables, "waiting": waiting}, words)
+        words = {word: self._named([table.deal.words[seat]])[0]
+                 for word, seat in table.deal.keys.items()}
         guests, names = table.guests, self._named(table.guests.names())
         journal = self._folder.file(table.deal.number, "journal")
         return self._board.show(None if guests.began is None else journal, names, {
             **state, "begins": None if guests.first is None else guests.first + given.wait,
             "seats": [{"name": name, "here": guests.is_here(seat)}
-                      for seat, name in enumerate(names)]})
+                      for seat, name in enumerate(names)]}, words)

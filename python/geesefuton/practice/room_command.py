@@ -29,7 +29,7 @@ from geesefuton.arguments import Parser, seconds, whole
 from geesefuton.experiments.entrants import Entrant, read_entrants
 from geesefuton.hosting.lobby import listener_at
 from geesefuton.hosting.teller import Teller
-from geesefuton.network.addresses import own_address
+from geesefuton.network.addresses import join_address, own_address
 from geesefuton.practice.board import Board
 from geesefuton.practice.folder import Folder, write_whole
 from geesefuton.practice.room import Room
@@ -111,7 +111,8 @@ def _make_teams(given: argparse.Namespace, address: str) -> List[Team]:
     teams = read_teams(given.teams, given.folder, SEATS if given.tables == 1 else MOST)
     keep_words(given.folder, teams)
     if given.slips:
-        text = slips_of(teams, address, given.port, given.slips.suffix in (".html", ".htm"))
+        text = slips_of(teams, address, given.port, given.page,
+                        given.slips.suffix in (".html", ".htm"))
         write_whole(given.slips, text.encode())
     return teams
 
@@ -159,6 +160,9 @@ def _main() -> int:
                     Board(children, given.page, given.late, address, teller.say),
                     teller.say, teams, given.games, given.tables)
         signals = _Signals(room, teller.say)
+        if given.page is not None:
+            teller.say(f"the page is http://localhost:{given.page}; players join at "
+                       f"{join_address(address, given.page)}")
         if not house:
             teller.say("no house agents: empty seats stay empty")
         teller.say(f"games are drawn from a secret, whose SHA-256 is {folder.commitment}"

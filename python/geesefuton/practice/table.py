@@ -79,8 +79,10 @@ class Guests:
         return self._house.name_at(seat) if self._sources[seat] == OWN else self.words[seat]
 
     def names(self) -> List[str]:
-        """How the seats' players are called."""
-        return [self.players.get(seat, word) for seat, word in enumerate(self.words)]
+        """How the seats' players are called; those of one name have numbers."""
+        names = [self.players.get(seat, word) for seat, word in enumerate(self.words)]
+        return [f"{name} {names[:seat + 1].count(name)}" if names.count(name) > 1 else name
+                for seat, name in enumerate(names)]
 
     def is_here(self, seat: int) -> bool:
         """Whether a link has a seat."""

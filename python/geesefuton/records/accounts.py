@@ -14,7 +14,7 @@ class Accounts(Books):
 
     def __init__(self, game: Game) -> None:
         super().__init__(game)
-        self._clients = game.clients
+        self.clients = game.clients
 
     def prices_for(self, agent: int) -> List[Optional[int]]:
         """What a unit more of each of the 28 goods costs an agent; None if there is none."""
@@ -22,7 +22,7 @@ class Accounts(Books):
 
     def plan(self, agent: int, before: Optional[Plan] = None) -> Plan:
         """An agent's best plan at these prices, with its plan of a moment ago, if that is known."""
-        return best_plan(self._clients[agent], self.holdings[agent], self.prices_for(agent), before)
+        return best_plan(self.clients[agent], self.holdings[agent], self.prices_for(agent), before)
 
 
 class Gains(NamedTuple):

@@ -8,6 +8,7 @@ bound is low. Then the search tries all plans that could still be better than th
 each client has few trips left that cost no more than the distance between the two.
 """
 
+from collections import Counter
 from dataclasses import dataclass, field
 from functools import lru_cache
 from itertools import count
@@ -89,6 +90,21 @@ def best_plan(clients: Sequence[Client], held: Sequence[int], prices: Sequence[O
     missing = tuple(max(0, need[good] - search.held[good]) for good in GOODS)
     return Plan(search.best - owed, tuple(_TRIPS[trip] for trip in search.trips), missing,
                 bound - owed, tuple(search.prices))
+
+
+def parts_of(trips: Sequence[Optional[Package]], held: Sequence[int]
+             ) -> List[Tuple[List[int], List[int]]]:
+    """For each trip its goods that are held, and those that are lacking. What is held goes first to
+    the trips that lack least, so that it makes whole ones."""
+    goods = [trip.goods() if trip else [] for trip in trips]
+    need, free = Counter(good for each in goods for good in each), list(held)
+    parts: List[Tuple[List[int], List[int]]] = [([], []) for _ in trips]
+    for place in sorted(range(len(trips)), key=lambda place: sum(
+            need[good] > held[good] for good in goods[place])):
+        for good in goods[place]:
+            parts[place][free[good] <= 0].append(good)
+            free[good] -= 1
+    return parts
 
 
 class _Search:
