@@ -56,8 +56,8 @@ class Money(unittest.TestCase):
         rows = table_of(self.text, "What each team paid and earned")
         flights, shanties, towers, tickets, earned = 800, 50, 280, 17, 151
         self.assertEqual(rows[1], [GAME.words[0], *map(str, (
-            flights, shanties, towers, tickets, earned,
-            earned - flights - shanties - towers - tickets))])
+            flights, shanties, towers, tickets, earned)),
+            f"−{flights + shanties + towers + tickets - earned}"])
         self.assertEqual(rows[2], [GAME.words[1], "0", "0", "0", "9", "60", "51"])
         self.assertEqual([row[1:] for row in rows[3:]], [["0"] * 6] * 6)
 
@@ -65,15 +65,15 @@ class Money(unittest.TestCase):
         rows = table_of(self.text, "Trades")
         self.assertEqual(rows, [
             ["good", "bought", "for", "sold", "for", "cash"],
-            ["in, day 1", "1", "300", "", "", "-300"], ["out, day 5", "2", "500", "", "", "-500"],
-            ["Shanties, night 1", "1", "10", "", "", "-10"],
-            ["Shanties, night 4", "2", "40", "", "", "-40"],
-            ["Towers, night 1", "1", "40", "", "", "-40"],
-            ["Towers, night 4", "3", "240", "", "", "-240"],
-            ["alligators, night 1", "2", "10", "1", "1", "-9"],
+            ["in, day 1", "1", "300", "", "", "−300"], ["out, day 5", "2", "500", "", "", "−500"],
+            ["Shanties, night 1", "1", "10", "", "", "−10"],
+            ["Shanties, night 4", "2", "40", "", "", "−40"],
+            ["Towers, night 1", "1", "40", "", "", "−40"],
+            ["Towers, night 4", "3", "240", "", "", "−240"],
+            ["alligators, night 1", "2", "10", "1", "1", "−9"],
             ["museum, night 4", "1", "7", "3", "150", "143"]])
         other = table_of(self.text.split("</details>")[1], "Trades")
-        self.assertEqual(other[1:], [["alligators, night 1", "1", "9", "", "", "-9"],
+        self.assertEqual(other[1:], [["alligators, night 1", "1", "9", "", "", "−9"],
                                      ["alligators, night 2", "", "", "1", "60", "60"]])
 
     def test_tickets(self) -> None:
@@ -90,7 +90,7 @@ class Scores(unittest.TestCase):
             (agent, "end" if agent in (3, 6) else "quit") for agent in range(8)))
         rows = table_of(text_of(log), "Scores")[1:]
         self.assertEqual([row[0] for row in rows], ["1", "2", "2", "4", "5", "6", "–", "–"])
-        self.assertEqual([row[2] for row in rows], ["70", "30", "30", "20", "0", "-5", "900",
+        self.assertEqual([row[2] for row in rows], ["70", "30", "30", "20", "0", "−5", "900",
                                                     "800"])
 
     def test_how_it_went(self) -> None:
@@ -100,7 +100,7 @@ class Scores(unittest.TestCase):
                                    for agent in range(8)))
         told = {row[1]: row[8] for row in table_of(text_of(log), "Scores")[1:]}
         self.assertEqual([told[word] for word in GAME.words[:5]], [
-            "quit", "left without quit", "lost its link", "lost its link", "used up its lines"])
+            "played to the end", "left without quit", "lost its link", "lost its link", "used up its lines"])
 
     def test_what_the_columns_are(self) -> None:
         trip = Package(0, 1, 3, (1, 0, 2))
@@ -108,8 +108,8 @@ class Scores(unittest.TestCase):
         rows = table_of(text_of(replace(LOG, scores=(row, *LOG.scores[1:]))), "Scores")
         self.assertEqual(rows[0], ["", "team", "score", "", "trips", "cash", "left home",
                                    "ticketsshort", "how it went"])
-        self.assertEqual(rows[1], ["1", GAME.words[0], "650", "", "1700", "-650", "6 of 8", "2",
-                                   "quit"])
+        self.assertEqual(rows[1], ["1", GAME.words[0], "650", "", "1,700", "−650", "6 of 8", "2",
+                                   "played to the end"])
 
     def test_bars_are_of_one_scale_from_0(self) -> None:
         def bars(*scores: int) -> List[Tuple[str, ...]]:
@@ -238,16 +238,16 @@ class Parts(unittest.TestCase):
                         "What each client wanted, and got on which nights")
         self.assertEqual(rows[0], ["client", "days", "Towers", "alligators", "park", "museum",
                                    "got", "days", "alligators", "park", "museum", "worth"])
-        self.assertEqual([row[0] for row in rows[1:]], list("01234567"))
+        self.assertEqual([row[0] for row in rows[1:]], list("12345678"))
         return rows[1]
 
     def test_what_a_client_wanted_and_got(self) -> None:
         # The game file: client 0 0 4 5 149 3 113 153.
-        wanted = ["0", "4–5", "149", "3", "113", "153"]
+        wanted = ["1", "4–5", "149", "3", "113", "153"]
         self.assertEqual(self.clients(Package(1, 4, 5, (0, 0, 4))),
-                         [*wanted, "Towers", "4–5", "", "", "4", str(1000 + 149 + 153)])
+                         [*wanted, "Towers", "4–5", "", "", "4", "1,302"])
         self.assertEqual(self.clients(Package(0, 3, 5, (3, 4, 0))),
-                         [*wanted, "Shanties", "3–5", "3", "4", "", str(1000 - 100 + 3 + 113)])
+                         [*wanted, "Shanties", "3–5", "3", "4", "", "1,016"])
         self.assertEqual(self.clients(None), [*wanted, "stays at home", "", "", "", "", "0"])
 
     def test_the_best_team_is_shown_open(self) -> None:

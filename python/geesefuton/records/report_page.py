@@ -13,12 +13,17 @@ from geesefuton.records.hindsight import Moment, Story
 from geesefuton.records.logs import Log, Score, trades_of
 from geesefuton.records.prices import MarketEvent
 
-STYLE = files("geesefuton.records").joinpath("report.css")
+# The colours of all pages, what is a report's own, and the choice of a theme by the address.
+STYLE = "<style>{}{}</style>".format(*(
+    files(f"geesefuton.{room}").joinpath(name).read_text(encoding="ascii")
+    for room, name in (("network", "style.css"), ("records", "report.css")))) + (
+    "<script>if (/^#(dark|light)$/.test(location.hash)) document.documentElement.dataset.theme = "
+    "location.hash.slice(1);</script>")
 Cell = Union[str, int]
 KINDS: Tuple[Tuple[str, range], ...] = (("flights", FLIGHTS), ("Shanties", range(8, 12)),
                                         ("Towers", range(12, 16)), ("tickets", TICKETS))
 Sums = Dict[Tuple[int, int, bool], Tuple[int, int]]  # agent, good, whether sold: units and dollars
-ENDS = {"quit": "quit", "end": "left without `quit`", "readfault": "lost its link",
+ENDS = {"quit": "played to the end", "end": "left without quit", "readfault": "lost its link",
         "writefault": "lost its link", "budget": "used up its lines"}
 
 
@@ -101,13 +106,20 @@ def why_nothing(log: Log, events: Sequence[MarketEvent], score: Score) -> str:
     return f"no {', no '.join(missing)}" if missing else "its goods make no trip"
 
 
+def number(value: float) -> str:
+    """A number as all reports have it, such as `−1,234`."""
+    return f"{value:,.0f}".replace("-", "−")
+
+
 def table(heads: Sequence[str], rows: Iterable[Sequence[Cell]], text: Sequence[int] = ()) -> str:
-    """A table that scrolls in itself. Cells are HTML; the columns in `text` are aligned left."""
+    """A table that scrolls in itself. Cells are numbers or HTML; the columns in `text` are aligned
+    left."""
     def mark(column: int) -> str:
         return ' class="t"' if column in text else ""
 
     head = "".join(f"<th{mark(column)}>{name}</th>" for column, name in enumerate(heads))
-    body = "".join("<tr>" + "".join(f"<td{mark(column)}>{cell}</td>"
+    body = "".join("<tr>" + "".join(f"<td{mark(column)}>"
+                                    f"{cell if isinstance(cell, str) else number(cell)}</td>"
                                     for column, cell in enumerate(row)) + "</tr>" for row in rows)
     return f'<div class="wide"><table><tr>{head}</tr>{body}</table></div>'
 
@@ -137,18 +149,14 @@ def _scores(names: Sequence[str], log: Log, events: Sequence[MarketEvent]) -> st
         home = sum(package is None for package in score.packages)
         told = [why_nothing(log, events, score), ENDS.get(log.ends.get(score.agent, ""), "")]
         rows.append([place.get(score.agent, "–"), html.escape(names[score.agent]),
-                     f"<b>{score.score}</b>", bar(score.score, low, high), score.best, score.cash,
-                     f"{home} of {CLIENTS}", score.short,
-                     _code("; ".join(filter(None, told)))])
+                     f"<b>{number(score.score)}</b>", bar(score.score, low, high), score.best,
+                     score.cash, f"{home} of {CLIENTS}", score.short,
+                     html.escape("; ".join(filter(None, told)))])
     heads = ["", "team", "score", "", "trips", "cash", "left home", "tickets<br>short",
              "how it went"]
     note = ("A score is what the trips are worth, plus the cash, less 200 for each ticket short. "
             "Equal scores share a rank; a seat that made no call and did not quit has none.")
     return f"<h2>Scores</h2>{table(heads, rows, (1, 8))}<p>{note}</p>"
-
-
-def _code(text: str) -> str:
-    return html.escape(text.replace("`quit`", "quit"))
 
 
 def _spending(names: Sequence[str], log: Log, events: Sequence[MarketEvent]) -> str:
@@ -248,7 +256,7 @@ def _price_rows(game: Game, events: Sequence[MarketEvent]) -> Iterator[str]:
                 auction = AUCTIONS[good]
                 title = f"{'day' if good in FLIGHTS else 'night'} {auction.day}"
                 last = paths[good][-1][1]
-                closes = (f"{last} at tick {game.hotels[good - 8].closes}" if good in HOTELS
+                closes = (f"{number(last)} at tick {game.hotels[good - 8].closes}" if good in HOTELS
                           else f"{paths[good][0][1]} to {last}")
                 charts.append(chart(f"{title}: <b>{closes}</b>", paths[good], low, high,
                                     good in HOTELS))
@@ -263,8 +271,8 @@ def _prices(game: Game, events: Sequence[MarketEvent]) -> str:
 
 
 def _client_rows(game: Game, score: Score) -> Iterator[List[Cell]]:
-    for number, (client, package) in enumerate(zip(game.clients[score.agent], score.packages)):
-        asked: List[Cell] = [number, f"{client.arrive}–{client.depart}", client.premium,
+    for place, (client, package) in enumerate(zip(game.clients[score.agent], score.packages), 1):
+        asked: List[Cell] = [place, f"{client.arrive}–{client.depart}", client.premium,
                              *client.values]
         yield asked + _trip(package) + [client.worth(package)]
 
@@ -291,11 +299,12 @@ def _teams(game: Game, names: Sequence[str], log: Log, events: Sequence[MarketEv
     clients = ["client", "days", "Towers", "alligators", "park", "museum", "got", "days",
                "alligators", "park", "museum", "worth"]
     trades = ["good", "bought", "for", "sold", "for", "cash"]
-    for number, score in enumerate(_order(log)):
+    for place, score in enumerate(_order(log)):
         story = story_html(stories[score.agent]) if stories else ""
-        yield (f'<details{"" if number else " open"}><summary>'
-               f"<b>{html.escape(names[score.agent])}</b>: trips worth {score.best}, "
-               f"cash {score.cash}, score {score.score}</summary>{story}"
+        yield (f'<details{"" if place else " open"}><summary>'
+               f"<b>{html.escape(names[score.agent])}</b>: trips worth "
+               f"{number(score.best)}, cash {number(score.cash)}, score {number(score.score)}"
+               f"</summary>{story}"
                "<h3>What each client wanted, and got on which nights</h3>"
                f"{table(clients, _client_rows(game, score), (6,))}<h3>Trades</h3>"
                f"{table(trades, _trade_rows(events, score.agent), (0,))}</details>")
@@ -352,5 +361,5 @@ def document(title: str, parts: Iterable[str]) -> str:
     return "\n".join([
         '<!doctype html><html lang="en"><meta charset="utf-8">'
         '<meta name="viewport" content="width=device-width, initial-scale=1">'
-        f"<title>{title}</title><style>{STYLE.read_text(encoding='ascii')}</style>",
+        f"<title>{title}</title>{STYLE}",
         *parts]) + "</html>\n"
