@@ -226,10 +226,18 @@ class Output:
             self._number = None
 
 
-def tell(what: str) -> None:
-    """Writes a line to standard error, if there is one that takes it."""
+_AGAIN = "\r\x1b[K"  # what makes a terminal write its last line again
+_start = ""  # what the next line begins with
+
+
+def tell(what: str, is_passing: bool = False) -> None:
+    """Writes a line to standard error, if there is one that takes it. On a terminal the next line
+    takes the place of a passing one."""
+    global _start
     try:
-        os.write(2, (what + "\n").encode("utf-8", "replace"))
+        is_kept = not (is_passing and os.isatty(2))
+        start, _start = _start, "" if is_kept else _AGAIN
+        os.write(2, (start + what + "\n" * is_kept).encode("utf-8", "replace"))
     except OSError:
         pass  # nobody can be told
 

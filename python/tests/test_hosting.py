@@ -14,12 +14,13 @@ from pathlib import Path
 from typing import Any, Iterator, Optional
 from unittest import mock
 
-from geesefuton.hosting import lobby, lobby_command
+from geesefuton.hosting import events, lobby, lobby_command
 from geesefuton.hosting.control import STOPPED, Phase
 from geesefuton.hosting.lobby import Lobby, LobbyError
 from geesefuton.hosting.settings import LobbySettings
 from geesefuton.processes import command, free_port
-from tests.helpers import TOP, python, variables
+from geesefuton.records.logs import read_log
+from tests.helpers import DATA, TOP, python, variables
 
 GAME = TOP / "examples" / "first.game"
 
@@ -99,11 +100,21 @@ class Main(Case):
             game=Path("my.game"), port=7000, pace=500, log=sys.stdout.buffer, form="json",
             start=1.0, linger=2.0, patience=3.0, silence=4.0, journal=Path("j"), page=8, late=9,
             names=True, by_hand=10, advice=False, orders=sys.stdin, vouches=True))
-        said = self.teller.say.call_args[0][0]
+        self.made.return_value.words = list("abcdefgh")
+        said, page = (call[0][0] for call in self.teller.say.call_args_list)
         self.assertIn("port 7000", said)
         self.assertIn("red blue", said)
         self.assertIn("the journal is j", said)
-        self.made.return_value.run.assert_called_once_with(self.teller.tell)
+        self.assertRegex(page, "^the page is http://localhost:8; players join at http://.*:8/join$")
+        tell, = self.made.return_value.run.call_args[0]
+        self.teller.say.reset_mock()
+        tell(events.Finished(0.0, 0, str(DATA / "lobby.log")))
+        ranks = [call[0][0] for call in self.teller.say.call_args_list]
+        scores = sorted((score.score for score in read_log(
+            (DATA / "lobby.log").read_text()).scores), reverse=True)
+        self.assertEqual([line.split()[-1] for line in ranks[:8]], [f"{each:,}" for each in scores])
+        self.assertRegex(ranks[8], "^more: .*report my.game .*lobby.log > my.html$")
+        self.teller.tell.assert_called_once()
         self.teller.close.assert_called_once_with()
 
     def test_what_holds_if_nothing_is_said(self) -> None:

@@ -13,7 +13,7 @@ from pathlib import Path
 from typing import Any, List
 from unittest import mock
 
-from geesefuton.processes import Children, Output, Stopped, free_port, why
+from geesefuton.processes import Children, Output, Stopped, free_port, tell, why
 from tests.helpers import python, variables
 
 MOST = 60.0  # seconds that anything may take, on a machine that is busy with other work
@@ -337,6 +337,23 @@ class Commands(unittest.TestCase):
         done = subprocess.run(python(code), stdout=subprocess.PIPE, env=variables(), check=False,
                               timeout=200)
         self.assertEqual((done.returncode, done.stdout), (0, b"went on\n"))
+
+
+
+class Telling(unittest.TestCase):
+    def test_a_passing_line_is_replaced_on_a_terminal_and_kept_elsewhere(self) -> None:
+        for is_terminal, due in ((True, "a\n1\r\x1b[K2\r\x1b[Kb\nc\n"),
+                                 (False, "a\n1\n2\nb\nc\n")):
+            with self.subTest(is_terminal=is_terminal), \
+                    mock.patch("geesefuton.processes.os.write") as write, \
+                    mock.patch("geesefuton.processes.os.isatty", return_value=is_terminal):
+                tell("a")
+                tell("1", is_passing=True)
+                tell("2", is_passing=True)
+                tell("b")
+                tell("c")
+                self.assertEqual(b"".join(call[0][1] for call in write.call_args_list).decode(),
+                                 due)
 
 
 if __name__ == "__main__":

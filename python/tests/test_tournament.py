@@ -104,7 +104,8 @@ class Playing(unittest.TestCase):
         self.addCleanup(variable.stop)
         self.told: List[str] = []
         self.patch("geesefuton.experiments.tournament.PROGRAM", WORKER)
-        self.patch("geesefuton.experiments.tournament.tell", self.told.append)
+        self.patch("geesefuton.experiments.tournament.tell",
+                   lambda line, is_passing=False: self.told.append(line))
         self.patch("geesefuton.program.make", lambda seed: SERVED_GAME.read_text())
         self.left = 0
 
@@ -153,7 +154,7 @@ class Playing(unittest.TestCase):
         self.assertEqual([row.luck for row in rows[:8]], [drawn.luck for drawn in covariates_of(served_game())])
         self.assertEqual({row.kind for row in rows}, {Kind.SERVED})
         self.assertEqual((made.report.lost, self.left), ([], 0))
-        self.assertRegex(self.told[-1], r"^game 4 of 4 \([12]\.[01]\): scored; 0:00 left$")
+        self.assertRegex(self.told[-1], r"^game 4 of 4 \(deal [12], rotation [01]\): scored; 0:00 left$")
 
     def test_the_time_that_is_left_is_told_in_minutes_and_seconds(self) -> None:
         plan = self.plan("a", games=3, rotations=1)
@@ -162,14 +163,14 @@ class Playing(unittest.TestCase):
                        Player(mock.Mock(), mock.Mock()), 0.0, Result(fault="why"))
         with mock.patch("time.monotonic", return_value=made._began + 29.9):
             made._finish(game)  # two games more, of 29.9 seconds each
-        self.assertEqual(self.told[-1], "game 1 of 3 (1.0): lost; 1:00 left")
+        self.assertEqual(self.told[-1], "game 1 of 3 (deal 1, rotation 0): lost; 1:00 left")
 
     def test_a_run_that_goes_on_plays_and_counts_only_what_is_missing(self) -> None:
         made = self.tournament(self.plan(games=4), {(1, 0), (1, 1), (2, 0)}, 2)
         with mock.patch.dict(os.environ, {"FAULT": "", "GAME": ""}), Children() as children:
             made.play(children)
         self.assertEqual({(row.place, row.run) for row in self.rows()}, {((2, 1), 2)})
-        self.assertEqual(self.told[-1], "game 1 of 1 (2.1): scored; 0:00 left")
+        self.assertEqual(self.told[-1], "game 1 of 1 (deal 2, rotation 1): scored; 0:00 left")
 
     def test_what_games_tell_is_passed_on_and_their_settings_reach_them(self) -> None:
         self.play(games=1, rotations=1)

@@ -246,8 +246,9 @@ class Tournament:
         self.report.rows[game.number] = rows
         each = (time.monotonic() - self._began) / self._done
         left = round(each * (self.games - self._done))
-        tell(f"game {self._done} of {self.games} ({table.name}): "
-             f"{'scored' if rows else 'lost'}; {left // 60}:{left % 60:02} left")
+        tell(f"game {self._done} of {self.games} (deal {table.deal.number}, rotation "
+             f"{table.rotation}): {'scored' if rows else 'lost'}; {left // 60}:{left % 60:02} left",
+             is_passing=bool(rows) and self._done < self.games)
         if rows and not self._out.write(csv_text(rows)):
             self.report.lose(f"game {table.name} is lost: {self._out.name}: {self._out.fault}")
             self.report.rows[game.number] = []
@@ -313,6 +314,8 @@ def _print_summary(summary: Summary, texts: Mapping[Path, str]) -> bool:
     whether anything did."""
     targets: List[Tuple[Union[int, Path], str]] = [(1, as_text(summary)), *texts.items()]
     failed = False
+    if os.isatty(2) and not os.isatty(1):  # it goes to a file, but somebody looks on
+        tell(as_text(summary).rstrip())
     for target, text in targets:
         out = Output(target)
         out.write(text)

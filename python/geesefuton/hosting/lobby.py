@@ -241,8 +241,12 @@ def listener_at(port: int) -> socket.socket:
         raise LobbyError(f"port {port}: {why(fault)}") from None
 
 
+def tool(name: str) -> str:
+    """A command of the package, as it is typed here."""
+    clone = program.top()
+    return os.path.relpath(clone / "tools" / name) if clone else f"tac-{name}"
+
+
 def recovery_line(journal: Path) -> str:
     """The command that makes a log of a journal."""
-    clone = program.top()
-    name = os.path.relpath(clone / "tools" / "recover") if clone else "tac-recover"
-    return f"{name} {journal} > {journal.with_suffix('.recovered.log').name}"
+    return f"{tool('recover')} {journal} > {journal.with_suffix('.recovered.log').name}"

@@ -1,5 +1,7 @@
 """The command `lobby`: hosts a game for agents on other machines.
 
+    lobby my.game 7000 2000 --page 7080 > my.log      a tick every two seconds, and a page
+
 Agents connect to the port as if it were the server's. The lobby shows which agents are there and
 which are missing. Once all are there it starts the server on a port of its own, and passes lines
 on. An agent whose link ends may reconnect with its word, before the game and during it, and gets
@@ -27,17 +29,19 @@ import sys
 import time
 from pathlib import Path
 from types import FrameType
-from typing import Optional
+from typing import Iterator, Optional, Sequence
 
 from geesefuton.arguments import Parser, seconds, whole
-from geesefuton.hosting import log_files
+from geesefuton.hosting import events, log_files
 from geesefuton.hosting.control import STOPPED, Phase
-from geesefuton.hosting.lobby import Lobby
+from geesefuton.hosting.lobby import Lobby, tool
 from geesefuton.hosting.seats import SILENCE
 from geesefuton.hosting.settings import LobbySettings
 from geesefuton.hosting.teller import Teller
+from geesefuton.network.addresses import join_address, own_address
 from geesefuton.processes import command, why
 from geesefuton.records.games import TICKS
+from geesefuton.records.logs import LogError, read_scores
 
 AGAIN = 5.0  # seconds within which a second ctrl-C stops the game
 
@@ -68,7 +72,7 @@ def _arguments() -> argparse.Namespace:
              "port, also as a QR code if `qrencode` is installed; an agent may take any seat whose "
              "page nobody has opened")
     add("--no-advice", action="store_true",
-        help="do not let the pages of --by-hand ask the solver")
+        help="do not let the pages of people plan trips")
     add("--late", type=whole(0, TICKS), default=6, metavar="TICKS",
         help="show what agents cannot ask (scores, trades, standing bids) this many ticks late; 0: "
              "at once, 54: after the game (default: 6)")
@@ -166,6 +170,19 @@ class _Signals:
                                 "; press Enter or ctrl-C to end now, with the log")
 
 
+def _result_lines(game: Path, words: Sequence[str], log: Path) -> Iterator[str]:
+    """The scores of a log, the best first, and the command that shows more; nothing if the log
+    cannot be read."""
+    try:
+        scores = sorted(read_scores(log.read_bytes()), key=lambda score: -score.score)
+    except (LogError, OSError):
+        return
+    for score in scores:
+        rank = 1 + sum(other.score > score.score for other in scores)
+        yield f"{rank}. {words[score.agent]} {score.score:,}"
+    yield f"more: {tool('report')} {game} {log} > {game.stem}.html"
+
+
 def main() -> int:
     """The command `lobby`."""
     return command("lobby", _main)
@@ -186,11 +203,20 @@ def _main() -> int:
     settings.journal = settings.journal or _default_journal(given.game, teller)
     signals = _Signals(lobby, teller)
     where = f"the journal is {settings.journal}" if settings.journal else "there is no journal"
-    if settings.stays:
-        where += "; after the game the page stays until ctrl-C"
     teller.say(f"waiting at port {lobby.port} for {' '.join(lobby.words)}; {where}")
+    if given.page is not None:
+        stays = ", and stays after the game until ctrl-C" if settings.stays else ""
+        teller.say(f"the page is http://localhost:{given.page}{stays}; players join at "
+                   f"{join_address(own_address(), given.page)}")
+
+    def tell_event(event: events.Event) -> None:
+        if isinstance(event, events.Finished) and event.log is not None:
+            for line in _result_lines(given.game, lobby.words, Path(event.log)):
+                teller.say(line)
+        teller.tell(event)
+
     try:
-        status = lobby.run(teller.tell)
+        status = lobby.run(tell_event)
     finally:
         teller.close()
     return 128 + signals.number if status == STOPPED and signals.number else status
