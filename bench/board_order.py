@@ -5,9 +5,10 @@
     bench/board_order.py runs/1/games [--tick 36]
 
 It reads the games and logs of a folder, as `tools/tournament` keeps them. For each game it orders
-the seats by what their best plans are worth at the prices of the tick, as the page does, and by
-what they would score if nobody did anything more; and writes for both the mean rank correlation
-(Spearman's) with the final scores, over all games.
+the seats by what their best plans are worth at the prices of the tick; as the page does, on which
+those who have bought nothing come last; and by what they would score if nobody did anything more.
+It writes for each order the mean rank correlation (Spearman's) with the final scores over all
+games, and how many agents without a flight and a room stand above one with a whole trip.
 """
 
 import math
@@ -19,20 +20,25 @@ TOP = Path(__file__).resolve().parent.parent
 sys.path.insert(0, str(TOP / "python"))
 
 from geesefuton.arguments import Parser, whole  # noqa: E402
+from geesefuton.hosting.projection import is_empty, plan_of  # noqa: E402
 from geesefuton.processes import command, tell  # noqa: E402
 from geesefuton.records.accounts import Accounts  # noqa: E402
-from geesefuton.records.best_plans import best_plan  # noqa: E402
+from geesefuton.records.best_plans import best_plan, parts_of  # noqa: E402
 from geesefuton.records.games import GOODS, SEATS, TICKS, Game, read_game  # noqa: E402
 from geesefuton.records.logs import read_log  # noqa: E402
 from geesefuton.records.ticks import entries_by_tick, ticks_by_log  # noqa: E402
 
 
-class Agreement(NamedTuple):
-    """Of one game: the rank correlations with the final scores of the order by plans, and of the
-    order if nobody did anything more."""
+ORDERS = ("plans", "the page", "nothing more")
+BEHIND = 1e6  # dollars, by which those who have bought nothing are behind
 
-    plans: float
-    nothing_more: float
+
+class Agreement(NamedTuple):
+    """Of one game and one order: its rank correlation with that of the final scores, and how many
+    agents that have bought nothing stand above one with a whole trip."""
+
+    correlation: float
+    empty_above: int
 
 
 def ranks(values: Sequence[float]) -> List[float]:
@@ -49,19 +55,29 @@ def correlation(one: Sequence[float], other: Sequence[float]) -> float:
     return sum(x * y for x, y in zip(first, second)) / scale if scale else 0.0
 
 
-def agreement(game: Game, text: bytes, tick: int) -> Agreement:
+def has_trip(accounts: Accounts, seat: int) -> bool:
+    """Whether a seat has all goods of a trip."""
+    packages = accounts.plan(seat).packages
+    return any(own and not lacking for own, lacking in parts_of(packages, accounts.holdings[seat]))
+
+
+def agreements(game: Game, text: bytes, tick: int) -> List[Agreement]:
     """How well the orders at a tick agree with the final one."""
-    log = read_log(text)
-    accounts = Accounts(game)
+    log, accounts, seats = read_log(text), Accounts(game), range(SEATS)
     for entries in entries_by_tick(ticks_by_log(game, log), log)[:tick + 1]:
         for good, _, entry in entries:
             accounts.take(good, entry)
-    plans = [accounts.cash[seat] + accounts.plan(seat).value for seat in range(SEATS)]
+    plans = [plan_of(accounts, seat)[0] for seat in seats]
+    empty = [is_empty(accounts, seat) for seat in seats]
+    whole = [has_trip(accounts, seat) for seat in seats]
     end = accounts.at_the_end()
-    nothing_more = [end.cash[seat] + best_plan(game.clients[seat], end.holdings[seat],
-                                               [None] * len(GOODS)).value for seat in range(SEATS)]
     final = [score.score for score in log.scores]
-    return Agreement(correlation(plans, final), correlation(nothing_more, final))
+    orders = [plans, [plan - BEHIND * is_last for plan, is_last in zip(plans, empty)],
+              [end.cash[seat] + best_plan(game.clients[seat], end.holdings[seat],
+                                          [None] * len(GOODS)).value for seat in seats]]
+    return [Agreement(correlation(order, final), sum(empty[seat] and any(
+        whole[other] and order[seat] > order[other] for other in seats) for seat in seats))
+        for order in orders]
 
 
 def main() -> int:
@@ -70,18 +86,17 @@ def main() -> int:
     parser.add_argument("folder", type=Path)
     parser.add_argument("--tick", type=whole(0, TICKS), default=36)
     given = parser.parse_args()
-    made = [agreement(read_game(file.read_text()), file.with_suffix(".log").read_bytes(),
-                      given.tick)
+    made = [agreements(read_game(file.read_text()), file.with_suffix(".log").read_bytes(),
+                       given.tick)
             for file in sorted(given.folder.glob("*.game")) if file.with_suffix(".log").exists()]
     if not made:
         tell(f"board_order: {given.folder} has no games with logs")
         return 1
     print(f"games {len(made)} tick {given.tick}")
-    for name, each in (("plans", [one.plans for one in made]),
-                       ("nothing more", [one.nothing_more for one in made])):
-        print(f"{name}: mean correlation {sum(each) / len(each):.3f}, least {min(each):.3f}")
-    better = sum(one.plans > one.nothing_more for one in made)
-    print(f"plans agree better in {better} of {len(made)} games")
+    for name, each in zip(ORDERS, zip(*made)):
+        values = [one.correlation for one in each]
+        print(f"{name}: mean correlation {sum(values) / len(values):.3f}, least {min(values):.3f}, "
+              f"{sum(one.empty_above for one in each)} agents without goods above a whole trip")
     return 0
 
 
