@@ -1,5 +1,6 @@
 """The start of the server, with strangers at its port, and the end of a game that is waited for."""
 
+import errno
 import os
 import signal
 import socket
@@ -16,9 +17,8 @@ from geesefuton import program
 from geesefuton.hosting import events, server
 from geesefuton.hosting.control import Phase
 from geesefuton.hosting.events import End
-from geesefuton.hosting.server import TRIES
 from geesefuton.processes import free_port
-from tests.helpers import TOP, fake_program
+from tests.helpers import TOP, fake_program, needs_program
 from tests.lobbies import GAME, MOST, WORDS, Case, Host
 
 
@@ -27,7 +27,6 @@ class Strangers(Case):
 
     def setUp(self) -> None:
         super().setUp()
-        self.patch(mock.patch.object(server, "WELCOMING", 0.7))
         self.patch(mock.patch.object(server, "AGAIN", 0.01))
 
     def patch(self, patch: Any) -> None:
@@ -37,12 +36,11 @@ class Strangers(Case):
     def set(self, **variables: str) -> None:
         self.patch(mock.patch.dict(os.environ, variables))
 
-    def stranger(self, said: str, name: str = "stranger") -> Path:
+    def stranger(self, said: str) -> None:
         """A stranger comes before the lobby's links, and says something."""
-        file = self.folder / name
+        file = self.folder / "stranger"
         file.write_text(said)
         self.set(FAKE_STRANGER=str(file))
-        return file
 
     def check_game(self, host: Host) -> None:
         """All agents play and leave."""
@@ -53,14 +51,6 @@ class Strangers(Case):
         host.hurry()
         self.assertEqual(set(host.end().values()), {End.LEFT})
         self.assertEqual(host.status, 0)
-
-    def test_a_silent_stranger_at_the_servers_port_costs_that_port_alone(self) -> None:
-        file = self.stranger("")
-        host = Host(self.folder, start=None, pace=1000)
-        self.check_game(host)
-        self.assertFalse(file.exists())
-        warned, = host.of(events.Warned)
-        self.assertRegex(warned.text, "did not start: .*not welcomed within.*trying again")
 
     def test_the_seats_of_the_server_have_words_that_nobody_else_knows(self) -> None:
         self.stranger("hello seat3\n")
@@ -81,15 +71,6 @@ class Strangers(Case):
         host = Host(self.folder, start=None, pace=1000)
         self.check_game(host)
         self.assertEqual(host.of(events.Warned), [])
-
-    def test_strangers_at_every_port_end_the_start(self) -> None:
-        self.patch(mock.patch.object(server, "WELCOMING", 0.2))
-        self.stranger("", "stays")
-        host = Host(self.folder, pace=5, start=0)
-        host.end()
-        self.assertEqual((host.status, host.of(events.Began)), (server.TAKEN, []))
-        self.assertEqual(len(host.of(events.Warned)), TRIES)
-        self.assertIn("giving up", host.of(events.Warned)[-1].text)
 
     def test_somebody_elses_server_at_the_port_costs_that_port_alone(self) -> None:
         self.set(FAKE_LATE="0.3")  # so that the lobby finds the other one listening
@@ -150,6 +131,39 @@ class Strangers(Case):
         host.end()
         self.assertEqual(host.status, server.TAKEN)
         self.assertIn("did not listen within", host.of(events.Warned)[-1].text)
+
+
+@needs_program
+class Addresses(unittest.TestCase):
+    """The address in the variable TAC_BIND, with the program itself."""
+
+    def serve(self, address: str, port: int) -> "subprocess.Popen[bytes]":
+        process = subprocess.Popen(
+            program.served_words(GAME, port, 1), stdin=subprocess.DEVNULL, stdout=subprocess.PIPE,
+            env={**os.environ, "TAC_BIND": address})
+        assert process.stdout is not None
+        self.addCleanup(process.stdout.close)
+        self.addCleanup(process.wait)
+        self.addCleanup(process.kill)
+        return process
+
+    def test_the_server_listens_there_alone(self) -> None:
+        port = free_port()
+        self.serve(server.HOST, port)
+        deadline = time.monotonic() + MOST
+        while True:
+            with socket.socket() as link:
+                if not link.connect_ex((server.HOST, port)):
+                    break
+            self.assertLess(time.monotonic(), deadline)
+            time.sleep(0.01)
+        with socket.socket() as link:
+            self.assertEqual(link.connect_ex(("127.0.0.2", port)), errno.ECONNREFUSED)
+
+    def test_what_is_no_address_is_a_fault_of_the_links(self) -> None:
+        for address in ("", "localhost", "127.0.0.1:1", "1" * 100):
+            text, _ = (process := self.serve(address, free_port())).communicate(timeout=MOST)
+            self.assertEqual((process.returncode, text), (server.TAKEN, b"fault links\n"))
 
 
 class Ticks(Case):

@@ -3,6 +3,7 @@ use crate::host_files::HostFiles;
 use crate::sleep_ticker::SleepTicker;
 use crate::std_sink::StdSink;
 use crate::tcp_links::{TcpLink, TcpLinks};
+use std::env::Env;
 use std::fs::File;
 use std::io::{Read, Write};
 use std::net::{Net, TcpListener, TcpStream};
@@ -34,7 +35,7 @@ fn files_and_output_pass_bytes_on_and_count_faults(rt: HostRuntime) {
 }
 
 // A client at a port, on which nobody else can then listen, and its link.
-fn met<R: Net<Listener = TcpListener, Stream = TcpStream> + Abort>(
+fn met<R: Net<Listener = TcpListener, Stream = TcpStream> + Env + Abort>(
     rt: &R,
     port: u16,
 ) -> (TcpStream, TcpLink<TcpStream>) {
@@ -76,15 +77,17 @@ fn a_reset_is_a_fault_and_not_an_end(rt: HostRuntime) {
 
 #[test]
 fn ticks_come_a_pace_apart(rt: HostRuntime) {
-    let mut ticker = SleepTicker::new();
-    ticker.pace(100);
-    let start = Instant::now(&rt).expect(&rt, "a time");
-    for number in 1..4u8 {
-        let tick = Tick::new(number).expect(&rt, "a tick");
-        assert!(rt; ticker.wait(&rt, tick).is_ok());
-        // No tick comes before its time.
-        let passed = start.elapsed(&rt).expect(&rt, "a time");
-        assert!(rt; passed.as_millis() >= 100 * u128::from(number));
+    for pace in [1u8, 100] {
+        let mut ticker = SleepTicker::new();
+        ticker.pace(u16::from(pace));
+        let start = Instant::now(&rt).expect(&rt, "a time");
+        for number in 1..4u8 {
+            let tick = Tick::new(number).expect(&rt, "a tick");
+            assert!(rt; ticker.wait(&rt, tick).is_ok());
+            // No tick comes before its time.
+            let passed = start.elapsed(&rt).expect(&rt, "a time");
+            assert!(rt; passed.as_millis() >= u128::from(pace) * u128::from(number));
+        }
+        assert!(rt; ticker.faults() == 0);
     }
-    assert!(rt; ticker.faults() == 0);
 }

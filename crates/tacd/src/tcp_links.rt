@@ -3,8 +3,9 @@ ghost use Rattle.std.specs.Prelude.{◌≡◌, None, IfOk, IsOk, IsSome};
 ghost use Rattle.std.specs.Io.KnownBytes.{ReadConsumes, WriteAppends};
 ghost use Rattle.tacd.specs.Prelude.{HasCause, NotesFailure, Reads, Takes};
 
+use std::env::{Env, FillError};
 use std::io::{ErrorKind, Read, Write};
-use std::net::{Net, TcpListener, TcpStream};
+use std::net::{IpAddr, Net, TcpListener, TcpStream};
 use tac_io::{Failed, Link, Links};
 
 /// A stream as a link, such as a TCP connection. It counts its faults. No clause says what goes over it. For every stream whose content is
@@ -84,7 +85,8 @@ impl<S: Read + Write> Link for TcpLink<S> {
     }
 }
 
-/// The TCP connections to a port, on every address of the machine. They count their faults.
+/// The TCP connections to a port, at the address in the variable `TAC_BIND`, or on every address of the machine if it is not set. They
+/// count their faults.
 #[derive(Drop)]
 pub(crate) struct TcpLinks<'a, R> {
     rt: &'a R,
@@ -125,6 +127,28 @@ impl<'a, R: Net<Listener = TcpListener, Stream = TcpStream>> TcpLinks<'a, R> {
     }
 }
 
+/// Listens at a port of the address in the variable `TAC_BIND`, or of every address of the machine if it is not set. None if it cannot.
+fn bind<R: Net<Listener = TcpListener, Stream = TcpStream> + Env>(
+    rt: &R,
+    port: u16,
+) -> Option<TcpListener> {
+    // No address is longer than this.
+    let mut address = [0u8; 45];
+    match rt.var("TAC_BIND", &mut address) {
+        Ok(length) => {
+            let address = str::from_utf8(&address[..length]).ok()?;
+            let address = address.parse::<IpAddr>().ok()?;
+            TcpListener::bind(rt, (address, port)).ok()
+        }
+        Err(FillError::TooLong) => None,
+        // If the machine has no IPv6 addresses, they listen on its IPv4 addresses.
+        Err(FillError::NotPresent) => match TcpListener::bind(rt, ("::", port)) {
+            Ok(listener) => Some(listener),
+            Err(_) => TcpListener::bind(rt, ("0.0.0.0", port)).ok(),
+        },
+    }
+}
+
 /// Waits for a connection, and returns it; None if it cannot wait any more.
 fn accept(listener: &TcpListener) -> Option<TcpStream> {
     for _ in 0..u64::MAX {
@@ -142,7 +166,7 @@ fn accept(listener: &TcpListener) -> Option<TcpStream> {
     None
 }
 
-impl<'a, R: Net<Listener = TcpListener, Stream = TcpStream>> Links for TcpLinks<'a, R> {
+impl<'a, R: Net<Listener = TcpListener, Stream = TcpStream> + Env> Links for TcpLinks<'a, R> {
     ghost use Rattle.std.specs.Prelude.{None, is_some};
 
     type Link = TcpLink<TcpStream>;
@@ -150,17 +174,12 @@ impl<'a, R: Net<Listener = TcpListener, Stream = TcpStream>> Links for TcpLinks<
     ghost state = { λ s. record { listens = is_some s.listener; ports = None; pending = None; faults = s.faults } };
 
     fn listen(&mut self, port: u16) -> Result<(), Failed> {
-        // If the machine has no IPv6 addresses, they listen on its IPv4 addresses.
-        let bound = match TcpListener::bind(self.rt, ("::", port)) {
-            Ok(listener) => Ok(listener),
-            Err(_) => TcpListener::bind(self.rt, ("0.0.0.0", port)),
-        };
-        match bound {
-            Ok(listener) => {
+        match bind(self.rt, port) {
+            Some(listener) => {
                 self.listener = Some(listener);
                 Ok(())
             }
-            Err(_) => {
+            None => {
                 self.faults = self.faults.saturating_add(1);
                 Err(Failed)
             }
