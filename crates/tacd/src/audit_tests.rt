@@ -10,8 +10,10 @@ const ONCE: &str =
 const SEATED: &str =
     "table 2\nteam seat0 2 440 220/1 1\nteam seat1 2 -280 -140/1 8\nteam seat2 2 -60 -30/1 7\nteam seat3 1 0 0/1 2\nteam seat4 1 0 0/1 2\nteam seat5 1 0 0/1 2\nteam seat6 1 0 0/1 2\nteam seat7 1 0 0/1 2\nend\n";
 
-// A line, a part of the log of the trades and what replaces it, and the code and the text that are then due. In the row of `unposted`
-// agent 1 reads its cash instead of the clock's post.
+const TWICE: &str =
+    "table 2\nteam seat0 2 880 440/1 1\nteam seat1 2 -560 -280/1 8\nteam seat2 2 -120 -60/1 7\nteam seat3 2 0 0/1 2\nteam seat4 2 0 0/1 2\nteam seat5 2 0 0/1 2\nteam seat6 2 0 0/1 2\nteam seat7 2 0 0/1 2\nend\n";
+
+// A line, a part of the log of the trades and what replaces it, and the code and the text that are then due.
 const JUDGED: &[(&str, &str, &str, u8, &str)] = &[
     (AUDIT, "\nend\n", "\nend\n", 0, "sound\n"),
     (AUDIT, "\nplay\n", SERVED, 0, "sound\n"),
@@ -45,8 +47,8 @@ const JUDGED: &[(&str, &str, &str, u8, &str)] = &[
     ),
     (
         AUDIT,
-        "8 post 8 1 0 0 0 0 0 0 0 0 0\n",
-        "1 read = 120\n",
+        "cash 6\n0 post 0 0 -300 0 0 0 0 0 0 0 300\n0 post 4 0 -300 0 0 0 0 0 0 0 300\n0 post 24 1 -60 60 0 0 0 0 0 0 0\n2 post 24 2 0 60 -60 0 0 0 0 0 0\n0 read = -660\n8 post 8 1 0 0 0 0 0 0 0 0 0\n",
+        "cash 5\n0 post 0 0 -300 0 0 0 0 0 0 0 300\n0 post 4 0 -300 0 0 0 0 0 0 0 300\n0 post 24 1 -60 60 0 0 0 0 0 0 0\n2 post 24 2 0 60 -60 0 0 0 0 0 0\n0 read = -660\n",
         9,
         "unsound unposted 8 1\n",
     ),
@@ -65,6 +67,8 @@ const JUDGED: &[(&str, &str, &str, u8, &str)] = &[
         "unsound head\n",
     ),
     (AUDIT, "taclog 1\n", "taclog 2\n", 8, "text 1 1\n"),
+    (AUDIT, "auction 0 55\n", "auction 0 8257\n", 8, "text 3 1\n"),
+    ("audit game empty", "\nend\n", "\nend\n", 8, "text 1 1\n"),
     ("audit log log", "\nend\n", "\nend\n", 2, "game 1 1\n"),
     ("table log log", "\nend\n", "\nend\n", 2, "game 1 1\n"),
     (
@@ -74,6 +78,7 @@ const JUDGED: &[(&str, &str, &str, u8, &str)] = &[
         8,
         "text 1 1\n",
     ),
+    ("table game log game log", "\nend\n", "\nend\n", 0, TWICE),
     (
         "table game log game idle game idle",
         "\nend\n",
@@ -98,6 +103,9 @@ const JUDGED: &[(&str, &str, &str, u8, &str)] = &[
     ),
 ];
 
+// How many pairs of files that are not there a table has, and the code and the text that are due.
+const PAIRS: &[(usize, u8, &str)] = &[(64, 3, "fault read\n"), (65, 1, "usage\n")];
+
 #[test]
 fn logs_are_judged_by_their_games(rt: HostRuntime) {
     let game = plain_game(&rt);
@@ -109,7 +117,13 @@ fn logs_are_judged_by_their_games(rt: HostRuntime) {
             ("game", game.as_slice()),
             ("idle", idle.as_bytes()),
             ("log", log.as_bytes()),
+            ("empty", b"".as_slice()),
         ];
         check(&rt, line, &files, *code, &[told]);
+    }
+    for (count, code, told) in PAIRS {
+        let pairs = " game log".repeat(rt.alloc(), *count).expect(&rt, "memory");
+        let line = format!(in rt.alloc(); "table{pairs}").expect(&rt, "memory");
+        check(&rt, line.as_str(), &[], *code, &[told]);
     }
 }

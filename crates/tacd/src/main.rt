@@ -6,6 +6,8 @@ mod answer;
 mod audit_tests;
 #[cfg(test)]
 mod command_tests;
+#[cfg(test)]
+mod failure_tests;
 mod host_files;
 mod laws;
 #[cfg(test)]

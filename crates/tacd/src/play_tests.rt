@@ -5,13 +5,66 @@ const GAMES: &[Case<'static>] = &[
     // Bids of every fault.
     (
         "play game script",
-        "0 bid 0 ((16 10000))\n0 bid 0 ((17 1))\n0 bid 0 ((1 0))\n0 bid 0 ((1 10001))\n0 bid 0 ((0 100))\n0 bid 0 ((1 1)\n0 bid 0 ((1 1) (1 1) (1 1) (1 1) (1 1) (1 1) (1 1) (1 1) (1 1) (1 1) (1 1) (1 1) (1 1) (1 1) (1 1) (1 1) (1 1))\n0 bid 28 ((1 1))\n0 buy 0\n0 quit\n",
+        "0 bid 0 ((16 10000))\n0 bid 0 ((17 1))\n0 bid 0 ((1 0))\n0 bid 0 ((1 10001))\n0 bid 0 ((0 100))\n0 bid 0 ((1 1)\n0 bid 0 ((1 1) (1 1) (1 1) (1 1) (1 1) (1 1) (1 1) (1 1) (1 1) (1 1) (1 1) (1 1) (1 1) (1 1) (1 1) (1 1) (1 1))\n0 bid 28 ((1 1))\n0 buy 0\n",
         0,
         &[
-            "0 @0 taken 16 0\n0 no bid 3\n0 no bid 4\n0 no bid 4\n0 no bid 5\n0 no bid 1\n0 no bid 2\n0 no auction\n0 no syntax\n0 bye\ntaclog 1\nplay\nauction 0 55\n",
+            "0 @0 taken 16 0\n0 no bid 3\n0 no bid 4\n0 no bid 4\n0 no bid 5\n0 no bid 1\n0 no bid 2\n0 no auction\n0 no syntax\ntaclog 1\nplay\nauction 0 55\n",
             "\n0 bid ((16 10000)) = taken 16 0\ntrade 0 8 16 300\n",
             "\ncash 1\n0 post 0 0 -4800 0 0 0 0 0 0 0 4800\nsheet\nscore 0 0 -4800 0 -4800\npackage 0 0 none\n",
             "\nscore 7 0 0 0 0\npackage 7 0 none\n",
+        ],
+    ),
+    (
+        "play game script",
+        "0 bid 24 ((-1 60))\n1 bid 24 ((2 70))\n1 quote 24\n",
+        0,
+        &[
+            "0 @0 taken 0 0\n1 @1 taken 1 0\n1 @2 quote 70 0 open\ntaclog 1\nplay\n",
+            "\n1 bid ((2 70)) = taken 1 0\ntrade 1 0 1 60\n",
+        ],
+    ),
+    (
+        "play game script",
+        "0 bid 24 ((-1 60))\n0 bid 24 ((1 70))\n0 quote 24\n0 own 24\n",
+        0,
+        &[
+            "0 @0 taken 0 0\n0 @1 taken 0 0\n0 @2 quote 70 0 open\n0 @2 own 0 ((1 70))\ntaclog 1\n",
+            "\nend\n",
+        ],
+    ),
+    // Without calls nobody scores.
+    (
+        "play game script",
+        "",
+        0,
+        &[
+            "taclog 1\nplay\nauction 0 54\n",
+            "\ncash 0\nsheet\n",
+            "\nscore 0 0 0 0 0\npackage 0 0 none\npackage 0 1 none\npackage 0 2 none\npackage 0 3 none\npackage 0 4 none\npackage 0 5 none\npackage 0 6 none\npackage 0 7 none\ncert 0 ",
+            "\nscore 1 0 0 0 0\npackage 1 0 none\npackage 1 1 none\npackage 1 2 none\npackage 1 3 none\npackage 1 4 none\npackage 1 5 none\npackage 1 6 none\npackage 1 7 none\ncert 1 ",
+            "\nscore 2 0 0 0 0\npackage 2 0 none\npackage 2 1 none\npackage 2 2 none\npackage 2 3 none\npackage 2 4 none\npackage 2 5 none\npackage 2 6 none\npackage 2 7 none\ncert 2 ",
+            "\nscore 3 0 0 0 0\npackage 3 0 none\npackage 3 1 none\npackage 3 2 none\npackage 3 3 none\npackage 3 4 none\npackage 3 5 none\npackage 3 6 none\npackage 3 7 none\ncert 3 ",
+            "\nscore 4 0 0 0 0\npackage 4 0 none\npackage 4 1 none\npackage 4 2 none\npackage 4 3 none\npackage 4 4 none\npackage 4 5 none\npackage 4 6 none\npackage 4 7 none\ncert 4 ",
+            "\nscore 5 0 0 0 0\npackage 5 0 none\npackage 5 1 none\npackage 5 2 none\npackage 5 3 none\npackage 5 4 none\npackage 5 5 none\npackage 5 6 none\npackage 5 7 none\ncert 5 ",
+            "\nscore 6 0 0 0 0\npackage 6 0 none\npackage 6 1 none\npackage 6 2 none\npackage 6 3 none\npackage 6 4 none\npackage 6 5 none\npackage 6 6 none\npackage 6 7 none\ncert 6 ",
+            "\nscore 7 0 0 0 0\npackage 7 0 none\npackage 7 1 none\npackage 7 2 none\npackage 7 3 none\npackage 7 4 none\npackage 7 5 none\npackage 7 6 none\npackage 7 7 none\ncert 7 ",
+        ],
+    ),
+    (
+        "play game script",
+        "0 quit\n",
+        0,
+        &["0 bye\ntaclog 1\nplay\nauction 0 54\n", "\ncash 0\nsheet\n"],
+    ),
+    // A scarce night with quotes that move with each bid.
+    (
+        "play live script",
+        "0 bid 8 ((1 50))\n0 quote 8\n1 bid 8 ((1 50))\n1 bid 8 ((1 51))\n1 quote 8\n",
+        0,
+        &[
+            "0 @0 taken 0 0\n0 @1 quote 0 50 open\n1 @1 no belowquote 1 51 0\n1 @2 taken 0 0\n1 @3 quote 0 51 open\ntaclog 1\n",
+            "\nauction 8 4\n",
+            "\n8 close = sold 1 51\ntrade 1 8 1 51\n",
         ],
     ),
     // Bids and withdrawals that the auctions refuse, and a hotel after its closing.
@@ -61,6 +114,9 @@ const TRADES_TOLD: &[&str] = &[
     "\nscore 1 0 120 2 -280\n",
     "\nscore 2 0 -60 0 -60\n",
     "\nscore 3 0 0 0 0\n",
+    "\nscore 4 0 0 0 0\n",
+    "\nscore 5 0 0 0 0\n",
+    "\nscore 6 0 0 0 0\n",
     "\nscore 7 0 0 0 0\n",
 ];
 
@@ -80,7 +136,23 @@ const LONG: &[(&str, &str, usize, &str, u8, &[&str])] = &[
         8,
         &["text 1025 5\n"],
     ),
+    ("hotel script", "0 own\n", 1_025, "", 8, &["text 1025 5\n"]),
     ("hotel script", "publish\n", 65, "", 8, &["text 65 5\n"]),
+    (
+        "play game script",
+        "0 own 24\n",
+        1_025,
+        "",
+        0,
+        &[
+            "0 @0 own 0 ()\n",
+            "\n0 @1023 own 0 ()\n0 no spent\ntaclog 1\n",
+            "\nauction 24 1025\n",
+            "\n0 own = own 0 ()\n8 close = done\nauction 25 1\n",
+        ],
+    ),
+    // A game file has at most 1048576 bytes.
+    ("show script", "#\n", 524_289, "", 2, &["game too long\n"]),
     // Agent 1 sells 16 tickets for a dollar each 512 times: it has 8192 dollars, and 8192 tickets short cost it 1638400.
     (
         "play game script",

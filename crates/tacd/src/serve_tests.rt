@@ -1,6 +1,7 @@
 // A game over links in memory.
 use crate::answer::Answer;
-use crate::tests::{Ran, has_parts, plain_game, run_over, said_to};
+use crate::tests::{NO_FAULT, Ran, has_parts, one, plain_game, run_over, said_to};
+use std::fmt::Write as _;
 use std::io::{Print, Write};
 use std::process::Abort;
 use std::rt::{Clock, Env};
@@ -41,7 +42,7 @@ fn at_once<R: Abort + AllocGlobal>(rt: &R, first: u8, end: u8) -> PacedLook {
 }
 
 // A count of the lines that a link was sent.
-fn counter<R: Abort + AllocGlobal>(rt: &R) -> LinesSent {
+pub(crate) fn counter<R: Abort + AllocGlobal>(rt: &R) -> LinesSent {
     Arc::new(rt.alloc(), AtomicU64::new(0)).expect(rt, "memory")
 }
 
@@ -49,29 +50,47 @@ fn shared<R: Abort>(rt: &R, sent: &LinesSent) -> LinesSent {
     Arc::try_clone(sent).expect(rt, "memory")
 }
 
+// How many bytes a link gives at once and has room for, and the read and the write that fail, each counted from 1, 0 for none.
+#[derive(Clone, Copy)]
+struct Given {
+    most: usize,
+    room: usize,
+    read: u64,
+    write: u64,
+}
+
+const PLAIN: Given = Given {
+    most: 10_000,
+    room: 10_000,
+    read: 0,
+    write: 0,
+};
+
 // A link of an agent, which counts the lines that it was sent and may wait for those of another.
 fn held<R: Abort + AllocGlobal>(
     rt: &R,
     bytes: &[u8],
+    given: &Given,
     sent: &LinesSent,
     hold: Option<Hold>,
 ) -> HeldLink {
     let alloc = rt.alloc();
     let bytes = bytes.to_vec(alloc).expect(rt, "memory");
-    let none = Vec::new(alloc);
-    let link = MemLink::new(alloc, bytes, 10_000, 10_000, none, Vec::new(alloc));
+    let (reads, writes) = (one(rt, given.read), one(rt, given.write));
+    let link = MemLink::new(alloc, bytes, given.most, given.room, reads, writes);
     HeldLink::new(link.expect(rt, "memory"), shared(rt, sent), hold)
 }
 
 // The links, and behind them links that send these bytes.
-fn with_links<R: Abort + AllocGlobal>(
+pub(crate) fn with_links<R: Abort + AllocGlobal>(
     rt: &R,
     mut links: Vec<HeldLink>,
     sent: &LinesSent,
     all: &[&[u8]],
 ) -> Vec<HeldLink> {
     for bytes in all {
-        links.push(held(rt, bytes, sent, None)).expect(rt, "memory");
+        let link = held(rt, bytes, &PLAIN, sent, None);
+        links.push(link).expect(rt, "memory");
     }
     links
 }
@@ -85,7 +104,14 @@ fn serve<R: Threads + Sync + Wait + Clock + Abort + AllocGlobal>(
 ) -> Ran {
     let game = plain_game(rt);
     let files = [("game", game.as_slice())];
-    run_over(rt, line, &files, links, &mut LookingTicker::new(look))
+    run_over(
+        rt,
+        line,
+        &files,
+        links,
+        &mut LookingTicker::new(look),
+        NO_FAULT,
+    )
 }
 
 // What four links send: one takes a seat and leaves, one has a word of no seat, one wants the same seat, and one does not greet.
@@ -107,6 +133,33 @@ fn serve_four<R: Threads + Sync + Wait + Clock + Abort + AllocGlobal>(
     serve(rt, SERVE, links, at_once(rt, first, end))
 }
 
+// What they are sent: the agent whose ten lines come first, 8 for none, and what follows them.
+const FOUR_SENT: &[(u8, &str)] = &[
+    (0, "bye\n"),
+    (8, "refused wrongword\n"),
+    (8, "refused taken\n"),
+    (8, "refused syntax\n"),
+];
+
+// Checks that the links were sent what is due.
+fn check_sent<R: Abort + AllocGlobal>(rt: &R, answer: &Answer<HeldLink>, due: &[(u8, &str)]) {
+    assert!(rt; answer.ended.len() == due.len());
+    for (link, (agent, rest)) in answer.ended.iter().zip(due) {
+        assert!(rt;
+            link.sent() == sent_to(rt, *agent, rest).as_bytes(),
+            "{rest}"
+        );
+    }
+}
+
+// The ten lines of an agent, none for 8, and what follows them.
+fn sent_to<R: Abort + AllocGlobal>(rt: &R, agent: u8, rest: &str) -> String {
+    if agent < 8 {
+        return said_to(rt, agent, rest);
+    }
+    String::from_str(rt.alloc(), rest).expect(rt, "memory")
+}
+
 const FOUR_HEADS: &str =
     "taclog 1\nserve\nlink 0 seated 0\nlink 1 wrongword\nlink 2 taken\nlink 3 syntax\nend 0 quit\nmissed ";
 
@@ -118,6 +171,7 @@ fn the_pace_is_set_before_the_first_wait(rt: HostRuntime) {
     assert!(rt;
         answer.code == 0 && has_parts(out.bytes(), &[FOUR_HEADS, "\nmissed 0\nauction 0 54\n"])
     );
+    check_sent(&rt, &answer, FOUR_SENT);
 }
 
 // The first tick that lapses, the first after it that does not, and what the log says about them.
@@ -142,6 +196,202 @@ fn the_calls_of_lapsed_ticks_are_made(rt: HostRuntime) {
 // The number of the clock's entries in the log.
 fn count_clock(text: &[u8]) -> usize {
     str::from_utf8(text).map_or(0, |text| text.matches("\n8 ").count())
+}
+
+// How many bytes of one line a link sends after its greeting, what it sends after them, and how many bytes at once; what it is then sent
+// after its welcome, and the cause of its end.
+const SESSIONS: &[(usize, &str, usize, &str, &str)] = &[
+    (512, "\n", 10_000, "no syntax\n", "end"),
+    (513, "\nquit\n", 10_000, "no toolong\nbye\n", "quit"),
+    (513, "", 10_000, "", "end"),
+    (0, "own 2", 10_000, "", "end"),
+    (
+        0,
+        "cash\nown 28\n",
+        10_000,
+        "@0 cash 0\nno auction\n",
+        "end",
+    ),
+    (0, "cash\nown 28\n", 1, "@0 cash 0\nno auction\n", "end"),
+];
+
+// Serves the plain game to one link.
+fn serve_one<R: Threads + Sync + Wait + Clock + Abort + AllocGlobal>(
+    rt: &R,
+    bytes: &[u8],
+    given: &Given,
+) -> Ran {
+    let sent = counter(rt);
+    let link = held(rt, bytes, given, &sent, None);
+    let links = Vec::from_array(rt.alloc(), [link]).expect(rt, "memory");
+    serve(rt, SERVE, links, at_once(rt, 0, 0))
+}
+
+// Serves the plain game to a link that sends a long line and more.
+fn serve_long<R: Threads + Sync + Wait + Clock + Abort + AllocGlobal>(
+    rt: &R,
+    count: usize,
+    rest: &str,
+    most: usize,
+) -> Ran {
+    let line = "a".repeat(rt.alloc(), count).expect(rt, "memory");
+    let bytes = format!(in rt.alloc(); "hello seat0\n{line}{rest}").expect(rt, "memory");
+    serve_one(rt, bytes.as_bytes(), &Given { most, ..PLAIN })
+}
+
+// What a link sends that does not greet.
+const HI: &[u8] = b"hi\n";
+
+// How the log of a game begins that 64 links without a greeting were refused.
+fn many_heads<R: Abort + AllocGlobal>(rt: &R) -> String {
+    let mut heads = String::from_str(rt.alloc(), "taclog 1\nserve\n").expect(rt, "memory");
+    for number in 0..64 {
+        write!(heads, "link {number} syntax\n").expect(rt, "memory");
+    }
+    heads
+        .push_str("missed 0\nauction 0 54\n")
+        .expect(rt, "memory");
+    heads
+}
+
+// Checks what a link is sent that sends a long line and more, and how its session ends.
+fn check_long<R: Threads + Sync + Wait + Clock + Abort + AllocGlobal>(
+    rt: &R,
+    count: usize,
+    rest: &str,
+    most: usize,
+    told: &str,
+    cause: &str,
+) {
+    let (answer, out) = serve_long(rt, count, rest, most);
+    assert!(rt; answer.code == 0, "{rest}");
+    check_sent(rt, &answer, &[(0, told)]);
+    let heads = format!(in rt.alloc();
+        "taclog 1\nserve\nlink 0 seated 0\nend 0 {cause}\nmissed 0\n"
+    );
+    assert!(rt;
+        out.bytes()
+            .starts_with(heads.expect(rt, "memory").as_bytes()),
+        "{rest}"
+    );
+}
+
+// Checks that of 65 links without a greeting 64 are refused, before a game of the clock alone.
+fn check_many<R: Threads + Sync + Wait + Clock + Abort + AllocGlobal>(rt: &R) {
+    let links = with_links(rt, Vec::new(rt.alloc()), &counter(rt), &[HI; 65]);
+    let (answer, out) = serve(rt, SERVE, links, at_once(rt, 0, 0));
+    assert!(rt; answer.code == 0 && out.bytes().starts_with(many_heads(rt).as_bytes()));
+    assert!(rt; count_clock(out.bytes()) == 480);
+    check_sent(rt, &answer, &[(8, "refused syntax\n"); 64]);
+}
+
+#[test]
+fn long_lines_and_many_links_are_answered(rt: HostRuntime) {
+    for (count, rest, most, told, cause) in SESSIONS {
+        check_long(&rt, *count, rest, *most, told, cause);
+    }
+    check_many(&rt);
+}
+
+// What a link sends whose calls fail, one after another, and what it is sent if none does.
+const ASKED: &[u8] = b"hello seat0\ncash\nquit\n";
+
+const TOLD: &str = "@0 cash 0\nbye\n";
+
+// Which calls of the link fail, 1 for that kind; how many, at least; and the cause of the end of its session.
+const FAILING: &[(u64, u64, u64, &str)] = &[
+    (1, 0, 3, "\nend 0 readfault\nmissed 0\n"),
+    (0, 1, 3, "\nend 0 writefault\nmissed 0\n"),
+];
+
+// The number of the link's calls that fail, one in each game.
+fn count_failed<R: Threads + Sync + Wait + Clock + Abort + AllocGlobal>(
+    rt: &R,
+    read: u64,
+    write: u64,
+    cause: &str,
+) -> u64 {
+    let welcome = said_to(rt, 0, "");
+    let due = said_to(rt, 0, TOLD);
+    for count in 0..100u64 {
+        let place = count.saturating_add(1);
+        let given = Given {
+            read: read.saturating_mul(place),
+            write: write.saturating_mul(place),
+            ..PLAIN
+        };
+        let (answer, out) = serve_one(rt, ASKED, &given);
+        let sent = answer.ended.first().expect(rt, "a link").sent();
+        assert!(rt; answer.code == 0 && due.as_bytes().starts_with(sent));
+        if sent.len() == due.len() {
+            return count;
+        }
+        // A link whose first read fails has no seat. What fails before the welcome was sent whole leaves no entry.
+        let end = if read == place {
+            "\nlink 0 lost\nmissed 0\n"
+        } else {
+            cause
+        };
+        let cash = if sent.len() < welcome.len() {
+            "\ncash 0\n"
+        } else {
+            "\ncash "
+        };
+        assert!(rt;
+            has_parts(out.bytes(), &["taclog 1\nserve\n", end, cash]),
+            "{cause}"
+        );
+    }
+    100
+}
+
+// What links send of which four fail: in the middle of a line, at the first line of the welcome, before the greeting, and within the
+// welcome.
+const FAULTY: &[(&[u8], Given)] = &[
+    (b"hello seat0\ncash\nown ", Given { read: 4, ..PLAIN }),
+    (b"hello seat1\ncash\n", Given { write: 1, ..PLAIN }),
+    (b"hello seat2\n", Given { read: 1, ..PLAIN }),
+    (b"hello seat3\ncash\n", Given { room: 60, ..PLAIN }),
+    (b"hello seat4\nown 28\nquit\n", PLAIN),
+];
+
+// What they are sent, the agent whose ten lines come first, 8 for none, and what follows them; and how the log begins.
+const FAULTY_SENT: &[(u8, &str)] = &[
+    (0, "@0 cash 0\n"),
+    (8, ""),
+    (8, ""),
+    (
+        8,
+        "welcome 3\nendow 3 0 0 0 0 0 0 0 0 0 0 0 0\nclient 3 0 1 2 100",
+    ),
+    (4, "no auction\nbye\n"),
+];
+
+const FAULTY_HEADS: &str =
+    "taclog 1\nserve\nlink 0 seated 0\nlink 1 seated 1\nlink 2 lost\nlink 3 seated 3\nlink 4 seated 4\nend 0 readfault\nend 1 writefault\nend 3 writefault\nend 4 quit\nmissed 0\nauction 0 54\n";
+
+// Checks the game of those links.
+fn check_faulty<R: Threads + Sync + Wait + Clock + Abort + AllocGlobal>(rt: &R) {
+    let mut links = Vec::new(rt.alloc());
+    for (bytes, given) in FAULTY {
+        let link = held(rt, bytes, given, &counter(rt), None);
+        links.push(link).expect(rt, "memory");
+    }
+    let (answer, out) = serve(rt, SERVE, links, at_once(rt, 0, 0));
+    let parts = &[FAULTY_HEADS, "\ncash 1\n0 read = 0\nsheet\n"];
+    assert!(rt; answer.code == 0 && has_parts(out.bytes(), parts));
+    check_sent(rt, &answer, FAULTY_SENT);
+}
+
+#[test]
+fn a_link_that_fails_ends_its_session(rt: HostRuntime) {
+    for (read, write, least, cause) in FAILING {
+        assert!(rt;
+            count_failed(&rt, *read, *write, cause) >= *least,
+            "{cause}"
+        );
+    }
+    check_faulty(&rt);
 }
 
 // Prints how a run ended if a word of one byte follows the test's name, as in checks/refused_memory.py: its code, and how many lines
@@ -226,13 +476,19 @@ fn two_links<R: Abort + AllocGlobal>(
         other: shared(rt, second),
         lines: 11,
     };
-    let one = held(rt, b"hello seat0\nown 0\nquit\n", first, Some(hold));
+    let one = held(rt, b"hello seat0\nown 0\nquit\n", &PLAIN, first, Some(hold));
     let hold = Hold {
         read: 3,
         other: shared(rt, first),
         lines: 11,
     };
-    let two = held(rt, b"hello seat1\nown 0\nquit\n", second, Some(hold));
+    let two = held(
+        rt,
+        b"hello seat1\nown 0\nquit\n",
+        &PLAIN,
+        second,
+        Some(hold),
+    );
     Vec::from_array(rt.alloc(), [one, two]).expect(rt, "memory")
 }
 

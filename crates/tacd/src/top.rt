@@ -1,4 +1,4 @@
-// The top call.
+// `tac`, which `main` calls: it runs the command that the words of a command line ask for.
 ghost use Rattle.std.specs.Prelude.{◌≡◌, ◌≤◌, [], None, string_len, All, IfSome};
 ghost use Rattle.tacd.specs.{NAME_BYTES, ClockFaultExactly, GameRefusedExactly, IsComplete, LinkFaultExactly, ReadFaultExactly, TextRefusedExactly, UnsoundExactly, UsageExactly, WriteFaultExactly, IsCashOfPosts, command_of, bytes_of_words, service_of, Allows, ReportsOne, outside_of, Serves, WritesTrueLog};
 ghost use Rattle.tac_commands.specs.Prompt.{IsPromptCommand};
