@@ -5,3 +5,4 @@ pub mod DeskTurns
 pub mod WholeTexts
 pub mod UnderWay
 pub mod Greeting
+pub mod SameEnds

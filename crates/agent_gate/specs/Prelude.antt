@@ -11,7 +11,8 @@ pub use Rattle.line_protocol.specs.declared.saying.Said.TheVariants.{Bye}
 pub use Rattle.game_text.specs.Games.{GameFile}
 pub use Rattle.game_text.specs.OneAgent.{lines_of_agent}
 pub use Rattle.auction_rules.specs.History.{Entry}
-pub use Rattle.trade_ledger.specs.Posts.{due_post, is_post, post_for}
+pub use Rattle.trade_ledger.specs.Posts.{post_for}
+pub use Rattle.trade_ledger.specs.BookPosts.{is_post}
 pub use Rattle.trade_ledger.specs.declared.cash_calls.CashEntry.{CashEntry}
 pub use Rattle.floor.specs.Answers.{IsCashOutcome, IsOutcome, IsSameDesk, IsSeen}
 pub use Rattle.floor.specs.Desks.{boards_at, boards_of, desk_caller, desk_cash, desk_entries, desk_ids, entries_at, seen_at, seen_of}

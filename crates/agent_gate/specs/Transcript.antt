@@ -7,10 +7,13 @@ use Rattle.auction_core.specs.ClosedGame.{ClosedGame, all_goods}
 use Rattle.floor.specs.ClosedBoards.{board_of}
 use Rattle.agent_gate.specs.Turns.{Turn, made_at, cash_made, boards_shown}
 
--- At each good the agent's part of the history consists of the entries that its turns made, each at its position. Its part of the cash
--- history is, in the order of the turns, a post for each turn with trades and a reading for each that read the cash. Each board shown is
--- the board of the prefix whose length it states.
+-- An agent's turns make up its part of each history: no entry of the agent is missing, invented or made twice.
+-- Row: ended_by_quit (worked_rows/proofs/LoggedLinks.antt)
 pub record IsTranscript (agent : ℕ) (closed : ClosedGame) (turns : List Turn) : Type 0 where
+  -- At each good, the agent's part of the history is the entries that its turns made, each at its position. The positions of a part
+  -- rise.
   pub calls : map (λ auction. part (λ e. e.caller) auction.history agent) closed.auctions ≡ map (λ good. made_at good turns) all_goods
+  -- Its part of the cash history is the posts and readings of its turns, in order.
   pub cash : part (λ e. e.caller) closed.cash agent ≡ cash_made agent turns
+  -- A board that was shown and states n entries is that of the first n entries. It may lack the newest entries of other callers.
   pub boards : AllZip (λ auction good. AreNotes (board_of auction) auction.history (length auction.history) (boards_shown good turns)) closed.auctions all_goods

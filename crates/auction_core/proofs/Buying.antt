@@ -6,7 +6,8 @@ use Rattle.auction_core.specs.Prelude.{Point, Call, Reply, size_of, buys_of, Pla
 use Rattle.tac_base.specs.declared.calls.Call.TheVariants.{Bid, Withdraw, Own as OwnCall, Update, Publish, Close}
 use Rattle.tac_base.specs.declared.calls.Reply.TheVariants.{Closed, WrongCall, Sell}
 use Rattle.auction_rules.specs.declared.rules.Rules.TheVariants.{Flight as FlightRules, Hotel as HotelRules, Tickets as TicketRules}
-use Rattle.auction_rules.specs.History.{Entry, is_admission, is_own, is_closed, bid_after, last_bid, bid_units, units_of_last}
+use Rattle.auction_rules.specs.History.{Entry, is_admission, is_own, is_closed}
+use Rattle.auction_rules.specs.BookStanding.{bid_after, last_bid, bid_units, units_of_last}
 use Rattle.auction_rules.proofs.Steps.{refusal_refuses, entry_refused}
 use Rattle.auction_rules.proofs.Standing.{Each, each-append, each-filter, each-block}
 

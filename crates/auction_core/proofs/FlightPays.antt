@@ -6,7 +6,8 @@ use Rattle.std.proofs.lemmas.Bool.Decides.{nat_tests}
 use Rattle.std.proofs.lemmas.List.Sums.{sum_by-cons, sum_by-append, sum_by_push, sum_by-le-sum_by}
 use Rattle.auction_core.specs.{Point, Trade, Call, size_of, buys_of, Placed, BidUnit, agents, house, point_units, common_units, bought_at, bid_at}
 use Rattle.tac_base.specs.declared.calls.Call.TheVariants.{Bid, Withdraw, Own as OwnCall, Update, Publish, Close}
-use Rattle.auction_rules.specs.History.{Entry, last_bid}
+use Rattle.auction_rules.specs.History.{Entry}
+use Rattle.auction_rules.specs.BookStanding.{last_bid}
 use Rattle.auction_rules.proofs.Ranks.{count-cons, count_le}
 use Rattle.auction_rules.proofs.Counts.{count-filter, none_pass}
 use Rattle.auction_rules.proofs.Trading.{sum_by-filter-le}

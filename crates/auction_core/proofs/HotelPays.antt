@@ -3,7 +3,7 @@ use Rattle.std.proofs.Common.{◌≡◌, ℕ, ◌≤◌, Bool, true, false, cond
 use Rattle.std.proofs.lemmas.Bool.{and_parts}
 use Rattle.std.proofs.lemmas.Bool.Decides.{nat_tests}
 use Rattle.auction_core.specs.{Trade, BidUnit, agents, house, ask, winning, closing_trade, closing_trades, bought_at, bid_at}
-use Rattle.auction_rules.specs.Precedence.{wins}
+use Rattle.auction_rules.specs.BookHotels.{wins}
 use Rattle.auction_rules.proofs.Ranks.{count_le}
 use Rattle.auction_rules.proofs.Standing.{number_is}
 use Rattle.auction_rules.proofs.HotelUnits.{each_in}

@@ -8,7 +8,8 @@ use Rattle.tac_base.specs.declared.calls.Call.TheVariants.{Bid, Withdraw, Own as
 use Rattle.tac_base.specs.declared.calls.Reply.TheVariants as replies
 use Rattle.tac_base.proofs.Faults.{good_point, both_none}
 use Rattle.auction_rules.specs.declared.rules.Rules.TheVariants.{Flight as FlightRules, Hotel as HotelRules, Tickets as TicketRules}
-use Rattle.auction_rules.specs.History.{Entry, is_admission, is_bid, is_own, is_closed, bid_after, last_bid, bid_units, units_of_last}
+use Rattle.auction_rules.specs.History.{Entry, is_admission, is_bid, is_own, is_closed}
+use Rattle.auction_rules.specs.BookStanding.{bid_after, last_bid, bid_units, units_of_last}
 use Rattle.auction_rules.proofs.Lists.{all-flat_map, all-map, all_alike}
 use Rattle.auction_rules.proofs.Quotes.{fold_keeps, max_keeps, prices_of}
 use Rattle.auction_rules.proofs.Standing.{Each, each-append, each-block, each-filter, each-weaker}

@@ -3,7 +3,7 @@ use Rattle.std.specs.Prelude.{List}
 use Rattle.auction_rules.specs.Setup.{Setup}
 use Rattle.auction_rules.specs.History.{Entry}
 
--- an auction: its setup and its history, oldest entry first
+-- an auction with its history, oldest entry first
 pub record AuctionHistory : Type 0 where
   pub setup : Setup
   pub history : List Entry

@@ -11,7 +11,7 @@ pub mod ClosedGame
 pub mod Laws
 pub use Rattle.auction_core.specs.Calls.{IsFit}
 pub use Rattle.auction_core.specs.Books.{Stands, held_by, units_left}
-pub use Rattle.auction_core.specs.Setups.{AreEndowed, AreInRange, endow_by, kind_by, setup_of}
+pub use Rattle.auction_core.specs.Setups.{AreEndowed, AreInRange, endow_by, kind_by, rules_by, setup_of}
 pub use Rattle.auction_core.specs.Stored.{IsShown, entry_behind, entry_with, stored, AreChained, IsStored, count_trades}
 pub use Rattle.auction_core.specs.Ranges.{IsEntry, IsHistory, IsToldInRange}
 pub use Rattle.auction_core.specs.Struck.{struck_of}

@@ -1,23 +1,32 @@
--- What a game defines for an auction.
+-- What a game file fixes for an auction, by our own form of the file.
 use Rattle.std.specs.Prelude.{ℕ, ◌-◌, ◌≤◌, ⊤, List, ℤ, pos, negsuc, ◌≤ℤ◌, map, replicate, slice_index_or}
-use Rattle.auction_core.specs.Prelude.{AGENTS, NIGHT_ROOMS, kind_of, GameFile, Setup, Rules}
+use Rattle.tac_base.specs.declared.limits.TheConstants.{AGENTS, NIGHT_ROOMS}
+use Rattle.tac_base.specs.Kinds.{kind_of}
+use Rattle.game_text.specs.Games.{GameFile}
+use Rattle.auction_rules.specs.Setup.{Setup}
+use Rattle.auction_rules.specs.declared.rules.Rules.{Rules}
 use Rattle.tac_base.specs.declared.numbers.Kind.{Kind}
 use Rattle.tac_base.specs.declared.numbers.Kind.TheVariants.{Flight, Hotel, Ticket}
 use Rattle.auction_rules.specs.declared.rules.Rules.TheVariants.{Flight as FlightRules, Hotel as HotelRules, Tickets as TicketRules}
 
--- the rules of a good, by its kind: a flight's first price and bound, a hotel night's rooms and whether quotes are live
+-- A flight has its first price and its bound, and a hotel night its rooms, and whether quotes are live. The flights of the game file
+-- are goods 0 to 7 in order, and its hotel nights goods 8 to 15.
 abbrev pub rules_by : GameFile → ℕ → Kind → Rules
 rules_by game good Flight =
     FlightRules (slice_index_or (map (λ flight. flight.first) game.flights) good 0) (slice_index_or (map (λ flight. flight.bound) game.flights) good (pos 0))
 rules_by game good Hotel = HotelRules (slice_index_or game.rooms (good - 8) 0) game.live
 rules_by game good Ticket = TicketRules
 
--- what the agents have of a good at the start, by its kind: the endowment of tickets, and nothing of other goods
+-- At the start an agent has its tickets of the game file, whose twelve counts are for goods 16 to 27 in order, and nothing of other
+-- goods.
+-- Row: tickets_are_those_of_their_goods (worked_rows/proofs/Links.antt)
 abbrev pub endow_by : GameFile → ℕ → Kind → List ℤ
 endow_by game good Ticket = map (λ tickets. pos (slice_index_or tickets (good - 16) 0)) game.endow
 endow_by game good kind = replicate AGENTS (pos 0)
 
--- the setup of the auction of a good
+-- the setup of a good's auction
+-- Row: auctions_have_their_rules (worked_rows/proofs/Links.antt)
+-- Row: tickets_are_those_of_their_goods (worked_rows/proofs/Links.antt)
 abbrev pub setup_of : ℕ → GameFile → Setup
 setup_of good game = record { good = good; rules = rules_by game good (kind_of good); endow = endow_by game good (kind_of good) }
 

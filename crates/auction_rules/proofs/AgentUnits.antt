@@ -79,7 +79,7 @@ units_joined rules past = by_test (is_closed past) refl
 abbrev pub gone_now : Rules → List Entry → Entry → List BidUnit
 gone_now rules past e = if is_admission e.reply then gone_by rules past (stand rules past) e.caller e.call else []
 
-without-append : (us xs ys : List BidUnit) → without us (xs ++ ys) ≡ without (without us ys) xs
+pub without-append : (us xs ys : List BidUnit) → without us (xs ++ ys) ≡ without (without us ys) xs
 without-append [] xs ys = refl
 without-append (u ∷ us) xs ys = rw (among-append u xs ys) (by_tests (among u xs) (among u ys) refl (without-append us xs ys))
   where

@@ -4,16 +4,21 @@ pub mod Histories
 pub mod Agents
 pub mod Lists
 pub mod Standing
+pub mod SameStanding
 pub mod AgentUnits
 pub mod LeftPoints
 pub mod Idle
 pub mod Matching
+pub mod SamePairs
+pub mod Order
+pub mod SameBids
 pub mod Quotes
 pub mod Uncrossed
 pub mod Ranks
 pub mod HotelUnits
 pub mod AfterClose
 pub mod FlightTrades
+pub mod SameSales
 pub mod SelfTrades
 pub mod Trading
 pub mod Counts
@@ -24,3 +29,5 @@ pub mod FlightPrices
 pub mod ClosingTrades
 pub mod Shown
 pub mod Sorting
+pub mod SameHotels
+pub mod SameRules

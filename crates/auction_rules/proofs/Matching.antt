@@ -48,7 +48,7 @@ not_self : (b : Bool) (u : BidUnit) → u.buys ≡ b → goes_before u u ≡ fal
 not_self true u h = before_is true u u h ∙ higher_not_self u.price u.position u.index
 not_self false u h = before_is false u u h ∙ lower_not_self u.price u.position u.index
 
-one_way : (b : Bool) (u v : BidUnit) → u.buys ≡ b → v.buys ≡ b → goes_before u v ≡ true → goes_before v u ≡ false
+pub one_way : (b : Bool) (u v : BidUnit) → u.buys ≡ b → v.buys ≡ b → goes_before u v ≡ true → goes_before v u ≡ false
 one_way true u v hu hv h = before_is true v u hv ∙ higher_one_way u.price u.position u.index v.price v.position v.index (sym (before_is true u v hu) ∙ h)
 one_way false u v hu hv h = before_is false v u hv ∙ lower_one_way u.price u.position u.index v.price v.position v.index (sym (before_is false u v hu) ∙ h)
 
@@ -154,7 +154,7 @@ faces_side u v h = by_sides (not (u.agent == v.agent)) u.buys v.buys h
     by_sides false b c g = absurd cc
 
 -- if a unit crosses one that it faces, it crosses the better ones
-crosses_better : (b : Bool) (u v w : BidUnit) → u.buys ≡ b → v.buys ≡ not b → goes_before v w ≡ false → crosses u v ≡ true → crosses u w ≡ true
+pub crosses_better : (b : Bool) (u v w : BidUnit) → u.buys ≡ b → v.buys ≡ not b → goes_before v w ≡ false → crosses u v ≡ true → crosses u w ≡ true
 crosses_better true u v w hu hv before h = grind (arith, nat_tests)
 crosses_better false u v w hu hv before h = grind (arith, nat_tests)
 

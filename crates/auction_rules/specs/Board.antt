@@ -1,4 +1,5 @@
--- What an auction shows.
+-- What an auction shows. The form of a board is our own. It is said by the books' `stand` and `published`, which are `standing_units` and
+-- `published_price` (`standing_same`, `published_same`): by these two, the types of the locks above grow too large for the prover.
 use Rattle.std.specs.Prelude.{ℕ, max, min, not, List, [], ◌∷◌, length, map, filter, fold}
 use Rattle.tac_base.specs.declared.calls.Board.{Board}
 use Rattle.auction_rules.specs.declared.units.BidUnit.{BidUnit}
@@ -6,8 +7,8 @@ use Rattle.auction_rules.specs.declared.rules.Rules.{Rules}
 use Rattle.auction_rules.specs.declared.rules.Rules.TheVariants.{Flight as FlightRules, Hotel as HotelRules, Tickets as TicketRules}
 use Rattle.auction_rules.specs.History.{Entry, is_closed}
 use Rattle.auction_rules.specs.FlightRule.{price}
-use Rattle.auction_rules.specs.Standing.{stand}
-use Rattle.auction_rules.specs.Ask.{published}
+use Rattle.auction_rules.specs.BookStanding.{stand}
+use Rattle.auction_rules.specs.BookHotels.{published}
 
 -- the highest price of a buying unit, 0 if there is none
 abbrev pub highest_buy : List BidUnit → ℕ
@@ -22,17 +23,19 @@ lowest (n ∷ ns) = fold min n ns
 abbrev pub lowest_sell : List BidUnit → ℕ
 lowest_sell units = lowest (map (λ u. u.price) (filter (λ u. not u.buys) units))
 
--- the bid that a board shows
+-- The bid of a board is the highest standing bid for tickets, and 0 for a flight or a hotel night.
 abbrev pub shown_bid : Rules → List Entry → ℕ
 shown_bid TicketRules past = highest_buy (stand TicketRules past)
 shown_bid rules past = 0
 
--- the ask that a board shows
+-- The ask of a board is a flight's price, a hotel night's published price, or the lowest standing ask for tickets.
 abbrev pub shown_ask : Rules → List Entry → ℕ
 shown_ask (FlightRules first bound) past = price first bound past
 shown_ask (HotelRules rooms live) past = published rooms live past
 shown_ask TicketRules past = lowest_sell (stand TicketRules past)
 
--- the board of a past
+-- A board shows the length of the history, a bid, an ask, and whether the auction is closed.
+-- Row: ask_is_shown_when_published_or_closed (worked_rows/proofs/Auctions.antt)
+-- Row: trade_is_at_the_standing_price (worked_rows/proofs/Auctions.antt)
 abbrev pub board : Rules → List Entry → Board
 board rules past = record { count = length past; bid = shown_bid rules past; ask = shown_ask rules past; closed = is_closed past }

@@ -1,54 +1,56 @@
--- Flights: the price, the calls in which the house may sell, and the units that it may sell in them. By the game description a price
--- stays in 150..800; this project defines how a draw changes it.
-use Rattle.std.specs.Prelude.{ℕ, ◌+◌, ◌%◌, ◌==◌, min, max, Bool, true, false, not, if◌then◌else◌, List, [], ◌∷◌, ◌++◌, ℤ, pos, negsuc, neg_ℤ, ◌+ℤ◌, ◌-ℤ◌, ◌*ℤ◌, int_lt, unsigned_abs, filter}
+-- Flights: the price, and the calls in which the house may sell. By the game description a price drifts at random and stays in
+-- 150..800; how a given draw changes it is our own rule.
+use Rattle.std.specs.Prelude.{ℕ, ◌+◌, ◌%◌, min, max, Bool, true, false, if◌then◌else◌, List, [], ◌∷◌, ℤ, pos, negsuc, neg_ℤ, ◌+ℤ◌, ◌-ℤ◌, ◌*ℤ◌, int_lt, unsigned_abs}
 use Rattle.std.specs.Int.{int_div_euclid}
-use Rattle.auction_rules.specs.Prelude.{TICKS, Call, Bid, Update}
-use Rattle.auction_rules.specs.declared.units.BidUnit.{BidUnit}
-use Rattle.auction_rules.specs.Units.{units_of}
+use Rattle.tac_base.specs.declared.limits.TheConstants.{TICKS}
+use Rattle.tac_base.specs.declared.calls.Call.{Call}
+use Rattle.tac_base.specs.declared.calls.Call.TheVariants.{Bid, Update}
 use Rattle.auction_rules.specs.History.{Entry, is_admission}
 
--- the drift at a tick: 10 plus the floor of t * (bound - 10) / 54; Euclidean division by 54 rounds down
+-- For the flight's bound x and the tick t, x(t) = 10 + floor(t * (x - 10) / 54), where floor rounds down, also for negative numbers:
+-- Euclidean division by 54 does so.
+-- Row: draws_raise_and_lower_the_price (worked_rows/proofs/Auctions.antt)
 abbrev pub drift : ℤ → ℕ → ℤ
 drift bound tick = pos 10 +ℤ int_div_euclid (pos tick *ℤ (bound -ℤ pos 10)) (pos TICKS)
 
--- the ends of the interval: -10 and a positive drift, a negative drift and 10, or -10 and 10 if the drift is 0
+-- The change lies in an interval: from -10 to x(t) if x(t) is positive, from x(t) to 10 if it is negative, and from -10 to 10 if it is
+-- 0. This is the interval's low end.
 abbrev pub low_end : ℤ → ℤ
 low_end x = if int_lt x (pos 0) then x else neg_ℤ (pos 10)
 
+-- the interval's high end
 abbrev pub high_end : ℤ → ℤ
 high_end x = if int_lt (pos 0) x then x else pos 10
 
--- the number in the interval that the draw selects
+-- The change is `lo + draw mod (hi - lo + 1)`: each whole number of the interval, for some draw.
 abbrev pub change : ℤ → ℤ → ℕ → ℤ
 change lo hi draw = lo +ℤ pos (draw % (unsigned_abs (hi -ℤ lo) + 1))
 
--- a number, clamped to 150..800
+-- a price of at least 150 and at most 800 dollars
+-- Row: price_stops_at_800_and_150 (worked_rows/proofs/Auctions.antt)
 abbrev pub clamped : ℤ → ℕ
 clamped (pos n) = max 150 (min 800 n)
 clamped (negsuc n) = 150
 
--- the price after an update
+-- The new price is the old price plus the change, but at least 150 and at most 800 dollars. For example, with bound 30 at tick 27,
+-- x(27) = 10 + 27 * 20 / 54 = 20, so the change lies between -10 and 20, and with draw 30 it is -10 + 30 mod 31 = 20.
+-- Row: draws_raise_and_lower_the_price (worked_rows/proofs/Auctions.antt)
 abbrev pub next_price : ℕ → ℤ → ℕ → ℕ → ℕ
 next_price price bound tick draw = clamped (pos price +ℤ change (low_end (drift bound tick)) (high_end (drift bound tick)) draw)
 
--- the price after an admitted call
+-- Only an `Update` changes the price.
 abbrev pub price_after : ℤ → ℕ → Call → ℕ
 price_after bound price (Update tick draw) = next_price price bound tick draw
 price_after bound price call = price
 
--- the price of a flight with a first price and a bound
+-- the price after a past: it begins with the first price, and each admitted `Update` changes it
+-- Row: falling_price_reaches_a_bid (worked_rows/proofs/Auctions.antt)
 abbrev pub price : ℕ → ℤ → List Entry → ℕ
 price first bound [] = first
 price first bound (e ∷ past) = if is_admission e.reply then price_after bound (price first bound past) e.call else price first bound past
 
--- whether the house may sell in a call
+-- The house may sell at every admitted bid and at every admitted update.
 abbrev pub is_sale : Call → Bool
 is_sale (Bid points) = true
 is_sale (Update tick draw) = true
 is_sale call = false
-
--- the units that a call may sell: those that stand; a new bid's units, at the end, replace its caller's earlier ones
-abbrev pub looked_at : List BidUnit → ℕ → ℕ → Call → List BidUnit
-looked_at standing position caller (Bid points) =
-    filter (λ u. not (u.agent == caller)) standing ++ units_of (record { agent = caller; position = position; points = points })
-looked_at standing position caller call = standing

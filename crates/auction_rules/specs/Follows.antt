@@ -3,7 +3,7 @@ use Rattle.std.specs.Prelude.{◌≡◌, ℕ, List, ◌∷◌}
 use Rattle.auction_rules.specs.Prelude.{Trade, Call, Reply}
 use Rattle.auction_rules.specs.Setup.{Setup}
 use Rattle.auction_rules.specs.History.{Entry}
-use Rattle.auction_rules.specs.Legal.{entry_of, reply_of, trades_of}
+use Rattle.auction_rules.specs.BookRules.{entry_of, reply_of, trades_of}
 
 module _ (setup : Setup) where
   -- A call of the caller, made after the past, followed the rules: its reply and its trades are theirs, and `Stands` holds of the past

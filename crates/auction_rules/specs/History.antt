@@ -1,21 +1,23 @@
--- Histories of an auction. The rules read a history as a past, newest entry first: the entry in front of a past
--- is at the position that equals the past's length.
-use Rattle.std.specs.Prelude.{ℕ, ◌==◌, Bool, true, false, ◌&&◌, if◌then◌else◌, List, [], ◌∷◌, length, map, Option, Some, None, flat_map}
+-- Histories of an auction, in our own form: a list with one entry for each call. The rules read a history as a past, newest entry
+-- first: in `e ∷ past`, the entry `e` is at the position that equals the length of `past`, since positions are counted from 0.
+use Rattle.std.specs.Prelude.{ℕ, ◌==◌, Bool, true, false, not, ◌&&◌, if◌then◌else◌, List, [], ◌∷◌, ◌++◌, length, filter}
 use Rattle.std.specs.List.{list_any}
-use Rattle.auction_rules.specs.Prelude.{Trade, Call, Reply, Closed, WrongCall, NoBid, Sell, SelfCross, BelowQuote, agents}
+use Rattle.tac_base.specs.declared.calls.Trade.{Trade}
+use Rattle.tac_base.specs.declared.calls.Call.{Call}
+use Rattle.tac_base.specs.declared.calls.Reply.{Reply}
+use Rattle.tac_base.specs.declared.calls.Reply.TheVariants.{Closed, WrongCall, NoBid, Sell, SelfCross, BelowQuote}
 use Rattle.tac_base.specs.declared.calls.Call.TheVariants.{Bid, Withdraw, Own as OwnCall, Close}
-use Rattle.auction_rules.specs.declared.units.BidUnit.{BidUnit}
 use Rattle.auction_rules.specs.declared.units.Placed.{Placed}
-use Rattle.auction_rules.specs.Units.{units_of}
 
--- the caller, the call, the reply, and the trades that the call made
+-- An entry holds the caller, the call, the reply, and the trades that the call made. A refused call also has an entry, but changes
+-- nothing else.
 pub record Entry : Type 0 where
   pub caller : ℕ
   pub call : Call
   pub reply : Reply
   pub trades : List Trade
 
--- whether a reply is not one of the six refusals
+-- whether a reply says that the call was admitted: it is not one of the six refusals
 abbrev pub is_admission : Reply → Bool
 is_admission Closed = false
 is_admission WrongCall = false
@@ -25,47 +27,34 @@ is_admission SelfCross = false
 is_admission (BelowQuote need at offered) = false
 is_admission reply = true
 
+-- whether an agent bids
 abbrev pub is_bid : Call → Bool
 is_bid (Bid points) = true
 is_bid call = false
 
+-- whether an agent reads its own state
 abbrev pub is_own : Call → Bool
 is_own OwnCall = true
 is_own call = false
 
+-- whether the clock closes the auction
 abbrev pub is_close : Call → Bool
 is_close Close = true
 is_close call = false
 
--- whether the past has an admitted `Close`
+-- An auction is closed once a `Close` has been admitted.
 abbrev pub is_closed : List Entry → Bool
 is_closed past = list_any (λ e. is_admission e.reply && is_close e.call) past
 
--- the caller's last bid after an admitted call of its own at a position
-abbrev pub bid_after : ℕ → ℕ → Call → Option Placed → Option Placed
-bid_after caller position (Bid points) earlier = Some (record { agent = caller; position = position; points = points })
-bid_after caller position Withdraw earlier = None
-bid_after caller position call earlier = earlier
+-- The bids that a call finds, in the order of their positions. An agent has at most one bid in an auction: a new one replaces its whole
+-- earlier one, has its own position, and comes last. A withdrawal removes the bid.
+-- Row: withdrawn_bid_is_gone (worked_rows/proofs/Auctions.antt)
+abbrev pub bids_found : List Placed → ℕ → ℕ → Call → List Placed
+bids_found bids position caller (Bid points) = filter (λ bid. not (bid.agent == caller)) bids ++ record { agent = caller; position = position; points = points } ∷ []
+bids_found bids position caller Withdraw = filter (λ bid. not (bid.agent == caller)) bids
+bids_found bids position caller call = bids
 
--- the agent's last admitted bid; None if there is none, or if an admitted `Withdraw` of the agent came after it
-abbrev pub last_bid : ℕ → List Entry → Option Placed
-last_bid agent [] = None
-last_bid agent (e ∷ past) =
-    if is_admission e.reply && (e.caller == agent) then bid_after e.caller (length past) e.call (last_bid agent past) else last_bid agent past
-
--- the last bids of the agents, in order
-abbrev pub last_bids : List Entry → List (Option Placed)
-last_bids past = map (λ agent. last_bid agent past) agents
-
--- the units of a bid, if there is one
-abbrev pub units_of_last : Option Placed → List BidUnit
-units_of_last None = []
-units_of_last (Some bid) = units_of bid
-
--- the units of the bids, in order
-abbrev pub units_of_bids : List (Option Placed) → List BidUnit
-units_of_bids bids = flat_map units_of_last bids
-
--- the units of the last bids
-abbrev pub bid_units : List Entry → List BidUnit
-bid_units past = units_of_bids (last_bids past)
+-- The agents' bids after a past, in the order of their positions. A refused call changes nothing.
+abbrev pub current_bids : List Entry → List Placed
+current_bids [] = []
+current_bids (e ∷ past) = if is_admission e.reply then bids_found (current_bids past) (length past) e.caller e.call else current_bids past

@@ -1,21 +1,28 @@
--- What a hotel sells at its closing, by the game description.
-use Rattle.std.specs.Prelude.{ℕ, ◌==◌, if◌then◌else◌, List, Option, Some, None, count_by, filter_map}
-use Rattle.auction_rules.specs.Prelude.{Trade, agents, house}
+-- What a hotel sells at its closing: by the game description the units with the highest prices win, as many as there are rooms, and
+-- all pay the same price. The order at equal prices, and that of the trades, are our own rules.
+use Rattle.std.specs.Prelude.{ℕ, ◌==◌, Bool, not, ◌&&◌, nat_lt, List, count_by, map, filter}
+use Rattle.tac_base.specs.declared.calls.Trade.{Trade}
+use Rattle.tac_base.specs.Goods.{agents, house}
 use Rattle.auction_rules.specs.declared.units.BidUnit.{BidUnit}
-use Rattle.auction_rules.specs.Precedence.{wins}
+use Rattle.auction_rules.specs.TicketMatch.{goes_before}
 use Rattle.auction_rules.specs.Ask.{ask}
-use Rattle.auction_rules.specs.WinningNumber.{winning}
 
--- what an agent buys: its units that win, each at the ask
-abbrev pub closing_trade : ℕ → ℕ → List BidUnit → ℕ → Option Trade
-closing_trade good rooms units agent =
-    if winning rooms units agent == 0 then None
-    else Some (record { buyer = agent; seller = house; good = good; units = winning rooms units agent; price = ask rooms units })
+-- The closing sells a room to each unit that fewer units go before than the night has rooms. Hotel units only buy: of two, the one
+-- with the higher price goes first, then the one of the earlier bid, and within one bid the one with the lower index.
+abbrev pub gets_room : ℕ → List BidUnit → BidUnit → Bool
+gets_room rooms units u = nat_lt (count_by (λ v. goes_before v u) units) rooms
 
--- one trade for each agent with a winning unit, in ascending order of agents
-abbrev pub closing_trades : ℕ → ℕ → List BidUnit → List Trade
-closing_trades good rooms units = filter_map (closing_trade good rooms units) agents
+-- how many of the agent's units get a room
+abbrev pub rooms_won : ℕ → List BidUnit → ℕ → ℕ
+rooms_won rooms units agent = count_by (λ u. (u.agent == agent) && gets_room rooms units u) units
 
--- the number of units that are sold
-abbrev pub sold_units : ℕ → List BidUnit → ℕ
-sold_units rooms units = count_by (wins rooms units) units
+-- Each winning agent has one trade, and the trades are in the order of the agents' numbers. All winning units pay the ask: with 16
+-- rooms, the 16th highest price, or 0 if fewer units stand than there are rooms.
+abbrev pub room_sales : ℕ → ℕ → List BidUnit → List Trade
+room_sales good rooms units =
+    map (λ agent. record { buyer = agent; seller = house; good = good; units = rooms_won rooms units agent; price = ask rooms units })
+    (filter (λ agent. not (rooms_won rooms units agent == 0)) agents)
+
+-- how many units get a room, of all agents
+abbrev pub units_sold : ℕ → List BidUnit → ℕ
+units_sold rooms units = count_by (gets_room rooms units) units

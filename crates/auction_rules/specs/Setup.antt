@@ -1,4 +1,5 @@
--- What is fixed for an auction before its first call.
+-- What a game fixes for an auction before its first call: by the game description, but for rooms other than 16 and for live quotes,
+-- which are our own.
 use Rattle.std.specs.Prelude.{ℕ, List, ℤ}
 use Rattle.auction_rules.specs.declared.rules.Rules.{Rules}
 
@@ -6,4 +7,5 @@ use Rattle.auction_rules.specs.declared.rules.Rules.{Rules}
 pub record Setup : Type 0 where
   pub good : ℕ
   pub rules : Rules
+  -- in the order of the agents
   pub endow : List ℤ

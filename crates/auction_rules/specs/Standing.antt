@@ -1,58 +1,47 @@
--- Which units stand, and which points of an agent are left. This project defines that a new bid replaces the whole earlier one.
+-- Which units stand, from each entry to the next. By our own rule a new bid replaces the whole earlier one.
 --
--- The standing units are those of the last bids, less those that calls so far traded away. A unit is identified by the position of its
--- bid and its index, so one that traded never stands again. For example, in a flight at 300, agent 2 bids for one unit at 310 and two at
--- 200, at position 0. The first is sold at once (`gone`); the two others stand, with indices 1 and 2. If agent 2 then bids for
--- one unit at 250, at position 1, only that unit stands: the two belong to no last bid any more. After a closing nothing stands.
-use Rattle.std.specs.Prelude.{ℕ, ◌+◌, ◌==◌, if◌then◌else◌, List, [], ◌∷◌, ◌++◌, length, filter, nat_le, ℤ, pos, neg_ℤ, Option, Some, None}
-use Rattle.auction_rules.specs.Prelude.{Point, Call, buys_of, size_of}
+-- For example, at a flight whose price is 300, where a unit is written as (position of its bid, index):
+--   position  call                             units found        traded  standing
+--   0         agent 2: 1 at 310 and 2 at 200   (0,0) (0,1) (0,2)  (0,0)   (0,1) (0,2)
+--   1         agent 2: 1 at 290                (1,0)              none    (1,0)
+--   2         the clock: the price is now 290  (1,0)              (1,0)   none
+use Rattle.std.specs.Prelude.{ℕ, ◌==◌, if◌then◌else◌, List, [], ◌∷◌, length, filter, flat_map, nat_le}
+use Rattle.tac_base.specs.declared.calls.Call.{Call}
+use Rattle.tac_base.specs.Goods.{agents}
+use Rattle.tac_base.specs.declared.calls.Call.TheVariants.{Withdraw, Bid}
 use Rattle.auction_rules.specs.declared.units.BidUnit.{BidUnit}
-use Rattle.auction_rules.specs.declared.units.Placed.{Placed}
 use Rattle.auction_rules.specs.declared.rules.Rules.{Rules}
 use Rattle.auction_rules.specs.declared.rules.Rules.TheVariants.{Flight as FlightRules, Hotel as HotelRules, Tickets as TicketRules}
-use Rattle.auction_rules.specs.Units.{point_units, without, common_units}
-use Rattle.auction_rules.specs.History.{Entry, is_admission, is_closed, last_bid, bid_units}
-use Rattle.auction_rules.specs.FlightRule.{price, price_after, is_sale, looked_at}
-use Rattle.auction_rules.specs.TicketMatch.{arriving, ticket_gone}
+use Rattle.auction_rules.specs.Units.{units_of, without}
+use Rattle.auction_rules.specs.History.{Entry, is_admission, is_closed}
+use Rattle.auction_rules.specs.FlightRule.{price, price_after, is_sale}
+use Rattle.auction_rules.specs.TicketMatch.{arriving, paired_units}
 
--- the units that stand once these are gone: none after a closing, and otherwise the units of the last bids that are not gone
-abbrev pub left_standing : List Entry → List BidUnit → List BidUnit
-left_standing past gone = if is_closed past then [] else without (bid_units past) gone
+-- the standing units, agent by agent, with `units` in place of those of one agent
+abbrev pub replaced_units : List BidUnit → ℕ → List BidUnit → List BidUnit
+replaced_units standing agent units = flat_map (λ a. if agent == a then units else filter (λ u. u.agent == a) standing) agents
 
--- the units that an admitted call trades away, where `standing` are the units that stand after the past
-abbrev pub gone_by : Rules → List Entry → List BidUnit → ℕ → Call → List BidUnit
-gone_by (FlightRules first bound) past standing caller call =
-    if is_sale call then filter (λ u. nat_le (price_after bound (price first bound past) call) u.price) (looked_at standing (length past) caller call) else []
-gone_by (HotelRules rooms live) past standing caller call = []
-gone_by TicketRules past standing caller call = ticket_gone standing (arriving (length past) caller call)
+-- The units that a call finds. A new bid replaces its agent's whole earlier bid, and all its units get the new bid's place in time. A
+-- withdrawal removes its agent's units, and any other call finds those that stand.
+abbrev pub units_found : List BidUnit → ℕ → ℕ → Call → List BidUnit
+units_found standing position caller (Bid points) = replaced_units standing caller (units_of (record { agent = caller; position = position; points = points }))
+units_found standing position caller Withdraw = replaced_units standing caller []
+units_found standing position caller call = standing
 
--- the units that all admitted calls traded away
-abbrev pub gone : Rules → List Entry → List BidUnit
-gone rules [] = []
-gone rules (e ∷ past) =
-    (if is_admission e.reply then gone_by rules past (left_standing past (gone rules past)) e.caller e.call else []) ++ gone rules past
+-- The units that an admitted call trades away, of those that it finds. At a bid or an update of a flight, the house sells those whose
+-- price is at or above the current one, which is the new price after an update. In a hotel nothing is sold before the closing. For
+-- tickets, the arriving units and their partners trade. `standing` are the units that stand before the call.
+abbrev pub units_traded : Rules → List Entry → List BidUnit → ℕ → Call → List BidUnit
+units_traded (FlightRules first bound) past standing caller call =
+    if is_sale call then filter (λ u. nat_le (price_after bound (price first bound past) call) u.price) (units_found standing (length past) caller call) else []
+units_traded (HotelRules rooms live) past standing caller call = []
+units_traded TicketRules past standing caller call = paired_units standing (arriving (length past) caller call)
 
--- the standing units
-abbrev pub stand : Rules → List Entry → List BidUnit
-stand rules past = left_standing past (gone rules past)
-
--- a number of units, with the sign of a point's units
-abbrev pub signed_as : ℤ → ℕ → ℤ
-signed_as units count = if buys_of units then pos count else neg_ℤ (pos count)
-
--- the points, each with the units of it that stand; points without such units are dropped. Units are numbered upwards from `from`
-abbrev pub left_points : List BidUnit → ℕ → ℕ → ℕ → List Point → List Point
-left_points standing agent position from [] = []
-left_points standing agent position from (point ∷ points) =
-    let count = common_units (point_units agent position from point) standing in
-    let more = left_points standing agent position (from + size_of point) points in
-    if count == 0 then more else record { units = signed_as point.units count; price = point.price } ∷ more
-
--- what is left of a bid, if there is one
-abbrev pub left_of : List BidUnit → Option Placed → List Point
-left_of standing None = []
-left_of standing (Some bid) = left_points standing bid.agent bid.position 0 bid.points
-
--- the agent's standing units, combined into points in the order of its bid
-abbrev pub left : Rules → List Entry → ℕ → List Point
-left rules past agent = left_of (stand rules past) (last_bid agent past)
+-- The untraded units of the bids stand; once the auction is closed, nothing does. An admitted call leaves the units that it finds,
+-- without those that it trades away, and a refused call changes nothing.
+abbrev pub standing_units : Rules → List Entry → List BidUnit
+standing_units rules [] = []
+standing_units rules (e ∷ past) =
+    if is_closed (e ∷ past) then []
+    else if is_admission e.reply then without (units_found (standing_units rules past) (length past) e.caller e.call) (units_traded rules past (standing_units rules past) e.caller e.call)
+    else standing_units rules past

@@ -1,6 +1,10 @@
 -- How a bid string is read.
 use Rattle.std.specs.Prelude.{ℕ, ◌-◌, ◌==◌, ◌&&◌, nat_le, if◌then◌else◌, List, [], ◌∷◌, ℤ, Option, Some, None, Result, Ok, Err, length, take, drop, slice_index, option_map}
-use Rattle.bid_strings.specs.Prelude.{Point, BidFault, fault_of, numeral, signed_numeral, words_of}
+use Rattle.tac_base.specs.declared.bids.Point.{Point}
+use Rattle.tac_base.specs.declared.bids.BidFault.{BidFault}
+use Rattle.tac_base.specs.Bids.{fault_of}
+use Rattle.tac_base.specs.Numerals.{numeral, signed_numeral}
+use Rattle.text_forms.specs.Words.{words_of}
 use Rattle.tac_base.specs.declared.bids.BidFault.TheVariants.{Syntax}
 
 -- all bytes of a list except the last

@@ -1,6 +1,10 @@
 -- When a certificate holds, and what follows if it does.
 use Rattle.std.specs.Prelude.{◌≡◌, ℕ, ◌+◌, ◌<◌, ◌≤◌, ◌==◌, ◌&&◌, ℤ, pos, Bool, true, List, Option, Some, None, int_le, slice_index_or}
-use Rattle.bound_cert.specs.Prelude.{AccountFile, Package, Narrowing, leaf_bound, values_of, narrowed, IsFeasible, total_of}
+use Rattle.game_text.specs.Accounts.{AccountFile}
+use Rattle.packages.specs.declared.travel_packages.Package.{Package}
+use Rattle.packages.specs.Bounds.{Narrowing, leaf_bound}
+use Rattle.packages.specs.Features.{values_of, narrowed}
+use Rattle.packages.specs.BestTotal.{IsFeasible, total_of}
 use Rattle.packages.specs.declared.travel_packages.Package.TheVariants as kinds
 use Rattle.bound_cert.specs.Trees.{Tree, leaf, split, Trees, no_trees, more, tree_count}
 

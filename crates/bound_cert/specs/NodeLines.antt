@@ -1,6 +1,10 @@
 -- The line of a node.
 use Rattle.std.specs.Prelude.{ℕ, List, [], ◌∷◌, Bool, false, pos, Result, Ok, map, replicate, codes, slice_index_or, unsigned_abs, if◌then◌else◌, bytes_eq}
-use Rattle.bound_cert.specs.Prelude.{DUAL_PRICE, GOODS, Column, within, row, row_text, ◌>>=◌, words_of}
+use Rattle.tac_base.specs.declared.limits.TheConstants.{DUAL_PRICE, GOODS}
+use Rattle.text_forms.specs.declared.rows.Column.{Column}
+use Rattle.text_forms.specs.Rows.{within, row, row_text}
+use Rattle.text_forms.specs.Steps.{◌>>=◌}
+use Rattle.text_forms.specs.Words.{words_of}
 use Rattle.text_forms.specs.declared.lines.Reason.{Reason}
 use Rattle.bound_cert.specs.declared.node_lines.NodeLine.{NodeLine}
 use Rattle.bound_cert.specs.declared.node_lines.NodeLine.TheVariants.{Leaf, Split}
@@ -34,8 +38,10 @@ node_line_of line = if is_leaf (words_of line) then leaf_of line else split_of l
 
 -- ---- their one spelling
 
+-- the line of a leaf: `leaf`, and a price for each good
 abbrev pub leaf_text : List ℕ → List ℕ
 leaf_text prices = row_text (codes "leaf") (map pos prices)
 
+-- the line of a split: `split`, its client and its feature
 abbrev pub split_text : ℕ → ℕ → List ℕ
 split_text client feature = row_text (codes "split") (pos client ∷ pos feature ∷ [])

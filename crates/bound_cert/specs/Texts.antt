@@ -5,6 +5,7 @@ use Rattle.bound_cert.specs.Trees.{Tree, leaf, split, Trees, no_trees, more}
 use Rattle.bound_cert.specs.NodeLines.{leaf_text, split_text}
 
 abbrev mutual
+  -- the lines of a tree: that of its root, and then those of the root's children
   pub tree_lines : Tree → List (List ℕ)
   tree_lines (leaf prices) = leaf_text prices ∷ []
   tree_lines (split client feature children) = split_text client feature ∷ forest_lines children

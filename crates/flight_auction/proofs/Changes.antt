@@ -12,7 +12,7 @@ use Rattle.auction_rules.proofs.LeftPoints.{suc_not_zero, signed_size}
 use Rattle.auction_rules.proofs.Lists.{filter_same, all-append, all-filter, all-flat_map, all-map, all_alike, filter-flat_map, flat_map-filter, flat_map_same, flat_map_alike, all-weaker, all_passing}
 use Rattle.flight_auction.proofs.Sold.{standing_cut, standing_same, unsold_all}
 use Rattle.auction_rules.proofs.Agents.{number_same, numbers_differ, another}
-use Rattle.flight_auction.proofs.Order.{made_at, of_others, replaced_order, order_more, ordered_all}
+use Rattle.auction_rules.proofs.Order.{made_at, of_others, replaced_order, order_more, ordered_all}
 
 -- a point that has units
 abbrev pub IsFull : Point → Type 0

@@ -2,7 +2,6 @@ pub mod Drifts
 pub mod Floors
 pub mod Points
 pub mod Sold
-pub mod Order
 pub mod Changes
 pub mod UnitTrades
 pub mod Owning

@@ -8,7 +8,7 @@ use Rattle.auction_rules.proofs.Standing.{Each, each-front, each-back, stands_un
 use Rattle.auction_rules.proofs.LeftPoints.{suc_not_zero}
 use Rattle.auction_rules.proofs.Lists.{filter_same, filter-flat_map, map-flat_map, flat_map-filter, flat_map_alike, some_of, some-append, any_is_some}
 use Rattle.auction_rules.proofs.AgentUnits.{own_units}
-use Rattle.flight_auction.proofs.Order.{made_by, own_bid}
+use Rattle.auction_rules.proofs.Order.{made_by, own_bid}
 
 -- the points of one bid are all its agent's
 pub owned_points : (agent owner : ℕ) (points : List Point) → agents_points agent (owned_by owner points) ≡ (if owner == agent then points else [])

@@ -10,7 +10,7 @@ use Rattle.auction_rules.proofs.LeftPoints.{suc_not_zero, signed_size}
 use Rattle.auction_rules.proofs.Lists.{filter-flat_map, map-flat_map, flat_map-flat_map, flat_map_alike}
 use Rattle.auction_rules.proofs.Standing.{AllAmong, count_all, each-front, each-back, all_among_right, all_among_self}
 use Rattle.flight_auction.proofs.Changes.{looked, others_stand}
-use Rattle.flight_auction.proofs.Order.{of_others, below_more, looked_order, order_more}
+use Rattle.auction_rules.proofs.Order.{of_others, below_more, looked_order, order_more}
 
 -- ---- the trades by the units
 

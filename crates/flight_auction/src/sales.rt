@@ -1,6 +1,6 @@
 ghost use Rattle.std.specs.Prelude.{◌≡◌, ◌+◌, ◌<◌, ◌≤◌, ◌++◌, [], ◌∷◌, length};
 ghost use Rattle.std.specs.List.{list_any};
-ghost use Rattle.auction_rules.specs.FlightSales as rule;
+ghost use Rattle.auction_rules.specs.BookStanding as rule;
 ghost use Rattle.flight_auction.specs.Book as spec;
 
 use arrayvec::ArrayVec;

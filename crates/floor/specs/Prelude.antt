@@ -9,8 +9,8 @@ pub use Rattle.tac_base.specs.declared.calls.Reply.TheVariants.{Taken}
 pub use Rattle.tac_base.specs.declared.limits.TheConstants.{AGENT_CALLS, CALLERS, CASH_READINGS, GOODS, UPDATE_TICKS}
 pub use Rattle.auction_rules.specs.Effects.{bought, nets, sold}
 pub use Rattle.auction_rules.specs.History.{Entry}
-pub use Rattle.auction_rules.specs.Legal.{IsLawful, Legal, admitted_trades, cap, entry_by, entry_of}
-pub use Rattle.auction_rules.specs.Refusals.{refusal}
+pub use Rattle.auction_rules.specs.BookRules.{IsLawful, Legal, admitted_trades, entry_by, entry_of, refusal}
+pub use Rattle.auction_rules.specs.Legal.{cap}
 pub use Rattle.auction_rules.specs.Setup.{Setup}
 pub use Rattle.turn_lock.specs.Notes.{AreNotes}
 pub use Rattle.turn_lock.specs.Part.{part}
@@ -20,7 +20,8 @@ pub use Rattle.turn_lock.specs.declared.kept.Kept.{Ghosts}
 pub use Rattle.turn_lock.specs.declared.pass.Pass.{Pass}
 pub use Rattle.turn_lock.specs.declared.view.Returned.{Returned}
 pub use Rattle.trade_ledger.specs.CashHistory.{IsLegalCash, cash_cap, cash_reply_of, cash_total}
-pub use Rattle.trade_ledger.specs.Posts.{HoldSame, Matched, due_post, due_posts, due_to, is_post, post_for, posts_of}
+pub use Rattle.trade_ledger.specs.BookPosts.{HoldSame, Matched, due_posts, due_to, is_post, posts_of}
+pub use Rattle.trade_ledger.specs.Posts.{due_post, post_for}
 pub use Rattle.trade_ledger.specs.declared.cash_calls.CashCall.TheVariants.{Post, Read}
 pub use Rattle.trade_ledger.specs.declared.cash_calls.CashEntry.{CashEntry}
 pub use Rattle.trade_ledger.specs.declared.cash_calls.CashReply.TheVariants.{Cash, Done}

@@ -32,11 +32,11 @@ impl Floor {
     ghost use mathlib.Core.Option.{some};
     ghost use lib.ListN.{get_elem?};
     ghost use Rattle.auction_rules.specs.Effects.{dollars};
-    ghost use Rattle.auction_rules.specs.Legal.{Legal};
+    ghost use Rattle.auction_rules.specs.BookRules.{Legal};
     ghost use Rattle.auction_core.specs.ClosedGame.{all_goods};
     ghost use Rattle.auction_core.specs.Setups.{setup_of};
     ghost use Rattle.trade_ledger.specs.CashHistory.{IsLegalCash, cash_total};
-    ghost use Rattle.trade_ledger.specs.Posts.{Matched, trades_of_all};
+    ghost use Rattle.trade_ledger.specs.BookPosts.{Matched, trades_of_all};
     ghost use Rattle.floor.specs.Desks.{IsNewDesk, setup_at};
     ghost use Rattle.floor.specs.Floors.{floor_ids, starts_of, AreDesksOf, AreAllDesksOf};
     ghost use Rattle.floor.specs.Closing.{IsBorneOut, TakesLawfulBids};

@@ -10,7 +10,7 @@ pub use Rattle.auction_core.specs.ClosedGame.{ClosedGame}
 pub use Rattle.auction_core.specs.Ranges.{IsHistory}
 pub use Rattle.score_sheet.specs.SettledRanges.{AreHoldings, IsSettlement}
 pub use Rattle.score_sheet.specs.Settlement.{settlement_of}
-pub use Rattle.score_sheet.specs.Sheets.{IsScored, IsSheet, Scored}
+pub use Rattle.score_sheet.specs.Sheets.{IsScored, Scored}
 pub use Rattle.tac_io.specs.States.{SinkState}
 pub use Rattle.tac_io.specs.Taken.{TookPart, TookWhole}
 pub use Rattle.tac_io.specs.Written.{WritesPiece}

@@ -1,7 +1,10 @@
--- The scores of a game.
+-- The scores of a game. The rules of scores are those of `Sheets`.
 use Rattle.std.specs.Prelude.{List}
-use Rattle.game_log.specs.Prelude.{GameFile, ClosedGame, settlement_of, Scored, IsSheet}
+use Rattle.game_text.specs.Games.{GameFile}
+use Rattle.auction_core.specs.ClosedGame.{ClosedGame}
+use Rattle.score_sheet.specs.Settlement.{settlement_of}
+use Rattle.score_sheet.specs.Sheets.{Scored, IsSheet}
 
--- the scores of a game, from the goods and the dollars that its histories leave to each agent
+-- These are the scores of a game, by the goods and the dollars that its histories leave to each agent.
 abbrev pub IsSheetOf : GameFile → ClosedGame → List Scored → Type 0
 IsSheetOf game closed sheet = IsSheet game (settlement_of closed.auctions) sheet

@@ -9,3 +9,4 @@ pub mod LinksBack
 pub mod PlayedSeats
 pub mod SameStart
 pub mod WholeGames
+pub mod SameLinks

@@ -6,7 +6,8 @@ use Rattle.game_run.specs.declared.arrivals.Greeting.{Greeting}
 use Rattle.game_run.specs.declared.arrivals.Greeting.TheVariants as greetings
 use Rattle.game_run.specs.declared.arrivals.Holder.{Holder}
 use Rattle.game_run.specs.declared.arrivals.Holder.TheVariants.{Seat, Unseated}
-use Rattle.game_run.specs.Admission.{free_seats, seats_given, HasFirstLine, IsSentOrCut, refusal_line, IsLost, CameTo, MayGoOn}
+use Rattle.game_run.specs.Admission.{free_seats, seats_given, HasFirstLine, IsSentOrCut, refusal_line, IsLost, MayGoOn}
+use Rattle.game_run.specs.LinkRuns.{CameTo}
 
 -- What holds of each link with its verdict, in turn: by the seats that were free when it came.
 abbrev pub HoldsInTurn : {A B : Type 0} → (Seats → Verdict → A → B → Type 0) → Seats → List A → List Verdict → List B → Type 0

@@ -2,6 +2,7 @@ pub mod Prelude
 pub mod Admission
 pub mod Hosted
 pub mod PlayedGame
+pub mod PlayedLinks
 pub mod LinkRuns
 pub mod Outcomes
 pub mod SeatedLinks
@@ -10,10 +11,11 @@ pub mod Seatings
 pub mod Gathering
 pub mod GameSessions
 pub mod ReservedMemory
-pub use Rattle.game_run.specs.Admission.{CameTo, IsLost, IsSentOrCut, MayGoOn, TakesLinks, free_seats, is_seated, refusal_line, seats_given}
+pub use Rattle.game_run.specs.Admission.{IsLost, IsSentOrCut, MayGoOn, free_seats, is_seated, refusal_line, seats_given}
 pub use Rattle.game_run.specs.Hosted.{HostedGame, hosted_game}
 pub use Rattle.game_run.specs.PlayedGame.{IsLegalGame, IsClockTranscript}
-pub use Rattle.game_run.specs.LinkRuns.{IsLeftUnplayed, IsSeated}
+pub use Rattle.game_run.specs.LinkRuns.{CameTo, IsLeftUnplayed, IsSeated, TakesLinks}
+pub use Rattle.game_run.specs.PlayedLinks.{AllFitVerdicts, FitsVerdict, IsPlayedGame, IsSeatedLink, TakenLink}
 pub use Rattle.game_run.specs.Outcomes.{IsGameEnd, IsNotPlayed, IsPlayedOver, IsRunFault, missed_of}
 pub use Rattle.game_run.specs.SeatedLinks.{AreFilled, AreLinksOf, IsFilled, IsLinkOf, agent_seats_after}
 pub use Rattle.game_run.specs.Arriving.{AddsArrival, AreKept, AreTaken, BeginsWith, HoldsInTurn, IsFirstRead, IsGreeted, IsGreeting, IsOnlySent, IsRefused, IsTakenIn, IsTurnedAway, IsUnseated, Keeps, seat_of}

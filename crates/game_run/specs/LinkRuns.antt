@@ -1,8 +1,10 @@
--- What happened to a link that has a seat, in a game that was played and in one that was not.
-use Rattle.std.specs.Prelude.{◌≡◌, ℕ, List, [], ◌∷◌, Contains}
-use Rattle.game_run.specs.Prelude.{LINK_BYTES, all_answers, GaveBytes, SendsNothing, LinkState, LineGot, Cause, Seated, Seats, verdict_of, IsServed, IsTranscript, Turn, welcome_text}
+-- What happened to the links of a game that was played, and of one that was not, in the form that `run_game` promises and `vouch` checks.
+-- For a game that was played read `IsSeatedLink` and `IsPlayedGame` in `PlayedLinks` instead: `played_game` and `played_over`
+-- (proofs/SameLinks) show both to be one.
+use Rattle.std.specs.Prelude.{◌≡◌, ℕ, List, [], ◌∷◌, Some, Contains, length, take, slice_get}
+use Rattle.game_run.specs.Prelude.{LINK_BYTES, all_answers, GaveBytes, SendsNothing, LinkState, LinksState, known_then, then_known, LineGot, Cause, Verdict, Seated, Lost, Seats, verdict_of, IsServed, IsTranscript, Turn, welcome_text}
 use Rattle.tac_io.specs.declared.line_got.LineGot.TheVariants as gots
-use Rattle.game_run.specs.Admission.{HasFirstLine}
+use Rattle.game_run.specs.Admission.{HasFirstLine, IsLost, IsSentOrCut, refusal_line, seats_given}
 use Rattle.game_run.specs.Hosted.{HostedGame}
 use Rattle.game_run.specs.PlayedGame.{PlayedGame}
 
@@ -26,3 +28,21 @@ pub record IsSeated (hosted : HostedGame) (played : PlayedGame) (seats : Seats) 
 -- a link that has a seat in a game that was not played was sent nothing
 abbrev pub IsLeftUnplayed : Seats → ℕ → LinkState → LinkState → Type 0
 IsLeftUnplayed seats agent before after = HasFirstLine seats (Seated agent) before after × SendsNothing before after
+
+-- What happened to a link fits its verdict: it got a seat, and `Sits` holds of it; it was lost; or it was refused for its first line.
+abbrev pub CameTo : (Seats → ℕ → LinkState → LinkState → Type 0) → Seats → Verdict → LinkState → LinkState → Type 0
+CameTo Sits seats (Seated agent) before after = Sits seats agent before after
+CameTo Sits seats Lost before after = IsLost before after
+CameTo Sits seats verdict before after = HasFirstLine seats verdict before after × IsSentOrCut (refusal_line verdict) before after
+
+module _ {L : Type 0} (state : L → LinkState) where
+  -- The server opened the port, and took the first of the links that came, in order. What happened to each fits its verdict: to link
+  -- n, counted from 0, with the seats that the first n verdicts gave.
+  pub record TakesLinks (hosted : HostedGame) (Sits : Seats → ℕ → LinkState → LinkState → Type 0) (verdicts : List Verdict) (links links' : LinksState L) (ended : List L) : Type 0 where
+    pub given : List L
+    pub from : links.pending ≡ then_known given links'.pending
+    pub came : length given ≡ length verdicts
+    pub left : length ended ≡ length verdicts
+    pub each : (n : ℕ) (before : L) (verdict : Verdict) (after : L) → slice_get given n ≡ Some before → slice_get verdicts n ≡ Some verdict
+        → slice_get ended n ≡ Some after → CameTo Sits (seats_given hosted.game (take n verdicts)) verdict (state before) (state after)
+    pub ports : links'.ports ≡ known_then links.ports (hosted.port ∷ [])

@@ -4,9 +4,9 @@ use Rattle.game_run.specs.Prelude.{Rose, LinkState, LinksState, Cause, Verdict, 
 use Rattle.game_run.specs.declared.run.GameEnd.{GameEnd}
 use Rattle.game_run.specs.declared.run.RunFault.{RunFault}
 use Rattle.game_run.specs.declared.run.RunFault.TheVariants.{Links, Memory}
-use Rattle.game_run.specs.Admission.{AreAllTaken, MayGoOn, TakesLinks}
+use Rattle.game_run.specs.Admission.{AreAllTaken, MayGoOn}
 use Rattle.game_run.specs.Hosted.{HostedGame}
-use Rattle.game_run.specs.LinkRuns.{IsLeftUnplayed, IsSeated}
+use Rattle.game_run.specs.LinkRuns.{IsLeftUnplayed, IsSeated, TakesLinks}
 use Rattle.game_run.specs.PlayedGame.{PlayedGame, IsPlayedBy}
 
 -- the number of ticks that lapsed in a game

@@ -21,7 +21,7 @@ pub use Rattle.tac_io.specs.Known.{IsAtEnd, TakesSome, known_then, then_known}
 pub use Rattle.tac_io.specs.LineAnswers.{Answers, HasLineCause, goes_on}
 pub use Rattle.tac_io.specs.LineText.{BeginsWithLine, has_end}
 pub use Rattle.tac_io.specs.Lines.{count_of, held_of, last_of, link_of, link_place}
-pub use Rattle.tac_io.specs.LinkCalls.{GaveBytes, LastReadFails, LastWriteFails, NoReadFails, NoWriteFails, ReadsNothing, SendsNothing}
+pub use Rattle.tac_io.specs.LinkCalls.{GaveBytes, NoReadFails, NoWriteFails, ReadsNothing, SendsNothing}
 pub use Rattle.tac_io.specs.States.{LinkState, LinksState}
 pub use Rattle.tac_io.specs.declared.line_got.LineGot.{LineGot}
 pub use Rattle.tac_io.specs.declared.lines.Lines.{Lines}

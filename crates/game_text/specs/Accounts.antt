@@ -1,6 +1,15 @@
 -- The account file: an agent's clients and its holdings of the 28 goods.
 use Rattle.std.specs.Prelude.{◌≡◌, ℕ, nat_lt, if◌then◌else◌, List, [], ◌∷◌, ◌++◌, ℤ, pos, neg_ℤ, ◌≤ℤ◌, true, Result, Ok, Err, length, codes, drop, replicate, All}
-use Rattle.game_text.specs.Prelude.{Preferences, GOODS, HOLDING, TEXT_BYTES, BadLine, Reason, Column, Ten, parts_of, Remaining, lines_from, nothing_left, AreLinesLeft, row, row_text, ◌>>=◌, read_by, repeat, lines_of_parts, one_line}
+use Rattle.tac_base.specs.Clients.{Preferences}
+use Rattle.tac_base.specs.declared.limits.TheConstants.{GOODS, HOLDING, TEXT_BYTES}
+use Rattle.text_forms.specs.declared.lines.BadLine.{BadLine}
+use Rattle.text_forms.specs.declared.lines.Reason.{Reason}
+use Rattle.text_forms.specs.declared.rows.Column.{Column}
+use Rattle.text_forms.specs.declared.rows.Digits.TheVariants.{Ten}
+use Rattle.text_forms.specs.Words.{parts_of}
+use Rattle.text_forms.specs.Lines.{Remaining, lines_from, nothing_left, AreLinesLeft}
+use Rattle.text_forms.specs.Rows.{row, row_text}
+use Rattle.text_forms.specs.Steps.{◌>>=◌, read_by, repeat, lines_of_parts, one_line}
 use Rattle.game_text.specs.declared.fault.GameFault.{GameFault}
 use Rattle.game_text.specs.declared.fault.GameFault.TheVariants.{TooLong}
 use Rattle.game_text.specs.ClientLines.{client_columns, client_from, client_numbers}
@@ -8,6 +17,7 @@ use Rattle.game_text.specs.AgentLines.{AreClients}
 use Rattle.game_text.specs.Headers.{nothing_from, read_end_line}
 use Rattle.game_text.specs.Faults.{or_game_fault}
 
+-- an agent's clients, and its holdings of the 28 goods in order
 pub record AccountFile : Type 0 where
   pub clients : List Preferences
   pub holdings : List ℤ

@@ -1,6 +1,10 @@
 -- What a game file defines for the agents: the lines of the endowments and of the clients.
 use Rattle.std.specs.Prelude.{◌≡◌, ℕ, List, ◌++◌, Result, Ok, length, All}
-use Rattle.game_text.specs.Prelude.{Preferences, IsClient, AGENTS, BadLine, Remaining, ◌>>=◌, read_by, repeat, lines_of_parts, one_line}
+use Rattle.tac_base.specs.Clients.{Preferences, IsClient}
+use Rattle.tac_base.specs.declared.limits.TheConstants.{AGENTS}
+use Rattle.text_forms.specs.declared.lines.BadLine.{BadLine}
+use Rattle.text_forms.specs.Lines.{Remaining}
+use Rattle.text_forms.specs.Steps.{◌>>=◌, read_by, repeat, lines_of_parts, one_line}
 use Rattle.game_text.specs.declared.agents.Agents.{Agents}
 use Rattle.game_text.specs.Endowments.{IsEndowment, endow_of, endow_text}
 use Rattle.game_text.specs.ClientLines.{client_of, client_text}
@@ -27,15 +31,19 @@ agents_lines agents = lines_of_parts (one_line endow_text) 0 agents.endow ++ lin
 
 -- ---- reading them
 
+-- the line of an agent's endowment, read as a part of the file
 abbrev pub endow_part : ℕ → Remaining → Result (List ℕ × Remaining) BadLine
 endow_part agent left = read_by (endow_of agent) left
 
+-- the line of an agent's client, read as a part of the file
 abbrev pub client_part : ℕ → ℕ → Remaining → Result (Preferences × Remaining) BadLine
 client_part agent client left = read_by (client_of agent client) left
 
+-- the lines of an agent's eight clients
 abbrev pub agent_part : ℕ → Remaining → Result (List Preferences × Remaining) BadLine
 agent_part agent left = repeat 8 0 (client_part agent) left
 
+-- the endowments of the eight agents, and then the clients of each
 unfoldable pub agents_in : Remaining → Result (Agents × Remaining) BadLine
 agents_in left = do
   endow ← repeat AGENTS 0 endow_part left

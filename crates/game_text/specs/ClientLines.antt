@@ -1,6 +1,11 @@
 -- The line of a client.
 use Rattle.std.specs.Prelude.{ℕ, ◌==◌, ◌&&◌, not, nat_lt, if◌then◌else◌, List, ◌∷◌, ℤ, pos, unsigned_abs, Result, Ok, Err, map, replicate, codes, slice_index_or, drop}
-use Rattle.game_text.specs.Prelude.{Preferences, Reason, OutOfRange, NotDue, Column, within, row, row_text, ◌>>=◌}
+use Rattle.tac_base.specs.Clients.{Preferences}
+use Rattle.text_forms.specs.declared.lines.Reason.{Reason}
+use Rattle.text_forms.specs.declared.lines.Reason.TheVariants.{OutOfRange, NotDue}
+use Rattle.text_forms.specs.declared.rows.Column.{Column}
+use Rattle.text_forms.specs.Rows.{within, row, row_text}
+use Rattle.text_forms.specs.Steps.{◌>>=◌}
 
 -- the agent, the client, the days, the premium and the values
 abbrev pub client_columns : List Column
@@ -25,5 +30,6 @@ client_of agent client line = row (codes "client") client_columns line >>= clien
 abbrev pub client_numbers : ℕ → ℕ → Preferences → List ℤ
 client_numbers agent client wants = pos agent ∷ pos client ∷ pos wants.arrive ∷ pos wants.depart ∷ pos wants.premium ∷ map pos wants.values
 
+-- the line of an agent's client
 abbrev pub client_text : ℕ → ℕ → Preferences → List ℕ
 client_text agent client wants = row_text (codes "client") (client_numbers agent client wants)

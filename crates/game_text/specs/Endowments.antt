@@ -1,12 +1,17 @@
 -- The line of an endowment.
 use Rattle.std.specs.Prelude.{◌≡◌, ℕ, ◌==◌, if◌then◌else◌, List, ◌∷◌, ℤ, pos, unsigned_abs, length, Result, Ok, Err, map, replicate, codes, slice_index_or, drop}
-use Rattle.game_text.specs.Prelude.{Reason, NotDue, Column, within, row, row_text, AllBetween, ◌>>=◌}
+use Rattle.text_forms.specs.declared.lines.Reason.{Reason}
+use Rattle.text_forms.specs.declared.lines.Reason.TheVariants.{NotDue}
+use Rattle.text_forms.specs.declared.rows.Column.{Column}
+use Rattle.text_forms.specs.Rows.{within, row, row_text, AllBetween}
+use Rattle.text_forms.specs.Steps.{◌>>=◌}
 
 -- how many of each ticket an agent has at the start
 pub record IsEndowment (endow : List ℕ) : Type 0 where
   pub count : length endow ≡ 12
   pub range : AllBetween 0 16 endow
 
+-- the agent, and how many tickets of each of goods 16 to 27 it has, 0 to 16
 abbrev pub endow_columns : List Column
 endow_columns = within 0 4294967295 ∷ replicate 12 (within 0 16)
 

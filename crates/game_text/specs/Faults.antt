@@ -1,6 +1,7 @@
 -- The refusals of a game file and of an account file.
 use Rattle.std.specs.Prelude.{Result, Ok, Err}
-use Rattle.game_text.specs.Prelude.{BadLine, reason_number}
+use Rattle.text_forms.specs.declared.lines.BadLine.{BadLine}
+use Rattle.text_forms.specs.Lines.{reason_number}
 use Rattle.game_text.specs.declared.fault.GameFault.{GameFault}
 use Rattle.game_text.specs.declared.fault.GameFault.TheVariants.{Line}
 

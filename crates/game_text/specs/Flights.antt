@@ -1,11 +1,20 @@
 -- The line of a flight.
 use Rattle.std.specs.Prelude.{◌≡◌, ℕ, ◌≤◌, ◌==◌, if◌then◌else◌, List, ◌∷◌, true, ℤ, pos, negsuc, ◌≤ℤ◌, unsigned_abs, length, Result, Ok, Err, map, replicate, codes, slice_index_or, drop}
-use Rattle.game_text.specs.Prelude.{FLIGHT_DRAWS, Reason, NotDue, Column, Ten, within, row, row_text, AllBetween, ◌>>=◌}
+use Rattle.tac_base.specs.declared.limits.TheConstants.{FLIGHT_DRAWS}
+use Rattle.text_forms.specs.declared.lines.Reason.{Reason}
+use Rattle.text_forms.specs.declared.lines.Reason.TheVariants.{NotDue}
+use Rattle.text_forms.specs.declared.rows.Column.{Column}
+use Rattle.text_forms.specs.declared.rows.Digits.TheVariants.{Ten}
+use Rattle.text_forms.specs.Rows.{within, row, row_text, AllBetween}
+use Rattle.text_forms.specs.Steps.{◌>>=◌}
 
--- the first price, the bound of the changes and the draws of a flight
+-- what a game file fixes for a flight
 pub record FlightTerms : Type 0 where
+  -- the first price, 250 to 400 dollars
   pub first : ℕ
+  -- the bound of the price's changes, -10 to 30
   pub bound : ℤ
+  -- a draw for each update, in the order of ticks 1 to 53
   pub draws : List ℕ
 
 -- terms in the ranges of the game
@@ -21,9 +30,11 @@ pub record IsFlight (flight : FlightTerms) : Type 0 where
 abbrev pub any : Column
 any = within 0 4294967295
 
+-- the column of a bound, -10 to 30
 abbrev pub bound_column : Column
 bound_column = record { signed = true; digits = Ten; low = negsuc 9; high = pos 30 }
 
+-- the good, the first price, the bound and the draws
 abbrev pub flight_columns : List Column
 flight_columns = any ∷ within 250 400 ∷ bound_column ∷ replicate FLIGHT_DRAWS any
 

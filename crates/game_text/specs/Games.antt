@@ -1,6 +1,11 @@
--- The game file.
+-- The game file, which is our own form.
 use Rattle.std.specs.Prelude.{◌≡◌, ℕ, ◌≤◌, Bool, nat_lt, if◌then◌else◌, List, [], ◌∷◌, ◌++◌, true, Result, Ok, Err, length, codes, All}
-use Rattle.game_text.specs.Prelude.{Preferences, GAME_BYTES, BadLine, parts_of, Remaining, lines_from, nothing_left, text_of, AreLinesLeft, ◌>>=◌, read_by, repeat, lines_of_parts, one_line}
+use Rattle.tac_base.specs.Clients.{Preferences}
+use Rattle.tac_base.specs.declared.limits.TheConstants.{GAME_BYTES}
+use Rattle.text_forms.specs.declared.lines.BadLine.{BadLine}
+use Rattle.text_forms.specs.Words.{parts_of}
+use Rattle.text_forms.specs.Lines.{Remaining, lines_from, nothing_left, text_of, AreLinesLeft}
+use Rattle.text_forms.specs.Steps.{◌>>=◌, read_by, repeat, lines_of_parts, one_line}
 use Rattle.game_text.specs.declared.fault.GameFault.{GameFault}
 use Rattle.game_text.specs.declared.fault.GameFault.TheVariants.{TooLong}
 use Rattle.game_text.specs.Faults.{or_game_fault}
@@ -13,15 +18,23 @@ use Rattle.game_text.specs.declared.hotel_nights.HotelNights.{HotelNights}
 use Rattle.game_text.specs.HotelNights.{AreNights, nights_in, night_lines}
 use Rattle.game_text.specs.Headers.{header_of, header_text, read_end_line}
 
--- the content of a game file
+-- what a game file fixes for a game. The lists have the lengths that are named below: a text with others is refused as a game file.
 pub record GameFile : Type 0 where
+  -- 1 or 2
   pub version : ℕ
+  -- the eight different seat words, in the order of the agents
   pub words : List (List ℕ)
+  -- the eight flights, goods 0 to 7 in order
   pub flights : List FlightTerms
+  -- the eight hotel nights, goods 8 to 15, in the order in which they close
   pub order : List ℕ
+  -- how many rooms each hotel night has, goods 8 to 15 in order
   pub rooms : List ℕ
+  -- whether hotel quotes are live
   pub live : Bool
+  -- of each agent, how many tickets of goods 16 to 27 it has at the start
   pub endow : List (List ℕ)
+  -- of each agent, its eight clients
   pub clients : List (List Preferences)
 
 -- the part of it for the hotel nights
@@ -69,6 +82,7 @@ IsTextOf game text = AreLinesLeft (game_lines game) (lines_from true 1 (parts_of
 
 -- ---- the first bad line
 
+-- the line of a flight, read as a part of the file
 abbrev pub flight_part : ℕ → Remaining → Result (FlightTerms × Remaining) BadLine
 flight_part good left = read_by (flight_of good) left
 
@@ -85,6 +99,6 @@ game_in left = do
   done ← nothing_left end.1
   Ok (record { version = header.0; words = words.0; flights = flights.0; order = order.0; rooms = nights.0.rooms; live = nights.0.live; endow = agents.0.endow; clients = agents.0.clients })
 
--- the game in a text, or why the text is refused
+-- the game that a text describes, or why the text is refused
 unfoldable pub game_of : List ℕ → Result GameFile GameFault
 game_of text = if nat_lt GAME_BYTES (length text) then Err TooLong else or_game_fault (game_in (lines_from true 1 (parts_of 10 text)))

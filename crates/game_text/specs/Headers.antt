@@ -1,6 +1,10 @@
 -- The first and the last line of a game file.
 use Rattle.std.specs.Prelude.{ℕ, ◌==◌, not, if◌then◌else◌, List, [], ◌∷◌, ℤ, Result, Ok, Err, codes, length, slice_index_or, bytes_eq}
-use Rattle.game_text.specs.Prelude.{Reason, Keyword, WordCount, words_of, row, ◌>>=◌}
+use Rattle.text_forms.specs.declared.lines.Reason.{Reason}
+use Rattle.text_forms.specs.declared.lines.Reason.TheVariants.{Keyword, WordCount}
+use Rattle.text_forms.specs.Words.{words_of}
+use Rattle.text_forms.specs.Rows.{row}
+use Rattle.text_forms.specs.Steps.{◌>>=◌}
 
 -- the version in the second word; any other word counts as a wrong first word
 abbrev pub version_of : List ℕ → Result ℕ Reason
@@ -9,6 +13,7 @@ version_of word =
     else if bytes_eq word (codes "2") then Ok 2
     else Err Keyword
 
+-- the version in the words of the first line
 abbrev pub header_of_words : List (List ℕ) → Result ℕ Reason
 header_of_words [] = Err Keyword
 header_of_words (first ∷ words) =
@@ -24,6 +29,7 @@ header_of line = header_of_words (words_of line)
 abbrev pub header_text : ℕ → List ℕ
 header_text version = if version == 2 then codes "tac 2" else codes "tac 1"
 
+-- a row without numbers
 abbrev pub nothing_from : List ℤ → Result (Unit {0}) Reason
 nothing_from numbers = Ok tt
 

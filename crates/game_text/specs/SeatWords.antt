@@ -1,7 +1,10 @@
 -- The seat words.
 use Rattle.std.specs.Prelude.{◌≡◌, ℕ, ◌≤◌, ◌-◌, ◌&&◌, ◌||◌, not, nat_le, nat_lt, ◌==◌, if◌then◌else◌, List, [], ◌∷◌, ◌++◌, Bool, true, Result, Ok, Err, IsTrue, codes, length, take, replicate, bytes_eq}
 use Rattle.std.specs.List.{list_all, list_any, join_with_byte}
-use Rattle.game_text.specs.Prelude.{AGENTS, words_of, Reason, Keyword, WordCount, Spelling, Repeated}
+use Rattle.tac_base.specs.declared.limits.TheConstants.{AGENTS}
+use Rattle.text_forms.specs.Words.{words_of}
+use Rattle.text_forms.specs.declared.lines.Reason.{Reason}
+use Rattle.text_forms.specs.declared.lines.Reason.TheVariants.{Keyword, WordCount, Spelling, Repeated}
 
 -- `a`..`z` and `0`..`9`
 abbrev pub is_seat_byte : ℕ → Bool
@@ -27,6 +30,7 @@ abbrev pub are_distinct : List (List ℕ) → Bool
 are_distinct [] = true
 are_distinct (word ∷ words) = not (list_any (λ other. bytes_eq other word) words) && are_distinct words
 
+-- the seat words among the words of a line
 abbrev pub seats_of_words : List (List ℕ) → Result (List (List ℕ)) Reason
 seats_of_words [] = Err Keyword
 seats_of_words (first ∷ words) =

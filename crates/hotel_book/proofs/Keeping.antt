@@ -3,7 +3,7 @@ use Rattle.std.proofs.Common.{◌≡◌, ℕ, ◌≤◌, Bool, true, false, List
 use Rattle.hotel_book.specs.Prelude.{Point, Trade, Reply, Taken, Sold, Done, Closed, WrongCall, Placed, BidUnit, clock, Setup, Rules, Hotel as HotelRules, Entry, is_closed, last_bid, last_bids, bid_units, units_of_bids, is_own, stand, ask, published, winning, refusal, is_wrong_caller, is_wrong_place, Follows}
 use Rattle.tac_base.specs.declared.calls.Call.{Call}
 use Rattle.tac_base.specs.declared.calls.Call.TheVariants.{Bid, Publish, Close}
-use Rattle.auction_rules.specs.HotelClosing.{sold_units, closing_trades}
+use Rattle.auction_rules.specs.BookHotels.{sold_units, closing_trades}
 use Rattle.auction_rules.proofs.HotelUnits.{open_stand, sells_what_stands}
 use Rattle.auction_rules.proofs.Steps.{refused_entry, entry_refused, entry_admitted, refusal_refuses, follows}
 use Rattle.auction_rules.proofs.Agents.{agents_set, not_clock}

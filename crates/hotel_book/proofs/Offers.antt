@@ -6,7 +6,7 @@ use Rattle.std.proofs.lemmas.List.Elements.{filter_map-append}
 use Rattle.std.proofs.lemmas.Bool.Decides.{nat_tests}
 use Rattle.std.specs.List.{cons_option}
 use Rattle.hotel_book.specs.Prelude.{Point, Trade, total_size, size_of}
-use Rattle.auction_rules.specs.BeatQuote.{offered}
+use Rattle.auction_rules.specs.Refusals.{offered}
 use Rattle.auction_rules.proofs.Counts.{offered_by}
 
 offered_by_le : (at : ℕ) (point : Point) → offered_by at point ≤ size_of point

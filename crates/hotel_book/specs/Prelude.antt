@@ -7,17 +7,17 @@ pub use Rattle.tac_base.specs.declared.calls.Reply.TheVariants.{Closed, Done, So
 pub use Rattle.tac_base.specs.declared.calls.Trade.{Trade}
 pub use Rattle.tac_base.specs.declared.limits.TheConstants.{AGENTS, BID_PRICE, BID_UNITS, STANDING_UNITS}
 pub use Rattle.tac_base.specs.declared.units.Unit.{Unit}
-pub use Rattle.auction_rules.specs.Ask.{ask, published}
+pub use Rattle.auction_rules.specs.Ask.{ask}
+pub use Rattle.auction_rules.specs.BookHotels.{published, precedes, winning}
 pub use Rattle.auction_rules.specs.Follows.{Follows}
-pub use Rattle.auction_rules.specs.History.{Entry, bid_units, is_closed, is_own, last_bid, last_bids, units_of_bids, units_of_last}
-pub use Rattle.auction_rules.specs.Precedence.{precedes}
-pub use Rattle.auction_rules.specs.Refusals.{hotel_refusal, is_wrong_caller, is_wrong_place, refusal}
+pub use Rattle.auction_rules.specs.History.{Entry, is_closed, is_own}
+pub use Rattle.auction_rules.specs.BookStanding.{last_bid, bid_units, last_bids, units_of_bids, units_of_last, left, stand, left_of}
+pub use Rattle.auction_rules.specs.Refusals.{hotel_refusal, is_wrong_caller, is_wrong_place}
+pub use Rattle.auction_rules.specs.BookRules.{refusal}
 pub use Rattle.auction_rules.specs.Setup.{Setup}
 pub use Rattle.auction_rules.specs.Shown.{AreShown, IsRankedBy, IsSortedBy, on_side, shown_unit}
-pub use Rattle.auction_rules.specs.Standing.{left, left_of, stand}
 pub use Rattle.auction_rules.specs.Traded.{IsShort, Spends, traded}
 pub use Rattle.auction_rules.specs.Units.{units_of}
-pub use Rattle.auction_rules.specs.WinningNumber.{winning}
 pub use Rattle.auction_rules.specs.declared.rules.Rules.{Rules}
 pub use Rattle.auction_rules.specs.declared.rules.Rules.TheVariants.{Hotel}
 pub use Rattle.auction_rules.specs.declared.units.BidUnit.{BidUnit}

@@ -2,7 +2,7 @@ ghost use Rattle.std.specs.Prelude.{All, ◌≡◌, ◌≤◌, ◌||◌, [], ◌
 ghost use Rattle.tac_base.specs.Kinds.{kind_of};
 ghost use Rattle.hotel_book.specs.{ask, clock, Setup, shown_unit, Entry, left, stand, winning, is_wrong_caller, is_wrong_place, Follows, Spends, IsShort, AreRanked, HotelStandsFor, hotel_units_left, sale_of, with_bid};
 ghost use Rattle.auction_rules.specs.Board.{board};
-ghost use Rattle.auction_rules.specs.Legal.{entry_of};
+ghost use Rattle.auction_rules.specs.BookRules.{entry_of};
 
 use crate::closing::fill;
 use crate::quotes::{after_bid, refusal};

@@ -1,6 +1,6 @@
 ghost use Rattle.std.specs.Prelude.{◌≡◌, ◌+◌, ◌<◌, ◌≤◌, nat_le, if◌then◌else◌, length};
 ghost use Rattle.tac_base.specs.Bids.{size_of, total_size};
-ghost use Rattle.auction_rules.specs.BeatQuote as quotes;
+ghost use Rattle.auction_rules.specs.Refusals as refusals;
 ghost use Rattle.hotel_book.specs.Book.{book_refusal};
 
 use auction_rules::sells;
@@ -18,7 +18,7 @@ fn offered_by(point: &Point, at: u16) -> u8
 #[tactic(auto, using(crate::proofs::Offers::offered_one))]
 fn offered(points: &[Point], at: u16) -> u8
     requires { total_size points.now ≤ BID_UNITS }
-    ensures value { result ≡ quotes.offered points.now at }
+    ensures value { result ≡ refusals.offered points.now at }
     ensures few { result ≤ BID_UNITS }
 {
     let mut total = 0;

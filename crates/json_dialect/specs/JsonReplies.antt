@@ -2,7 +2,12 @@
 use Rattle.std.specs.Prelude.{ℕ, ℤ, List, [], ◌∷◌, ◌++◌, Bool, true, false, if◌then◌else◌, nat_lt, decimal, codes, map}
 use Rattle.std.specs.Fmt.{signed_decimal}
 use Rattle.std.specs.List.{concat, join_with_byte}
-use Rattle.json_dialect.specs.Prelude.{Point, Board, Reply, RequestFault, Said, fault_number}
+use Rattle.tac_base.specs.declared.bids.Point.{Point}
+use Rattle.tac_base.specs.declared.calls.Board.{Board}
+use Rattle.tac_base.specs.declared.calls.Reply.{Reply}
+use Rattle.line_protocol.specs.declared.asking.RequestFault.{RequestFault}
+use Rattle.line_protocol.specs.declared.saying.Said.{Said}
+use Rattle.line_protocol.specs.Replies.{fault_number}
 use Rattle.tac_base.specs.declared.calls.Reply.TheVariants.{Taken, Own, Sold, Done, Closed, WrongCall, NoBid, Sell, SelfCross, BelowQuote}
 use Rattle.line_protocol.specs.declared.asking.RequestFault.TheVariants as faults
 use Rattle.line_protocol.specs.declared.saying.Said.TheVariants.{At, Cash, Quote, Spent, Fault, TooLong, Bye}
@@ -44,6 +49,7 @@ reply_members Sell = codes "\"no\":\"sell\""
 reply_members SelfCross = codes "\"no\":\"selfcross\""
 reply_members (BelowQuote need at offered) = below_members need at offered
 
+-- the members for an agent's cash
 abbrev pub cash_members : ℤ → List ℕ
 cash_members dollars = codes "\"cash\":" ++ signed_decimal dollars
 
@@ -52,6 +58,7 @@ abbrev pub openness : Bool → List ℕ
 openness true = codes "false"
 openness false = codes "true"
 
+-- the members for a board, after that for the number of its entries
 abbrev pub quote_members : Board → List ℕ
 quote_members board = concat (codes "\"quote\":" ∷ pair_text (decimal board.bid) (decimal board.ask) ∷ codes ",\"open\":" ∷ openness board.closed ∷ [])
 
@@ -63,6 +70,7 @@ json_place position = concat (codes "{\"at\":" ∷ decimal position ∷ codes ",
 abbrev pub placed : ℕ → List ℕ → List ℕ
 placed position members = concat (json_place position ∷ members ∷ codes "}" ∷ [])
 
+-- the object for a line that is not a request
 abbrev pub fault_text : RequestFault → List ℕ
 fault_text faults.Syntax = codes "{\"no\":\"syntax\"}"
 fault_text faults.NoSuchAuction = codes "{\"no\":\"auction\"}"

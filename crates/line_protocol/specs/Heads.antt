@@ -5,8 +5,8 @@ use Rattle.line_protocol.specs.declared.admission.Cause.{Cause}
 use Rattle.line_protocol.specs.declared.head.LogHead.{LogHead}
 use Rattle.line_protocol.specs.declared.head.LogHead.TheVariants as kept
 
--- From a script; or over links, with the verdict on each link in order of arrival, why the session of each seated agent ended, and how
--- many ticks were missed.
+-- how a game was played: from a script; or over links, with the verdict on each link in the order of arrival, the cause of the end of
+-- each seated agent's session, and the number of ticks that were missed
 pub data Head : Type 0 where
   Play : Head
   Serve : (verdicts : List Verdict) → (ends : List (ℕ × Cause)) → (missed : ℕ) → Head

@@ -1,8 +1,11 @@
--- The text of the server's lines to an agent.
+-- The text of the server's lines to an agent, which is our own form.
 use Rattle.std.specs.Prelude.{ℕ, ◌≢◌, List, [], ◌∷◌, if◌then◌else◌, All, decimal, codes}
 use Rattle.std.specs.Fmt.{signed_decimal}
 use Rattle.std.specs.List.{join_with_byte}
-use Rattle.line_protocol.specs.Prelude.{BidFault, Reply, Taken, Own, Sold, Done, Closed, WrongCall, NoBid, Sell, SelfCross, BelowQuote, spelling}
+use Rattle.tac_base.specs.declared.bids.BidFault.{BidFault}
+use Rattle.tac_base.specs.declared.calls.Reply.{Reply}
+use Rattle.tac_base.specs.declared.calls.Reply.TheVariants.{Taken, Own, Sold, Done, Closed, WrongCall, NoBid, Sell, SelfCross, BelowQuote}
+use Rattle.bid_strings.specs.Spelling.{spelling}
 use Rattle.tac_base.specs.declared.bids.BidFault.TheVariants as bid_faults
 use Rattle.line_protocol.specs.declared.asking.RequestFault.{RequestFault}
 use Rattle.line_protocol.specs.declared.asking.RequestFault.TheVariants as faults
@@ -38,6 +41,7 @@ fault_number bid_faults.TooManyUnits = 3
 fault_number bid_faults.Price = 4
 fault_number bid_faults.ZeroUnits = 5
 
+-- the words of the reply to a line that is not a request
 abbrev pub fault_words : RequestFault → List (List ℕ)
 fault_words faults.Syntax = codes "no" ∷ codes "syntax" ∷ []
 fault_words faults.NoSuchAuction = codes "no" ∷ codes "auction" ∷ []
@@ -48,6 +52,8 @@ fault_words faults.Memory = codes "no" ∷ codes "memory" ∷ []
 abbrev pub place : ℕ → List ℕ
 place position = 64 ∷ decimal position
 
+-- the words of a line. For a call, `@P` has the position P of its entry in the auction, counted from 0; for a reading of cash the
+-- position in the cash book; for a quote the number of entries that the board shows.
 abbrev pub said_words : Said → List (List ℕ)
 said_words (At position reply) = place position ∷ reply_words reply
 said_words (Cash position dollars) = place position ∷ codes "cash" ∷ signed_decimal dollars ∷ []
@@ -58,6 +64,9 @@ said_words (Fault fault) = fault_words fault
 said_words TooLong = codes "no" ∷ codes "toolong" ∷ []
 said_words Bye = codes "bye" ∷ []
 
--- the line, without its line end: the words, separated by single spaces
+-- the line without its line end: the words, separated by single spaces
+-- Row: replies_to_calls (worked_rows/proofs/Lines.antt)
+-- Row: other_replies (worked_rows/proofs/Lines.antt)
+-- Row: every_other_reply (worked_rows/proofs/Lines.antt)
 abbrev pub said_text : Said → List ℕ
 said_text said = join_with_byte 32 (said_words said)

@@ -16,7 +16,8 @@ pub use Rattle.line_protocol.specs.declared.saying.Said.{Said}
 pub use Rattle.line_protocol.specs.declared.saying.Said.TheVariants.{At, Quote}
 pub use Rattle.game_text.specs.Games.{GameFile}
 pub use Rattle.auction_rules.specs.Effects.{nets}
-pub use Rattle.auction_rules.specs.Legal.{Legal, cap, entries_of, entry_of}
+pub use Rattle.auction_rules.specs.BookRules.{Legal, entry_of}
+pub use Rattle.auction_rules.specs.Legal.{cap, entries_of}
 pub use Rattle.turn_lock.specs.Notes.{AreNotes}
 pub use Rattle.turn_lock.specs.Part.{part, part_from}
 pub use Rattle.trade_ledger.specs.Posts.{due_post, post_for}
@@ -35,7 +36,8 @@ pub use Rattle.tac_io.specs.declared.line_got.LineGot.TheVariants.{End, TooLong}
 pub use Rattle.agent_gate.specs.Dialects.{Dialect}
 pub use Rattle.agent_gate.specs.Gates.{Seats, greeting_of, seat_verdict, seats_after, verdict_of, word_verdict}
 pub use Rattle.agent_gate.specs.Items.{AreItems, Asks, IsItem, Item, Overlong}
-pub use Rattle.agent_gate.specs.Served.{Session, reply_line}
+pub use Rattle.agent_gate.specs.Served.{Session}
+pub use Rattle.agent_gate.specs.SessionEnds.{reply_line}
 pub use Rattle.agent_gate.specs.Sessions.{lines_of}
 pub use Rattle.agent_gate.specs.Transcript.{IsTranscript}
 pub use Rattle.agent_gate.specs.Turns.{AreLawful, CallDenied, Called, CashDenied, CashRead, IsLawfulTurn, IsNotBehind, Left, Quoted, Refused, Skipped, Turn, asked_call, boards_shown, cash_by, cash_made, entry_made, has_left, is_leaving, is_reading, item_of, made_at, reading, said_of, shown_by, shown_length}

@@ -5,7 +5,7 @@ use Rattle.std.proofs.lemmas.List.{reverse-append}
 use Rattle.std.proofs.lemmas.List.Sums.{sum_by-append, sum_by-cons}
 use Rattle.log_audit.specs.{Call, Reply, clock, Setup, Legal, IsLawful, entry_of, entry_by, entries_of, cap, reply_of, trades_of, HasFairEntry}
 use Rattle.auction_rules.specs.History.{Entry}
-use Rattle.auction_rules.specs.Refusals.{refusal}
+use Rattle.auction_rules.specs.BookRules.{refusal}
 use Rattle.auction_core.proofs.Counting.{AreCapped, capped_snoc}
 use Rattle.log_audit.proofs.Positions.{found_at, take_at, split_at, all_taken}
 

@@ -6,7 +6,7 @@ use Rattle.std.proofs.lemmas.Option.{slice_get-get_or, slice_get_within, get_or_
 use Rattle.std.proofs.lemmas.Bool.{and_right, or_right}
 use mathlib.Core.Logic.{dite}
 use native.Mathlib.Decide.{ℕ_discrete}
-use Rattle.log_audit.specs.{Nets, Trade, nets as nets_of, CashCall, Post, Read, CashReply, Done, Cash, CashEntry, is_post, posts_of, post_for, due_post, Matched, LoggedGame, IsLogged, IsLoggedCash, IsLoggedCashEntry, logged_history, names, is_posted, IsEarned, IsDuePost, HasDuePost, HasPost}
+use Rattle.log_audit.specs.{Nets, Trade, nets as nets_of, CashCall, Post, Read, CashReply, Done, Cash, CashEntry, is_post, posts_of, post_for, due_post, Matched, LoggedGame, IsLogged, IsLoggedCash, IsLoggedCashEntry, logged_history, is_post_at, is_posted, IsEarned, IsDuePost, HasDuePost, HasPost}
 use Rattle.auction_rules.specs.History.{Entry}
 use Rattle.log_audit.proofs.Positions.{found_at, take_at, split_at, all_taken}
 use Rattle.log_audit.proofs.Sums.{naming, named, posts_named, posted_from_named, named_from_posted, post_within, due_least, IsHeavy, due_heavy, due_most}
@@ -53,7 +53,7 @@ module _ (histories : List (List Entry)) (goods : length histories ≡ 28) where
         let e : CashEntry = record { caller = caller; call = Post good position nets; reply = Done } in
         let entry = due.0.0 in
         let posts : sum_by w (posts_of (before ++ e ∷ [])) ≡ sum_by w (posts_of before) + sum_by w (e ∷ []) = ap (sum_by w) (filter-append (λ (x : CashEntry). is_post x.call) before (e ∷ [])) ∙ sum_by-append w (posts_of before) (e ∷ []) in
-        let own : names good position e.call ≡ true = (λ i. eq-eqb good good refl i && eq-eqb position position refl i) in
+        let own : is_post_at good position e.call ≡ true = (λ i. eq-eqb good good refl i && eq-eqb position position refl i) in
         let here : is_posted (before ++ e ∷ []) good position ≡ true = posted_more before e good position ∙ (ap (λ b. is_posted before good position || (b || false)) own ∙ or_right (is_posted before good position) (true || false) refl) in
         let low : good < 28 = omega (arith, logged.1) in let zeroed : 0 + good ≡ good = omega arith in
         let marks = more_marked w (is_posted before) (is_posted (before ++ e ∷ [])) 0 good position histories (history good) entry (history_is good low) due.0.1 (ap (λ (g : ℕ). is_posted before g position) zeroed ∙ due.1) (ap (λ (g : ℕ). is_posted (before ++ e ∷ []) g position) zeroed ∙ here)
@@ -114,7 +114,7 @@ module _ (log : LoggedGame) (logged : IsLogged log) (cash_logged : (position : �
     named_once : (good position : ℕ) → named good position log.cash ≤ 1
     named_once good position = omega (arith, posts_named good position log.cash, matched (naming good position), due_most good position 0 log.histories)
 
-    once_before : (place good position : ℕ) (e : CashEntry) → slice_get log.cash place ≡ Some e → names good position e.call ≡ true → is_posted (take place log.cash) good position ≡ false
+    once_before : (place good position : ℕ) (e : CashEntry) → slice_get log.cash place ≡ Some e → is_post_at good position e.call ≡ true → is_posted (take place log.cash) good position ≡ false
     once_before place good position e at own = by_test (is_posted (take place log.cash) good position) refl
       where
         by_test : (b : Bool) → is_posted (take place log.cash) good position ≡ b → b ≡ false
@@ -153,6 +153,6 @@ module _ (log : LoggedGame) (logged : IsLogged log) (cash_logged : (position : �
         by_trades : (trades : List Trade) → trades ≢ [] → 1 ≤ sum_by (naming good position) (post_for trades (record { caller = e.caller; call = Post good position (record { dollars = nets_of trades }); reply = Done }))
         by_trades [] some' = absurd (some' refl)
         by_trades (t ∷ ts) some' =
-            let own : names good position (Post good position (record { dollars = nets_of (t ∷ ts) })) ≡ true = (λ i. eq-eqb good good refl i && eq-eqb position position refl i) in
+            let own : is_post_at good position (Post good position (record { dollars = nets_of (t ∷ ts) })) ≡ true = (λ i. eq-eqb good good refl i && eq-eqb position position refl i) in
             let one : cond {A = ℕ} ((good == good) && (position == position)) 1 0 ≡ 1 = ap (λ b. cond {A = ℕ} b 1 0) own in
             omega (arith, one)

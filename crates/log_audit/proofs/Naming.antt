@@ -5,10 +5,10 @@ use Rattle.std.proofs.lemmas.List.Folds.{list_any-append}
 use Rattle.std.proofs.lemmas.Bool.{and_right, or_right}
 use mathlib.Core.Logic.{dite}
 use native.Mathlib.Decide.{ℕ_discrete, dec_lt}
-use Rattle.log_audit.specs.{Nets, CashCall, Post, CashEntry, names, is_posted, AreNamed, place_at}
+use Rattle.log_audit.specs.{Nets, CashCall, Post, CashEntry, is_post_at, is_posted, AreNamed, place_at}
 
-pub posted_more : (cash : List CashEntry) (e : CashEntry) (good position : ℕ) → is_posted (cash ++ e ∷ []) good position ≡ (is_posted cash good position || (names good position e.call || false))
-posted_more cash e good position = list_any-append (λ (x : CashEntry). names good position x.call) cash (e ∷ [])
+pub posted_more : (cash : List CashEntry) (e : CashEntry) (good position : ℕ) → is_posted (cash ++ e ∷ []) good position ≡ (is_posted cash good position || (is_post_at good position e.call || false))
+posted_more cash e good position = list_any-append (λ (x : CashEntry). is_post_at good position x.call) cash (e ∷ [])
 
 pub or_none : (b : Bool) → (b || (false || false)) ≡ b
 or_none true = refl
@@ -18,7 +18,7 @@ or_none false = refl
 pub post_names : (before : List CashEntry) (e : CashEntry) (g p : ℕ) (nets : Nets) (named : List Bool) → e.call ≡ Post g p nets → length named ≡ 231168 → g < 28 → p < 8256
     → AreNamed before named → AreNamed (before ++ e ∷ []) (slice_set named (place_at g p) true)
 post_names before e g p nets named is long low' few' are good position low few =
-    let more = posted_more before e good position ∙ ap (λ (call : CashCall). is_posted before good position || (names good position call || false)) is in
+    let more = posted_more before e good position ∙ ap (λ (call : CashCall). is_posted before good position || (is_post_at good position call || false)) is in
     dite (ℕ_discrete g good)
     (λ same. dite (ℕ_discrete p position)
     (λ same'. let place : place_at g p ≡ place_at good position = λ i. place_at (same i) (same' i) in

@@ -4,7 +4,7 @@ use Rattle.std.specs.List.{enumerate_from}
 use Rattle.std.proofs.lemmas.List.Sums.{sum_by-cons, sum_by-append}
 use mathlib.Core.Logic.{dite}
 use native.Mathlib.Decide.{ℕ_discrete}
-use Rattle.log_audit.specs.{Trade, nets as nets_of, CashCall, Post, Read, Done, CashEntry, is_post, posts_of, post_for, due_post, due_to, names, is_posted}
+use Rattle.log_audit.specs.{Trade, nets as nets_of, CashCall, Post, Read, Done, CashEntry, is_post, posts_of, post_for, due_post, due_to, is_post_at, is_posted}
 use Rattle.auction_rules.specs.History.{Entry}
 use Rattle.trade_ledger.proofs.Matching.{filtered}
 
@@ -25,13 +25,13 @@ post_within w (x ∷ cash) (suc position) e at is = let ih = post_within w cash 
 
 -- the weight of a post that names a place
 abbrev pub naming : ℕ → ℕ → CashEntry → ℕ
-naming good position e = cond (names good position e.call) 1 0
+naming good position e = cond (is_post_at good position e.call) 1 0
 
 -- how many entries name a place
 abbrev pub named : ℕ → ℕ → List CashEntry → ℕ
 named good position cash = sum_by (naming good position) cash
 
-only_posts : (good position : ℕ) (call : CashCall) → cond {A = ℕ} (is_post call) (cond (names good position call) 1 0) 0 ≡ cond (names good position call) 1 0
+only_posts : (good position : ℕ) (call : CashCall) → cond {A = ℕ} (is_post call) (cond (is_post_at good position call) 1 0) 0 ≡ cond (is_post_at good position call) 1 0
 only_posts good position (Post other place nets) = refl
 only_posts good position (Read agent) = refl
 
@@ -43,7 +43,7 @@ posts_named good position (e ∷ cash) =
 -- what is named by one is posted
 pub posted_from_named : (good position : ℕ) (cash : List CashEntry) → 0 < named good position cash → is_posted cash good position ≡ true
 posted_from_named good position [] some = absurd (omega (arith, some))
-posted_from_named good position (e ∷ cash) some = by_test (names good position e.call) (sum_by-cons (naming good position) e cash) (λ more. posted_from_named good position cash more)
+posted_from_named good position (e ∷ cash) some = by_test (is_post_at good position e.call) (sum_by-cons (naming good position) e cash) (λ more. posted_from_named good position cash more)
   where
     by_test : (b : Bool) → named good position (e ∷ cash) ≡ cond b 1 0 + named good position cash → (0 < named good position cash → is_posted cash good position ≡ true) → (b || is_posted cash good position) ≡ true
     by_test true is later = refl
@@ -51,7 +51,7 @@ posted_from_named good position (e ∷ cash) some = by_test (names good position
 
 pub named_from_posted : (good position : ℕ) (cash : List CashEntry) → is_posted cash good position ≡ true → 0 < named good position cash
 named_from_posted good position [] is = absurd cc
-named_from_posted good position (e ∷ cash) is = by_test (names good position e.call) (sum_by-cons (naming good position) e cash) (λ later. named_from_posted good position cash later) is
+named_from_posted good position (e ∷ cash) is = by_test (is_post_at good position e.call) (sum_by-cons (naming good position) e cash) (λ later. named_from_posted good position cash later) is
   where
     by_test : (b : Bool) → named good position (e ∷ cash) ≡ cond b 1 0 + named good position cash → (is_posted cash good position ≡ true → 0 < named good position cash) → (b || is_posted cash good position) ≡ true →
         0 < named good position (e ∷ cash)

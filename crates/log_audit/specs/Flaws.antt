@@ -1,11 +1,13 @@
 -- The flaws of a log. Each flaw has a sentence about one place of the log: the log has the flaw if that sentence does not hold.
-use Rattle.std.specs.Prelude.{◌≡◌, ◌≢◌, ℕ, ◌<◌, ◌==◌, ◌&&◌, ◌⊎◌, ⊤, Bool, true, false, List, [], take, reverse, Some, slice_get}
+use Rattle.std.specs.Prelude.{◌≡◌, ◌≢◌, ℕ, ◌<◌, ◌⊎◌, ⊤, Bool, true, false, List, [], take, reverse, Some, slice_get}
 use Rattle.std.specs.List.{list_any}
 use Rattle.log_audit.specs.Prelude.{Nets, GOODS, GameFile, clock_calls, Setup, nets as nets_of, CashCall, CashEntry, setup_of, settlement_of, Scored, IsDueScore, LoggedGame, logged_history, clock_calls_in, auctions_in, IsSoundHead}
 use Rattle.auction_rules.specs.History.{Entry}
-use Rattle.auction_rules.specs.Legal as rules
+use Rattle.auction_rules.specs.Legal.{cap, entries_of}
+use Rattle.auction_rules.specs.BookRules as rules
 use Rattle.trade_ledger.specs.declared.cash_calls.CashCall.TheVariants as cash_calls
 use Rattle.trade_ledger.specs.CashHistory as cash_book
+use Rattle.trade_ledger.specs.Posts.{is_post_at}
 use Rattle.log_audit.specs.declared.findings.Flaw.{Flaw}
 use Rattle.log_audit.specs.declared.findings.Flaw.TheVariants as flaws
 use Rattle.log_audit.specs.declared.findings.Finding.{Finding}
@@ -17,7 +19,7 @@ use Rattle.log_audit.specs.declared.findings.Finding.TheVariants as findings
 pub record IsFair (setup : Setup) (before : List Entry) (e : Entry) : Type 0 where
   pub reply : e.reply ≡ rules.reply_of setup (reverse before) e.caller e.call
   pub trades : e.trades ≡ rules.trades_of setup (reverse before) e.caller e.call
-  pub room : rules.entries_of before e.caller ≢ rules.cap e.caller
+  pub room : entries_of before e.caller ≢ cap e.caller
 
 abbrev pub HasFairEntry : Setup → List Entry → ℕ → Type 0
 HasFairEntry setup history position = (e : Entry) → slice_get history position ≡ Some e → IsFair setup (take position history) e
@@ -39,14 +41,9 @@ HasTrueReading cash position = (e : CashEntry) → slice_get cash position ≡ S
 
 -- ---- posts
 
--- whether a call is a post that names the place of an entry: its good, and its position in the good's history
-abbrev pub names : ℕ → ℕ → CashCall → Bool
-names good position (cash_calls.Post other place nets) = (other == good) && (place == position)
-names good position (cash_calls.Read agent) = false
-
 -- whether a post of these entries names the place
 abbrev pub is_posted : List CashEntry → ℕ → ℕ → Bool
-is_posted cash good position = list_any (λ e. names good position e.call) cash
+is_posted cash good position = list_any (λ e. is_post_at good position e.call) cash
 
 -- an entry with a trade, of this caller, whose trades give the parties these amounts
 pub record IsEarned (caller : ℕ) (nets : Nets) (e : Entry) : Type 0 where

@@ -9,11 +9,13 @@ pub use Rattle.game_text.specs.Games.{GameFile}
 pub use Rattle.game_text.specs.Schedule.{clock_calls, ticks}
 unfoldable pub use Rattle.game_text.specs.Schedule.{calls_at}
 pub use Rattle.auction_rules.specs.Effects.{nets}
-pub use Rattle.auction_rules.specs.Legal.{IsLawful, Legal, cap, entries_of, entry_by, entry_of, reply_of, trades_of}
+pub use Rattle.auction_rules.specs.BookRules.{IsLawful, Legal, entry_by, entry_of, reply_of, trades_of}
+pub use Rattle.auction_rules.specs.Legal.{cap, entries_of}
 pub use Rattle.auction_rules.specs.Setup.{Setup}
 pub use Rattle.trade_ledger.specs.CashHistory.{IsFitCash, IsLegalCash, cash_reply_of, cash_total, gain_of}
 pub use Rattle.trade_ledger.specs.CashKeeping.{IsWithin}
-pub use Rattle.trade_ledger.specs.Posts.{Matched, due_post, due_to, is_post, post_for, posts_of}
+pub use Rattle.trade_ledger.specs.BookPosts.{Matched, due_to, is_post, posts_of}
+pub use Rattle.trade_ledger.specs.Posts.{due_post, is_post_at, post_for}
 pub use Rattle.trade_ledger.specs.declared.cash_calls.CashCall.{CashCall}
 pub use Rattle.trade_ledger.specs.declared.cash_calls.CashCall.TheVariants.{Post, Read}
 pub use Rattle.trade_ledger.specs.declared.cash_calls.CashEntry.{CashEntry}

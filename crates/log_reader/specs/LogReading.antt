@@ -1,6 +1,6 @@
 -- How a log is read, line by line.
 use Rattle.std.specs.Prelude.{ℕ, zero, suc, ◌+◌, ◌==◌, Bool, true, false, if◌then◌else◌, List, [], ◌∷◌, Option, Some, None, Result, Ok, Err, codes, bytes_eq}
-use Rattle.log_reader.specs.Prelude.{AGENTS, ENTRY_TRADES, GOODS, TEXT_BYTES, CashEntry, TextEnd, BadLine, words_of, NumberedLine, Remaining, due_of, at_line, block_of, nothing_left, Tree, CertFault, cert_of, Scored, Head, Play, Serve}
+use Rattle.log_reader.specs.Prelude.{AGENTS, ENTRY_TRADES, GOODS, LOG_LINKS, TEXT_BYTES, CashEntry, TextEnd, BadLine, words_of, NumberedLine, Remaining, due_of, at_line, block_of, nothing_left, Tree, CertFault, cert_of, Scored, Head, Play, Serve}
 use Rattle.auction_rules.specs.History.{Entry}
 use Rattle.text_forms.specs.Steps.{◌>>=◌, read_by, repeat}
 use Rattle.bound_cert.specs.declared.faults.CertFault.TheVariants as certs
@@ -43,7 +43,7 @@ is_served line = if bytes_eq line (codes "play") then Some false else if bytes_e
 
 abbrev pub served_in : Remaining → Result (Head × Remaining) BadLine
 served_in left = do
-  links ← as_long_as (codes "link") (λ place. line_by (read_link place)) 255 0 left
+  links ← as_long_as (codes "link") (λ place. line_by (read_link place)) LOG_LINKS 0 left
   ends ← as_long_as (codes "end") (λ _. line_by read_end) TEXT_BYTES 0 links.1
   missed ← line_by read_missed ends.1
   Ok (Serve links.0 ends.0 missed.0, missed.1)

@@ -7,7 +7,7 @@ pub use Rattle.tac_base.specs.declared.bids.Point.{Point}
 pub use Rattle.tac_base.specs.declared.calls.Call.{Call}
 pub use Rattle.tac_base.specs.declared.calls.Reply.{Reply}
 pub use Rattle.tac_base.specs.declared.calls.Trade.{Trade}
-pub use Rattle.tac_base.specs.declared.limits.TheConstants.{AGENTS, AUCTION_ENTRIES, BEST_TOTAL, BID_PRICE, BID_UNITS, CASH_DIGITS, CASH_ENTRIES, ENTRY_TRADES, GOODS, LAST_POSITION, TEXT_BYTES, UPDATE_TICKS}
+pub use Rattle.tac_base.specs.declared.limits.TheConstants.{AGENTS, AUCTION_ENTRIES, BEST_TOTAL, BID_PRICE, BID_UNITS, CASH_DIGITS, CASH_ENTRIES, ENTRY_TRADES, GOODS, LAST_POSITION, LOG_LINKS, TEXT_BYTES, UPDATE_TICKS}
 pub use Rattle.text_forms.specs.Lines.{NumberedLine, Remaining, at_line, block_in, block_of, due_of, first_number, is_nothing, lines_from, nothing_in, nothing_left, text_of, with_line}
 pub use Rattle.text_forms.specs.Rows.{all_in, is_in, row_text, within}
 unfoldable pub use Rattle.text_forms.specs.Rows.{row}

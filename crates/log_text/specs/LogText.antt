@@ -2,7 +2,23 @@
 use Rattle.std.specs.Prelude.{ℕ, ℤ, List, [], ◌∷◌, ◌++◌, length, map, decimal, codes, flat_map}
 use Rattle.std.specs.Fmt.{signed_decimal}
 use Rattle.std.specs.List.{join_with_byte, enumerate_from}
-use Rattle.log_text.specs.Prelude.{Call, Reply, Trade, spelling, reply_text, Entry, CashCall, Post, Read, CashReply, Done, Cash, CashEntry, ClosedGame, Verdict, Seated, Syntax, WrongWord, Taken, Lost, Cause, Quit, End, ReadFault, WriteFault, Budget, Head, Play, Serve}
+use Rattle.tac_base.specs.declared.calls.Call.{Call}
+use Rattle.tac_base.specs.declared.calls.Reply.{Reply}
+use Rattle.tac_base.specs.declared.calls.Trade.{Trade}
+use Rattle.bid_strings.specs.Spelling.{spelling}
+use Rattle.line_protocol.specs.Replies.{reply_text}
+use Rattle.line_protocol.specs.declared.admission.Verdict.{Verdict}
+use Rattle.line_protocol.specs.declared.admission.Verdict.TheVariants.{Seated, Syntax, WrongWord, Taken, Lost}
+use Rattle.line_protocol.specs.declared.admission.Cause.{Cause}
+use Rattle.line_protocol.specs.declared.admission.Cause.TheVariants.{Quit, End, ReadFault, WriteFault, Budget}
+use Rattle.line_protocol.specs.Heads.{Head, Play, Serve}
+use Rattle.auction_rules.specs.History.{Entry}
+use Rattle.trade_ledger.specs.declared.cash_calls.CashCall.{CashCall}
+use Rattle.trade_ledger.specs.declared.cash_calls.CashCall.TheVariants.{Post, Read}
+use Rattle.trade_ledger.specs.declared.cash_calls.CashReply.{CashReply}
+use Rattle.trade_ledger.specs.declared.cash_calls.CashReply.TheVariants.{Done, Cash}
+use Rattle.trade_ledger.specs.declared.cash_calls.CashEntry.{CashEntry}
+use Rattle.auction_core.specs.ClosedGame.{ClosedGame}
 use Rattle.tac_base.specs.declared.calls.Call.TheVariants.{Bid, Withdraw, Own, Update, Publish, Close}
 
 -- a space and a number
@@ -15,6 +31,7 @@ then_signed z = 32 ∷ signed_decimal z
 
 -- ---- histories of auctions
 
+-- the words of a call
 abbrev pub call_words : Call → List (List ℕ)
 call_words (Bid points) = codes "bid" ∷ spelling points ∷ []
 call_words Withdraw = codes "withdraw" ∷ []
@@ -23,6 +40,7 @@ call_words (Update tick draw) = codes "update" ∷ decimal tick ∷ decimal draw
 call_words Publish = codes "publish" ∷ []
 call_words Close = codes "close" ∷ []
 
+-- the text of a call
 abbrev pub call_text : Call → List ℕ
 call_text call = join_with_byte 32 (call_words call)
 
@@ -53,10 +71,12 @@ abbrev pub cash_call_text : CashCall → List ℕ
 cash_call_text (Post good position nets) = codes " post" ++ then_number good ++ then_number position ++ flat_map then_signed nets.dollars
 cash_call_text (Read agent) = codes " read ="
 
+-- the reply to a reading; a post shows none
 abbrev pub cash_reply_text : CashReply → List ℕ
 cash_reply_text Done = []
 cash_reply_text (Cash dollars) = then_signed dollars
 
+-- the line of an entry of the cash history: caller, call and reply
 abbrev pub cash_entry_line : CashEntry → List ℕ
 cash_entry_line e = decimal e.caller ++ cash_call_text e.call ++ cash_reply_text e.reply ++ codes "\n"
 
@@ -64,11 +84,14 @@ cash_entry_line e = decimal e.caller ++ cash_call_text e.call ++ cash_reply_text
 abbrev pub cash_line : ℕ → List ℕ
 cash_line count = codes "cash" ++ then_number count ++ codes "\n"
 
+-- the cash history: its entries in order
+-- Row: cash_history (worked_rows/proofs/Logs.antt)
 abbrev pub cash_text : List CashEntry → List ℕ
 cash_text history = cash_line (length history) ++ flat_map cash_entry_line history
 
 -- ---- how the game was played
 
+-- the words of a verdict
 abbrev pub verdict_text : Verdict → List ℕ
 verdict_text (Seated agent) = codes "seated" ++ then_number agent
 verdict_text Syntax = codes "syntax"
@@ -76,6 +99,7 @@ verdict_text WrongWord = codes "wrongword"
 verdict_text Taken = codes "taken"
 verdict_text Lost = codes "lost"
 
+-- the word of a cause
 abbrev pub cause_text : Cause → List ℕ
 cause_text Quit = codes "quit"
 cause_text End = codes "end"
@@ -102,6 +126,8 @@ head_text (Serve verdicts ends missed) = codes "serve\n" ++ flat_map link_line (
 
 -- ---- the first part of a log
 
+-- the version of the log's form, and how the game was played
+-- Row: heads_of_a_script_and_of_links (worked_rows/proofs/Logs.antt)
 abbrev pub first_lines : Head → List ℕ
 first_lines head = codes "taclog 1\n" ++ head_text head
 

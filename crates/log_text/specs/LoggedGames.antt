@@ -1,6 +1,6 @@
 -- The contents of a log, their ranges, and the text of a log.
 use Rattle.std.specs.Prelude.{◌≡◌, ℕ, ◌+◌, ◌<◌, ◌≤◌, ◌^◌, ⊤, List, [], ◌∷◌, ◌++◌, length, unsigned_abs, All}
-use Rattle.log_text.specs.Prelude.{AGENTS, BEST_TOTAL, CASH_ENTRIES, GOODS, TEXT_BYTES, IsPost, IsCashReading, Entry, IsHistory, CashCall, Post, Read, CashReply, Done, Cash, CashEntry, IsCertificate, tree_lines, Scored, Verdict, Cause, Head, Play, Serve}
+use Rattle.log_text.specs.Prelude.{AGENTS, BEST_TOTAL, CASH_DIGITS, CASH_ENTRIES, GOODS, LOG_LINKS, TEXT_BYTES, IsPost, IsCashReading, Entry, IsHistory, CashCall, Post, Read, CashReply, Done, Cash, CashEntry, IsCertificate, tree_lines, Scored, Verdict, Cause, Head, Play, Serve}
 use Rattle.packages.specs.Packages.{IsPackage}
 use Rattle.line_protocol.specs.declared.admission.Verdict.TheVariants as verdicts
 use Rattle.log_text.specs.LogText.{first_lines, histories_text}
@@ -31,7 +31,7 @@ IsLoggedEnd end = end.0 ≤ 7
 
 -- at most 255 links and 255 missed ticks; no text that is read has room for more ends
 pub record IsServedHead (links : List Verdict) (ends : List (ℕ × Cause)) (missed : ℕ) : Type 0 where
-  pub few_links : length links ≤ 255
+  pub few_links : length links ≤ LOG_LINKS
   pub links_are : All IsLoggedVerdict links
   pub few_ends : length ends ≤ TEXT_BYTES
   pub ends_are : All IsLoggedEnd ends
@@ -54,9 +54,9 @@ IsLoggedCashEntry e = IsLoggedCash e.caller e.call e.reply
 -- a score in its ranges
 pub record IsLoggedScore (scored : Scored) : Type 0 where
   pub best : scored.best ≤ BEST_TOTAL
-  pub cash : unsigned_abs scored.cash < 10 ^ 18
+  pub cash : unsigned_abs scored.cash < 10 ^ CASH_DIGITS
   pub short : scored.short ≤ 4294967295
-  pub score : unsigned_abs scored.score < 10 ^ 18
+  pub score : unsigned_abs scored.score < 10 ^ CASH_DIGITS
   pub eight : length scored.allocation ≡ 8
   pub packages : All IsPackage scored.allocation
   pub certificate : IsCertificate scored.tree

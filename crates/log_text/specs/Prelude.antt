@@ -5,7 +5,7 @@ pub use Rattle.tac_base.specs.Ranges.{IsCall, IsCashReading, IsNet, IsPost, IsRe
 pub use Rattle.tac_base.specs.declared.calls.Call.{Call}
 pub use Rattle.tac_base.specs.declared.calls.Reply.{Reply}
 pub use Rattle.tac_base.specs.declared.calls.Trade.{Trade}
-pub use Rattle.tac_base.specs.declared.limits.TheConstants.{AGENTS, BEST_TOTAL, CASH_ENTRIES, GOODS, LINKS, TEXT_BYTES, TICKS}
+pub use Rattle.tac_base.specs.declared.limits.TheConstants.{AGENTS, BEST_TOTAL, CASH_DIGITS, CASH_ENTRIES, GOODS, LINKS, LOG_LINKS, TEXT_BYTES, TICKS}
 pub use Rattle.text_forms.specs.Lines.{text_of}
 pub use Rattle.text_forms.specs.Rows.{row_text}
 pub use Rattle.text_forms.specs.Steps.{lines_of_parts, one_line}

@@ -1,6 +1,14 @@
 -- The text of a game's sheet: the second part of its log.
 use Rattle.std.specs.Prelude.{ℕ, List, [], ◌∷◌, ◌++◌, pos, length, codes, slice_index}
-use Rattle.log_text.specs.Prelude.{text_of, row_text, lines_of_parts, one_line, Package, None, Trip, tree_lines, Scored, ClosedGame, Head}
+use Rattle.text_forms.specs.Lines.{text_of}
+use Rattle.text_forms.specs.Rows.{row_text}
+use Rattle.text_forms.specs.Steps.{lines_of_parts, one_line}
+use Rattle.line_protocol.specs.Heads.{Head}
+use Rattle.packages.specs.declared.travel_packages.Package.{Package}
+use Rattle.packages.specs.declared.travel_packages.Package.TheVariants.{None, Trip}
+use Rattle.bound_cert.specs.Texts.{tree_lines}
+use Rattle.auction_core.specs.ClosedGame.{ClosedGame}
+use Rattle.settlement.specs.Sheets.{Scored}
 use Rattle.log_text.specs.LogText.{then_number, play_part}
 
 -- score A BEST CASH SHORT SCORE

@@ -5,9 +5,9 @@ use Rattle.log_text.specs.Prelude.{Call, GOODS, LINKS, TICKS, Entry, AuctionHist
 use Rattle.tac_base.specs.Goods.{agents, clock}
 use Rattle.game_text.specs.Games.{GameFile}
 use Rattle.game_text.specs.Schedule.{clock_calls}
-use Rattle.auction_rules.specs.Legal.{Legal}
+use Rattle.auction_rules.specs.BookRules.{Legal}
 use Rattle.trade_ledger.specs.CashHistory.{IsLegalCash}
-use Rattle.trade_ledger.specs.Posts.{Matched}
+use Rattle.trade_ledger.specs.BookPosts.{Matched}
 use Rattle.auction_core.specs.Setups.{setup_of}
 use Rattle.settlement.specs.Settlement.{settlement_of}
 use Rattle.log_text.specs.LoggedGames.{LoggedGame}

@@ -36,8 +36,8 @@ ticket_one P first (suc (suc (suc (suc (suc night))))) high = absurd (omega arit
 
 -- of the rooms of two hotels those of one
 rooms_one : (P : ℕ → ℕ) (hotel : ℕ) (a b c d a' b' c' d' : Bool) → hotel < 2
-    → (P 8 * one_if (eqb 0 hotel && a && a') + P 9 * one_if (eqb 0 hotel && b && b') + P 10 * one_if (eqb 0 hotel && c && c') + P 11 * one_if (eqb 0 hotel && d && d'))
-    + (P 12 * one_if (eqb 1 hotel && a && a') + P 13 * one_if (eqb 1 hotel && b && b') + P 14 * one_if (eqb 1 hotel && c && c') + P 15 * one_if (eqb 1 hotel && d && d'))
+    → (P 8 * one_if (eqb 0 hotel && (a && a')) + P 9 * one_if (eqb 0 hotel && (b && b')) + P 10 * one_if (eqb 0 hotel && (c && c')) + P 11 * one_if (eqb 0 hotel && (d && d')))
+    + (P 12 * one_if (eqb 1 hotel && (a && a')) + P 13 * one_if (eqb 1 hotel && (b && b')) + P 14 * one_if (eqb 1 hotel && (c && c')) + P 15 * one_if (eqb 1 hotel && (d && d')))
     ≡ P (hotel_night hotel 1) * one_if (a && a') + P (hotel_night hotel 2) * one_if (b && b') + P (hotel_night hotel 3) * one_if (c && c') + P (hotel_night hotel 4) * one_if (d && d')
 rooms_one P zero a b c d a' b' c' d' h = omega arith
 rooms_one P (suc zero) a b c d a' b' c' d' h = omega arith

@@ -12,4 +12,4 @@ pub use Rattle.packages.specs.Bounds.{Narrowing, best_margin, cost_of, greater, 
 unfoldable pub use Rattle.packages.specs.Bounds.{sum_below}
 pub use Rattle.packages.specs.Listing.{night_of}
 unfoldable pub use Rattle.packages.specs.Listing.{packages}
-pub use Rattle.packages.specs.Packages.{IsPackage, fun_of, is_night, is_package, one_if, use_of, utility_of}
+pub use Rattle.packages.specs.Packages.{IsPackage, fun_of, is_in_stay, is_night, is_package, one_if, use_of, utility_of}

@@ -31,6 +31,7 @@ nights_within length = flat_map nights_to (numbers_to length)
 abbrev pub night_of : ℕ → ℕ → ℕ
 night_of arrive night = if night == 0 then 0 else arrive + night - 1
 
+-- the trips of a hotel with these days of arrival and departure
 abbrev pub packages_of : ℕ → ℕ × ℕ → List Package
 packages_of hotel (arrive, depart) = map (λ nights. Trip hotel arrive depart (map (night_of arrive) nights)) (nights_within (depart - arrive))
 

@@ -45,8 +45,8 @@ fn all_found(
     Ok(scores)
 }
 
-/// Scores all agents from their accounts, each in its own thread if threads can be started. The scores and
-/// certificates are those that a single thread finds. After `Memory` it returns none of them.
+/// Scores all agents from their accounts, each in its own thread if threads can be started. After `Memory` it
+/// returns no score.
 pub fn sheet<R: Threads + Sync>(
     rt: &R,
     alloc: Global,

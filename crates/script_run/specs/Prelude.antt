@@ -21,11 +21,13 @@ unfoldable pub use Rattle.game_text.specs.Schedule.{calls_at}
 pub use Rattle.auction_rules.specs.Board.{board}
 pub use Rattle.auction_rules.specs.Effects.{all_trades, nets}
 pub use Rattle.auction_rules.specs.History.{Entry}
-pub use Rattle.auction_rules.specs.Legal.{IsLawful, Legal, cap, entries_of, entry_of, past_of}
+pub use Rattle.auction_rules.specs.BookRules.{IsLawful, Legal, entry_of, past_of}
+pub use Rattle.auction_rules.specs.Legal.{cap, entries_of}
 pub use Rattle.auction_rules.specs.Setup.{Setup}
 pub use Rattle.turn_lock.specs.Part.{part}
 pub use Rattle.trade_ledger.specs.CashHistory.{IsLegalCash, cash_cap, cash_reply_of, cash_total}
-pub use Rattle.trade_ledger.specs.Posts.{Matched, due_post, due_to, is_post, post_for, posts_of}
+pub use Rattle.trade_ledger.specs.BookPosts.{Matched, due_to, is_post, posts_of}
+pub use Rattle.trade_ledger.specs.Posts.{due_post, post_for}
 pub use Rattle.trade_ledger.specs.declared.cash_calls.CashCall.{CashCall}
 pub use Rattle.trade_ledger.specs.declared.cash_calls.CashCall.TheVariants.{Post}
 pub use Rattle.trade_ledger.specs.declared.cash_calls.CashEntry.{CashEntry}

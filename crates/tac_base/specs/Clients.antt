@@ -1,11 +1,14 @@
--- The preferences of clients.
+-- The preferences of clients, by the game description.
 use Rattle.std.specs.Prelude.{◌≡◌, ℕ, ◌<◌, ◌≤◌, List, length, All}
 
--- the days, the hotel premium and the values of the three ticket types, in dollars
+-- what a client prefers: the day of arrival, the day of departure, and what the better hotel and the three types of ticket are worth
+-- to it, in dollars
 pub record Preferences : Type 0 where
   pub arrive : ℕ
   pub depart : ℕ
+  -- for Tampa Towers
   pub premium : ℕ
+  -- for alligator wrestling, the amusement park and the museum
   pub values : List ℕ
 
 -- preferences in the ranges of the game

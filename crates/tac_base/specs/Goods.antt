@@ -17,18 +17,19 @@ hotel_night hotel night = 8 + 4 * hotel + (night - 1)
 abbrev pub ticket_night : ℕ → ℕ → ℕ
 ticket_night ticket night = 16 + 4 * ticket + (night - 1)
 
--- the agents in order
+-- the agents, 0 to 7, in order
 abbrev pub agents : List ℕ
 agents = 0 ∷ 1 ∷ 2 ∷ 3 ∷ 4 ∷ 5 ∷ 6 ∷ 7 ∷ []
 
--- the caller that is not an agent
+-- the number of the clock among the callers of an auction; the agents are 0 to 7
 abbrev pub clock : ℕ
 clock = 8
 
--- the party that is not an agent
+-- the number of the house among the parties of a trade. It is the clock's number, but no party is the clock and no caller is the
+-- house.
 abbrev pub house : ℕ
 house = 8
 
--- the parties in order
+-- the parties of trades in order: the agents, 0 to 7, and the house
 abbrev pub parties : List ℕ
 parties = 0 ∷ 1 ∷ 2 ∷ 3 ∷ 4 ∷ 5 ∷ 6 ∷ 7 ∷ 8 ∷ []

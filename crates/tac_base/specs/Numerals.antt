@@ -1,4 +1,4 @@
--- The numerals in all texts.
+-- The numerals in all texts, in the one form that this project defines.
 use Rattle.std.specs.Prelude.{ℕ, zero, suc, ◌+◌, ◌-◌, ◌*◌, ◌==◌, ◌&&◌, not, nat_le, nat_lt, if◌then◌else◌, List, [], ◌∷◌, Bool, false, ℤ, pos, negsuc, Option, Some, None, length, option_and_then, option_map}
 use Rattle.std.specs.Str.{all_ascii_digits}
 
@@ -7,21 +7,23 @@ abbrev pub is_numeral : List ℕ → Bool
 is_numeral [] = false
 is_numeral (first ∷ rest) = all_ascii_digits (first ∷ rest) && not (first == 48 && nat_lt 0 (length rest))
 
--- the number that results from appending digits to a number
+-- the number whose decimal digits are those of `n` and then these
 abbrev pub value_from : ℕ → List ℕ → ℕ
 value_from n [] = n
 value_from n (digit ∷ digits) = value_from (n * 10 + (digit - 48)) digits
 
--- the number of a numeral with at most this many digits
+-- the number that a numeral of at most this many digits stands for
+-- Row: numerals_have_one_form (worked_rows/proofs/Bids.antt)
 unfoldable pub numeral : ℕ → List ℕ → Option ℕ
 numeral digits word = if is_numeral word && nat_le (length word) digits then Some (value_from 0 word) else None
 
--- the negative of a number above 0
+-- the negative of a number above 0; there is no `-0`
 abbrev pub opposite : ℕ → Option ℤ
 opposite zero = None
 opposite (suc n) = Some (negsuc n)
 
 -- a numeral, or `-` and a numeral other than `0`
+-- Row: numerals_have_one_form (worked_rows/proofs/Bids.antt)
 unfoldable pub signed_numeral : ℕ → List ℕ → Option ℤ
 signed_numeral digits [] = None
 signed_numeral digits (first ∷ rest) = if first == 45 then option_and_then opposite (numeral digits rest) else option_map pos (numeral digits (first ∷ rest))

@@ -69,7 +69,10 @@ pub const LINKS: u32 = 64;
 /// The most links in a log that is read.
 pub const LOG_LINKS: u32 = 255;
 
-/// The most files that a command reads: a game and a log of each of 64 games.
+/// The most games of one table of standings.
+pub const TABLE_GAMES: u8 = 64;
+
+/// The most files that a command reads: a game and a log of each game of a table.
 pub const FILE_NAMES: usize = 128;
 
 /// The most bytes of a file's name, for files that report which names were selected.

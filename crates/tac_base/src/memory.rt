@@ -1,7 +1,8 @@
-// The error that public calls return if a memory allocation failed.
+// The error that public calls return for want of memory.
 use std::alloc::AllocError;
 
-/// A memory allocation failed. Nothing else is known about the call.
+/// A memory allocation failed, or a search would have visited more parts than any memory can hold. Nothing else is known about the
+/// call.
 #[derive(Clone, Copy, Debug, PartialEq, Eq)]
 pub struct Memory;
 

@@ -14,9 +14,10 @@ use Rattle.tac_base.specs.declared.numbers.Kind.TheVariants.{Ticket}
 use Rattle.tac_base.specs.Kinds.{kind_of}
 use Rattle.auction_rules.specs.declared.units.BidUnit.{BidUnit}
 use Rattle.auction_rules.specs.History.{Entry}
-use Rattle.auction_rules.specs.Legal.{entry_of, entry_by, entries_of, trades_by}
-use Rattle.auction_rules.specs.Refusals.{refusal}
-use Rattle.auction_rules.specs.TicketMatch.{arriving, pairs, pair_trade}
+use Rattle.auction_rules.specs.BookRules.{entry_of, entry_by, trades_by, refusal}
+use Rattle.auction_rules.specs.Legal.{entries_of}
+use Rattle.auction_rules.specs.TicketMatch.{arriving, pair_trade}
+use Rattle.auction_rules.specs.BookPairs.{pairs}
 use Rattle.trade_ledger.specs.declared.cash_calls.CashCall.TheVariants.{Post}
 use Rattle.trade_ledger.proofs.CashSteps.{cash_total-snoc}
 use Rattle.trade_ledger.proofs.Matching.{dollars-append}

@@ -4,7 +4,7 @@ pub use Rattle.tac_base.specs.Numerals.{below}
 unfoldable pub use Rattle.tac_base.specs.Numerals.{numeral}
 pub use Rattle.tac_base.specs.declared.calls.Call.{Call}
 pub use Rattle.tac_base.specs.declared.calls.Trade.{Trade}
-pub use Rattle.tac_base.specs.declared.limits.TheConstants.{FILE_NAMES, GAME_BYTES, GOODS, LINK_BYTES, MADE_REQUESTS, NAME_BYTES, PACE, PORT, TEXT_BYTES}
+pub use Rattle.tac_base.specs.declared.limits.TheConstants.{FILE_NAMES, GAME_BYTES, GOODS, LINK_BYTES, MADE_REQUESTS, NAME_BYTES, TEXT_BYTES}
 pub use Rattle.text_forms.specs.Lines.{text_of}
 pub use Rattle.text_forms.specs.Steps.{lines_of_parts, one_line, ◌>>=◌}
 pub use Rattle.line_protocol.specs.Requests.{read_good, request_of_words, with_points}
@@ -25,7 +25,8 @@ pub use Rattle.allocator.specs.Solutions.{IsSolvedText}
 pub use Rattle.auction_rules.specs.Effects.{all_trades, dollars, nets}
 pub use Rattle.auction_rules.specs.Setup.{Setup}
 pub use Rattle.trade_ledger.specs.CashHistory.{IsFitCash, cash_total, reply_by}
-pub use Rattle.trade_ledger.specs.Posts.{Matched, due_post, due_to, is_post, post_for, posts_of}
+pub use Rattle.trade_ledger.specs.BookPosts.{Matched, due_to, is_post, posts_of}
+pub use Rattle.trade_ledger.specs.Posts.{due_post, post_for}
 pub use Rattle.trade_ledger.specs.declared.cash_calls.CashCall.{CashCall}
 pub use Rattle.trade_ledger.specs.declared.cash_calls.CashEntry.{CashEntry}
 pub use Rattle.trade_ledger.specs.declared.cash_calls.CashReply.{CashReply}

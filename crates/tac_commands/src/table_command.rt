@@ -17,6 +17,7 @@ use game_text::Game;
 use log_audit::{Finding, audit_log};
 use log_reader::Log;
 use std::alloc::Global;
+use tac_base::limits::TABLE_GAMES;
 use tac_io::{Files, Sink, write_all};
 use tourney::{Standings, print_standings};
 
@@ -37,7 +38,7 @@ fn add_sound(
     log: &Log,
     pair: u8,
 ) -> Result<Standings, TableFault>
-    requires { standings.games < 64 }
+    requires { standings.games < TABLE_GAMES }
     ensures sound { OnOk result (IsSound game.now log.now) }
     ensures added { IfOk result (λ after. HasAdded standings after game.now log.now) }
     ensures games { IfOk result (λ after. after.games ≡ standings.games + 1) }
@@ -63,7 +64,7 @@ fn add_pair<F: Files>(
     files: &mut F,
 ) -> Result<Standings, TableFault>
     requires names { IfSome (F.state files.old).names (λ names. (length names + 1 < FILE_NAMES) × (length game.now ≤ NAME_BYTES) × (length log.now ≤ NAME_BYTES)) }
-    requires few { standings.games < 64 }
+    requires few { standings.games < TABLE_GAMES }
     ensures added { IfOk result (λ after. IsAdded (F.state files.old).content game.now log.now standings after) }
     ensures games { IfOk result (λ after. after.games ≡ standings.games + 1) }
     ensures names { OnOk result ((F.state files.new).names ≡ known_then (known_then (F.state files.old).names (game.now ∷ [])) (log.now ∷ [])) }

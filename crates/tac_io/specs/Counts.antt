@@ -1,7 +1,8 @@
 -- Counts of faults, each a u64.
 use Rattle.std.specs.Prelude.{◌≡◌, ℕ, ◌+◌, ◌-◌, ◌^◌, ◌≤◌, min, Result, MatchResult}
 
--- The count is higher than before; if it was at its highest value, it stays there.
+-- The count is higher than before; a count that is at its highest value stays there.
+-- Row: counts_rise_or_stay (worked_rows/proofs/Links.antt)
 pub record Rose (before now : ℕ) : Type 0 where
   pub never_falls : before ≤ now
   pub rises : min (before + 1) (2 ^ 64 - 1) ≤ now

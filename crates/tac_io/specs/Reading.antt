@@ -4,7 +4,7 @@ use Rattle.tac_io.specs.Counts.{Rose}
 use Rattle.tac_io.specs.declared.reading.FileFault.{FileFault}
 use Rattle.tac_io.specs.declared.reading.FileFault.TheVariants.{Failed, TooLong, Memory}
 
--- these are the bytes of the file with that name, if files are known
+-- These are the bytes of the file of that name, if the files are known.
 abbrev pub IsFile : Option (List ℕ → Option (List ℕ)) → List ℕ → List ℕ → Type 0
 IsFile content name bytes = IfSome content (λ files. files name ≡ Some bytes)
 

@@ -9,8 +9,10 @@ use Rattle.trade_ledger.specs.declared.cash_calls.CashCall.TheVariants.{Post, Re
 use Rattle.trade_ledger.specs.declared.cash_calls.CashReply.{CashReply}
 use Rattle.trade_ledger.specs.declared.cash_calls.CashReply.TheVariants.{Cash, Done}
 use Rattle.tacd.specs.declared.answer.Answer.{Answer}
+use Rattle.tacd.specs.Finishing.{hosted_by}
 use Rattle.tacd.specs.{Serves, WritesTrueLog}
 use Rattle.tacd.specs.ServedLinks.{IsVouchedService}
+use Rattle.game_run.proofs.SameLinks.{played_game}
 use Rattle.tacd.proofs.PostedCash.{cash_of_posts}
 use Rattle.tacd.proofs.ServedLinks.{vouched_by_links}
 
@@ -32,7 +34,7 @@ module _ {L : Type 0} (state : L → LinkState) (service : Service) (before afte
         played = play;
         sheet = v.log.sheet;
         written = subst (λ (text : List ℕ). TookWhole before.out after.out text) (v.log.due ∙ ap (λ (h : Head). log_text h play.closed v.log.sheet) head) v.written;
-        over = v.end.played;
+        over = played_game state (hosted_by service v.game) play before.links after.links answer.ended.items v.end.played;
         callers = λ k e inside. logged_caller _ _ _ (v.log.sound.ranged.cash k e inside);
         scores = v.log.scores;
         cash = cash_of_posts v.game play.closed v.end.played.lawful.legal_game;

@@ -8,8 +8,9 @@ use Rattle.tac_base.specs.declared.calls.Trade.{Trade}
 use Rattle.tacd.specs.Prelude.{GameFile, Entry, AuctionHistory, LinkState, HostedGame, IsLegalGame, Outcome, Outside, Service, IsCashOfPosts}
 use Rattle.auction_rules.specs.Effects.{all_trades, dollars}
 use Rattle.trade_ledger.specs.CashHistory.{cash_total}
-use Rattle.trade_ledger.specs.Posts.{trades_of_all}
+use Rattle.trade_ledger.specs.BookPosts.{trades_of_all}
 use Rattle.trade_ledger.proofs.Matching.{dollars-append, matched_totals}
+use Rattle.trade_ledger.proofs.SamePosts.{matched_from_posted}
 use Rattle.auction_core.specs.ClosedGame.{ClosedGame}
 use Rattle.score_sheet.specs.Settlement.{cash_gained}
 use Rattle.tacd.specs.declared.answer.Answer.{Answer}
@@ -55,7 +56,7 @@ cash_is auctions party = omega (arith, ints, summed (pos 0) auctions party)
 -- in a legal game the cash of each agent is the sum of its nets over all posts
 pub cash_of_posts : (game : GameFile) (closed : ClosedGame) → IsLegalGame game closed → IsCashOfPosts closed
 cash_of_posts game closed legal =
-    let each : (party : ℕ) → party ≤ 8 → cash_gained closed.auctions party ≡ cash_total closed.cash party = λ party low. cash_is closed.auctions party ∙ sym (matched_totals (map (λ (a : AuctionHistory). a.history) closed.auctions) closed.cash party low legal.matched) in
+    let each : (party : ℕ) → party ≤ 8 → cash_gained closed.auctions party ≡ cash_total closed.cash party = λ party low. cash_is closed.auctions party ∙ sym (matched_totals (map (λ (a : AuctionHistory). a.history) closed.auctions) closed.cash party low (matched_from_posted (map (λ (a : AuctionHistory). a.history) closed.auctions) closed.cash legal.matched)) in
     λ i. each 0 (omega arith) i ∷ each 1 (omega arith) i ∷ each 2 (omega arith) i ∷ each 3 (omega arith) i ∷ each 4 (omega arith) i ∷ each 5 (omega arith) i ∷ each 6 (omega arith) i ∷ each 7 (omega arith) i ∷ []
 
 -- ---- the game of a service

@@ -13,7 +13,10 @@ use Rattle.tac_base.specs.Goods.{agents, clock}
 use Rattle.tacd.specs.{GameFile, Entry, AuctionHistory, Scored, Verdict, logged_text, seatings, IsService, IsSoundHead, WaitsForAll, IsSheetOf, free_seats, seats_given, CameTo, IsSeated, LinkState, LinksState, TickWait, TickerState, HostedGame, IsPlayedOver, IsGameEnd, missed_of, PlayedGame, IsPlayedBy, GameEnd, Outcome, Done, Lapsed, Stopped, Memory, IsTextOfPlayed, WritesLog, IsLogOf, PlayedAllows}
 use Rattle.game_text.specs.Schedule.{clock_calls}
 use Rattle.auction_rules.specs.Setup.{Setup}
-use Rattle.auction_rules.specs.Legal.{Legal}
+use Rattle.auction_rules.specs.BookRules.{Legal}
+use Rattle.auction_rules.specs.Legal.{IsLegalHistory}
+use Rattle.auction_rules.proofs.SameRules.{legal_by_book}
+use Rattle.trade_ledger.proofs.SamePosts.{matched_from_posted}
 use Rattle.turn_lock.specs.Part.{part_from, part}
 use Rattle.trade_ledger.specs.declared.cash_calls.CashEntry.{CashEntry}
 use Rattle.auction_core.specs.Setups.{setup_of}
@@ -88,10 +91,10 @@ module _ (game : GameFile) (over : PlayedGame) (played : IsPlayedBy game over) w
     setups = played.legal_game.setups;
     legal = λ good low. subst (λ (h : List Entry). Legal (setup_of good game) h) (sym (history_there good low))
         (subst (λ (s : Setup). Legal s (auction_at good).history) (setup_there good low)
-        (All-get_or (λ (a : AuctionHistory). Legal a.setup a.history) over.closed.auctions good (none_at good) (inside good low) played.legal_game.legal));
+        (legal_by_book _ _ (All-get_or (λ (a : AuctionHistory). IsLegalHistory a.setup a.history) over.closed.auctions good (none_at good) (inside good low) played.legal_game.legal)));
     scheduled = on_schedule;
     cash = played.legal_game.cash;
-    matched = played.legal_game.matched;
+    matched = matched_from_posted (map (λ (a : AuctionHistory). a.history) over.closed.auctions) over.closed.cash played.legal_game.matched;
   }
 
   -- an agent without a seat has no entry

@@ -1,6 +1,17 @@
 -- What is written of a game that was played, before and after its lapsed ticks are looked at, and its code.
 use Rattle.std.specs.Prelude.{◌≡◌, ℕ, ◌<◌, List, nat_lt, if◌then◌else◌}
-use Rattle.tacd.specs.Prelude.{head_of, Scored, play_part, log_text, IsSheetOf, HostedGame, missed_of, GameFile, Code, Success, ClockFault, Memory, Outcome, Done, Lapsed, Stopped}
+use Rattle.line_protocol.specs.Heads.{head_of}
+use Rattle.game_text.specs.Games.{GameFile}
+use Rattle.score_sheet.specs.Sheets.{Scored}
+use Rattle.game_log.specs.LogText.{play_part}
+use Rattle.game_log.specs.SheetText.{log_text}
+use Rattle.game_log.specs.ScoredGames.{IsSheetOf}
+use Rattle.game_run.specs.Hosted.{HostedGame}
+use Rattle.game_run.specs.Outcomes.{missed_of}
+use Rattle.tac_commands.specs.declared.code.Code.{Code}
+use Rattle.tac_commands.specs.declared.code.Code.TheVariants.{Success, ClockFault}
+use Rattle.tac_commands.specs.declared.refusals.Refusal.TheVariants.{Memory}
+use Rattle.tac_commands.specs.Outcomes.{Outcome, Done, Lapsed, Stopped}
 use Rattle.tac_commands.specs.Services.{Service, dialect_in}
 use Rattle.tacd.specs.declared.answer.Played.{Played}
 
@@ -27,7 +38,7 @@ WritesLog game played (Lapsed text) = IsTextOfPlayed game played text × (0 < mi
 WritesLog game played (Stopped text Memory) = text ≡ first_part played
 WritesLog game played outcome = ⊥
 
--- the game as the service hosts it
+-- the game as the service hosts it, in the form and at the port that the words of the command name
 abbrev pub hosted_by : Service → GameFile → HostedGame
 hosted_by service game = record { game = game; dialect = dialect_in service.form; port = service.port }
 

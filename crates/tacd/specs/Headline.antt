@@ -2,22 +2,37 @@
 use Rattle.std.specs.Prelude.{◌≤◌, List, All}
 use Rattle.tac_base.specs.Goods.{clock}
 use Rattle.line_protocol.specs.Heads.{Serve}
-use Rattle.tacd.specs.Prelude.{LinkState, TookWhole, GameFile, Scored, log_text, IsSheetOf, IsPlayedOver, PlayedGame, IsCashOfPosts, Outside, Service}
+use Rattle.game_text.specs.Games.{GameFile}
+use Rattle.score_sheet.specs.Sheets.{Scored}
+use Rattle.tac_io.specs.States.{LinkState}
+use Rattle.tac_io.specs.Taken.{TookWhole}
+use Rattle.game_log.specs.SheetText.{log_text}
+use Rattle.game_log.specs.ScoredGames.{IsSheetOf}
+use Rattle.game_run.specs.PlayedGame.{PlayedGame}
+use Rattle.tac_commands.specs.Cash.{IsCashOfPosts}
+use Rattle.tac_commands.specs.Outsides.{Outside}
+use Rattle.tac_commands.specs.Services.{Service}
+use Rattle.game_run.specs.PlayedLinks.{IsPlayedGame}
 use Rattle.tacd.specs.Finishing.{hosted_by}
 use Rattle.tacd.specs.Service.{IsGameFile}
 
 module _ {L : Type 0} (state : L → LinkState) where
-  -- What was written is the log of a game of that file: the verdicts on the links, the ends of the sessions, no missed tick, the 29 histories,
-  -- and a sheet. The game was played over all links that could be taken, and nobody but agents and the clock called the cash book. For each
-  -- agent the sheet has the greatest utility over all feasible allocations, plus its cash, less the penalties; and the agent's cash is also
-  -- the sum of its nets over all posts of the cash history.
+  -- What `serve` wrote, if it ends with code 0: the log of a game. All fields are about one game and what was played of it; `ended` is
+  -- what became of the links, in the order of the log's verdicts.
   pub record WritesTrueLog (service : Service) (before after : Outside L) (ended : List L) : Type 0 where
     pub game : GameFile
+    -- The game is that of the file that the command names, so the clock's calls are those of the game file.
     pub file : IsGameFile before.files service.game game
     pub played : PlayedGame
     pub sheet : List Scored
+    -- The log was written whole. No tick was missed, so the number at the end of its head is 0.
     pub written : TookWhole before.out after.out (log_text (Serve played.verdicts played.ends 0) played.closed sheet)
-    pub over : IsPlayedOver state (hosted_by service game) before.links after.links played ended
+    -- The log holds 29 legal one-thread histories. In each of them, every agent's calls are those that its link asked for. Each call
+    -- occurs once, comes after everything that the agent had seen, and has the reply that the agent got.
+    pub over : IsPlayedGame state (hosted_by service game) before.links after.links played ended
+    -- Nobody but the agents and the clock called the cash book.
     pub callers : All (λ e. e.caller ≤ clock) played.closed.cash
+    -- Each score is the greatest utility over all feasible allocations, less costs and penalties.
     pub scores : IsSheetOf game played.closed sheet
+    -- Goods and cash match the recorded trades: the cash of each agent is also the sum of its net amounts over all posts.
     pub cash : IsCashOfPosts played.closed

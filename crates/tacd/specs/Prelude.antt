@@ -4,7 +4,6 @@ pub use Rattle.line_protocol.specs.Heads.{head_of}
 pub use Rattle.line_protocol.specs.declared.admission.Verdict.{Verdict}
 pub use Rattle.line_protocol.specs.declared.admission.Verdict.TheVariants.{Lost, Seated, Syntax, Taken, WrongWord}
 pub use Rattle.game_text.specs.Games.{GameFile}
-unfoldable pub use Rattle.game_text.specs.Games.{game_of}
 pub use Rattle.auction_rules.specs.History.{Entry}
 pub use Rattle.auction_core.specs.Auctions.{AuctionHistory}
 pub use Rattle.score_sheet.specs.Sheets.{Scored}
@@ -16,13 +15,13 @@ pub use Rattle.clock_events.specs.Clocking.{WaitsForAll}
 pub use Rattle.agent_gate.specs.Dialects.{Dialect}
 pub use Rattle.log_text.specs.LoggedGames.{LoggedGame, logged_text}
 pub use Rattle.log_text.specs.SoundLog.{IsService, IsSoundHead, gives_seat, seatings}
-pub use Rattle.game_log.specs.LogText.{play_part}
 pub use Rattle.game_log.specs.ScoredGames.{IsSheetOf}
 pub use Rattle.game_log.specs.SheetText.{log_text, sheet_part}
-pub use Rattle.game_run.specs.Admission.{CameTo, free_seats, seats_given}
+pub use Rattle.game_run.specs.Admission.{free_seats, seats_given}
+pub use Rattle.game_run.specs.LinkRuns.{CameTo}
 pub use Rattle.game_run.specs.Hosted.{HostedGame, hosted_game}
 pub use Rattle.game_run.specs.LinkRuns.{IsSeated}
-pub use Rattle.game_run.specs.Outcomes.{IsGameEnd, IsNotPlayed, IsPlayedOver, missed_of}
+pub use Rattle.game_run.specs.Outcomes.{IsGameEnd, IsPlayedOver, missed_of}
 pub use Rattle.game_run.specs.PlayedGame.{IsLegalGame, IsPlayedBy, PlayedGame}
 pub use Rattle.game_run.specs.declared.run.GameEnd.{GameEnd}
 pub use Rattle.link_audit.specs.Links.{HasBytes, HasWelcome, IsLinkOfLog, IsVouched, fresh_link}
@@ -32,14 +31,14 @@ pub use Rattle.tac_commands.specs.Causes.{ClockFaultExactly, GameRefusedExactly,
 pub use Rattle.tac_commands.specs.Codes.{code_number, code_of, exit_text}
 pub use Rattle.tac_commands.specs.Commands.{command_of, seen_service}
 pub use Rattle.tac_commands.specs.Ends.{EndsOrStops}
-pub use Rattle.tac_commands.specs.FileKinds.{game_refusal, read_as}
+pub use Rattle.tac_commands.specs.FileKinds.{read_as}
 pub use Rattle.tac_commands.specs.Outcomes.{Done, Lapsed, Outcome, Refused, Stopped, Unsound, refusal_end}
 pub use Rattle.tac_commands.specs.Outsides.{Outside, outside_of}
 pub use Rattle.tac_commands.specs.Reporting.{IsCutShort, Reports, ReportsOne}
 pub use Rattle.tac_commands.specs.Runs.{Runs, StopsAt}
 pub use Rattle.tac_commands.specs.Services.{Service, bytes_of_words, service_of}
 pub use Rattle.tac_commands.specs.declared.code.Code.{Code}
-pub use Rattle.tac_commands.specs.declared.code.Code.TheVariants.{ClockFault, Success}
+pub use Rattle.tac_commands.specs.declared.code.Code.TheVariants.{Success}
 pub use Rattle.tac_commands.specs.declared.file_kinds.FileKind.TheVariants.{Game, Log}
 pub use Rattle.tac_commands.specs.declared.refusals.Refusal.{Refusal}
-pub use Rattle.tac_commands.specs.declared.refusals.Refusal.TheVariants.{LinkFault, Memory, ReadFault}
+pub use Rattle.tac_commands.specs.declared.refusals.Refusal.TheVariants.{LinkFault, Memory}

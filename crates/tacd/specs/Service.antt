@@ -1,7 +1,23 @@
 -- What `serve` does: the game that it played, its log, the links and the ticker.
 use Rattle.std.specs.Prelude.{◌≡◌, ℕ, ◌<◌, ◌⊎◌, List, [], Ok, Err, Some, None, MatchOption, option_map}
 use Rattle.std.specs.Global.{Vec}
-use Rattle.tacd.specs.Prelude.{Rose, LinkState, FilesState, GameFile, game_of, head_of, WaitsForAll, Scored, play_part, log_text, IsSheetOf, HostedGame, IsGameEnd, IsNotPlayed, Refusal, ReadFault, LinkFault, Memory, game_refusal, Outcome, Done, Lapsed, Stopped, Refused, Outside, Reports}
+use Rattle.line_protocol.specs.Heads.{head_of}
+use Rattle.game_text.specs.Games.{GameFile, game_of}
+use Rattle.score_sheet.specs.Sheets.{Scored}
+use Rattle.tac_io.specs.Counts.{Rose}
+use Rattle.tac_io.specs.States.{LinkState, FilesState}
+use Rattle.clock_events.specs.Clocking.{WaitsForAll}
+use Rattle.game_log.specs.LogText.{play_part}
+use Rattle.game_log.specs.SheetText.{log_text}
+use Rattle.game_log.specs.ScoredGames.{IsSheetOf}
+use Rattle.game_run.specs.Hosted.{HostedGame}
+use Rattle.game_run.specs.Outcomes.{IsGameEnd, IsNotPlayed}
+use Rattle.tac_commands.specs.declared.refusals.Refusal.{Refusal}
+use Rattle.tac_commands.specs.declared.refusals.Refusal.TheVariants.{ReadFault, LinkFault, Memory}
+use Rattle.tac_commands.specs.FileKinds.{game_refusal}
+use Rattle.tac_commands.specs.Outcomes.{Outcome, Done, Lapsed, Stopped, Refused}
+use Rattle.tac_commands.specs.Outsides.{Outside}
+use Rattle.tac_commands.specs.Reporting.{Reports}
 use Rattle.tac_io.specs.Reading.{IsFile}
 use Rattle.game_text.specs.declared.fault.GameFault.{GameFault}
 use Rattle.tacd.specs.declared.answer.Answer.{Answer}
@@ -11,7 +27,7 @@ use Rattle.tacd.specs.SoundLogs.{IsSoundLog}
 
 -- ---- the game file
 
--- the file of this name holds the game
+-- The file of this name holds the text of the game.
 abbrev pub IsGameFile : FilesState → List ℕ → GameFile → Type 0
 IsGameFile files name game = (bytes : List ℕ) × IsFile files.content name bytes × (game_of bytes ≡ Ok game)
 

@@ -31,6 +31,7 @@ abbrev pub is_comment : List ℕ → Bool
 is_comment [] = true
 is_comment (first ∷ rest) = first == 35
 
+-- whether nothing comes after the last line end
 abbrev pub is_nothing : List ℕ → Bool
 is_nothing [] = true
 is_nothing (first ∷ rest) = false
@@ -58,6 +59,7 @@ abbrev pub due_in : Remaining → List NumberedLine → Result (NumberedLine × 
 due_in left [] = Err (record { line = left.last; reason = TextEnd })
 due_in left (line ∷ lines) = Ok (line, record left { lines = lines })
 
+-- the next line where one is required
 abbrev pub due_of : Remaining → Result (NumberedLine × Remaining) BadLine
 due_of left = due_in left left.lines
 
@@ -66,6 +68,7 @@ abbrev pub nothing_in : Remaining → List NumberedLine → Result (Unit {0}) Ba
 nothing_in left [] = if left.ended then Ok tt else Err (record { line = left.last; reason = TextEnd })
 nothing_in left (line ∷ lines) = Err (record { line = line.number; reason = TextEnd })
 
+-- the fault `TextEnd` where a text must end and goes on
 abbrev pub nothing_left : Remaining → Result (Unit {0}) BadLine
 nothing_left left = nothing_in left left.lines
 

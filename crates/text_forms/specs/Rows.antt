@@ -39,6 +39,7 @@ numbers_of (column ∷ columns) (word ∷ words) = followed_by (number_in_column
 abbrev pub is_in : Column → ℤ → Bool
 is_in column number = int_le column.low number && int_le number column.high
 
+-- whether each number is in the range of its column
 abbrev pub all_in : List Column → List ℤ → Bool
 all_in columns numbers = list_all (λ pair. is_in pair.0 pair.1) (zip columns numbers)
 
@@ -47,6 +48,7 @@ abbrev pub in_range : List Column → Option (List ℤ) → Result (List ℤ) Re
 in_range columns None = Err Spelling
 in_range columns (Some numbers) = if all_in columns numbers then Ok numbers else Err OutOfRange
 
+-- the numbers of the words of a line, or the first reason that applies: the keyword, the number of words, their spelling, their ranges
 abbrev pub row_of_words : List ℕ → List Column → List (List ℕ) → Result (List ℤ) Reason
 row_of_words keyword columns [] = Err Keyword
 row_of_words keyword columns (first ∷ words) =

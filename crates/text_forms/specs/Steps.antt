@@ -4,8 +4,8 @@ use Rattle.text_forms.specs.declared.lines.Reason.{Reason}
 use Rattle.text_forms.specs.declared.lines.BadLine.{BadLine}
 use Rattle.text_forms.specs.Lines.{Remaining, due_of, at_line}
 
--- a step and the one after it, which is made only if the first gives no fault
 infixl 10 ◌>>=◌
+-- a step and the one after it, which is made only if the first gives no fault
 abbrev pub ◌>>=◌ : {A B E : Type 0} → Result A E → (A → Result B E) → Result B E
 (Ok x) >>= f = f x
 (Err fault) >>= f = Err fault

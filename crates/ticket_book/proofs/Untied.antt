@@ -5,7 +5,7 @@ use Rattle.std.proofs.lemmas.Bool.{and_parts, or_right, not-true, or_left}
 use Rattle.std.proofs.lemmas.Bool.Decides.{nat_tests}
 use Rattle.std.proofs.lemmas.List.Sums.{sum_by-append}
 use Rattle.ticket_book.specs.{Unit as ShownUnit, BidUnit, Tickets as TicketRules, Entry, is_closed, bid_units, on_side, same_unit, among, without, faces, goes_before, best, if_crossing, partner, pair_with, not_taken, pairs, units_of_pairs, ticket_gone, gone, stand, HaveSame, others, after_bid, goes_first, IsSideSorted, IsSideInOrder, SortedSides, both}
-use Rattle.auction_rules.specs.Precedence.{precedes}
+use Rattle.auction_rules.specs.BookHotels.{precedes}
 use Rattle.auction_rules.proofs.Ranks.{In, count-cons, at_most_one, yes_is_one, no_is_none}
 use Rattle.auction_rules.proofs.Counts.{none_pass}
 use Rattle.auction_rules.proofs.Lists.{all_passing}

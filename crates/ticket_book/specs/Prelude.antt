@@ -9,13 +9,15 @@ pub use Rattle.tac_base.specs.declared.units.Unit.{Unit}
 pub use Rattle.auction_rules.specs.Board.{board, highest_buy, lowest, lowest_sell}
 pub use Rattle.auction_rules.specs.Effects.{bought, sold}
 pub use Rattle.auction_rules.specs.Follows.{Follows}
-pub use Rattle.auction_rules.specs.History.{Entry, bid_units, is_admission, is_closed, is_own, last_bid, last_bids, units_of_last}
-pub use Rattle.auction_rules.specs.Legal.{IsLawful, admitted_trades, entry_of}
-pub use Rattle.auction_rules.specs.Refusals.{crosses_itself, has_standing, is_wrong_caller, is_wrong_place, refusal}
+pub use Rattle.auction_rules.specs.History.{Entry, is_admission, is_closed, is_own}
+pub use Rattle.auction_rules.specs.BookStanding.{last_bid, bid_units, last_bids, units_of_last, gone, left, stand, left_of}
+pub use Rattle.auction_rules.specs.BookRules.{IsLawful, admitted_trades, entry_of, has_standing, refusal}
+pub use Rattle.auction_rules.specs.Refusals.{crosses_itself, is_wrong_caller, is_wrong_place}
 pub use Rattle.auction_rules.specs.Setup.{Setup}
 pub use Rattle.auction_rules.specs.Shown.{IsRankedBy, IsSortedBy, on_side, shown_unit}
-pub use Rattle.auction_rules.specs.Standing.{gone, left, left_of, left_points, signed_as, stand}
-pub use Rattle.auction_rules.specs.TicketMatch.{best, faces, goes_before, if_crossing, not_taken, pair_trade, pair_with, pairs, partner, ticket_gone, ticket_trades, units_of_pairs}
+pub use Rattle.auction_rules.specs.BidPoints.{left_points, signed_as}
+pub use Rattle.auction_rules.specs.TicketMatch.{best, faces, goes_before, pair_trade}
+pub use Rattle.auction_rules.specs.BookPairs.{if_crossing, not_taken, pair_with, pairs, partner, ticket_gone, ticket_trades, units_of_pairs}
 pub use Rattle.auction_rules.specs.Traded.{Spends, traded}
 pub use Rattle.auction_rules.specs.Units.{among, common_units, point_units, same_unit, units_of, without}
 pub use Rattle.auction_rules.specs.declared.rules.Rules.TheVariants.{Tickets}

@@ -7,6 +7,7 @@ use crate::remains::left_of;
 use crate::sides::Sides;
 use auction_rules::{Placed, Rules, bought, sold, wrong_reply};
 use std::marker::Model;
+use tac_base::limits::{BID_PRICE, BID_UNITS};
 use tac_base::{Agent, Board, Call, Caller, Fills, Good, Kind, Left, Points, Reply, Unit};
 
 /// The auction of a ticket, in which agents trade with each other: a continuous double auction, by the
@@ -51,8 +52,8 @@ impl Tickets {
         ensures follows { (setup : Setup) (past : List Entry) → TicketsStandFor self.old setup past → at ≡ length past →
             Follows setup past agent (Call.Bid points.now) result fills.new (TicketsStandFor self.new setup) }
         ensures with_others { All (λ trade. trade.buyer ≢ trade.seller) fills.new }
-        ensures priced { All (λ trade. trade.price ≤ 10000) fills.new }
-        ensures units { Spends 16 0 fills.new }
+        ensures priced { All (λ trade. trade.price ≤ BID_PRICE) fills.new }
+        ensures units { Spends BID_UNITS 0 fills.new }
     {
         let number = agent.get();
         fills.clear();
@@ -136,8 +137,8 @@ impl Tickets {
     /// below the ask if there are both.
     pub fn board(&self, count: u32) -> Board
         ensures board { (setup : Setup) (past : List Entry) → TicketsStandFor self.now setup past → count ≡ length past → result ≡ board setup.rules past }
-        ensures bid_within { result.bid ≤ 10000 }
-        ensures ask_within { result.ask ≤ 10000 }
+        ensures bid_within { result.bid ≤ BID_PRICE }
+        ensures ask_within { result.ask ≤ BID_PRICE }
         ensures uncrossed { (setup : Setup) (past : List Entry) → TicketsStandFor self.now setup past → IsLawful setup past →
             0 < result.bid → 0 < result.ask → result.bid < result.ask }
     {

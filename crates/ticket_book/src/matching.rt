@@ -3,6 +3,7 @@ ghost use Rattle.std.specs.Prelude.{All, ◌≡◌, ◌+◌, ◌<◌, ◌≤◌,
 ghost use Rattle.auction_rules.specs.Units as spec;
 ghost use Rattle.auction_rules.specs.Shown.{on_side};
 ghost use Rattle.auction_rules.specs.TicketMatch as rule;
+ghost use Rattle.auction_rules.specs.BookPairs as book;
 ghost use Rattle.ticket_book.specs.Sides.{HaveSame, both, others, after_bid};
 
 use crate::order::first_of_others;
@@ -100,7 +101,7 @@ impl Sides {
 
     /// Returns the unit that the arriving one trades with: the front of the other side, if the prices cross.
     fn partner(&self, arriving: &BidUnit) -> Option<BidUnit>
-        ensures { result ≡ rule.partner (both self.now) arriving.now }
+        ensures { result ≡ book.partner (both self.now) arriving.now }
     {
         match self.front(arriving) {
             Some(unit) if crosses(arriving, &unit) => Some(unit),
@@ -118,9 +119,9 @@ impl Sides {
     )
         requires fills { length fills.old < ENTRY_TRADES }
         requires gone { length gone.old.items + 2 ≤ 32 }
-        ensures trades { fills.new ≡ fills.old ++ map (rule.pair_trade good) (rule.pair_with unit.now (rule.partner (both self.old) unit.now)) }
-        ensures gone { gone.new.items ≡ gone.old.items ++ rule.units_of_pairs (rule.pair_with unit.now (rule.partner (both self.old) unit.now)) }
-        ensures standing { both self.new ≡ rule.not_taken (rule.partner (both self.old) unit.now) (both self.old) }
+        ensures trades { fills.new ≡ fills.old ++ map (rule.pair_trade good) (book.pair_with unit.now (book.partner (both self.old) unit.now)) }
+        ensures gone { gone.new.items ≡ gone.old.items ++ book.units_of_pairs (book.pair_with unit.now (book.partner (both self.old) unit.now)) }
+        ensures standing { both self.new ≡ book.not_taken (book.partner (both self.old) unit.now) (both self.old) }
         ensures fills_len { length fills.new ≤ length fills.old + 1 }
         ensures gone_len { length gone.new.items ≤ length gone.old.items + 2 }
     {
@@ -144,11 +145,11 @@ impl Sides {
         fills: &mut Fills,
     ) -> ArrayVec<BidUnit, 32>
         requires { length arriving.now ≤ BID_UNITS }
-        ensures trades { fills.new ≡ rule.ticket_trades good (both self.old) arriving.now }
+        ensures trades { fills.new ≡ book.ticket_trades good (both self.old) arriving.now }
         ensures few { length fills.new ≤ BID_UNITS }
-        ensures gone { result.items ≡ rule.ticket_gone (both self.old) arriving.now }
+        ensures gone { result.items ≡ book.ticket_gone (both self.old) arriving.now }
         ensures standing { (agent : ℕ) → All (λ u. u.agent ≡ agent) arriving.now →
-            others agent (both self.new) ≡ others agent (spec.without (both self.old) (rule.ticket_gone (both self.old) arriving.now)) }
+            others agent (both self.new) ≡ others agent (spec.without (both self.old) (book.ticket_gone (both self.old) arriving.now)) }
     {
         fills.clear();
         let mut gone = ArrayVec::new();
@@ -161,7 +162,7 @@ impl Sides {
     /// Trades the units of a bid with those of other agents, and replaces the agent's earlier units with what is left. `fills`
     /// then holds the trades.
     pub(crate) fn trade(&mut self, good: Good, bid: &Placed, fills: &mut Fills)
-        ensures trades { fills.new ≡ rule.ticket_trades good (both self.old) (spec.units_of bid.now) }
+        ensures trades { fills.new ≡ book.ticket_trades good (both self.old) (spec.units_of bid.now) }
         ensures few { length fills.new ≤ BID_UNITS }
         ensures priced { All (λ u. u.price ≤ BID_PRICE) (both self.old) }
         ensures units { HaveSame (both self.new) (after_bid (both self.old) bid.now.agent (spec.units_of bid.now)) }

@@ -1,7 +1,7 @@
 ghost use Rattle.std.specs.Prelude.{◌≡◌, ◌+◌, ◌<◌, ◌≤◌, ◌++◌, length, if◌then◌else◌};
 ghost use Rattle.ticket_book.specs.{Point, size_of, both};
 ghost use Rattle.auction_rules.specs.Units as units;
-ghost use Rattle.auction_rules.specs.Standing as spec;
+ghost use Rattle.auction_rules.specs.BidPoints as spec;
 ghost use Rattle.ticket_book.specs.Remains as remains;
 
 use crate::sides::Sides;

@@ -14,6 +14,7 @@ use indexmap::IndexMap;
 use log_reader::Log;
 use std::alloc::Global;
 use std::marker::Model;
+use tac_base::limits::TABLE_GAMES;
 use tac_base::{Agent, Memory};
 
 /// The standings of the teams of at most 64 games. A team is a seat's word.
@@ -26,13 +27,14 @@ pub struct Standings {
 
 impl Model for Standings {
     ghost use Rattle.std.specs.Prelude.{◌≤◌};
+    ghost use Rattle.tac_base.specs.declared.limits.TheConstants.{TABLE_GAMES};
     ghost use Rattle.tourney.specs.Tallies.{Kept, AreTallies};
 
     ghost Value = { Kept };
 
     ghost view = { λ s. record { tallies = s.tallies.entries; games = s.games } };
 
-    ghost invariant = { λ s. AreTallies s.tallies.entries s.games × (s.games ≤ 64) };
+    ghost invariant = { λ s. AreTallies s.tallies.entries s.games × (s.games ≤ TABLE_GAMES) };
 }
 
 /// The word of an agent's seat.
@@ -55,8 +57,8 @@ fn score_of(game: &Game, log: &Log, agent: Agent) -> i64
 /// Adds the score of an agent, if the agent counts in the game.
 fn add_agent(tallies: &mut Tallies, game: &Game, log: &Log, agent: Agent) -> Result<(), Memory>
     requires sound { IsSound game.now log.now }
-    requires few { (spec.tally_at tallies.old.entries (standings.result_of (game.now, log.now) agent).0).games < 64 }
-    requires each { All (λ team. spec.IsTally 64 team.1) tallies.old.entries }
+    requires few { (spec.tally_at tallies.old.entries (standings.result_of (game.now, log.now) agent).0).games < TABLE_GAMES }
+    requires each { All (λ team. spec.IsTally TABLE_GAMES team.1) tallies.old.entries }
     ensures { OnOk result (tallies.new.entries ≡ spec.with_results tallies.old.entries (spec.result_if_counts (game.now, log.now) agent)) }
 {
     if counts(log.head(), agent) {
@@ -82,7 +84,7 @@ impl Standings {
     /// Adds a game to the standings of fewer than 64 games. After `Memory` the standings are dropped.
     pub fn add(self, game: &Game, log: &Log) -> Result<Standings, Memory>
         requires sound { IsSound game.now log.now }
-        requires few { self.games < 64 }
+        requires few { self.games < TABLE_GAMES }
         ensures stands { (played : List (GameFile × LoggedGame)) → AreStandingsOf self played → IfOk result (λ after. AreStandingsOf after (played ++ (game.now, log.now) ∷ [])) }
         ensures games { IfOk result (λ after. after.games ≡ self.games + 1) }
     {
@@ -107,7 +109,7 @@ impl Standings {
     /// The number of games, 0..64.
     pub fn games(&self) -> u8
         ensures stands { (played : List (GameFile × LoggedGame)) → AreStandingsOf self.now played → result ≡ length played }
-        ensures few { result ≤ 64 }
+        ensures few { result ≤ TABLE_GAMES }
         ensures kept { result ≡ self.now.games }
     {
         self.games

@@ -14,7 +14,8 @@ use Rattle.trade_ledger.specs.declared.cash_calls.CashReply.TheVariants.{Done}
 use Rattle.trade_ledger.specs.declared.cash_calls.CashEntry.{CashEntry}
 use Rattle.trade_ledger.specs.CashHistory.{cash_total}
 use Rattle.trade_ledger.proofs.CashSteps.{posted_nets}
-use Rattle.trade_ledger.specs.Posts.{HoldSame, is_post, posts_of, post_for, due_post, due_to, due_posts, Matched, trades_of_all}
+use Rattle.trade_ledger.specs.BookPosts.{HoldSame, is_post, posts_of, due_to, due_posts, Matched, trades_of_all}
+use Rattle.trade_ledger.specs.Posts.{post_for, due_post}
 use Rattle.trade_ledger.proofs.Trading.{get_or-nine}
 
 -- ---- sums over a history are sums over its nine parts

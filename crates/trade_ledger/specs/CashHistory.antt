@@ -1,6 +1,8 @@
--- Histories of the cash book, oldest entry first.
+-- Histories of the cash book, oldest entry first. The cash book is our own.
 use Rattle.std.specs.Prelude.{◌≡◌, ℕ, ◌==◌, if◌then◌else◌, ⊤, false, List, ℤ, pos, ◌+ℤ◌, fold, map, take, length, slice_get, slice_index_or, Option, Some, None, filter_map}
-use Rattle.trade_ledger.specs.Prelude.{Nets, clock, CLOCK_CASH_ENTRIES, AGENT_CASH_ENTRIES}
+use Rattle.tac_base.specs.declared.calls.Nets.{Nets}
+use Rattle.tac_base.specs.Goods.{clock}
+use Rattle.tac_base.specs.declared.limits.TheConstants.{CLOCK_CASH_ENTRIES, AGENT_CASH_ENTRIES}
 use Rattle.tac_base.specs.declared.calls.Board.{Board}
 use Rattle.trade_ledger.specs.declared.cash_calls.CashCall.{CashCall}
 use Rattle.trade_ledger.specs.declared.cash_calls.CashCall.TheVariants.{Post, Read}
@@ -8,12 +10,13 @@ use Rattle.trade_ledger.specs.declared.cash_calls.CashReply.{CashReply}
 use Rattle.trade_ledger.specs.declared.cash_calls.CashReply.TheVariants.{Done, Cash}
 use Rattle.trade_ledger.specs.declared.cash_calls.CashEntry.{CashEntry}
 
--- the nets of a post; a reading has none
+-- the net amounts of a post; a reading has none
 abbrev pub nets_of : CashCall → Option Nets
 nets_of (Post good position nets) = Some nets
 nets_of (Read agent) = None
 
--- the sum of a party's nets in the posts of a history, in dollars
+-- the sum of a party's net amounts in the posts of a history, in dollars
+-- Row: totals_of_the_book (worked_rows/proofs/Logs.antt)
 abbrev pub cash_total : List CashEntry → ℕ → ℤ
 cash_total history party = fold ◌+ℤ◌ (pos 0) (map (λ nets. slice_index_or nets.dollars party (pos 0)) (filter_map (λ e. nets_of e.call) history))
 
@@ -22,21 +25,23 @@ abbrev pub gain_of : CashCall → ℕ → ℤ
 gain_of (Post good position nets) party = slice_index_or nets.dollars party (pos 0)
 gain_of (Read agent) party = pos 0
 
--- the calls that a caller may make: every post, and a reading of its own cash
+-- A caller may post, and may read its own cash. As far as this goes, the clock may read too, and anybody may post anything: that is
+-- ruled out by `IsClockTranscript` and by `matched` of `IsLegalGame`.
 abbrev pub IsFitCash : ℕ → CashCall → Type 0
 IsFitCash caller (Post good position nets) = ⊤
 IsFitCash caller (Read agent) = agent ≡ caller
 
--- the reply to a call if the parties have these totals
+-- A post is acknowledged, and a reading gets the total of the agent that reads.
 abbrev pub reply_by : (ℕ → ℤ) → CashCall → CashReply
 reply_by totals (Post good position nets) = Done
 reply_by totals (Read agent) = Cash (totals agent)
 
--- the reply to a call after a history
+-- When an agent reads its cash, the reply is the sum of its net amounts in the posts before the reading.
+-- Row: reading_sums_the_posts_before_it (worked_rows/proofs/Logs.antt)
 abbrev pub cash_reply_of : List CashEntry → CashCall → CashReply
 cash_reply_of before call = reply_by (cash_total before) call
 
--- each entry has a call that its caller may make, and the reply to that call after the earlier entries
+-- A cash history is legal if each entry's caller may make its call, and the reply is that to the call after the earlier entries.
 abbrev pub IsLegalCash : List CashEntry → Type 0
 IsLegalCash history = (position : ℕ) (e : CashEntry) → slice_get history position ≡ Some e →
     IsFitCash e.caller e.call × (e.reply ≡ cash_reply_of (take position history) e.call)

@@ -1,48 +1,37 @@
--- The posts of a cash history, and those that the histories of auctions require.
-use Rattle.std.specs.Prelude.{◌≡◌, ℕ, Bool, true, false, List, [], ◌∷◌, map, filter, sum_by, flat_map}
-use Rattle.std.specs.List.{enumerate_from}
-use Rattle.trade_ledger.specs.Prelude.{Trade, Entry, nets}
+-- The posts of a cash history, place by place: those that are due to the entries of the auctions, by our own rule, and no other.
+use Rattle.std.specs.Prelude.{◌≡◌, ℕ, ◌==◌, Bool, false, ◌&&◌, List, [], ◌∷◌, filter, slice_get, slice_index_or, Option, Some, None}
+use Rattle.tac_base.specs.declared.calls.Trade.{Trade}
+use Rattle.auction_rules.specs.History.{Entry}
+use Rattle.auction_rules.specs.Effects.{nets}
 use Rattle.trade_ledger.specs.declared.cash_calls.CashCall.{CashCall}
 use Rattle.trade_ledger.specs.declared.cash_calls.CashCall.TheVariants.{Post, Read}
 use Rattle.trade_ledger.specs.declared.cash_calls.CashReply.TheVariants.{Done}
 use Rattle.trade_ledger.specs.declared.cash_calls.CashEntry.{CashEntry}
 
--- whether a call is a post
-abbrev pub is_post : CashCall → Bool
-is_post (Post good position nets) = true
-is_post (Read agent) = false
-
--- the posts of a cash history, in order
-abbrev pub posts_of : List CashEntry → List CashEntry
-posts_of history = filter (λ e. is_post e.call) history
-
--- the post if there are trades, and none otherwise
+-- An entry without trades has no post.
 abbrev pub post_for : List Trade → CashEntry → List CashEntry
 post_for [] post = []
 post_for (trade ∷ trades) post = post ∷ []
 
--- the post that an entry of a good at a position requires, if it has a trade: by the entry's caller, with the nets of its trades
+-- A post is made by its entry's caller. It names the good and the position of the entry, and holds a net amount for each of the nine
+-- parties: the party's income from the entry's trades less its payments.
+-- Row: trades_are_posted_with_their_nets (worked_rows/proofs/Logs.antt)
 abbrev pub due_post : ℕ → ℕ → Entry → List CashEntry
 due_post good position e =
     post_for e.trades (record { caller = e.caller; call = Post good position (record { dollars = nets e.trades }); reply = Done })
 
--- the posts that entries of a good require; each entry comes with its position
-abbrev pub due_to : ℕ → List (ℕ × Entry) → List CashEntry
-due_to good entries = flat_map (λ p. due_post good p.0 p.1) entries
+-- the post that is due to the entry at a place, if there is an entry
+abbrev pub due_post_at : ℕ → ℕ → Option Entry → List CashEntry
+due_post_at good position None = []
+due_post_at good position (Some e) = due_post good position e
 
--- the posts that the entries of all goods require, in the order of the goods
-abbrev pub due_posts : List (List (ℕ × Entry)) → List CashEntry
-due_posts rows = flat_map (λ row. due_to row.0 row.1) (enumerate_from 0 rows)
+-- whether a call is a post that names a place: a good, and a position in its history
+abbrev pub is_post_at : ℕ → ℕ → CashCall → Bool
+is_post_at good position (Post g p nets) = (g == good) && (p == position)
+is_post_at good position (Read agent) = false
 
--- two lists have the same entries, each equally often: for every weight of entries, the sums over both are equal
-abbrev pub HoldSame : List CashEntry → List CashEntry → Type 0
-HoldSame xs ys = (weight : CashEntry → ℕ) → sum_by weight xs ≡ sum_by weight ys
-
--- the cash history has exactly one post for each entry with a trade in the goods' histories, and no other post. The entry's caller
--- makes the post, with the good, the position and the nets of the entry's trades; the posts may be in any order
-abbrev pub Matched : List (List Entry) → List CashEntry → Type 0
-Matched histories cash = HoldSame (posts_of cash) (due_posts (map (enumerate_from 0) histories))
-
--- the trades of all goods' histories
-abbrev pub trades_of_all : List (List Entry) → List Trade
-trades_of_all histories = flat_map (λ history. flat_map (λ e. e.trades) history) histories
+-- For each good and each position, the posts that name this place are the one that is due to the entry there, or none. So each entry
+-- with trades has exactly one post, and there is no other post. The posts may be in any order.
+abbrev pub IsPosted : List (List Entry) → List CashEntry → Type 0
+IsPosted histories cash = (good position : ℕ) →
+    filter (λ e. is_post_at good position e.call) cash ≡ due_post_at good position (slice_get (slice_index_or histories good []) position)

@@ -5,6 +5,6 @@ use lib.ListN.{get_elem?}
 use Rattle.tac_base.specs.declared.calls.Board.{Board}
 
 module _ {E : Type 0} where
-  -- each note is a count and a board: the count is at most `seen`, and the board is that of the history's first `count` entries
+  -- Each board stated a count of at most `seen`, and is the board of the history's first `count` entries.
   abbrev pub AreNotes : (List E → Board) → List E → ℕ → List (ℕ × Board) → Type 0
   AreNotes board history seen notes = (k : ℕ) (n : ℕ × Board) → get_elem? notes k ≡ some n → (n.0 ≤ seen) × (n.1 ≡ board (take n.0 history))

@@ -7,6 +7,7 @@ module _ {E : Type 0} where
   abbrev pub part_from : (E → ℕ) → ℕ → ℕ → List E → List (ℕ × E)
   part_from caller_of caller n history = filter (λ p. caller_of p.1 == caller) (enumerate_from n history)
 
-  -- the entries of a caller in a history, the oldest first, each in a pair with its position
+  -- a caller's part of a history: its entries, the oldest first, each in a pair with its position
+  -- Row: turns_make_the_agents_part (worked_rows/proofs/Sessions.antt)
   abbrev pub part : (E → ℕ) → List E → ℕ → List (ℕ × E)
   part caller_of history caller = part_from caller_of caller 0 history

@@ -17,10 +17,10 @@ use Rattle.auction_rules.specs.declared.rules.Rules.TheVariants.{Hotel as HotelR
 use Rattle.auction_rules.specs.History.{Entry}
 use Rattle.auction_rules.specs.Effects.{dollars, nets}
 use Rattle.auction_rules.specs.FlightRule.{next_price}
-use Rattle.auction_rules.specs.Standing.{stand}
+use Rattle.auction_rules.specs.Standing.{standing_units}
 use Rattle.auction_rules.specs.Ask.{ask}
-use Rattle.auction_rules.specs.WinningNumber.{winning}
-use Rattle.auction_rules.specs.Legal.{past_of, IsLawful, entries_of, cap}
+use Rattle.auction_rules.specs.HotelClosing.{rooms_won}
+use Rattle.auction_rules.specs.Legal.{entry_due, AreDueEntries, entries_of, cap}
 use Rattle.auction_rules.specs.Board.{board}
 use Rattle.auction_rules.specs.Part.{callers_part}
 
@@ -55,9 +55,14 @@ flight first = record { good = 0; rules = FlightRules first (pos 10); endow = no
 abbrev tickets : Setup
 tickets = record { good = 24; rules = TicketRules; endow = nothing_held }
 
+-- the past that calls make, the newest call first
+abbrev past_by : Setup → List (ℕ × Call) → List Entry
+past_by setup [] = []
+past_by setup ((caller, call) ∷ calls) = entry_due setup (past_by setup calls) caller call ∷ past_by setup calls
+
 -- the past that calls make, which are given in order
-abbrev played : Setup → List (ℕ × Call) → List Entry
-played setup calls = past_of setup (reverse calls)
+abbrev pub played : Setup → List (ℕ × Call) → List Entry
+played setup calls = past_by setup (reverse calls)
 
 -- the replies, and the trades, in order
 abbrev run : Setup → List (ℕ × Call) → List Reply × List Trade
@@ -107,7 +112,7 @@ equal_prices_cross_themselves = refl
 
 -- agent 1 bids to buy at 70 and to sell at 65
 refused_bid_takes_nothing : (run tickets ((0, sell 1 60) ∷ (1, Bid (point (pos 1) 70 ∷ point (neg_ℤ (pos 1)) 65 ∷ [])) ∷ []) ≡ (Taken 0 0 ∷ SelfCross ∷ [], []))
-    × (map (λ u. u.agent) (stand TicketRules (played tickets ((0, sell 1 60) ∷ (1, Bid (point (pos 1) 70 ∷ point (neg_ℤ (pos 1)) 65 ∷ [])) ∷ []))) ≡ 0 ∷ [])
+    × (map (λ u. u.agent) (standing_units TicketRules (played tickets ((0, sell 1 60) ∷ (1, Bid (point (pos 1) 70 ∷ point (neg_ℤ (pos 1)) 65 ∷ [])) ∷ []))) ≡ 0 ∷ [])
 refused_bid_takes_nothing = (refl, refl)
 
 refused_calls_count : map (entries_of (reverse (played (flight 300) ((0, Withdraw) ∷ (0, buy 1 200) ∷ (8, Publish) ∷ [])))) (0 ∷ 1 ∷ 8 ∷ []) ≡ 2 ∷ 0 ∷ 1 ∷ []
@@ -148,9 +153,9 @@ enough_at_one_dollar_more = refl
 abbrev two_bids : List (ℕ × Call)
 two_bids = (0, buy 13 100) ∷ (1, buy 3 120) ∷ []
 
-two_bids_win_until_the_closing : (ask 16 (stand (HotelRules 16 false) (played hotel two_bids)) ≡ 100)
-    × (map (winning 16 (stand (HotelRules 16 false) (played hotel two_bids))) (0 ∷ 1 ∷ 2 ∷ []) ≡ 13 ∷ 3 ∷ 0 ∷ [])
-    × (stand (HotelRules 16 false) (played hotel (two_bids ++ (8, Close) ∷ [])) ≡ [])
+two_bids_win_until_the_closing : (ask 16 (standing_units (HotelRules 16 false) (played hotel two_bids)) ≡ 100)
+    × (map (rooms_won 16 (standing_units (HotelRules 16 false) (played hotel two_bids))) (0 ∷ 1 ∷ 2 ∷ []) ≡ 13 ∷ 3 ∷ 0 ∷ [])
+    × (standing_units (HotelRules 16 false) (played hotel (two_bids ++ (8, Close) ∷ [])) ≡ [])
 two_bids_win_until_the_closing = (refl, refl, refl)
 
 ask_is_shown_when_published_or_closed : (shown hotel ((0, buy 1 50) ∷ []) ≡ record { count = 1; bid = 0; ask = 0; closed = false })
@@ -234,6 +239,6 @@ buyers_pay_and_nets_add_up_to_0 = (refl, refl)
 cap_of_agents_and_clock : map cap (0 ∷ 7 ∷ 8 ∷ []) ≡ 1024 ∷ 1024 ∷ 64 ∷ []
 cap_of_agents_and_clock = refl
 
-history_is_lawful_by_its_replies : IsLawful hotel (played hotel ((0, buy 1 5) ∷ (8, Publish) ∷ []))
-    × (IsLawful hotel (record { caller = 8; call = Publish; reply = Closed; trades = [] } ∷ []) → ⊥)
+history_is_lawful_by_its_replies : AreDueEntries hotel (played hotel ((0, buy 1 5) ∷ (8, Publish) ∷ []))
+    × (AreDueEntries hotel (record { caller = 8; call = Publish; reply = Closed; trades = [] } ∷ []) → ⊥)
 history_is_lawful_by_its_replies = ((refl, (refl, tt)), (λ lawful. let e : Closed ≡ Done = ap (λ (e : Entry). e.reply) lawful.0 in cc))

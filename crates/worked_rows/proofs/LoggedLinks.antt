@@ -9,6 +9,7 @@ use Rattle.tac_io.specs.States.{LinkState}
 use Rattle.tac_io.specs.declared.line_got.LineGot.TheVariants as gots
 use Rattle.line_protocol.specs.declared.admission.Cause.{Cause}
 use Rattle.line_protocol.specs.declared.admission.Cause.TheVariants as causes
+use Rattle.line_protocol.specs.declared.admission.Verdict.{Verdict}
 use Rattle.line_protocol.specs.declared.admission.Verdict.TheVariants.{Seated, Lost}
 use Rattle.line_protocol.specs.declared.asking.RequestFault.TheVariants.{Memory}
 use Rattle.line_protocol.specs.Requests.{request_of}
@@ -16,12 +17,15 @@ use Rattle.line_protocol.specs.Replies.{said_text}
 use Rattle.line_protocol.specs.Heads.{Play, Serve}
 use Rattle.log_text.specs.LoggedGames.{LoggedGame}
 use Rattle.agent_gate.specs.Dialects.{Dialect}
-use Rattle.agent_gate.specs.Served.{reply_line}
+use Rattle.agent_gate.specs.SessionEnds.{reply_line}
 use Rattle.agent_gate.specs.Turns.{Left, Refused}
 use Rattle.agent_gate.specs.Welcome.{welcome_text}
 use Rattle.agent_gate.proofs.LawfulTurns.{lawful_more, none_lawful}
 use Rattle.game_run.specs.Hosted.{HostedGame, hosted_game}
-use Rattle.link_audit.specs.Links.{HasBytes, IsLinkOfLog}
+use Rattle.game_run.specs.Admission.{seats_given}
+use Rattle.game_run.specs.PlayedLinks.{IsSeatedLink}
+use Rattle.game_run.proofs.SameLinks.{seated_from_link}
+use Rattle.link_audit.specs.Links.{HasBytes, IsLinkOfLog, fresh_link, played_in}
 use Rattle.worked_rows.proofs.Vouched.{bought, json, lawful, log, read, transcribed, words}
 
 -- the log whose head has a cause for the agent, whose link was the second to come
@@ -35,6 +39,10 @@ hosted dialect = hosted_game quiet_game dialect 7000
 abbrev quiet : List ℕ → List ℕ → List ℕ → LinkState
 quiet taken left sent = record { taken = Some taken; left = Some left; sent = Some sent; reads = 0; writes = 0; read_failures = Some []; write_failures = Some [] }
 
+-- in the game of a log a link that had these bytes to give was seated as agent 2, after links with the earlier verdicts, and left like this
+abbrev IsAgentsLink : Dialect → LoggedGame → List Verdict → List ℕ → LinkState → Type 0
+IsAgentsLink dialect log earlier asked after = IsSeatedLink (hosted dialect) (played_in quiet_game log) (seats_given quiet_game earlier) 2 (fresh_link asked) after
+
 rose_once : Rose 0 1
 rose_once = record { never_falls = omega arith; rises = omega arith; stays = λ is. absurd (omega (arith, is)) }
 
@@ -46,34 +54,26 @@ abbrev two_replies : List ℕ
 two_replies = welcome_text quiet_game 2 ++ codes "@0 taken 2 0\n@1 cash -600\n"
 
 -- its bytes came to an end
-ended_by_its_end : IsLinkOfLog (hosted words) (ended_by causes.End) 2 two_lines two_replies
+ended_by_its_end : IsAgentsLink words (ended_by causes.End) (Lost ∷ []) two_lines (quiet two_lines [] two_replies)
 unfolding quiet_game request_of points_of point_of numeral signed_numeral digits
 ended_by_its_end = record {
-  place = 1;
-  listed = refl;
-  after = quiet two_lines [] two_replies;
-  sent = refl;
-  seated = record {
-    cause = causes.End;
-    ended = (0, omega arith, refl);
-    bytes = two_lines;
-    gave = (refl, refl);
-    line = codes "hello seat2";
-    answers = (gots.Line, codes "bid 0 ((2 310))") ∷ (gots.Line, codes "cash") ∷ (gots.End, []) ∷ [];
-    first = refl;
-    seat = refl;
-    turns = bought ∷ read ∷ [];
-    rest = (gots.End, []) ∷ [];
-    served = record {
-      read = (gots.Line, codes "bid 0 ((2 310))") ∷ (gots.Line, codes "cash") ∷ [];
-      from = refl;
-      items = (refl, (refl, tt));
-      few = omega arith;
-      lawful = lawful;
-      end = ((refl, omega arith, refl), refl, (refl, (refl, refl)), (refl, refl));
-    };
-    transcript = transcribed (ended_by causes.End) (bought ∷ read ∷ []) refl refl refl (λ good. refl);
-  };
+  cause = causes.End;
+  ended = (0, omega arith, refl);
+  bytes = two_lines;
+  gave = (refl, refl);
+  first = codes "hello seat2";
+  lines = (gots.Line, codes "bid 0 ((2 310))") ∷ (gots.Line, codes "cash") ∷ [];
+  rest = (gots.End, []) ∷ [];
+  read = refl;
+  seat = refl;
+  turns = bought ∷ read ∷ [];
+  items = (refl, (refl, tt));
+  few = omega arith;
+  lawful = lawful;
+  transcript = transcribed (ended_by causes.End) (bought ∷ read ∷ []) refl refl refl (λ good. refl);
+  stopped = ((refl, omega arith), refl, refl);
+  reads = (refl, refl);
+  sent = (refl, (refl, refl));
 }
 
 -- `quit` was answered; a line that was taken with it was not, and one was not taken
@@ -83,108 +83,80 @@ quit_lines = codes "hello seat2\nbid 0 ((2 310))\ncash\nquit\nown 8\n"
 abbrev quit_replies : List ℕ
 quit_replies = two_replies ++ codes "bye\n"
 
-ended_by_quit : IsLinkOfLog (hosted words) (ended_by causes.Quit) 2 (quit_lines ++ codes "own 9\n") quit_replies
+ended_by_quit : IsAgentsLink words (ended_by causes.Quit) (Lost ∷ []) (quit_lines ++ codes "own 9\n") (quiet quit_lines (codes "own 9\n") quit_replies)
 unfolding quiet_game request_of points_of point_of numeral signed_numeral digits
 ended_by_quit = record {
-  place = 1;
-  listed = refl;
-  after = quiet quit_lines (codes "own 9\n") quit_replies;
-  sent = refl;
-  seated = record {
-    cause = causes.Quit;
-    ended = (0, omega arith, refl);
-    bytes = quit_lines;
-    gave = (refl, refl);
-    line = codes "hello seat2";
-    answers = (gots.Line, codes "bid 0 ((2 310))") ∷ (gots.Line, codes "cash") ∷ (gots.Line, codes "quit") ∷ (gots.Line, codes "own 8") ∷ (gots.End, []) ∷ [];
-    first = refl;
-    seat = refl;
-    turns = bought ∷ read ∷ Left ∷ [];
-    rest = (gots.Line, codes "own 8") ∷ (gots.End, []) ∷ [];
-    served = record {
-      read = (gots.Line, codes "bid 0 ((2 310))") ∷ (gots.Line, codes "cash") ∷ (gots.Line, codes "quit") ∷ [];
-      from = refl;
-      items = (refl, (refl, (refl, tt)));
-      few = omega arith;
-      lawful = lawful_more (bought ∷ read ∷ []) Left lawful tt refl;
-      end = (refl, (refl, (refl, refl)), (refl, refl));
-    };
-    transcript = transcribed (ended_by causes.Quit) (bought ∷ read ∷ Left ∷ []) refl refl refl (λ good. refl);
-  };
+  cause = causes.Quit;
+  ended = (0, omega arith, refl);
+  bytes = quit_lines;
+  gave = (refl, refl);
+  first = codes "hello seat2";
+  lines = (gots.Line, codes "bid 0 ((2 310))") ∷ (gots.Line, codes "cash") ∷ (gots.Line, codes "quit") ∷ [];
+  rest = (gots.Line, codes "own 8") ∷ (gots.End, []) ∷ [];
+  read = refl;
+  seat = refl;
+  turns = bought ∷ read ∷ Left ∷ [];
+  items = (refl, (refl, (refl, tt)));
+  few = omega arith;
+  lawful = lawful_more (bought ∷ read ∷ []) Left lawful tt refl;
+  transcript = transcribed (ended_by causes.Quit) (bought ∷ read ∷ Left ∷ []) refl refl refl (λ good. refl);
+  stopped = refl;
+  reads = (refl, refl);
+  sent = (refl, (refl, refl));
 }
 
 -- a read failed behind the second line, where a half line had been taken
-ended_by_a_read : IsLinkOfLog (hosted words) (ended_by causes.ReadFault) 2 (two_lines ++ codes "own 8\n") two_replies
+ended_by_a_read : IsAgentsLink words (ended_by causes.ReadFault) (Lost ∷ []) (two_lines ++ codes "own 8\n") (record (quiet (two_lines ++ codes "ow") (codes "n 8\n") two_replies) { reads = 1; read_failures = Some (length (two_lines ++ codes "ow") ∷ []) })
 unfolding quiet_game request_of points_of point_of numeral signed_numeral digits
 ended_by_a_read = record {
-  place = 1;
-  listed = refl;
-  after = record (quiet (two_lines ++ codes "ow") (codes "n 8\n") two_replies) { reads = 1; read_failures = Some (length (two_lines ++ codes "ow") ∷ []) };
-  sent = refl;
-  seated = record {
-    cause = causes.ReadFault;
-    ended = (0, omega arith, refl);
-    bytes = two_lines ++ codes "ow";
-    gave = (refl, refl);
-    line = codes "hello seat2";
-    answers = (gots.Line, codes "bid 0 ((2 310))") ∷ (gots.Line, codes "cash") ∷ (gots.End, []) ∷ [];
-    first = refl;
-    seat = refl;
-    turns = bought ∷ read ∷ [];
-    rest = (gots.End, []) ∷ [];
-    served = record {
-      read = (gots.Line, codes "bid 0 ((2 310))") ∷ (gots.Line, codes "cash") ∷ [];
-      from = refl;
-      items = (refl, (refl, tt));
-      few = omega arith;
-      lawful = lawful;
-      end = ((refl, omega arith, refl), (refl, (refl, refl)), (rose_once, refl));
-    };
-    transcript = transcribed (ended_by causes.ReadFault) (bought ∷ read ∷ []) refl refl refl (λ good. refl);
-  };
+  cause = causes.ReadFault;
+  ended = (0, omega arith, refl);
+  bytes = two_lines ++ codes "ow";
+  gave = (refl, refl);
+  first = codes "hello seat2";
+  lines = (gots.Line, codes "bid 0 ((2 310))") ∷ (gots.Line, codes "cash") ∷ [];
+  rest = (gots.End, []) ∷ [];
+  read = refl;
+  seat = refl;
+  turns = bought ∷ read ∷ [];
+  items = (refl, (refl, tt));
+  few = omega arith;
+  lawful = lawful;
+  transcript = transcribed (ended_by causes.ReadFault) (bought ∷ read ∷ []) refl refl refl (λ good. refl);
+  stopped = ((refl, omega arith), refl);
+  reads = (rose_once, refl);
+  sent = (refl, (refl, refl));
 }
 
 -- a write failed in the second reply; the line behind it was taken, and not answered
 abbrev cut_replies : List ℕ
 cut_replies = welcome_text quiet_game 2 ++ codes "@0 taken 2 0\n@1 ca"
 
-ended_by_a_write : IsLinkOfLog (hosted words) (ended_by causes.WriteFault) 2 (two_lines ++ codes "own 8\n") cut_replies
+ended_by_a_write : IsAgentsLink words (ended_by causes.WriteFault) (Lost ∷ []) (two_lines ++ codes "own 8\n") (record (quiet (two_lines ++ codes "own 8\n") [] cut_replies) { writes = 1; write_failures = Some (length cut_replies ∷ []) })
 unfolding quiet_game request_of points_of point_of numeral signed_numeral digits
 ended_by_a_write = record {
-  place = 1;
-  listed = refl;
-  after = record (quiet (two_lines ++ codes "own 8\n") [] cut_replies) { writes = 1; write_failures = Some (length cut_replies ∷ []) };
-  sent = refl;
-  seated = record {
-    cause = causes.WriteFault;
-    ended = (0, omega arith, refl);
-    bytes = two_lines ++ codes "own 8\n";
-    gave = (refl, refl);
-    line = codes "hello seat2";
-    answers = (gots.Line, codes "bid 0 ((2 310))") ∷ (gots.Line, codes "cash") ∷ (gots.Line, codes "own 8") ∷ (gots.End, []) ∷ [];
-    first = refl;
-    seat = refl;
-    turns = bought ∷ read ∷ [];
-    rest = (gots.Line, codes "own 8") ∷ (gots.End, []) ∷ [];
-    served = record {
-      read = (gots.Line, codes "bid 0 ((2 310))") ∷ (gots.Line, codes "cash") ∷ [];
-      from = refl;
-      items = (refl, (refl, tt));
-      few = omega arith;
-      lawful = lawful;
-      end = (
-        record {
-          whole = welcome_text quiet_game 2 ∷ reply_line said_text bought ∷ [];
-          last = reply_line said_text read;
-          pieces = refl;
-          cut = record { count = 5; proper = omega arith; taken = refl };
-          failed = (rose_once, refl);
-        },
-        (refl, refl),
-      );
-    };
-    transcript = transcribed (ended_by causes.WriteFault) (bought ∷ read ∷ []) refl refl refl (λ good. refl);
-  };
+  cause = causes.WriteFault;
+  ended = (0, omega arith, refl);
+  bytes = two_lines ++ codes "own 8\n";
+  gave = (refl, refl);
+  first = codes "hello seat2";
+  lines = (gots.Line, codes "bid 0 ((2 310))") ∷ (gots.Line, codes "cash") ∷ [];
+  rest = (gots.Line, codes "own 8") ∷ (gots.End, []) ∷ [];
+  read = refl;
+  seat = refl;
+  turns = bought ∷ read ∷ [];
+  items = (refl, (refl, tt));
+  few = omega arith;
+  lawful = lawful;
+  transcript = transcribed (ended_by causes.WriteFault) (bought ∷ read ∷ []) refl refl refl (λ good. refl);
+  stopped = tt;
+  reads = (refl, refl);
+  sent = (
+    welcome_text quiet_game 2 ∷ reply_line said_text bought ∷ [],
+    reply_line said_text read,
+    refl,
+    record { count = 5; proper = omega arith; sent = refl; failed = (rose_once, refl) },
+  );
 }
 
 -- a JSON line for which memory was refused has its reply, and left nothing
@@ -197,35 +169,41 @@ json_line = codes "hello seat2\n{\"do\":\"cash\"}\n"
 abbrev memory_reply : List ℕ
 memory_reply = welcome_text quiet_game 2 ++ codes "{\"no\":\"memory\"}\n"
 
-memory_was_refused : IsLinkOfLog (hosted json) nothing_called 2 json_line memory_reply
+memory_was_refused : IsAgentsLink json nothing_called [] json_line (quiet json_line [] memory_reply)
 unfolding quiet_game digits
 memory_was_refused = record {
-  place = 0;
-  listed = refl;
-  after = quiet json_line [] memory_reply;
-  sent = refl;
-  seated = record {
-    cause = causes.End;
-    ended = (0, omega arith, refl);
-    bytes = json_line;
-    gave = (refl, refl);
-    line = codes "hello seat2";
-    answers = (gots.Line, codes "{\"do\":\"cash\"}") ∷ (gots.End, []) ∷ [];
-    first = refl;
-    seat = refl;
-    turns = Refused Memory ∷ [];
-    rest = (gots.End, []) ∷ [];
-    served = record {
-      read = (gots.Line, codes "{\"do\":\"cash\"}") ∷ [];
-      from = refl;
-      items = (inr refl, tt);
-      few = omega arith;
-      lawful = lawful_more [] (Refused Memory) none_lawful tt refl;
-      end = ((refl, omega arith, refl), refl, (refl, (refl, refl)), (refl, refl));
-    };
-    transcript = transcribed nothing_called (Refused Memory ∷ []) refl refl refl (λ good. refl);
-  };
+  cause = causes.End;
+  ended = (0, omega arith, refl);
+  bytes = json_line;
+  gave = (refl, refl);
+  first = codes "hello seat2";
+  lines = (gots.Line, codes "{\"do\":\"cash\"}") ∷ [];
+  rest = (gots.End, []) ∷ [];
+  read = refl;
+  seat = refl;
+  turns = Refused Memory ∷ [];
+  items = (inr refl, tt);
+  few = omega arith;
+  lawful = lawful_more [] (Refused Memory) none_lawful tt refl;
+  transcript = transcribed nothing_called (Refused Memory ∷ []) refl refl refl (λ good. refl);
+  stopped = ((refl, omega arith), refl, refl);
+  reads = (refl, refl);
+  sent = (refl, (refl, refl));
 }
+
+-- all these are links of the logs
+are_links_of_logs : IsLinkOfLog (hosted words) (ended_by causes.End) 2 two_lines two_replies
+    × IsLinkOfLog (hosted words) (ended_by causes.Quit) 2 (quit_lines ++ codes "own 9\n") quit_replies
+    × IsLinkOfLog (hosted words) (ended_by causes.ReadFault) 2 (two_lines ++ codes "own 8\n") two_replies
+    × IsLinkOfLog (hosted words) (ended_by causes.WriteFault) 2 (two_lines ++ codes "own 8\n") cut_replies
+    × IsLinkOfLog (hosted json) nothing_called 2 json_line memory_reply
+are_links_of_logs = (
+  record { place = 1; listed = refl; after = _; sent = refl; seated = seated_from_link _ _ _ _ _ _ ended_by_its_end },
+  record { place = 1; listed = refl; after = _; sent = refl; seated = seated_from_link _ _ _ _ _ _ ended_by_quit },
+  record { place = 1; listed = refl; after = _; sent = refl; seated = seated_from_link _ _ _ _ _ _ ended_by_a_read },
+  record { place = 1; listed = refl; after = _; sent = refl; seated = seated_from_link _ _ _ _ _ _ ended_by_a_write },
+  record { place = 0; listed = refl; after = _; sent = refl; seated = seated_from_link _ _ _ _ _ _ memory_was_refused },
+)
 
 -- a link of which all is known, that had been sent three bytes before
 bytes_are_those_since : HasBytes (quiet [] (codes "cash\n") (codes "hi\n")) (quiet (codes "ca") (codes "sh\n") (codes "hi\nbye\n")) (codes "cash\n") (codes "bye\n")

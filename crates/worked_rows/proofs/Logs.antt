@@ -1,6 +1,7 @@
 -- What a log has: the posts of the cash book, what two auctions leave to three agents, scores, and the lines of all that.
-use Rattle.std.proofs.Common.{◌≡◌, ℕ, List, [], ◌∷◌, ℤ, pos, Some, slice_get, refl, map, take, arith, ◌++◌, codes, neg_ℤ, replicate, reverse, false}
+use Rattle.std.proofs.Common.{◌≡◌, ℕ, zero, suc, ◌<◌, ◌==◌, List, [], ◌∷◌, ℤ, pos, Some, slice_get, refl, map, take, arith, ◌++◌, codes, neg_ℤ, replicate, reverse, false}
 use Rattle.std.specs.Fmt.{digits}
+use Rattle.std.proofs.lemmas.Bool.Decides.{nat_tests}
 use Rattle.tac_base.specs.Clients.{Preferences}
 use Rattle.tac_base.specs.declared.calls.Call.{Call}
 use Rattle.tac_base.specs.declared.calls.Call.TheVariants.{Bid, Publish, Close}
@@ -8,7 +9,6 @@ use Rattle.tac_base.specs.declared.calls.Reply.TheVariants.{Taken}
 use Rattle.auction_rules.specs.Setup.{Setup}
 use Rattle.auction_rules.specs.declared.rules.Rules.TheVariants.{Hotel as HotelRules, Flight as FlightRules, Tickets as TicketRules}
 use Rattle.auction_rules.specs.History.{Entry}
-use Rattle.auction_rules.specs.Legal.{past_of}
 use Rattle.game_text.specs.Games.{GameFile}
 use Rattle.game_text.specs.QuietGames.{quiet_game}
 use Rattle.auction_core.specs.Auctions.{AuctionHistory}
@@ -16,7 +16,7 @@ use Rattle.trade_ledger.specs.declared.cash_calls.CashCall.TheVariants.{Post, Re
 use Rattle.trade_ledger.specs.declared.cash_calls.CashReply.TheVariants.{Done, Cash}
 use Rattle.trade_ledger.specs.declared.cash_calls.CashEntry.{CashEntry}
 use Rattle.trade_ledger.specs.CashHistory.{cash_reply_of, cash_total}
-use Rattle.trade_ledger.specs.Posts.{due_post, Matched}
+use Rattle.trade_ledger.specs.Posts.{due_post, IsPosted}
 use Rattle.packages.specs.declared.travel_packages.Package.TheVariants.{None, Trip}
 use Rattle.bound_cert.specs.Trees.{leaf}
 use Rattle.settlement.specs.Score.{short_of, score_of}
@@ -27,6 +27,7 @@ use Rattle.line_protocol.specs.declared.admission.Cause.TheVariants.{Quit, ReadF
 use Rattle.line_protocol.specs.Heads.{Play, Serve}
 use Rattle.log_text.specs.LogText.{first_lines, auction_text, cash_text}
 use Rattle.log_text.specs.SheetText.{score_line, package_line, cert_line}
+use Rattle.worked_rows.proofs.Auctions.{played}
 
 abbrev bid : ℤ → ℕ → Call
 bid units price = Bid (record { units = units; price = price } ∷ [])
@@ -65,14 +66,22 @@ reading_sums_the_posts_before_it = refl
 totals_of_the_book : map (cash_total book) (0 ∷ 1 ∷ 8 ∷ []) ≡ neg_ℤ (pos 660) ∷ pos 60 ∷ pos 600 ∷ []
 totals_of_the_book = refl
 
-posts_match_in_any_order : Matched ((seats ∷ []) ∷ (offer ∷ ticket ∷ []) ∷ []) book
-posts_match_in_any_order weight = omega arith
+differ : (m n : ℕ) → m < n → (m == n) ≡ false
+differ m n less = grind (arith, nat_tests)
+
+posts_match_in_any_order : IsPosted ((seats ∷ []) ∷ (offer ∷ ticket ∷ []) ∷ []) book
+posts_match_in_any_order zero zero = refl
+posts_match_in_any_order zero (suc position) = rw (differ 0 (suc position) (omega arith)) refl
+posts_match_in_any_order (suc zero) zero = refl
+posts_match_in_any_order (suc zero) (suc zero) = refl
+posts_match_in_any_order (suc zero) (suc (suc position)) = rw (differ 1 (suc (suc position)) (omega arith)) refl
+posts_match_in_any_order (suc (suc good)) position = rw (differ 1 (suc (suc good)) (omega arith), differ 0 (suc (suc good)) (omega arith)) refl
 
 -- ---- scores
 
 -- the auction of these calls
 abbrev after : Setup → List (ℕ × Call) → AuctionHistory
-after setup calls = record { setup = setup; history = reverse (past_of setup (reverse calls)) }
+after setup calls = record { setup = setup; history = reverse (played setup calls) }
 
 -- agent 0 buys two seats at 300
 abbrev flight : AuctionHistory

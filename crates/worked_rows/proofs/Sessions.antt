@@ -12,7 +12,6 @@ use Rattle.auction_rules.specs.declared.rules.Rules.TheVariants.{Hotel as HotelR
 use Rattle.auction_rules.specs.Setup.{Setup}
 use Rattle.auction_rules.specs.History.{Entry}
 use Rattle.auction_rules.specs.Effects.{nets}
-use Rattle.auction_rules.specs.Legal.{past_of}
 use Rattle.auction_core.specs.Auctions.{AuctionHistory}
 use Rattle.floor.specs.ClosedBoards.{board_of}
 use Rattle.turn_lock.specs.Part.{part}
@@ -26,8 +25,9 @@ use Rattle.line_protocol.specs.Replies.{said_text}
 use Rattle.clock_events.specs.ClockTurns.{ClockTurn, clock_entries, clock_posts}
 use Rattle.agent_gate.specs.Items.{Asks}
 use Rattle.agent_gate.specs.Turns.{Turn, Called, CallDenied, CashRead, CashDenied, Quoted, Refused, Skipped, Left, item_of, made_at, cash_made, boards_shown, shown_length, has_left, IsLawfulTurn, AreLawful}
-use Rattle.agent_gate.specs.Served.{reply_line}
+use Rattle.agent_gate.specs.SessionEnds.{reply_line}
 use Rattle.agent_gate.proofs.LawfulTurns.{none_lawful, lawful_more}
+use Rattle.worked_rows.proofs.Auctions.{played}
 
 abbrev bid : Point
 bid = record { units = pos 1; price = 50 }
@@ -40,7 +40,7 @@ hotel = record { good = 8; rules = HotelRules 16 false; endow = replicate 8 (pos
 abbrev auction : AuctionHistory
 auction = record {
   setup = hotel;
-  history = reverse (past_of hotel (reverse ((1, calls.Bid (record { units = pos 16; price = 40 } ∷ [])) ∷ (0, calls.Bid (bid ∷ [])) ∷ (8, calls.Publish) ∷ (0, calls.Own) ∷ [])));
+  history = reverse (played hotel ((1, calls.Bid (record { units = pos 16; price = 40 } ∷ [])) ∷ (0, calls.Bid (bid ∷ [])) ∷ (8, calls.Publish) ∷ (0, calls.Own) ∷ []));
 }
 
 -- the entry of agent 0's bid, and that of its look at these points that are left

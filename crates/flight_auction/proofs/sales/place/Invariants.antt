@@ -1,5 +1,5 @@
 use Rattle.std.proofs.Common.{◌≡◌, ◌+◌, ◌++◌, length, take}
-use Rattle.auction_rules.specs.FlightSales.{owned_by}
+use Rattle.auction_rules.specs.BookStanding.{owned_by}
 use Rattle.flight_auction.proofs.sales.place.Given as goal
 
 abbrev pub invariant-loop-point : goal.invariant-loop-point

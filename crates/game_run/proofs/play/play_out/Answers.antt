@@ -2,6 +2,9 @@ use Rattle.std.proofs.Common.{◌≡◌, ◌∷◌, ◌++◌, ◌∙◌, [], All
 use Rattle.std.proofs.lemmas.List.{length-map}
 use Rattle.std.proofs.lemmas.List.Sorted.{IsPermutation-refl}
 use Rattle.game_run.specs.{IsBorneOut, desk_ids, desk_caller, floor_ids, eight_of, played_end, played_link, AreTakenPlayed}
+use Rattle.std.proofs.lemmas.List.Elements.{All-weaker}
+use Rattle.auction_rules.proofs.SameRules.{legal_history}
+use Rattle.trade_ledger.proofs.SamePosts.{posted_from_matched}
 use Rattle.game_run.proofs.AgentParts.{new_desk, eight_ready, clock_ready}
 use Rattle.game_run.proofs.PlayedSeats.{eight_agents, all_back, played_through}
 use Rattle.game_run.proofs.play.play_out.Goals as goal
@@ -59,5 +62,10 @@ returns-clause-through g c =
     (subst (All (IsBorneOut c.close.result)) desks_back c.close.ensures.borne_out) c.args.lines.items c.add_eight.new.self.links.items c.add_eight.new.self.ends.items c.agent_seats-agent_seats.ensures.lines
     (c.add_eight.ensures.gathers.links ∙ ap (λ l. l ++ map played_link (eight_of p)) c.requires.open_floor.session_ends.links.0)
     (c.add_eight.ensures.gathers.ends ∙ ap (λ l. l ++ filter_map played_end (eight_of p)) c.requires.open_floor.session_ends.ends.0)
-    (record { setups = setups; legal = c.close.ensures.legal; cash = c.close.ensures.cash; matched = c.close.ensures.matched })
+    (record {
+      setups = setups;
+      legal = All-weaker _ _ (λ auction is. legal_history auction.setup auction.history is) c.close.result.auctions c.close.ensures.legal;
+      cash = c.close.ensures.cash;
+      matched = posted_from_matched (map (λ auction. auction.history) c.close.result.auctions) c.close.result.cash c.close.ensures.matched;
+    })
     c.run_all-played.ensures.same c.run_all-played.ensures.made

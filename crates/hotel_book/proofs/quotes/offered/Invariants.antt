@@ -1,5 +1,5 @@
 use Rattle.std.proofs.Common.{◌≡◌, ◌≤◌, take}
-use Rattle.auction_rules.specs.BeatQuote.{offered}
+use Rattle.auction_rules.specs.Refusals.{offered}
 use Rattle.hotel_book.proofs.quotes.offered.Given as goal
 
 abbrev pub invariant-loop-point : goal.invariant-loop-point

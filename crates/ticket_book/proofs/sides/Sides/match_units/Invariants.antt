@@ -1,5 +1,5 @@
 use Rattle.std.proofs.Common.{◌≡◌, ◌≤◌, ◌*◌, ◌++◌, drop, length}
-use Rattle.auction_rules.specs.TicketMatch.{ticket_trades, ticket_gone}
+use Rattle.auction_rules.specs.BookPairs.{ticket_trades, ticket_gone}
 use Rattle.ticket_book.specs.Sides.{both}
 use Rattle.ticket_book.proofs.Matched.{untaken}
 use Rattle.ticket_book.proofs.sides.Sides.match_units.Given as goal

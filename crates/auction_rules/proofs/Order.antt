@@ -4,7 +4,9 @@ use Rattle.std.specs.List.{AllByRecursion, cons_option, range_with_len}
 use Rattle.std.proofs.lemmas.Bool.Decides.{nat_tests}
 use Rattle.std.proofs.lemmas.List.Elements.{filter-append}
 use Rattle.std.proofs.lemmas.List.Concat.{flat_map-append}
-use Rattle.flight_auction.specs.Prelude.{Placed, BidUnit, agents, units_of, Entry, last_bid, units_of_last, by_position, placed_bids}
+use Rattle.auction_rules.specs.{agents, units_of, Entry, last_bid, units_of_last, by_position, placed_bids}
+use Rattle.auction_rules.specs.declared.units.Placed.{Placed}
+use Rattle.auction_rules.specs.declared.units.BidUnit.{BidUnit}
 use Rattle.auction_rules.proofs.Agents.{number_same, numbers_differ, another, agents_pick}
 use Rattle.auction_rules.proofs.Standing.{Each, IsBidOf, last_is, number_is}
 use Rattle.auction_rules.proofs.Lists.{filter-filter, filter-flat_map, flat_map_alike, filter-filter_map, all-filter, all-append}

@@ -1,0 +1,50 @@
+-- Why a session ended, in three independent columns: why it stopped, whether a read failed, and what was sent. The causes are our own
+-- rule.
+use Rattle.std.specs.Prelude.{⊤, ◌≡◌, ℕ, ◌<◌, ◌⊎◌, List, [], ◌∷◌, ◌++◌, true, false, length, take}
+use Rattle.std.specs.List.{concat}
+use Rattle.tac_base.specs.declared.limits.TheConstants.{SESSION_LINES}
+use Rattle.line_protocol.specs.declared.saying.Said.{Said}
+use Rattle.line_protocol.specs.declared.admission.Cause.{Cause}
+use Rattle.tac_io.specs.LinkCalls.{LastReadFails, LastWriteFails, NoReadFails, NoWriteFails}
+use Rattle.tac_io.specs.States.{LinkState}
+use Rattle.tac_io.specs.Known.{known_then, IsAtEnd}
+use Rattle.tac_io.specs.declared.line_got.LineGot.{LineGot}
+use Rattle.tac_io.specs.declared.line_got.LineGot.TheVariants as gots
+use Rattle.line_protocol.specs.declared.admission.Cause.TheVariants as causes
+use Rattle.agent_gate.specs.Turns.{Turn, said_of, has_left}
+
+-- the line of a turn's reply, with its line end
+-- Row: each_line_is_asked_and_answered_once (worked_rows/proofs/Sessions.antt)
+abbrev pub reply_line : (Said → List ℕ) → Turn → List ℕ
+reply_line text turn = text (said_of turn) ++ 10 ∷ []
+
+-- The agent has not quit, and has lines left.
+abbrev pub HasRoom : List Turn → Type 0
+HasRoom turns = (has_left turns ≡ false) × (length turns < SESSION_LINES)
+
+-- Why the session stopped: the agent quit; the link's bytes ended; no further line came before a read failed; a write failed; or the
+-- session's lines, or its bytes, were used up. `rest` is what the bytes that were taken give after the lines of the turns.
+abbrev pub StopsBy : Cause → List Turn → List (LineGot × List ℕ) → LinkState → Type 0
+StopsBy causes.Quit turns rest after = has_left turns ≡ true
+StopsBy causes.End turns rest after = HasRoom turns × (rest ≡ (gots.End, []) ∷ []) × IsAtEnd after.left
+StopsBy causes.ReadFault turns rest after = HasRoom turns × (rest ≡ (gots.End, []) ∷ [])
+StopsBy causes.WriteFault turns rest after = ⊤
+StopsBy causes.Budget turns rest after = (has_left turns ≡ false) × ((length turns ≡ SESSION_LINES) ⊎ ((length turns < SESSION_LINES) × (rest ≡ (gots.Budget, []) ∷ [])))
+
+-- After a read fault the last read failed, and nothing was taken after it. With any other cause no read failed.
+abbrev pub ReadsBy : Cause → LinkState → LinkState → Type 0
+ReadsBy causes.ReadFault before after = LastReadFails before after
+ReadsBy cause before after = NoReadFails before after
+
+-- The last line was cut off: a write failed, and nothing was sent after that. All lines before it were sent whole, and of the last one
+-- a proper prefix, which may be empty.
+pub record CutsLastLine (lines : List (List ℕ)) (last : List ℕ) (before after : LinkState) : Type 0 where
+  pub count : ℕ
+  pub proper : count < length last
+  pub sent : after.sent ≡ known_then before.sent (concat lines ++ take count last)
+  pub failed : LastWriteFails before after
+
+-- After a write fault the last line was cut off. With any other cause all lines were sent, and no write failed.
+abbrev pub SendsBy : Cause → List (List ℕ) → LinkState → LinkState → Type 0
+SendsBy causes.WriteFault lines before after = (front : List (List ℕ)) × (last : List ℕ) × (lines ≡ front ++ last ∷ []) × CutsLastLine front last before after
+SendsBy cause lines before after = (after.sent ≡ known_then before.sent (concat lines)) × NoWriteFails before after
