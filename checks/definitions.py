@@ -2,7 +2,8 @@
 
 A module is a file of a crate's `specs/`. Its path is `CRATE.specs.NAME`, as imports write it. A
 name is followed through imports, aliases and modules that are given again, to definitions, types of
-the code (`declared`), limits and words of the toolchain's library.
+the code (`declared`), limits and words of the toolchain's library. A call of the code is written as
+NAME or TYPE::NAME.
 """
 
 import os
@@ -12,7 +13,6 @@ from typing import Dict, Iterable, List, Optional, Set, Tuple
 
 ROOT = os.path.dirname(os.path.dirname(os.path.abspath(__file__)))
 CRATES = os.path.join(ROOT, "crates")
-LIMITS = "tac_base.specs.declared.limits.TheConstants"
 WORD = re.compile(r"[A-Za-z_][A-Za-z0-9_'?]*(?:\.[A-Za-z_][A-Za-z0-9_'?]*)*")
 HEADS = r"(?:(?:pub|abbrev|unfoldable) )*"
 USES = ("use ", "pub use ", "unfoldable pub use ")
@@ -21,10 +21,12 @@ Target = Tuple[str, str]  # the path of a module, and a name in it
 
 @dataclass
 class Definition:
-    """A definition: its name, the number of its first line, counted from 1, and its lines."""
+    """A definition: its name, the numbers of its first line, counted from 1, and of its last, and
+    its lines without comments."""
 
     name: str
     line: int
+    last: int = 0
     lines: List[str] = field(default_factory=list)
 
 
@@ -39,13 +41,10 @@ class Module:
         self.given_again: List[str] = []
         self.passed_on: Set[str] = set()
         self.definitions: Dict[str, Definition] = {}
-        self.renamed: List[str] = []
         self.parameters: Dict[str, List[str]] = {}
-        self.mutual: Dict[str, int] = {}  # of a definition in a mutual block the block's line
         self._targets: Dict[str, List[Target]] = {}
         with open(file, encoding="utf-8") as source:
             lines = source.read().split("\n")
-        self.about = " ".join(line[2:].strip() for line in leading_comment(lines))
         self._read_imports(lines)
         self._read_definitions(lines)
         self.operators = {
@@ -67,24 +66,22 @@ class Module:
                 self.passed_on.update(names if "pub use " in line else [])
             elif whole:
                 self.aliases[whole.group(2)] = whole.group(1)
-            if whole or " as " in line and line.startswith("use "):
-                self.renamed.append(line)
             elif given:
                 self.given_again.append(given.group(1))
 
     def _read_definitions(self, lines: Iterable[str]) -> None:
-        level, current, block, mutual = 0, None, None, None
+        level, current, block = 0, None, None
         for number, line in enumerate(lines, 1):
             text, depth = line.strip(), len(line) - len(line.lstrip())
             if not text or text.startswith(("--", *USES, "pub mod ", "infix")):
                 continue
             if depth == 0:
-                level, block, mutual = 0, None, None
+                level, block = 0, None
                 if text.startswith("module "):
                     block, level, current = [line], 2, None
                     continue
             if text in ("mutual", "abbrev mutual"):
-                level, current, mutual = depth + 2, None, number
+                level, current = depth + 2, None
                 continue
             if depth == level:
                 named = re.match(HEADS + r"(?:record|data) ([^\s:({]+)", text) or re.match(
@@ -98,10 +95,10 @@ class Module:
                     current = equation.group(0)
                 if block and current is not None:
                     self.parameters.setdefault(current, block)
-                if mutual and current is not None:
-                    self.mutual.setdefault(current, mutual)
             if current is not None:
-                self.definitions.setdefault(current, Definition(current, number)).lines.append(line)
+                one = self.definitions.setdefault(current, Definition(current, number))
+                one.lines.append(line)
+                one.last = number
             elif block is not None:
                 block.append(line)
 
@@ -148,13 +145,6 @@ class Module:
         ]
 
 
-def leading_comment(lines: Iterable[str]) -> Iterable[str]:
-    for line in lines:
-        if not line.startswith("--"):
-            return
-        yield line
-
-
 def imported(path: str, items: str) -> Dict[str, Target]:
     """The names that an import of some items brings, and what each stands for."""
     pairs = [[name.strip() for name in item.split(" as ")] for item in items.split(",")]
@@ -190,9 +180,6 @@ class Definitions:
                     self.given_names.update(
                         {(module.path, name): it for name, it in module.imports.items()}
                     )
-        self.crates = set(module.crate for module in self.modules.values()) | set(
-            os.listdir(CRATES)
-        )
         for module in self.modules.values():
             module.imports = {name: self.owner(it) for name, it in module.imports.items()}
 
@@ -207,7 +194,8 @@ class Definitions:
         """All that these names lead to, in the order in which it was met: definitions, types of the
         code, limits and words of the library. A field or a constructor stands for its type. What
         the names of `stop` say is not followed."""
-        todo, met, found = list(start), set(), {}
+        todo, met = list(start), set()
+        found: Dict[Target, None] = {}
         while todo:
             path, name = todo.pop(0)
             path, name = self.owner((path, name))
@@ -229,38 +217,57 @@ class Definitions:
                 ]
         return found
 
-    def used_modules(self, path: str, names: Iterable[str]) -> List[str]:
-        """The other modules that these definitions of a module use."""
-        targets = [target[0] for name in names for target in self.modules[path].targets(name)]
-        targets = [self.given.get(target, target) for target in targets]
-        return list(
-            dict.fromkeys(target for target in targets if target in self.modules and target != path)
-        )
+
+CALLS = re.compile(
+    r"^(?:impl|(?:pub(?:\(\w+\))? )?trait)\b([^{]*)\{|^(\})"
+    r"|^[ \t]*(?:pub(?:\(\w+\))? )?(?:const )?fn (\w+)",
+    re.M,
+)
+GHOST_USE = re.compile(r"ghost use Rattle\.([\w.]+?)(?:\.\{(.*?)\}| as (\w+));")
 
 
-def clauses_of(file: str, call: str) -> Dict[str, List[Target]]:
-    """Each named clause of a call of the code, with what the names of its text stand for."""
+def head_of(text: str, call: str) -> Tuple[int, int]:
+    """Where a call begins in the text of a source, and where its clauses end. Raises a LookupError
+    if there is not exactly one such call."""
+    parts, owner, found = list(CALLS.finditer(text)), "", []
+    for part in parts:
+        header, closing, name = part.groups()
+        if header is not None:
+            header = re.sub(r"^<.*?>(?= \w)", "", header)
+            owner = re.findall(r"\w+", header.split(" for ")[-1])[0]
+        owner = "" if closing else owner
+        if name and call == (f"{owner}::{name}" if owner else name):
+            found.append(part.start(3))
+    if len(found) != 1:
+        raise LookupError(f"there are {len(found)} calls {call}")
+    bodies = [*re.finditer(r"^[ \t]*\{$", text, re.M), *parts]
+    return found[0], min((b.start() for b in bodies if b.start() > found[0]), default=len(text))
+
+
+def clauses_of(file: str, call: str) -> Dict[str, Tuple[int, List[Target]]]:
+    """The clauses of a call of the code by their names, each with its line and what the names of
+    its text stand for. A clause without a name has an empty one, and what is required is named
+    `requires NAME`. Raises a LookupError if there is not exactly one such call."""
     with open(file, encoding="utf-8") as source:
         text = source.read()
     names: Dict[str, Target] = {}
-    for several in re.finditer(r"ghost use Rattle\.([\w.]+)\.\{(.*?)\};", text):
-        names.update(imported(several.group(1), several.group(2)))
-    body = text[text.index(f"pub fn {call}") :]
-    pattern = r"(?:ensures|requires) (\w+) \{(.*?)\}\n(?=    ensures|    requires|    //|\{)"
-    return {
-        clause.group(1): [
-            names[word.split(".")[0]]
-            for word in WORD.findall(clause.group(2))
-            if word.split(".")[0] in names
-        ]
-        for clause in re.finditer(pattern, body, re.S)
-    }
-
-
-def line_of(file: str, pattern: str, after: int = 0) -> Optional[int]:
-    """The first line of a file, behind a given one, that begins with a pattern, if one does."""
-    with open(file, encoding="utf-8") as source:
-        for number, line in enumerate(source, 1):
-            if number > after and re.match(pattern, line):
-                return number
-    return None
+    modules: Dict[str, str] = {}
+    for path, several, alias in GHOST_USE.findall(text):
+        names.update(imported(path, several) if several else {})
+        modules.update({alias: path} if alias else {})
+    begin, end = head_of(text, call)
+    found: Dict[str, Tuple[int, List[Target]]] = {}
+    for clause in re.finditer(r"(?:ensures |(requires ))(?:(\w+) )?\{", text[begin:end]):
+        last, depth = begin + clause.end(), 1
+        while depth:
+            depth += {"{": 1, "}": -1}.get(text[last], 0)
+            last += 1
+        line = text.count("\n", 0, begin + clause.start()) + 1
+        targets = found.setdefault("".join(filter(None, clause.groups())), (line, []))[1]
+        for word in WORD.findall(text, begin + clause.end(), last):
+            first, _, rest = word.partition(".")
+            if first in names:
+                targets.append(names[first])
+            elif first in modules and rest:
+                targets.append((modules[first], rest.split(".")[0]))
+    return found

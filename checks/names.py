@@ -71,7 +71,7 @@ def main() -> int:
     for name, keys in defined_twice(everywhere).items():
         print("%s: %s" % (name, ", ".join(keys)))
     clauses = clauses_of(os.path.join(CRATES, "tacd", "src", "top.rt"), "tac")
-    reached = definitions.reached([name for names in clauses.values() for name in names])
+    reached = definitions.reached([name for _, names in clauses.values() for name in names])
     # An operator is one word at several types, as `>>=` of a result and of an optional value.
     believed = [
         (path, name) for path, name in reached if path in definitions.modules and "◌" not in name

@@ -228,7 +228,7 @@ def seat_of(boards: Boards, lines: Sequence[bytes]) -> Optional[int]:
     """The agent whose seat the first line takes, if the head of the log gives it to a link."""
     for agent, word in enumerate(boards.game.words):
         if lines and lines[0] == b"hello %b" % word.encode("ascii"):
-            is_listed = agent in boards.log.seats
+            is_listed = boards.log.kind == "serve" and agent in boards.log.seats
             return agent if is_listed else None
     return None
 
