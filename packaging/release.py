@@ -45,7 +45,9 @@ from geesefuton.processes import command, tell  # noqa: E402
 TREE = ("README.md", "LICENSE", "CHANGELOG.md", "CITATION.cff", "quickstart", "tools", "examples",
         "docs", "python/geesefuton", "python/README.md", "python/pyproject.toml",
         "packaging/Containerfile")
-NOT_TAKEN = ("tools/release",)  # a clone alone can make a release
+# Only in a clone can one make a release, or read the definitions by the script of the pages.
+NOT_TAKEN = ("tools/release", "docs/reading.py", "docs/chapters.tsv", "docs/left_out.tsv",
+             "docs/rules.tsv")
 PACKAGE = Path("python/geesefuton")
 
 

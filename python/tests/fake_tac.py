@@ -7,9 +7,8 @@ is the exit status of `serve` and `step`, below 0 for a signal that ends `serve`
 FAKE_TAKEN makes it end as if its port were taken, once, and FAKE_EARLY at once. FAKE_LATE is how
 many seconds `serve` takes until it listens, and FAKE_HEAD stands at the head of its log; with
 FAKE_STAYS it does not end after that. While there is a file FAKE_STRANGER, the first link is a
-stranger's, which says what is in the file; the file is removed then, if its name does not end with
-`stays`. FAKE_SLOW is how many seconds each line waits for its answer, and a line that begins with
-FAKE_HANG has none.
+stranger's, which says what is in the file; the file is removed then. FAKE_SLOW is how many seconds
+each line waits for its answer, and a line that begins with FAKE_HANG has none.
 
 `audit` calls each log sound, and `vouch` vouches for each link of a seat.
 
@@ -133,8 +132,7 @@ def stranger(port: int) -> socket.socket:
         link.connect(("127.0.0.1", port))
         with open(file, "rb") as said:
             link.sendall(said.read())
-        if not file.endswith("stays"):
-            os.remove(file)
+        os.remove(file)
     return link
 
 

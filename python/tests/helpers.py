@@ -92,8 +92,8 @@ def refusal(module: str, *words: object) -> Tuple[int, str]:
         patch(mock.patch("sys.argv", [module.rpartition(".")[2], *map(str, words)]))
         patch(mock.patch("geesefuton.processes.stop_on_signals"))
         for place in (module, "processes", "arguments"):
-            patch(mock.patch(f"geesefuton.{place}.tell", lambda text: told.append(text + "\n"),
-                             create=True))
+            patch(mock.patch(f"geesefuton.{place}.tell",
+                             lambda text, is_passing=False: told.append(text + "\n"), create=True))
         return command.main(), "".join(told)
 
 

@@ -84,7 +84,7 @@ class Commands(unittest.TestCase):
                 out if target == 1 else target, "standard output" if target == 1 else "")))
             for module in ("experiments.profile_study", "experiments.tournament", "processes"):
                 patch(mock.patch(f"geesefuton.{module}.tell",
-                                 lambda text: told.append(text + "\n")))
+                                 lambda text, is_passing=False: told.append(text + "\n")))
             got = profiles.main()
         self.assertEqual(got, status, "".join(told))
         printed = self.place / "printed"

@@ -203,7 +203,7 @@ class OneAgent(Record):
 
     def test_a_log_that_seats_somebody_else(self) -> None:
         for other in ("lost", "seated 3"):
-            log = self.played.log.replace("link 2 seated 2", f"link 2 {other}")
+            log = re.sub(r"(link \d+) seated 2\n", rf"\1 {other}\n", self.played.log)
             self.assertEqual(self.judge(log=log, proved=False), "unvouched seat")
         log = re.sub("serve\n(link .*\n|end .*\n|missed .*\n)*", "play\n", self.played.log)
         self.assertEqual(self.judge(log=log, proved=False), "unvouched seat")

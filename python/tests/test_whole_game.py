@@ -247,8 +247,8 @@ class WholeGame(unittest.TestCase):
         page = self.run_tool("report", self.game, self.log)
         self.assertFalse([word for word in WORDS if word in page])
         for name, row in zip(NAMES, log.scores):
-            self.assertIn(f"<b>{name}</b>: trips worth {row.best}, cash {row.cash}, "
-                          f"score {row.score}", page)
+            said = f"trips worth {row.best:,}, cash {row.cash:,}, score {row.score:,}"
+            self.assertIn(f"<b>{name}</b>: {said.replace('-', '−')}", page)
 
     def run_tool(self, name: str, *words: object) -> str:
         """What a command of the package writes."""
