@@ -6,9 +6,9 @@
 First a class's game: 10,000 lines of eight agents that bid, ask for quotes, own and cash, and each
 agent's link. Then the greatest files. A log of nearly 67,108,864 bytes: eight agents make all bids
 that they may, of 16 points each; all tickets are traded, and as many seats as fit; and they read
-their cash as often as they may. A link whose agent sent 65,536 lines in 67,108,863 bytes: its bids,
+their cash as often as they may. A link whose agent sent 65,536 lines in 67,108,864 bytes: its bids,
 its readings, and lines that are too long; or quotes in their place, so that all boards are printed.
-And what such a link was sent, filled up to 67,108,863 bytes with lines that no reply is.
+And what such a link was sent, filled up to 67,108,864 bytes with lines that no reply is.
 
 The games are played by scripts, and their logs get the head of a served one. Each command runs
 --runs times; the output has the least and the greatest of its processor times, user and system, and
@@ -33,7 +33,7 @@ from made_records import served, text_of  # noqa: E402
 
 from geesefuton.records.games import FLIGHTS, HOTELS, TICKETS, read_game, welcome  # noqa: E402
 
-MOST = 67_108_864  # bytes of a log; a file of a link has fewer
+MOST = 67_108_864  # bytes of a log, and of a file of a link
 BIDS = 1024  # of each agent in each auction, and as many readings of cash
 LINES = 65_536  # of a session
 CLASS = 10_000  # lines of a class's game
@@ -102,7 +102,7 @@ class Played:
         text = run([tac, "play", self.game, script]).text
         script.unlink()
         start = text.index("taclog 1\n")
-        self.log.write_text(served(text[start:]))
+        self.log.write_text(served(text[start:], ["end"] * 8))
         self.said: List[List[str]] = [[] for _ in range(8)]
         for line in text[:start].splitlines():
             self.said[int(line[0])].append(line[2:])
@@ -163,7 +163,7 @@ def filled(link: Link) -> Link:
     between its own."""
     asked, said = link.asked.split(b"\n")[:-1], link.said.split(b"\n")[:-1]
     spare = LINES - (len(asked) - 1)
-    left = MOST - 1 - len(link.asked) - spare
+    left = MOST - len(link.asked) - spare
     long = [b"x" * (left * (each + 1) // spare - left * each // spare) for each in range(spare)]
     asked[1:1], said[10:10] = long, [b"no toolong"] * spare
     return Link(b"\n".join([*asked, b""]), b"\n".join([*said, b""]))
@@ -217,7 +217,7 @@ def main() -> int:
             vouch("vouch, all quotes" if has_quotes else "vouch, lines too long", played,
                   whole_link)
             rest = b"x" * 511 + b"\n"
-            more = rest * ((MOST - 1 - len(whole_link.said)) // len(rest))
+            more = rest * ((MOST - len(whole_link.said)) // len(rest))
             vouch("the same, sent as much as can be", played,
                   Link(whole_link.asked, whole_link.said + more))
     return 0

@@ -7,8 +7,10 @@
 In turn a line or a reply of an agent's record is changed, dropped, doubled or swapped with the next
 one; so is a line of the log, an entry, a trade, a post or a reading, whose numbers of entries are
 then mended; and the log is that of the same game with one call dropped, doubled, swapped, changed
-or made by another agent, which is sound, so that all of it depends on the link. Every second record
-is in JSON. Where the log is not sound, `tac vouch` has to say what `tac audit` says.
+or made by another agent, which is sound, so that all of it depends on the link. So is a log that
+gives another cause for the end of the agent's session, which quits or does not; and replies say
+that there was no memory for a line. Every second record is in JSON. Where the log is not sound,
+`tac vouch` has to say what `tac audit` says.
 
 It ends with a line for each kind, of how many were not sound, not vouched for, and vouched for, and
 with 0 if both readings agreed on all.
@@ -37,6 +39,7 @@ from geesefuton.records.replies import read_request, request_json
 LINES = 160  # of a script
 WELCOME = 10
 OF_GAME = 20  # records of a game
+CAUSES = ("quit", "end", "readfault", "writefault", "budget")
 
 
 class Record(NamedTuple):
@@ -175,6 +178,28 @@ class Changes:
                              lambda line: line[:2] + self.other_line(line[2:]))
         return record._replace(log=self.play(script).log.split("\n"))
 
+    def cause(self, record: Record) -> Record:
+        """The cause of the session's end, where the agent quit or did not."""
+        asked, said = list(record.asked), list(record.said)
+        if self.dice.random() < 0.5:
+            asked.append("quit")
+            said += ["bye"] * (self.dice.random() < 0.7)
+        cause, start = self.dice.choice(CAUSES), f"end {self.agent} "
+        return Record(asked, said, [f"{start}{cause}" if line.startswith(start) else line
+                                    for line in record.log])
+
+    def memory(self, record: Record) -> Record:
+        """Replies that say that there was no memory, in place of others or to lines of their own."""
+        asked, said = list(record.asked), list(record.said)
+        for _ in range(self.dice.randint(1, 3)):
+            place = self.dice.randrange(len(said) - WELCOME + 1)
+            if self.dice.random() < 0.8:
+                asked.insert(place + 1, self.other_line("cash"))
+                said.insert(place + WELCOME, "no memory")
+            elif place + WELCOME < len(said):
+                said[place + WELCOME] = "no memory"
+        return record._replace(asked=asked, said=said)
+
     def logged(self, record: Record, form: str) -> Record:
         """A line of the log that has a form."""
         places = [place for place, line in enumerate(record.log) if re.match(form, line)]
@@ -197,7 +222,7 @@ class Changes:
         return drawn_line(self.dice, [self.dice.choice(list(GOODS)), 3, 9])
 
 
-KINDS = ("line", "reply", "entry", "trade", "post", "reading", "call")
+KINDS = ("line", "reply", "entry", "trade", "post", "reading", "call", "cause", "memory")
 
 
 def in_json(record: Record) -> Record:

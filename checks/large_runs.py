@@ -21,7 +21,7 @@ from geesefuton.program import ProgramError
 
 GAME = str(TOP / "examples" / "first.game")
 GAME_BYTES = 1_048_576  # that a game file may have
-TEXT_BYTES = 67_108_864  # that a script, a log or an account may have
+TEXT_BYTES = 67_108_864  # that a script, a log, an account or a file of a link may have
 CALLS = 1024  # that an agent may make in one auction
 MOST = 120  # seconds of a run
 
@@ -97,6 +97,11 @@ def shown(program: str, folder: Path) -> Iterator[Tuple[str, bool]]:
     long.write_bytes(bytes(TEXT_BYTES + 1))
     done = ran(program, ["solve", long])
     yield "an account that is too long", (done.returncode, done.stdout) == (8, b"text too long\n")
+    for size, due in ((TEXT_BYTES, (9, b"unvouched seat\n")),
+                      (TEXT_BYTES + 1, (8, b"text too long\n"))):
+        long.write_bytes(bytes(size))
+        done = ran(program, ["vouch", live, log, long, long])
+        yield f"a record of {size} bytes", (done.returncode, done.stdout) == due
 
 
 def main() -> int:

@@ -33,7 +33,7 @@ def play(folder: Path, script: Sequence[str], live: bool = True, seed: int = 42)
     (folder / "script").write_text("".join(f"{line}\n" for line in script))
     text = program.play(folder / "game", folder / "script")
     start = text.index("taclog 1\n")
-    replies, log = text[:start].splitlines(), served(text[start:])
+    replies = text[:start].splitlines()
     asked = [[f"hello {word}"] for word in game.words]
     said = [[f"welcome {seat}", *re.findall(f"(?m)^(?:endow|client) {seat} .*$", game.text())]
             for seat in range(8)]
@@ -42,14 +42,15 @@ def play(folder: Path, script: Sequence[str], live: bool = True, seed: int = 42)
             asked[int(line[0])].append(line[2:])
     for line in replies:
         said[int(line[0])].append(line[2:])
-    return Played(game.text(), log, asked, said)
+    ends = ["quit" if "bye" in lines else "end" for lines in said]
+    return Played(game.text(), served(text[start:], ends), asked, said)
 
 
-def served(log: str) -> str:
-    """The log of a game by a script with the head of a served one, in which each agent had a seat
-    and ended its link."""
+def served(log: str, ends: Sequence[str]) -> str:
+    """The log of a game by a script with the head of a served one, in which each agent had a seat,
+    and whose sessions ended for these causes."""
     head = [f"link {seat} seated {seat}" for seat in range(8)]
-    head += [f"end {seat} end" for seat in range(8)] + ["missed 0"]
+    head += [f"end {seat} {cause}" for seat, cause in enumerate(ends)] + ["missed 0"]
     return log.replace("\nplay\n", "\n" + "\n".join(["serve", *head]) + "\n", 1)
 
 

@@ -5,7 +5,7 @@ said: a plain reading of the rules, which shares no line with what is proved.
     checks/vouching.py GAME LOG ASKED SAID [json]
     checks/vouching.py GAME LOG --journal JOURNAL
 
-The first prints `vouched A whole N` or `vouched A cut N M`, with status 0, or the first difference,
+The first prints `vouched A whole L` or `vouched A cut L N`, with status 0, or the first difference,
 with status 9. The second judges the links of the lobby to its server, by its journal: a line for
 each of the eight seats, and how many of them are vouched for. The log is audited first, by the
 program that the variable TAC names, or the built one; a refusal or a flaw is printed as it is told.
@@ -15,15 +15,19 @@ agent's ten lines, and the lines behind the first led to the agent's whole part 
 entry once and in order, with the replies that came. The replies to the last lines may be missing,
 and half a line behind the last line end of either file is not compared.
 
-- `vouched A whole N`: agent A; each of N lines, up to `quit` if that was asked, has its reply, and
+- `vouched A whole L`: agent A; each of L lines, up to `quit` if that was asked, has its reply, and
   no half reply stands behind these.
-- `vouched A cut N M`: N replies came. Of the lines behind these, M left an entry or a reading.
+- `vouched A cut L N`: L replies came. Of the lines behind these, N left an entry or a reading.
+- `memory M` behind one of these: so many replies say that the server had no memory for the line.
 - `unvouched seat`: the first line takes no seat of the game, or the log gives that seat to nobody.
 - `unvouched welcome`: the ten lines of that agent did not come.
 - `unvouched line N`: the N-th line behind the greeting was not answered so, or there is none; those
   before it were answered as they should be.
 - `unvouched entry G P`, `unvouched cash P`: no line asked this entry of the agent. It is the lowest
   of those that are left where the reading stopped, the cash book last.
+- `unvouched cause`: all of this is right, but the session can't have ended as the log says: it was
+  answered `bye`, and the cause is not `quit`; nothing is left over, and a write failed; or its
+  budget was used up, by at most 65,535 lines and in fewer than 67,108,864 bytes.
 """
 
 import argparse
@@ -47,7 +51,7 @@ from geesefuton.records.replies import Points, Request, entry_words, read_points
 
 MOST_CALLS = 1024  # of an agent at a good, and as many readings of its cash
 MOST_LINES = 65_536  # of a session
-MEMORY = b'{"no":"memory"}'
+MEMORY = b"no memory"
 TEXT_REFUSED, READ_FAULT = 8, 3  # exit statuses
 
 _GOOD = r"(0|[1-9][0-9]{0,4})"
@@ -164,7 +168,8 @@ class Part:
             Whether the log has it so.
         """
         asked = asked_by(line, self._form)
-        if self._form == "json" and reply == MEMORY and asked != "no toolong":
+        if (self._form == "json" and reply == said_in(MEMORY, "json")
+                and asked != "no toolong"):
             return True
         if isinstance(asked, str):
             return self._fits(asked, reply)
@@ -255,13 +260,26 @@ def vouching(boards: Boards, asked: bytes, said: bytes, form: str = "words") -> 
         if (part.has_left or number > min(len(lines), MOST_LINES)
                 or not part.take(lines[number - 1], reply)):
             return f"unvouched line {number}"
-    answered, is_whole = part.taken, part.has_left or len(replies) == len(lines)
+    answered, is_over, has_bye = part.taken, len(replies) == len(lines), part.has_left
     left = left_behind(part, lines[len(replies):MOST_LINES])
     if left:
         return f"unvouched {left}"
-    if is_whole and said.endswith(b"\n"):
-        return f"vouched {agent} whole {len(replies)}"
-    return f"vouched {agent} cut {len(replies)} {part.taken - answered}"
+    is_whole = (has_bye or is_over) and said.endswith(b"\n")
+    if not may_end(boards.log.ends.get(agent, ""), asked, has_bye, is_whole):
+        return "unvouched cause"
+    memory = replies.count(said_in(MEMORY, form))
+    told = f"whole {len(replies)}" if is_whole else f"cut {len(replies)} {part.taken - answered}"
+    return f"vouched {agent} {told}" + f" memory {memory}" * (memory > 0)
+
+
+def may_end(cause: str, asked: bytes, has_bye: bool, is_whole: bool) -> bool:
+    """Whether a session may have ended for a cause, by the record of its link: what was asked,
+    whether a `bye` came, and whether nothing is left over."""
+    if has_bye or cause == "quit":
+        return cause == "quit"
+    if cause == "budget":
+        return asked.count(b"\n") > MOST_LINES or len(asked) >= MOST_BYTES
+    return cause in ("end", "readfault") or (cause == "writefault" and not is_whole)
 
 
 def left_behind(part: Part, lines: Sequence[bytes]) -> str:
@@ -288,7 +306,7 @@ def _read(file: Path) -> bytes:
         OSError: It cannot be read.
     """
     with file.open("rb") as stream:
-        return stream.read(MOST_BYTES)
+        return stream.read(MOST_BYTES + 1)
 
 
 def _arguments() -> argparse.Namespace:
@@ -342,7 +360,7 @@ def main() -> int:
         except OSError:
             print("fault read")
             return READ_FAULT
-        if len(texts[-1]) == MOST_BYTES:
+        if len(texts[-1]) > MOST_BYTES:
             print("text too long")
             return TEXT_REFUSED
     said = vouching(boards, *texts, given.form)

@@ -361,7 +361,7 @@ def audit(game: Word, log: Union[Word, bytes], timeout: Optional[float] = None) 
 
 def vouch(game: Word, log: Union[Word, bytes], asked: Word, said: Word, form: str = "words",
           timeout: Optional[float] = None) -> str:
-    """What is said of a log by the bytes of one link: `vouched A whole N`, `vouched A cut N M`, the
+    """What is said of a log by the bytes of one link: `vouched A whole L`, `vouched A cut L N`, the
     log's first flaw, or the first difference, such as `unvouched line 3`.
 
     Args:

@@ -188,6 +188,26 @@ class OneAgent(Record):
         self.assertEqual(self.judge(asked + self.asked[place:], said), self.lowest_from(4))
         self.assertEqual(self.judge(asked + self.asked[place:], said[:-1]), self.lowest_from(4))
 
+    def test_a_cause_that_the_record_does_not_allow(self) -> None:
+        unquit, unsaid = self.asked[:-1], self.said[:-1]
+        whole, cut = f"vouched 2 whole {self.count - 1}", f"vouched 2 cut {self.count - 1} 0"
+        for cause, answered, unanswered, unasked in (
+                ("quit", f"vouched 2 whole {self.count}", cut, whole),
+                ("end", "unvouched cause", cut, whole),
+                ("readfault", "unvouched cause", cut, whole),
+                ("writefault", "unvouched cause", cut, "unvouched cause"),
+                ("budget", "unvouched cause", "unvouched cause", "unvouched cause")):
+            log = self.played.log.replace("end 2 quit\n", f"end 2 {cause}\n")
+            self.assertEqual(self.judge(log=log), answered, cause)
+            self.assertEqual(self.judge(said=unsaid, log=log), unanswered, cause)
+            self.assertEqual(self.judge(unquit, unsaid, log), unasked, cause)
+        # What comes first is told, and a budget of 65,536 lines may be used up.
+        log = self.played.log.replace("end 2 quit\n", "end 2 budget\n")
+        self.assertEqual(self.judge(unquit[:-1], unsaid[:-1], log), self.lowest_from(self.count - 1))
+        many = unquit + ["own 3"] * (65_536 - len(unquit))
+        self.assertEqual(self.judge(many, unsaid, log), "unvouched cause")
+        self.assertEqual(self.judge([*many, "own 3"], unsaid, log), cut)
+
     def test_another_greeting_or_welcome(self) -> None:
         for first in ("hello seat9", "hello", " hello seat2", "hello seat2 ", "hello  seat2",
                       "HELLO seat2", "hello seat2\r", "own 16"):
@@ -363,7 +383,7 @@ class Forms(Record):
             asked = doubled(self.asked, HELLO + place)
             said = [*self.said[:WELCOME + place], '{"no":"memory"}', *self.said[WELCOME + place:]]
             due = (f"unvouched line {place + 1}" if len(asked[HELLO + place]) > 512
-                   else f"vouched 2 whole {self.count + 1}")
+                   else f"vouched 2 whole {self.count + 1} memory 1")
             self.assertEqual(self.judge(asked, said, form="json"), due)
         # Without a reply no line is passed over.
         self.assertEqual(self.judge(doubled(self.asked, HELLO), self.said[:WELCOME], form="json"),

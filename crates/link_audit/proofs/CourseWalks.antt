@@ -7,7 +7,7 @@ use Rattle.link_audit.specs.declared.hearing.Heard.TheVariants.{Through, Gone, N
 use Rattle.link_audit.specs.declared.vouching.Difference.{Difference}
 use Rattle.link_audit.specs.declared.vouching.Difference.TheVariants as differences
 use Rattle.link_audit.proofs.Leading.{TheLine}
-use Rattle.link_audit.proofs.Courses.{course_back, course_on, finish_on, kept_by, leaves_last, leaves_none, leaving_course, moved_by, no_course, pass_back, pass_leaving, pass_on, passes_last}
+use Rattle.link_audit.proofs.Courses.{course_back, course_on, finish_on, kept_by, leaves_last, leaves_left, leaves_none, leaving_course, moved_by, no_course, pass_back, pass_leaving, pass_on, passes_last}
 
 -- the same course, counted otherwise
 pub recounted : (dialect : Dialect) (s : Subject) (from : Places) (lines : List TheLine) (replies : List (List ℕ)) (course : Course) (turns : ℕ) → course.turns ≡ turns
@@ -93,6 +93,7 @@ module _ (dialect : Dialect) (s : Subject) (places : Places) (wide : IsWide plac
   unfolding left_turns turns_here
   left_over differences.Seat none lowest = absurd lowest
   left_over differences.Welcome none lowest = absurd lowest
+  left_over differences.Cause none lowest = absurd lowest
   left_over (differences.Line line') none lowest = absurd lowest
   left_over (differences.Entry good position) none lowest = record {
     count = n + 1;
@@ -132,6 +133,11 @@ module _ (dialect : Dialect) (s : Subject) (places : Places) (wide : IsWide plac
     (λ entries f. leaves_none dialect s places wide line lines' reply replies' t entries
         (subst (λ (w : List TheLine × List (List ℕ)). FinishesLog dialect s places w.0 w.1 entries) (λ i. (lines_are i, replies_are i)) (finishes entries f))),
     (let long = ap length replies_are in let end = ap length (none is.1) in let count_is = is.0 in omega (arith, told_so, long, end, count_is)),
+    (λ course all h. (let found : course.turns ≡ n + 1 = all ∙ is.0 in
+        let turns : HaveTurns dialect s (lines_at asked from) told (n + 1) = record { course = course; has = h; count_is = found; few = omega (arith, low) } in
+        leaves_left dialect s places wide line lines' reply replies' t (record { turns = 1; left = course.left; to = course.to }) refl
+        (subst (λ (w : List TheLine × List (List ℕ)). HasCourse dialect s places w.0 w.1 (record { turns = 1; left = course.left; to = course.to })) (λ i. (lines_are i, replies_are i))
+        (turns_behind dialect s places (lines_at asked from) told n lines replies courses 1 (n + 1) refl turns)))),
   )
   left_course more none some (Not difference) is = by_more more is none some
     where

@@ -1,12 +1,11 @@
 -- Turns from some places on, line by line.
-use Rattle.std.proofs.Common.{◌≡◌, ℕ, zero, suc, ◌+◌, ◌≤◌, List, [], ◌∷◌, Bool, true, false, cond, length, drop, refl, sym, ap, ◌∙◌, subst, arith, ◌||◌, slice_index, slice_set, count_by, get_or-set_same}
+use Rattle.std.proofs.Common.{◌≡◌, ℕ, zero, suc, ◌+◌, ◌≤◌, List, [], ◌∷◌, ◌++◌, Bool, true, false, cond, length, drop, refl, sym, ap, ◌∙◌, subst, arith, ◌||◌, slice_index, slice_set, count_by, get_or-set_same}
 use Rattle.std.proofs.lemmas.List.Sums.{sum_by-cons}
-use Rattle.tac_io.specs.declared.line_got.LineGot.TheVariants as gots
-use Rattle.link_audit.specs.{logged_history, Dialect, Turn, Called, CallDenied, CashRead, CashDenied, Quoted, Refused, Skipped, Left, has_left, is_leaving, item_of, reading, Subject, AreAllowed, FitsReply, IsAllowed, IsAsked, IsEasier, IsLeaving, IsOver, IsPossible, IsStuck, IsTaken, IsWide, behind_turn, cash_caller, entry_caller, rest_of, MayAsk, AreAnswered, AreNext, Course, FinishesLog, HasCourse, IsKept, has_entry, walked}
+use Rattle.link_audit.specs.{LineGot, logged_history, Dialect, Turn, Called, CallDenied, CashRead, CashDenied, Quoted, Refused, Skipped, Left, has_left, is_leaving, item_of, reading, Subject, AreAllowed, FitsReply, IsAllowed, IsAsked, IsEasier, IsLeaving, IsNextInLog, IsOver, IsPossible, IsStuck, IsTaken, IsWide, behind_turn, cash_caller, entry_caller, rest_of, MayAsk, AreAnswered, AreNext, Course, FinishesLog, HasCourse, IsKept, has_entry, walked}
 use Rattle.link_audit.specs.declared.places.Places.{Places}
 use Rattle.link_audit.proofs.Walking.{wide_after}
 use Rattle.link_audit.proofs.Easier.{easier_than, easy_over, easy_turns, same_places}
-use Rattle.link_audit.proofs.Leading.{TheLine, no_item}
+use Rattle.link_audit.proofs.Leading.{IsLast, TheLine, no_item}
 
 -- ---- entries
 
@@ -54,6 +53,69 @@ same_entries from turn other wide allowed allowed' easier = by_both (has_entry t
     by_both true false is is' = absurd (let kept = kept_by from other is' in moved_by from turn wide allowed is (easier.made ∙ kept.0, easier.readings ∙ kept.1))
     by_both false true is is' = absurd (let kept = kept_by from turn is in moved_by from other wide allowed' is' (sym easier.made ∙ kept.0, sym easier.readings ∙ kept.1))
 
+-- ---- the first of some turns
+
+front_none : (xs ys : List Turn) → xs ++ ys ≡ [] → xs ≡ []
+front_none [] ys none = refl
+front_none (x ∷ xs) ys none = absurd cc
+
+pub answered_front : (dialect : Dialect) (xs ys : List Turn) (lines : List TheLine) (replies : List (List ℕ)) → AreAnswered dialect (xs ++ ys) lines replies → AreAnswered dialect xs lines replies
+answered_front dialect [] ys lines replies all = tt
+answered_front dialect (x ∷ xs) ys [] replies all = absurd all
+answered_front dialect (x ∷ xs) ys (line ∷ lines) [] all = (all.0, answered_front dialect xs ys lines [] all.1)
+answered_front dialect (x ∷ xs) ys (line ∷ lines) (reply ∷ replies) all = (all.0, all.1, answered_front dialect xs ys lines replies all.2)
+
+pub allowed_front : (from : Places) (xs ys : List Turn) → AreAllowed from (xs ++ ys) → AreAllowed from xs
+allowed_front from [] ys all = tt
+allowed_front from (x ∷ xs) ys all = (all.0, (λ leaves. front_none xs ys (all.1 leaves)), allowed_front (behind_turn from x) xs ys all.2)
+
+pub next_front : (s : Subject) (from : Places) (xs ys : List Turn) → AreNext s from (xs ++ ys) → AreNext s from xs
+next_front s from [] ys all = tt
+next_front s from (x ∷ xs) ys all = (all.0, next_front s (behind_turn from x) xs ys all.1)
+
+pub front_course : (dialect : Dialect) (s : Subject) (from : Places) (lines : List TheLine) (replies : List (List ℕ)) (xs ys : List Turn) → AreAnswered dialect (xs ++ ys) lines replies
+    → AreAllowed from (xs ++ ys) → AreNext s from (xs ++ ys) → HasCourse dialect s from lines replies (record { turns = length xs; left = has_left xs; to = walked from xs })
+front_course dialect s from lines replies xs ys answered allowed next = record {
+  turns = xs;
+  answered = answered_front dialect xs ys lines replies answered;
+  allowed = allowed_front from xs ys allowed;
+  next = next_front s from xs ys next;
+  count = refl;
+  left = refl;
+  to = same_places (walked from xs);
+}
+
+-- ---- the last of some turns
+
+pub walked_on : (from : Places) (xs ys : List Turn) → walked from (xs ++ ys) ≡ walked (walked from xs) ys
+walked_on from [] ys = refl
+walked_on from (x ∷ xs) ys = walked_on (behind_turn from x) xs ys
+
+pub allowed_back : (from : Places) (xs ys : List Turn) → AreAllowed from (xs ++ ys) → AreAllowed (walked from xs) ys
+allowed_back from [] ys all = all
+allowed_back from (x ∷ xs) ys all = allowed_back (behind_turn from x) xs ys all.2
+
+pub next_back : (s : Subject) (from : Places) (xs ys : List Turn) → AreNext s from (xs ++ ys) → AreNext s (walked from xs) ys
+next_back s from [] ys all = all
+next_back s from (x ∷ xs) ys all = next_back s (behind_turn from x) xs ys all.1
+
+-- where nothing is left, nothing is left after further turns
+pub over_kept : (s : Subject) (from : Places) (turns : List Turn) → IsOver s from → AreAllowed from turns → AreNext s from turns → IsOver s (walked from turns)
+over_kept s from [] over allowed next = over
+over_kept s from (turn ∷ turns) over allowed next = over_kept s (behind_turn from turn) turns (by_turn turn allowed.0 next.0) allowed.2 next.1
+  where
+    by_turn : (t : Turn) → IsAllowed from t → IsNextInLog s from t → IsOver s (behind_turn from t)
+    by_turn (Called request good position entry posted) here is = absurd (
+        let both : [] ≡ (position, entry) ∷ rest_of entry_caller s.agent (position + 1) (logged_history s.log good) = sym (over.calls good here.1) ∙ is.0 in cc)
+    by_turn (CallDenied request good) here is = over
+    by_turn (CashRead position dollars) here is = absurd (
+        let both : [] ≡ (position, reading s.agent dollars) ∷ rest_of cash_caller s.agent (position + 1) s.log.cash = sym over.cash ∙ is in cc)
+    by_turn CashDenied here is = over
+    by_turn (Quoted good board) here is = record { calls = over.calls; cash = over.cash }
+    by_turn (Refused fault) here is = over
+    by_turn Skipped here is = over
+    by_turn Left here is = over
+
 -- where nothing is left no turn leaves an entry
 pub over_entries : (s : Subject) (from : Places) (turns : List Turn) → IsOver s from → AreAllowed from turns → AreNext s from turns → count_by has_entry turns ≡ 0
 over_entries s from [] over allowed next = refl
@@ -76,14 +138,15 @@ module _ (dialect : Dialect) (s : Subject) (from : Places) where
   pub no_course : (lines : List TheLine) (replies : List (List ℕ)) → HasCourse dialect s from lines replies (record { turns = 0; left = false; to = from })
   no_course lines replies = record { turns = []; answered = tt; allowed = tt; next = tt; count = refl; left = refl; to = same_places from }
 
-  -- a link that is at its end
-  pub end_course : (lines : List TheLine) (replies : List (List ℕ)) (course : Course) (n : ℕ) → course.turns ≡ suc n → HasCourse dialect s from ((gots.End, []) ∷ lines) replies course → ⊥
-  end_course lines replies course n is c = by_turns c.turns replies (c.count ∙ is) c.answered
+  -- a link of which no line is left
+  pub end_course : (got : LineGot) → IsLast got → (lines : List TheLine) (replies : List (List ℕ)) (course : Course) (n : ℕ) → course.turns ≡ suc n
+      → HasCourse dialect s from ((got, []) ∷ lines) replies course → ⊥
+  end_course got last lines replies course n is c = by_turns c.turns replies (c.count ∙ is) c.answered
     where
-      by_turns : (turns : List Turn) (rs : List (List ℕ)) → length turns ≡ suc n → AreAnswered dialect turns ((gots.End, []) ∷ lines) rs → ⊥
+      by_turns : (turns : List Turn) (rs : List (List ℕ)) → length turns ≡ suc n → AreAnswered dialect turns ((got, []) ∷ lines) rs → ⊥
       by_turns [] rs count answered = omega (arith, count)
-      by_turns (turn ∷ turns) [] count answered = no_item dialect s (MayAsk dialect.may_answer) gots.End [] (item_of turn) tt answered.0
-      by_turns (turn ∷ turns) (reply ∷ rs) count answered = no_item dialect s dialect.may_answer gots.End [] (item_of turn) tt answered.0
+      by_turns (turn ∷ turns) [] count answered = no_item (MayAsk dialect.may_answer) got [] (item_of turn) last answered.0
+      by_turns (turn ∷ turns) (reply ∷ rs) count answered = no_item dialect.may_answer got [] (item_of turn) last answered.0
 
   module _ (wide : IsWide from) (line : TheLine) (lines : List TheLine) where
     -- ---- a line with its reply
@@ -193,6 +256,11 @@ module _ (dialect : Dialect) (s : Subject) (from : Places) where
             let o = open_course course (suc n) is c in
             let none : o.turns ≡ [] = o.last (ap is_leaving (t.only o.turn o.possible)) in
             (let count = o.count in let long = ap length none in omega (arith, count, long, is))
+
+        pub leaves_left : (course : Course) → course.turns ≡ 1 → HasCourse dialect s from (line ∷ lines) (reply ∷ replies) course → course.left ≡ true
+        leaves_left course is c =
+            let o = open_course course 0 is c in
+            sym o.left ∙ ap (λ (turn : Turn). is_leaving turn || has_left o.turns) (t.only o.turn o.possible)
 
         pub leaves_none : (entries : ℕ) → FinishesLog dialect s from (line ∷ lines) (reply ∷ replies) entries → entries ≡ 0
         leaves_none entries f = by_turns f.turns f.answered f.replied f.allowed f.next f.entries_are

@@ -1,10 +1,13 @@
 -- Bytes, cut at their line ends.
-use Rattle.std.proofs.Common.{◌≡◌, ◌≢◌, ℕ, ◌+◌, ◌-◌, ◌^◌, ◌<◌, ◌≤◌, List, [], ◌∷◌, ◌++◌, Bool, false, cond, length, take, drop, get_or, refl, sym, ap, ◌∙◌, arith, length-take, length-drop, ◌==◌, slice_range, append_assoc, append-nil, drop-drop, take-append-drop, get_or-drop, take_all}
+use Rattle.std.proofs.Common.{◌≡◌, ◌≢◌, ℕ, ◌+◌, ◌-◌, ◌^◌, ◌<◌, ◌≤◌, List, [], ◌∷◌, ◌++◌, Bool, false, cond, length, take, drop, get_or, refl, sym, ap, ◌∙◌, arith, inl, inr, length-take, length-drop, ◌==◌, slice_range, append_assoc, append-nil, drop-drop, take-append-drop, get_or-drop, take_all}
 use Rattle.std.proofs.lemmas.List.{drop_more}
 use Rattle.std.proofs.lemmas.Bool.{or_parts}
-use Rattle.link_audit.specs.{all_answers, ended_line, has_end, BeginsWithLine, End, whole_lines_after, whole_lines, lines_at, replies_at}
+use Rattle.std.proofs.lemmas.Bool.Decides.{leb_tells}
+use Rattle.link_audit.specs.{all_answers, ended_line, has_end, BeginsWithLine, End, LineGot, HasNoLine, whole_lines_after, whole_lines, lines_at, replies_at}
 use Rattle.tac_io.proofs.LineEnds.{no_end-more}
-use Rattle.tac_io.proofs.ByBytes.{all_answers-line, all_answers-end}
+use Rattle.tac_io.specs.declared.line_got.LineGot.TheVariants.{Budget}
+use Rattle.tac_io.proofs.ByBytes.{all_answers-line, all_answers-end, all_answers-budget}
+use Rattle.link_audit.proofs.Leading.{IsLast}
 
 -- ---- whole lines
 
@@ -47,15 +50,25 @@ module _ (bytes : List ℕ) (from : ℕ) where
 
 -- ---- from a place on
 
-module _ (asked : List ℕ) (at : ℕ) (short : length asked < 2 ^ 26) (within : at ≤ length asked) where
+module _ (asked : List ℕ) (at : ℕ) (short : length asked ≤ 2 ^ 26) (within : at ≤ length asked) where
   pub lines_here : (end : ℕ) → at ≤ end → end < length asked → BeginsWithLine (drop at asked) (slice_range asked at end) (drop (end + 1) asked) → lines_at asked at ≡ ended_line (slice_range asked at end) ∷ lines_at asked (end + 1)
   lines_here end after inside b =
       let long : length (slice_range asked at end) ≡ end - at = omega (arith, length-take (end - at) (drop at asked), length-drop at asked, inside, after) in
       ap (λ (l : List ℕ). all_answers [] (2 ^ 26 - at) l) b.whole
       ∙ all_answers-line [] (slice_range asked at end) (drop (end + 1) asked) (2 ^ 26 - at) (2 ^ 26 - (end + 1)) b.first (omega (arith, long, short, inside, after))
 
-  pub lines_end : has_end (drop at asked) ≡ false → lines_at asked at ≡ (End, []) ∷ []
-  lines_end none = all_answers-end [] (drop at asked) (2 ^ 26 - at) none (omega (arith, length-drop at asked, short, within))
+  pub lines_end : has_end (drop at asked) ≡ false → HasNoLine (lines_at asked at)
+  lines_end none = elim (leb_tells (2 ^ 26) (length asked)) [
+    | inl full ↦ inr (
+        ap (all_answers [] (2 ^ 26 - at)) (sym (append-nil (drop at asked)))
+        ∙ all_answers-budget [] (drop at asked) [] (2 ^ 26 - at) none (let most = full.1 in omega (arith, length-drop at asked, short, within, most)))
+    | inr less ↦ inl (all_answers-end [] (drop at asked) (2 ^ 26 - at) none (let few = less.1 in omega (arith, length-drop at asked, within, few)))
+  ]
+
+-- what stands where no line is left is no line
+pub no_line : (lines : List (LineGot × List ℕ)) → HasNoLine lines → (got : LineGot) × IsLast got × (lines ≡ (got, []) ∷ [])
+no_line lines (inl end) = (End, tt, end)
+no_line lines (inr full) = (Budget, tt, full)
 
 module _ (said : List ℕ) (told : ℕ) where
   pub replies_here : (end : ℕ) → BeginsWithLine (drop told said) (slice_range said told end) (drop (end + 1) said) → replies_at said told ≡ slice_range said told end ∷ replies_at said (end + 1)

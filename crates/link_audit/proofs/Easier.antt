@@ -57,7 +57,7 @@ lower_raised seen g count count' good long low le = elim (eqb_tells g good) [
 ]
 
 module _ (from hard : Places) (easier : IsEasier from hard) where
-  easy_allowed : (turn : Turn) → IsAllowed hard turn → IsAllowed from turn
+  pub easy_allowed : (turn : Turn) → IsAllowed hard turn → IsAllowed from turn
   easy_allowed (Called request good position entry posted) is = (
     is.0,
     is.1,
@@ -113,7 +113,7 @@ easy_remains s from hard turns easier wide wide' all = record {
 
 -- ---- what a turn finds
 
-easy_next : (s : Subject) (from hard : Places) → IsEasier from hard → (turn : Turn) → IsNextInLog s hard turn → IsNextInLog s from turn
+pub easy_next : (s : Subject) (from hard : Places) → IsEasier from hard → (turn : Turn) → IsNextInLog s hard turn → IsNextInLog s from turn
 easy_next s from hard easier (Called request good position entry posted) is = (
   subst (λ (l : List ℕ). HasNext entry_caller s.agent (slice_index l good) (logged_history s.log good) position entry) (sym easier.next) is.0,
   subst (λ (n : ℕ). ArePostedAt s.agent s.log.cash n (due_post good position entry) posted) (sym easier.cash) is.1,

@@ -1,19 +1,22 @@
 -- A link of a log is vouched for by what its far end saw: what it tried to send, and what it was sent.
-use Rattle.std.proofs.Common.{◌≡◌, ℕ, zero, suc, ◌+◌, ◌<◌, ◌≤◌, List, [], ◌∷◌, ◌++◌, Bool, true, false, map, length, take, None, Some, Err, slice_get, refl, sym, ap, ◌∙◌, subst, arith, inl, inr, ◌≢◌, ◌⊎◌, Option, Result, ◌||◌, if◌then◌else◌, fold, position, replicate, slice_index_or, flat_map, bytes_eq, append_assoc, append-nil, length-append, length-take-le, eq-eqb}
+use Rattle.std.proofs.Common.{Contains, ◌≡◌, ℕ, zero, suc, ◌+◌, ◌<◌, ◌≤◌, List, [], ◌∷◌, ◌++◌, Bool, true, false, map, length, take, None, Some, Err, slice_get, refl, sym, ap, ◌∙◌, subst, arith, inl, inr, ◌≢◌, ◌⊎◌, Option, Result, ◌||◌, if◌then◌else◌, fold, position, replicate, slice_index_or, flat_map, bytes_eq, count_by, ◌==◌, append_assoc, append-nil, length-append, length-take-le, eq-eqb}
 use Rattle.std.specs.List.{AllZip, list_any}
-use Rattle.std.proofs.lemmas.List.{take-append-le}
+use Rattle.std.proofs.Math.Seq.{take-append_seam}
+use Rattle.std.proofs.lemmas.List.{length-map, take-append-le}
 use Rattle.std.proofs.lemmas.List.Concat.{flat_map-append}
 use Rattle.std.proofs.lemmas.List.Elements.{filter_map-append}
 use Rattle.std.proofs.lemmas.Bool.{or_right}
 use Rattle.std.proofs.lemmas.Option.{slice_get_within}
-use Rattle.link_audit.specs.{Board, LINK_BYTES, SESSION_LINES, GoesOn, GameFile, AreNotes, board_of, AuctionHistory, ClosedGame, all_goods, all_answers, LineGot, Cause, Verdict, Seated, Syntax, WrongWord, Taken, Lost, Request, RequestFault, Said, LoggedGame, gives_seat, Seats, greeting_of, seat_verdict, seats_after, verdict_of, word_verdict, Item, Asks, Overlong, IsItem, AreItems, Session, reply_line, lines_of, IsTranscript, Turn, Called, CallDenied, CashRead, CashDenied, Quoted, Refused, Skipped, Left, AreLawful, IsLawfulTurn, boards_shown, cash_by, cash_made, entry_made, has_left, item_of, made_at, said_of, shown_by, welcome_lines, welcome_text, free_seats, seats_given, HostedGame, HasWelcome, IsLinkOfLog, IsVouched, MayAsk, closed_in, fresh_link, logged_verdicts, whole_lines}
+use Rattle.link_audit.specs.{Board, LINK_BYTES, SESSION_LINES, GoesOn, GameFile, AreNotes, board_of, AuctionHistory, ClosedGame, all_goods, all_answers, LineGot, Cause, Verdict, Seated, Syntax, WrongWord, Taken, Lost, Request, RequestFault, Said, LoggedGame, gives_seat, Seats, greeting_of, seat_verdict, seats_after, verdict_of, word_verdict, Item, Asks, Overlong, IsItem, AreItems, Session, reply_line, lines_of, IsTranscript, Turn, Called, CallDenied, CashRead, CashDenied, Quoted, Refused, Skipped, Left, AreLawful, IsLawfulTurn, boards_shown, cash_by, cash_made, entry_made, has_left, item_of, made_at, said_of, shown_by, welcome_lines, welcome_text, free_seats, seats_given, HostedGame, AccountsFor, AllowsCause, HasNoLine, HasWelcome, IsLinkOfLog, IsVouched, MayAsk, MayUseUp, closed_in, fresh_link, logged_ends, logged_verdicts, whole_lines}
 use Rattle.tac_io.specs.declared.line_got.LineGot.TheVariants as gots
 use Rattle.line_protocol.specs.declared.admission.Cause.TheVariants as causes
 use Rattle.line_protocol.specs.declared.asking.RequestFault.TheVariants as faults
 use Rattle.agent_gate.proofs.WholeTexts.{EndsFor, ends_for}
-use Rattle.link_audit.proofs.Leading.{TheLine}
+use Rattle.agent_gate.specs.{ComesTo, IsUsedUp}
+use Rattle.link_audit.proofs.Cuts.{no_line}
+use Rattle.link_audit.proofs.Leading.{IsLast, TheLine, first_line, no_item}
 use Rattle.link_audit.proofs.OneLines.{HasNoEnd, welcome_line}
-use Rattle.link_audit.proofs.Sent.{answers_more, cut_reply, items_read, last_item, sent_whole}
+use Rattle.link_audit.proofs.Sent.{AreItems-length, answers_more, cut_reply, ends_read, items_read, last_item, room_spent, sent_whole}
 use Rattle.link_audit.proofs.FreshLinks.{gave_rest}
 
 -- ---- the last turn
@@ -28,6 +31,15 @@ lawful_front turns last all n turn at =
     let inside = slice_get_within turns n turn at in
     let before : take n (turns ++ last ∷ []) ≡ take n turns = take-append-le n turns (last ∷ []) (omega (arith, inside)) in
     subst (λ (past : List Turn). IsLawfulTurn past turn × (has_left past ≡ false)) before (all n turn (slice_get_front turns (last ∷ []) n turn at))
+
+-- the agent has not left by the turns before another
+lawful_stays : (turns : List Turn) (last : Turn) → AreLawful (turns ++ last ∷ []) → has_left turns ≡ false
+lawful_stays turns last all =
+    subst (λ (past : List Turn). has_left past ≡ false) (take-append_seam turns (last ∷ [])) (all (length turns) last (at_end turns)).1
+  where
+    at_end : (before : List Turn) → slice_get (before ++ last ∷ []) (length before) ≡ Some last
+    at_end [] = refl
+    at_end (turn ∷ before) = at_end before
 
 -- a line that was refused leaves nothing
 module _ (agent : ℕ) (closed : ClosedGame) (turns : List Turn) (fault : RequestFault) where
@@ -73,6 +85,12 @@ may_item may_answer gots.TooLong line Overlong is other = tt
 may_item may_answer gots.End line item is other = absurd is
 may_item may_answer gots.Failed line item is other = absurd is
 may_item may_answer gots.Budget line item is other = absurd is
+
+-- a line that has an item is one
+read_line : (may_answer : List ℕ → Result Request RequestFault → Type 0) (line : TheLine) (later : List TheLine) (item : Item) → IsItem may_answer line item → HasNoLine (line ∷ later) → ⊥
+read_line may_answer line later item own none =
+    let end = no_line (line ∷ later) none in
+    no_item may_answer line.0 line.1 item (subst IsLast (sym (ap (λ (l : List TheLine). (first_line (gots.End, []) l).0) end.2)) end.1) own
 
 -- ---- the seat
 
@@ -174,8 +192,12 @@ module _ (hosted : HostedGame) (one : (reply : Said) → HasNoEnd (hosted.dialec
       ∙ (sent_whole text one (welcome_lines game agent) some rest (welcome_line game agent)
       ∙ ap (λ (l' : List (List ℕ)). welcome_lines game agent ++ l') (ap (λ (l' : List (List ℕ)). map (λ turn. text (said_of turn)) some ++ l') none ∙ append-nil (map (λ turn. text (said_of turn)) some)))
 
+  vouched_by : (account : AccountsFor game hosted.dialect log agent asked said) (cause : Cause) → l.seated.cause ≡ cause → AllowsCause account cause → IsVouched game hosted.dialect log agent asked said
+  vouched_by account cause same allowed =
+      record { account = account; cause = cause; ended = subst (λ (c : Cause). Contains (logged_ends log.head) (agent, c)) same l.seated.ended; allowed = allowed }
+
   -- all replies were sent whole
-  heard_all : said ≡ sent_by turns → IsVouched game hosted.dialect log agent asked said
+  heard_all : said ≡ sent_by turns → AccountsFor game hosted.dialect log agent asked said
   heard_all is =
       let all : turns ++ [] ≡ turns = append-nil turns in
       record {
@@ -196,9 +218,38 @@ module _ (hosted : HostedGame) (one : (reply : Said) → HasNoEnd (hosted.dialec
         transcript = subst (IsTranscript agent (closed_in game log)) (sym all) l.seated.transcript;
       }
 
+  vouched_stay : (cause : Cause) → l.seated.cause ≡ cause → said ≡ sent_by turns → has_left turns ≡ false → (cause ≡ causes.WriteFault → ⊥) → (cause ≡ causes.Budget → MayUseUp asked)
+      → IsVouched game hosted.dialect log agent asked said
+  unfolding heard_all
+  vouched_stay cause same is stays other used = vouched_by (heard_all is) cause same (record {
+    left = λ left. absurd (let both : true ≡ false = sym left ∙ stays in cc);
+    cut = λ fault. absurd (other fault);
+    used_up = used;
+  })
+
+  vouched_left : l.seated.cause ≡ causes.Quit → said ≡ sent_by turns → IsVouched game hosted.dialect log agent asked said
+  vouched_left same is = vouched_by (heard_all is) causes.Quit same (record { left = λ left. refl; cut = λ other. absurd cc; used_up = λ other. absurd cc })
+
+  abbrev session : Session
+  session = record { welcome = welcome_text game agent; turns = turns; rest = l.seated.rest; before = fresh_link asked; after = l.after }
+
+  -- the lines or the bytes of the session were used up
+  used_up : IsUsedUp session ⊎ ComesTo gots.Budget session → MayUseUp asked
+  used_up (inl full) =
+      let read = AreItems-length may_answer lines (map item_of turns) l.seated.served.items in
+      let ends : suc (length lines) ≤ count_by (λ byte. byte == 10) asked = ends_read [] LINK_BYTES asked ((gots.Line, l.seated.line) ∷ lines) asked_lines.0 (tt, items_read may_answer lines (map item_of turns) l.seated.served.items) asked_lines.1 in
+      let all = full.1 in let turned = length-map turns item_of in
+      inl (omega (arith, read, ends, all, turned))
+  used_up (inr spent) =
+      let gave = gave_rest asked l.seated.bytes l.after.left l.seated.gave.1 in
+      let full = room_spent [] LINK_BYTES l.seated.bytes ((gots.Line, l.seated.line) ∷ lines) (tt, items_read may_answer lines (map item_of turns) l.seated.served.items)
+      (l.seated.first ∙ ap (λ (others : List TheLine). (gots.Line, l.seated.line) ∷ others) (l.seated.served.from ∙ ap (λ (rest : List TheLine). lines ++ rest) spent.2)) in
+      let long = ap length gave.1 ∙ length-append l.seated.bytes gave.0 in
+      inr (omega (arith, full, long))
+
   -- the last reply was cut
   module _ (answered : List Turn) (last : Turn) (parts : turns ≡ answered ++ last ∷ []) (count : ℕ) (proper : count < length (reply_line text last))
-      (is : said ≡ sent_by answered ++ take count (reply_line text last)) where
+      (is : said ≡ sent_by answered ++ take count (reply_line text last)) (ended : Contains (logged_ends log.head) (agent, causes.WriteFault)) where
     items : AreItems may_answer lines (map item_of (answered ++ last ∷ []))
     items = subst (λ (some : List Turn). AreItems may_answer lines (map item_of some)) parts l.seated.served.items
 
@@ -223,64 +274,86 @@ module _ (hosted : HostedGame) (one : (reply : Said) → HasNoEnd (hosted.dialec
       -- its line is one whose reply did not come
       unheard_last : AreItems may_answer first (map item_of answered) → IsItem may_answer line (item_of last) → item_of last ≢ Asks (Err faults.Memory) → IsVouched game hosted.dialect log agent asked said
       unheard_last before own other = record {
-        listed = listed;
-        line = l.seated.line;
-        answered = first;
-        unanswered = line ∷ [];
-        later = asked_lines.0;
-        lines = split_lines;
-        seat = seat;
-        heard = answered;
-        unheard = last ∷ [];
-        heard_items = before;
-        unheard_items = (may_item may_answer line.0 line.1 (item_of last) own other, tt);
-        few = few;
-        lawful = lawful;
-        replies = replies;
-        transcript = transcript;
+        account = record {
+          listed = listed;
+          line = l.seated.line;
+          answered = first;
+          unanswered = line ∷ [];
+          later = asked_lines.0;
+          lines = split_lines;
+          seat = seat;
+          heard = answered;
+          unheard = last ∷ [];
+          heard_items = before;
+          unheard_items = (may_item may_answer line.0 line.1 (item_of last) own other, tt);
+          few = few;
+          lawful = lawful;
+          replies = replies;
+          transcript = transcript;
+        };
+        cause = causes.WriteFault;
+        ended = ended;
+        allowed = record {
+          left = λ left. absurd (let both : true ≡ false = sym left ∙ lawful_stays answered last lawful in cc);
+          cut = λ same nothing. (let none = nothing.all_heard in cc);
+          used_up = λ budget. absurd cc;
+        };
       }
 
       -- or there was no memory to read it, and it left nothing
-      later_last : AreItems may_answer first (map item_of answered) → last ≡ Refused faults.Memory → IsVouched game hosted.dialect log agent asked said
-      later_last before memory =
+      later_last : AreItems may_answer first (map item_of answered) → IsItem may_answer line (item_of last) → last ≡ Refused faults.Memory → IsVouched game hosted.dialect log agent asked said
+      later_last before own memory =
           let all : answered ++ [] ≡ answered = append-nil answered in
           let less = few in
           let one_more = length-append answered (last ∷ []) in
+          let stays = lawful_stays answered last lawful in
           let without = without_refused agent (closed_in game log) answered faults.Memory (subst (λ (turn : Turn). IsTranscript agent (closed_in game log) (answered ++ turn ∷ [])) memory transcript) in
           record {
-            listed = listed;
-            line = l.seated.line;
-            answered = first;
-            unanswered = [];
-            later = line ∷ asked_lines.0;
-            lines = split_lines;
-            seat = seat;
-            heard = answered;
-            unheard = [];
-            heard_items = before;
-            unheard_items = tt;
-            few = subst (λ (some : List Turn). length some ≤ SESSION_LINES) (sym all) (omega (arith, less, one_more));
-            lawful = subst AreLawful (sym all) (lawful_front answered last lawful);
-            replies = replies;
-            transcript = subst (IsTranscript agent (closed_in game log)) (sym all) without;
+            account = record {
+              listed = listed;
+              line = l.seated.line;
+              answered = first;
+              unanswered = [];
+              later = line ∷ asked_lines.0;
+              lines = split_lines;
+              seat = seat;
+              heard = answered;
+              unheard = [];
+              heard_items = before;
+              unheard_items = tt;
+              few = subst (λ (some : List Turn). length some ≤ SESSION_LINES) (sym all) (omega (arith, less, one_more));
+              lawful = subst AreLawful (sym all) (lawful_front answered last lawful);
+              replies = replies;
+              transcript = subst (IsTranscript agent (closed_in game log)) (sym all) without;
+            };
+            cause = causes.WriteFault;
+            ended = ended;
+            allowed = record {
+              left = λ left. absurd (let both : true ≡ false = sym left ∙ stays in cc);
+              cut = λ same nothing. elim nothing.last [ inl left ↦ (let both : true ≡ false = sym left ∙ stays in cc) | inr end ↦ read_line may_answer line asked_lines.0 (item_of last) own end ];
+              used_up = λ budget. absurd cc;
+            };
           }
 
     heard_but_last : IsVouched game hosted.dialect log agent asked said
     heard_but_last =
         let found = last_item may_answer item_of lines answered last items in
-        elim (tells last) [ inl other ↦ unheard_last found.0 found.1 found.2 found.3 found.4 other | inr memory ↦ later_last found.0 found.1 found.2 found.3 memory ]
+        elim (tells last) [ inl other ↦ unheard_last found.0 found.1 found.2 found.3 found.4 other | inr memory ↦ later_last found.0 found.1 found.2 found.3 found.4 memory ]
 
-  abbrev session : Session
-  session = record { welcome = welcome_text game agent; turns = turns; rest = l.seated.rest; before = fresh_link asked; after = l.after }
-
-  by_cause : (cause : Cause) (count : ℕ) → EndsFor cause text session count → HasWelcome game agent said → IsVouched game hosted.dialect log agent asked said
-  by_cause causes.Quit count ends whole = heard_all (sent_is (sent_by turns) ends.1.0)
-  by_cause causes.End count ends whole = heard_all (sent_is (sent_by turns) ends.2.0)
-  by_cause causes.ReadFault count ends whole = heard_all (sent_is (sent_by turns) ends.1.0)
-  by_cause causes.Budget count ends whole = heard_all (sent_is (sent_by turns) ends.1.0)
-  by_cause causes.WriteFault count (inl none) whole = absurd (welcome_uncut (welcome_text game agent) said none.1.count none.1.proper (sym l.sent ∙ none.1.taken) whole)
-  by_cause causes.WriteFault count (inr cut) whole = heard_but_last cut.0 cut.1 cut.2 cut.3.count cut.3.proper (sent_is (sent_by cut.0 ++ take cut.3.count (reply_line text cut.1)) cut.3.taken)
+  by_cause : (cause : Cause) (count : ℕ) → l.seated.cause ≡ cause → EndsFor cause text session count → HasWelcome game agent said → IsVouched game hosted.dialect log agent asked said
+  by_cause causes.Quit count same ends whole = vouched_left same (sent_is (sent_by turns) ends.1.0)
+  by_cause causes.End count same ends whole = vouched_stay causes.End same (sent_is (sent_by turns) ends.2.0) ends.0.0 (λ other. cc) (λ other. absurd cc)
+  by_cause causes.ReadFault count same ends whole = vouched_stay causes.ReadFault same (sent_is (sent_by turns) ends.1.0) ends.0.0 (λ other. cc) (λ other. absurd cc)
+  by_cause causes.Budget count same ends whole = vouched_stay causes.Budget same (sent_is (sent_by turns) ends.1.0) (stayed ends.0) (λ other. cc) (λ budget. used_up ends.0)
+    where
+      stayed : IsUsedUp session ⊎ ComesTo gots.Budget session → has_left turns ≡ false
+      stayed (inl full) = full.0
+      stayed (inr spent) = spent.0
+  by_cause causes.WriteFault count same (inl none) whole = absurd (welcome_uncut (welcome_text game agent) said none.1.count none.1.proper (sym l.sent ∙ none.1.taken) whole)
+  by_cause causes.WriteFault count same (inr cut) whole =
+      heard_but_last cut.0 cut.1 cut.2 cut.3.count cut.3.proper (sent_is (sent_by cut.0 ++ take cut.3.count (reply_line text cut.1)) cut.3.taken)
+      (subst (λ (c : Cause). Contains (logged_ends log.head) (agent, c)) same l.seated.ended)
 
   -- the link is vouched for, if its welcome was sent whole
   pub vouched_from : HasWelcome game agent said → IsVouched game hosted.dialect log agent asked said
-  vouched_from whole = by_cause l.seated.cause (lines_of l.seated.cause turns) (ends_for text session l.seated.cause l.seated.served.end).0 whole
+  vouched_from whole = by_cause l.seated.cause (lines_of l.seated.cause turns) refl (ends_for text session l.seated.cause l.seated.served.end).0 whole

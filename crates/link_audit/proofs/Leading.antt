@@ -26,6 +26,24 @@ abbrev pub other_replies : List (List ℕ) → List (List ℕ)
 other_replies [] = []
 other_replies (first ∷ others) = others
 
+-- no line is left, or none may be
+abbrev pub IsLast : LineGot → Type 0
+IsLast gots.Line = ⊥
+IsLast gots.TooLong = ⊥
+IsLast gots.End = ⊤
+IsLast gots.Failed = ⊤
+IsLast gots.Budget = ⊤
+
+pub no_item : (may_answer : List ℕ → Result Request RequestFault → Type 0) (got : LineGot) (line : List ℕ) (item : Item) → IsLast got → IsItem may_answer (got, line) item → ⊥
+no_item may_answer gots.Line line item last is = last
+no_item may_answer gots.TooLong line item last is = last
+no_item may_answer gots.End line (Asks asked) last is = is
+no_item may_answer gots.End line Overlong last is = is
+no_item may_answer gots.Failed line (Asks asked) last is = is
+no_item may_answer gots.Failed line Overlong last is = is
+no_item may_answer gots.Budget line (Asks asked) last is = is
+no_item may_answer gots.Budget line Overlong last is = is
+
 module _ (dialect : Dialect) (s : Subject) where
   -- a turn that is possible, and what is ahead behind it
   pub record IsOpened (Asked : Item → Type 0) (Fits : Said → Type 0) (from : Places) (lines : List TheLine) (replies : List (List ℕ)) (room : ℕ) : Type 0 where
@@ -66,24 +84,6 @@ module _ (dialect : Dialect) (s : Subject) where
     replies_are = refl;
     remains = over_none s from over;
   }
-
-  -- no line is left, or none may be
-  abbrev pub IsLast : LineGot → Type 0
-  IsLast gots.Line = ⊥
-  IsLast gots.TooLong = ⊥
-  IsLast gots.End = ⊤
-  IsLast gots.Failed = ⊤
-  IsLast gots.Budget = ⊤
-
-  pub no_item : (may_answer : List ℕ → Result Request RequestFault → Type 0) (got : LineGot) (line : List ℕ) (item : Item) → IsLast got → IsItem may_answer (got, line) item → ⊥
-  no_item may_answer gots.Line line item last is = last
-  no_item may_answer gots.TooLong line item last is = last
-  no_item may_answer gots.End line (Asks asked) last is = is
-  no_item may_answer gots.End line Overlong last is = is
-  no_item may_answer gots.Failed line (Asks asked) last is = is
-  no_item may_answer gots.Failed line Overlong last is = is
-  no_item may_answer gots.Budget line (Asks asked) last is = is
-  no_item may_answer gots.Budget line Overlong last is = is
 
   module _ (from : Places) (wide : IsWide from) where
     pub none_ahead : (room : ℕ) (lines : List TheLine) → room ≡ 0 → IsAhead dialect s from lines [] room → IsOver s from

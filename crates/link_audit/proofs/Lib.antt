@@ -19,4 +19,7 @@ pub mod OneLines
 mod Sent
 pub mod FarEnds
 pub mod FreshLinks
+mod MemoryReplies
+mod Accounted
 mod Judged
+mod FirstDifferences

@@ -85,7 +85,7 @@ module _ (s : Subject) (from : Places) where
     step_as to Stuck is = λ other o. is other (from_other other o)
 
 -- what a turn was answered answers what it was asked
-answers : (turn : Turn) (asked : Result Request RequestFault) → item_of turn ≡ Asks asked → IsAnswerTo asked (said_of turn)
+pub answers : (turn : Turn) (asked : Result Request RequestFault) → item_of turn ≡ Asks asked → IsAnswerTo asked (said_of turn)
 answers (Called r g p e posted) asked is = let same : Ok r ≡ asked = cc in subst (λ (a : Result Request RequestFault). IsAnswerTo a (said.At p e.reply)) same tt
 answers (CallDenied r g) asked is = let same : Ok r ≡ asked = cc in subst (λ (a : Result Request RequestFault). IsAnswerTo a said.Spent) same tt
 answers (CashRead p dollars) asked is = let same : Ok requests.Cash ≡ asked = cc in subst (λ (a : Result Request RequestFault). IsAnswerTo a (said.Cash p dollars)) same tt

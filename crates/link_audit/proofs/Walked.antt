@@ -2,13 +2,12 @@
 use Rattle.std.proofs.Common.{◌≡◌, ℕ, suc, List, [], ◌∷◌, Bool, true, false, refl, sym, ◌∙◌, subst, ◌+◌, Option, None, Some, is_some, slice_range}
 use Rattle.link_audit.specs.{SESSION_LINES, LineGot, Dialect, Subject, IsAsked, FitsReply, IsOver, IsWide, IsTaken, IsStuck, IsLeaving, IsAhead, start, IsBehind, IsAheadAt, IsHeard, EndsByLeaving, FindsEnd, replies_at}
 use Rattle.std.proofs.lemmas.List.{length-replicate}
-use Rattle.tac_io.specs.declared.line_got.LineGot.TheVariants as gots
 use Rattle.link_audit.specs.declared.places.Places.{Places}
 use Rattle.link_audit.specs.declared.hearing.Heard.{Heard}
 use Rattle.link_audit.specs.declared.hearing.Heard.TheVariants.{Through, Gone, Not}
 use Rattle.link_audit.proofs.Cuts.{replies_here, replies_end}
 use Rattle.link_audit.proofs.Walking.{wide_after}
-use Rattle.link_audit.proofs.Leading.{heard_on, heard_back, heard_stuck, left_on, left_back, end_heard, no_room, unheard_on, unheard_back, unheard_stuck, unheard_left, end_unheard, none_ahead, over_ahead}
+use Rattle.link_audit.proofs.Leading.{IsLast, heard_on, heard_back, heard_stuck, left_on, left_back, end_heard, no_room, unheard_on, unheard_back, unheard_stuck, unheard_left, end_unheard, none_ahead, over_ahead}
 
 pub wide_start : IsWide start
 wide_start = record { next = length-replicate {A = ℕ} 28 0; made = length-replicate {A = ℕ} 28 0; seen = length-replicate {A = ℕ} 28 0 }
@@ -42,9 +41,9 @@ module _ (dialect : Dialect) (s : Subject) (Before : Type 0) (from : Places) (wi
         pub left_walk : replies' ≡ [] → IsOver s from → Before
         left_walk none over = b.back (behind (left_back dialect s from wide line lines' room' reply replies' t none over))
 
-      pub walk_ended : line ≡ (gots.End, []) → Before → ⊥
-      walk_ended is before =
-          end_heard dialect s from wide gots.End [] lines' reply replies' room' tt
+      pub walk_ended : (got : LineGot) → IsLast got → line ≡ (got, []) → Before → ⊥
+      walk_ended got last is before =
+          end_heard dialect s from wide got [] lines' reply replies' room' last
           (subst (λ (l : LineGot × List ℕ). IsAhead dialect s from (l ∷ lines') (reply ∷ replies') (suc room')) is (front (b.there before)))
 
     -- ---- without replies
@@ -69,9 +68,9 @@ module _ (dialect : Dialect) (s : Subject) (Before : Type 0) (from : Places) (wi
         pub pass_left : IsLeaving (IsAsked dialect false line) (FitsReply dialect false []) s from → Before → ⊥
         pass_left t before = unheard_left dialect s from wide line lines' room' more t (front_unheard (b.there before))
 
-        pub pass_ended : line ≡ (gots.End, []) → Before → ⊥
-        pass_ended is before =
-            end_unheard dialect s from wide gots.End [] lines' room' tt more
+        pub pass_ended : (got : LineGot) → IsLast got → line ≡ (got, []) → Before → ⊥
+        pass_ended got last is before =
+            end_unheard dialect s from wide got [] lines' room' last more
             (subst (λ (l : LineGot × List ℕ). IsAhead dialect s from (l ∷ lines') [] (suc room')) is (front_unheard (b.there before)))
 
   -- ---- the lines of a session are used up

@@ -1,8 +1,9 @@
 -- When a log is right about one link, by the bytes that it gave and those that it was sent. This project defines the two relations.
-use Rattle.std.specs.Prelude.{◌≡◌, ◌≢◌, ℕ, ◌==◌, ◌≤◌, if◌then◌else◌, List, [], ◌∷◌, ◌++◌, Result, Err, Some, true, length, map, slice_get, take}
+use Rattle.std.specs.Prelude.{◌≡◌, ◌≢◌, ℕ, ◌-◌, ◌==◌, ◌<◌, ◌≤◌, ◌⊎◌, if◌then◌else◌, List, [], ◌∷◌, ◌++◌, Contains, Result, Err, Some, true, length, map, slice_get, take, count_by}
 use Rattle.std.specs.List.{list_any}
-use Rattle.link_audit.specs.Prelude.{LINK_BYTES, SESSION_LINES, GoesOn, GameFile, all_answers, LinkState, LineGot, Cause, Verdict, Seated, Request, RequestFault, Said, IsOneLine, ClosedGame, LoggedGame, auctions_in, gives_seat, Dialect, verdict_of, AreItems, IsTranscript, Turn, AreLawful, item_of, said_of, welcome_lines, welcome_text, free_seats, seats_given, HostedGame, hosted_game, IsSeated, PlayedGame}
+use Rattle.link_audit.specs.Prelude.{LINK_BYTES, SESSION_LINES, GoesOn, GameFile, all_answers, LinkState, LineGot, Cause, Verdict, Seated, Request, RequestFault, Said, IsOneLine, ClosedGame, LoggedGame, auctions_in, gives_seat, Dialect, verdict_of, AreItems, IsTranscript, Turn, AreLawful, has_left, item_of, said_of, welcome_lines, welcome_text, free_seats, seats_given, HostedGame, hosted_game, IsSeated, PlayedGame}
 use Rattle.tac_io.specs.declared.line_got.LineGot.TheVariants as gots
+use Rattle.line_protocol.specs.declared.admission.Cause.TheVariants as causes
 use Rattle.line_protocol.specs.declared.asking.RequestFault.TheVariants.{Memory}
 use Rattle.line_protocol.specs.Heads.{Head, Play, Serve}
 
@@ -70,11 +71,11 @@ MayAsk may_answer line answer = may_answer line answer × (answer ≢ Err Memory
 abbrev pub HasWelcome : GameFile → ℕ → List ℕ → Type 0
 HasWelcome game agent said = GoesOn (welcome_text game agent) said
 
--- A sound log is right about a link as its far end saw it, which tried to send `asked` and got `said`. The first line asks for the agent's
--- seat, which the log's head gives to a link. The first of the lines after it have turns, which are lawful one after another, number at
--- most 65,536, and together are the agent's whole part of the log. The replies to the first of these turns are all the whole lines that
--- arrived after the welcome; the replies to the others did not arrive whole.
-pub record IsVouched (game : GameFile) (dialect : Dialect) (log : LoggedGame) (agent : ℕ) (asked said : List ℕ) : Type 0 where
+-- The lines of a link account for the agent's whole part of a sound log, as the link's far end saw it, which tried to send `asked` and got
+-- `said`. The first line asks for the agent's seat, which the log's head gives to a link. The first of the lines after it have turns, which
+-- are lawful one after another, number at most 65,536, and together are the agent's whole part of the log. The replies to the first of
+-- these turns are all the whole lines that arrived after the welcome; the replies to the others did not arrive whole.
+pub record AccountsFor (game : GameFile) (dialect : Dialect) (log : LoggedGame) (agent : ℕ) (asked said : List ℕ) : Type 0 where
   pub listed : list_any (gives_seat agent) (logged_verdicts log.head) ≡ true
   pub line : List ℕ
   pub answered : List (LineGot × List ℕ)
@@ -90,6 +91,36 @@ pub record IsVouched (game : GameFile) (dialect : Dialect) (log : LoggedGame) (a
   pub lawful : AreLawful (heard ++ unheard)
   pub replies : whole_lines said ≡ welcome_lines game agent ++ map (λ turn. dialect.text (said_of turn)) heard
   pub transcript : IsTranscript agent (closed_in game log) (heard ++ unheard)
+
+-- no line is left: the link's bytes are at their end, or no more of them are taken
+abbrev pub HasNoLine : List (LineGot × List ℕ) → Type 0
+HasNoLine lines = (lines ≡ (gots.End, []) ∷ []) ⊎ (lines ≡ (gots.Budget, []) ∷ [])
+
+-- nothing of a link is left over: each whole line, up to the one by which the agent left, has its reply, and the last byte that arrived is a
+-- line end
+pub record LeavesNothing {game : GameFile} {dialect : Dialect} {log : LoggedGame} {agent : ℕ} {asked said : List ℕ} (account : AccountsFor game dialect log agent asked said) : Type 0 where
+  pub all_heard : account.unheard ≡ []
+  pub last : (has_left account.heard ≡ true) ⊎ HasNoLine account.later
+  pub ended : slice_get said (length said - 1) ≡ Some 10
+
+-- the bytes have the greeting and at least 65,536 lines more, or are as many as a server takes
+abbrev pub MayUseUp : List ℕ → Type 0
+MayUseUp asked = (SESSION_LINES < count_by (λ byte. byte == 10) asked) ⊎ (LINK_BYTES ≤ length asked)
+
+-- A cause that the record of a link allows. If a `bye` arrived, `quit` was answered. If a write failed, something is left over. The session
+-- used up its lines or its bytes only if there were as many.
+pub record AllowsCause {game : GameFile} {dialect : Dialect} {log : LoggedGame} {agent : ℕ} {asked said : List ℕ} (account : AccountsFor game dialect log agent asked said) (cause : Cause) : Type 0 where
+  pub left : has_left account.heard ≡ true → cause ≡ causes.Quit
+  pub cut : cause ≡ causes.WriteFault → LeavesNothing account → ⊥
+  pub used_up : cause ≡ causes.Budget → MayUseUp asked
+
+-- A sound log is right about a link: its lines account for the agent's whole part of the log, and its record allows the cause that the log's
+-- head has for the end of the agent's session.
+pub record IsVouched (game : GameFile) (dialect : Dialect) (log : LoggedGame) (agent : ℕ) (asked said : List ℕ) : Type 0 where
+  pub account : AccountsFor game dialect log agent asked said
+  pub cause : Cause
+  pub ended : Contains (logged_ends log.head) (agent, cause)
+  pub allowed : AllowsCause account cause
 
 -- in this form of lines, if each reply is one line, every log is right about each of its links that was sent its whole welcome
 abbrev pub VouchesForLinks : Dialect → Type 0

@@ -1,20 +1,23 @@
 -- The result of auditing a link.
-use Rattle.std.specs.Prelude.{⊤, ◌≡◌, ℕ, ◌-◌, ◌⊎◌, ◌↔◌, List, [], ◌∷◌, ◌++◌, Some, true, length, slice_get, count_by}
+use Rattle.std.specs.Prelude.{⊤, ◌≡◌, ℕ, ◌↔◌, List, [], ◌∷◌, ◌++◌, Contains, true, length, map, count_by}
+use Rattle.std.specs.Str.{bytes_eq}
 use Rattle.std.specs.List.{list_any}
-use Rattle.link_audit.specs.Prelude.{Board, LINK_BYTES, GameFile, all_answers, LineGot, Seated, LoggedGame, gives_seat, Dialect, verdict_of, Turn, has_left, welcome_lines, free_seats}
+use Rattle.link_audit.specs.Prelude.{Board, LINK_BYTES, GameFile, all_answers, Cause, LineGot, Seated, Said, IsLogged, LoggedGame, gives_seat, Dialect, verdict_of, Turn, said_of, welcome_lines, free_seats}
 use Rattle.tac_io.specs.declared.line_got.LineGot.TheVariants as gots
+use Rattle.line_protocol.specs.declared.asking.RequestFault.TheVariants.{Memory}
+use Rattle.line_protocol.specs.declared.saying.Said.TheVariants as said
 use Rattle.link_audit.specs.declared.vouching.Difference.{Difference}
 use Rattle.link_audit.specs.declared.vouching.Difference.TheVariants as differences
 use Rattle.link_audit.specs.declared.vouching.Vouching.{Vouching}
 use Rattle.link_audit.specs.declared.vouching.Vouching.TheVariants.{Whole, Cut, Not}
 use Rattle.link_audit.specs.Ahead.{AreBoards}
 use Rattle.link_audit.specs.Courses.{IsDifferent, has_entry}
-use Rattle.link_audit.specs.Links.{IsVouched, logged_verdicts, whole_lines}
+use Rattle.link_audit.specs.Links.{AccountsFor, AllowsCause, IsVouched, LeavesNothing, logged_ends, logged_verdicts, whole_lines}
 
 -- the link is vouched for as this agent's
 abbrev pub IsYes : ℕ → Vouching → Type 0
-IsYes agent (Whole seat lines) = seat ≡ agent
-IsYes agent (Cut seat lines after) = seat ≡ agent
+IsYes agent (Whole seat lines memory) = seat ≡ agent
+IsYes agent (Cut seat lines after memory) = seat ≡ agent
 IsYes agent (Not difference) = ⊥
 
 -- the link is vouched for as this agent's exactly if something holds, and as no other agent's
@@ -25,23 +28,28 @@ IsYesExactlyIf agent Holds vouching = (other : ℕ) → IsYes other vouching ↔
 
 -- the result is whole, as this agent's
 abbrev pub IsWhole : ℕ → Vouching → Type 0
-IsWhole agent (Whole seat lines) = seat ≡ agent
+IsWhole agent (Whole seat lines memory) = seat ≡ agent
 IsWhole agent vouching = ⊥
 
--- A sound log is right about a link, and nothing is left over: each whole line, up to the one by which the agent left, has its
--- reply, and the last byte that arrived is a line end.
+-- a sound log is right about a link, and nothing is left over
 pub record IsWholeLink (game : GameFile) (dialect : Dialect) (log : LoggedGame) (agent : ℕ) (asked said : List ℕ) : Type 0 where
   pub vouched : IsVouched game dialect log agent asked said
-  pub all_heard : vouched.unheard ≡ []
-  pub last : (has_left vouched.heard ≡ true) ⊎ (vouched.later ≡ (gots.End, []) ∷ [])
-  pub ended : slice_get said (length said - 1) ≡ Some 10
+  pub whole : LeavesNothing vouched.account
 
--- the numbers of a result, by the turns whose replies arrived and those whose replies did not: how many replies arrived, and how many of the
--- other turns left an entry, a call or a reading
-abbrev pub HasNumbers : Vouching → List Turn → List Turn → Type 0
-HasNumbers (Whole agent lines) heard unheard = length heard ≡ lines
-HasNumbers (Cut agent lines after) heard unheard = (length heard ≡ lines) × (count_by has_entry unheard ≡ after)
-HasNumbers (Not difference) heard unheard = ⊤
+-- how many replies say that the server had no memory to read the line
+abbrev pub memory_replies : (Said → List ℕ) → List (List ℕ) → ℕ
+memory_replies text replies = count_by (bytes_eq (text (said.Fault Memory))) replies
+
+abbrev pub replies_to : (Said → List ℕ) → List Turn → List (List ℕ)
+replies_to text turns = map (λ turn. text (said_of turn)) turns
+
+-- the numbers of a result, by the turns whose replies arrived and those whose replies did not: how many replies arrived; how many of the other
+-- turns left an entry, a call or a reading; and how many replies say that there was no memory
+abbrev pub HasNumbers : (Said → List ℕ) → Vouching → List Turn → List Turn → Type 0
+HasNumbers text (Whole agent lines memory) heard unheard = (length heard ≡ lines) × (memory_replies text (replies_to text heard) ≡ memory)
+HasNumbers text (Cut agent lines after memory) heard unheard =
+    (length heard ≡ lines) × (count_by has_entry unheard ≡ after) × (memory_replies text (replies_to text heard) ≡ memory)
+HasNumbers text (Not difference) heard unheard = ⊤
 
 -- ---- the first difference
 
@@ -70,11 +78,23 @@ pub record DiffersBehind (game : GameFile) (dialect : Dialect) (log : LoggedGame
   pub boards_are : AreBoards game log boards
   pub differs : IsDifferent dialect (record { log = log; boards = boards; agent = agent }) lines replies difference
 
+-- the lines of the link account for the agent's part of the log, but its record allows no cause that the log's head has for the agent
+pub record RefutesCause (game : GameFile) (dialect : Dialect) (log : LoggedGame) (asked said : List ℕ) : Type 0 where
+  pub agent : ℕ
+  pub account : AccountsFor game dialect log agent asked said
+  pub none : (cause : Cause) → Contains (logged_ends log.head) (agent, cause) → AllowsCause account cause → ⊥
+
 -- the first place at which a sound log is not right about a link
 abbrev pub IsFirstDifference : GameFile → Dialect → LoggedGame → List ℕ → List ℕ → Difference → Type 0
 IsFirstDifference game dialect log asked said differences.Seat = (agent : ℕ) (lines : List (LineGot × List ℕ)) → HasSeatAndLines game log asked agent lines → ⊥
 IsFirstDifference game dialect log asked said differences.Welcome = LacksWelcome game log asked said
+IsFirstDifference game dialect log asked said differences.Cause = RefutesCause game dialect log asked said
 IsFirstDifference game dialect log asked said difference = DiffersBehind game dialect log asked said difference
+
+-- in this form of lines, a log differs from a link at one place first
+abbrev pub HasOneDifference : Dialect → Type 0
+HasOneDifference dialect = (game : GameFile) (log : LoggedGame) (asked said : List ℕ) (one other : Difference) → IsLogged log
+    → IsFirstDifference game dialect log asked said one → IsFirstDifference game dialect log asked said other → one ≡ other
 
 -- the result is a difference only if it is the first one
 abbrev pub IsDifferenceOf : GameFile → Dialect → LoggedGame → List ℕ → List ℕ → Vouching → Type 0
@@ -87,5 +107,5 @@ IsDifferenceOf game dialect log asked said vouching = ⊤
 pub record IsJudged (game : GameFile) (dialect : Dialect) (log : LoggedGame) (asked said : List ℕ) (vouching : Vouching) : Type 0 where
   pub yes : (agent : ℕ) → IsYes agent vouching ↔ IsVouched game dialect log agent asked said
   pub whole : (agent : ℕ) → IsWhole agent vouching ↔ IsWholeLink game dialect log agent asked said
-  pub numbers : (agent : ℕ) (v : IsVouched game dialect log agent asked said) → HasNumbers vouching v.heard v.unheard
+  pub numbers : (agent : ℕ) (v : IsVouched game dialect log agent asked said) → HasNumbers dialect.text vouching v.account.heard v.account.unheard
   pub difference : IsDifferenceOf game dialect log asked said vouching

@@ -73,7 +73,7 @@ pub(crate) fn hear<D: KnownDialect>(
 ) -> Result<Heard, Memory>
     requires posts { HasTruePosts log.now }
     requires table { IsTable boards.now }
-    requires short { (from ≤ length asked.now) × (length asked.now < LINK_BYTES) }
+    requires short { (from ≤ length asked.now) × (length asked.now ≤ LINK_BYTES) }
     requires welcome { told ≤ length said.now }
     ensures ahead { IfOk result (IsHeard (D.form dialect.now) (subject_of log.now boards.now agent) asked.now from (replies_at said.now told)) }
     ensures turns { IfOk result (HasHeard (D.form dialect.now) (subject_of log.now boards.now agent) asked.now from (replies_at said.now told)) }

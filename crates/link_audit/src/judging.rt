@@ -1,14 +1,16 @@
 // Judges a log by one link.
-ghost use Rattle.std.specs.Prelude.{◌≡◌, ◌<◌, ◌≤◌, ◌-◌, ◌↔◌, if◌then◌else◌, ℕ, [], IfOk, IsTrue, Some, length, slice_get};
-ghost use Rattle.link_audit.specs.{LINK_BYTES, SESSION_LINES, IsSound, HasTruePosts, IsAhead, IsTable, IsWide, subject_of, IsVouched, HasNumbers, IsDifferenceOf, IsWhole, IsWholeLink, IsYes, IsYesExactlyIf, IsFinished, lines_at};
+ghost use Rattle.std.specs.Prelude.{◌≡◌, ◌≤◌, ◌-◌, ◌↔◌, if◌then◌else◌, ℕ, [], false, IfOk, IsTrue, Some, length, slice_get};
+ghost use Rattle.link_audit.specs.{LINK_BYTES, SESSION_LINES, IsSound, HasTruePosts, IsAhead, IsTable, IsWide, subject_of, IsVouched, HasNumbers, IsDifferenceOf, IsWhole, IsWholeLink, IsYes, IsYesExactlyIf, IsAccounted, IsFinished, lines_at};
 ghost use Rattle.link_audit.specs.declared.hearing.Heard.TheVariants.{Through};
 
+use crate::causes::has_cause_for;
 use crate::greeting::{behind_welcome, seat_of};
 use crate::hearing::{Heard, hear};
 use crate::known::KnownDialect;
 use crate::lines::line_end;
 use crate::passing::pass;
 use crate::places::Places;
+use crate::replies::count_memory;
 use crate::table::table;
 use crate::vouching::{Difference, Vouching};
 use game_text::Game;
@@ -17,18 +19,30 @@ use log_reader::Log;
 use std::alloc::Global;
 use tac_base::{Agent, Board, Memory};
 
+/// The result for a link by its lines alone, and whether the agent left by a line that was answered.
+#[derive(Clone, Copy, Debug)]
+struct Accounted {
+    vouching: Vouching,
+    left: bool,
+}
+
 /// The result for a link about which the log is right, once no line without a reply is left: whole, if the last byte sent to the agent is a
 /// line end.
-fn vouched(agent: Agent, lines: u32, after: u32, ended: bool) -> Vouching
-    ensures { result ≡ (if ended then Vouching.Whole agent lines else Vouching.Cut agent lines after) }
+fn vouched(agent: Agent, lines: u32, after: u32, memory: u32, ended: bool) -> Vouching
+    ensures { result ≡ (if ended then Vouching.Whole agent lines memory else Vouching.Cut agent lines after memory) }
 {
     if ended {
-        Vouching::Whole { agent, lines }
+        Vouching::Whole {
+            agent,
+            lines,
+            memory,
+        }
     } else {
         Vouching::Cut {
             agent,
             lines,
             after,
+            memory,
         }
     }
 }
@@ -53,31 +67,90 @@ fn finish<D: KnownDialect>(
     at: usize,
     places: &Places,
     lines: u32,
+    memory: u32,
     ended: bool,
 ) -> Result<Vouching, Memory>
     requires posts { HasTruePosts log.now }
     requires table { IsTable boards.now }
-    requires short { (at ≤ length asked.now) × (length asked.now < LINK_BYTES) }
+    requires short { (at ≤ length asked.now) × (length asked.now ≤ LINK_BYTES) }
     requires wide { IsWide places.now }
     requires few { lines ≤ SESSION_LINES }
     ensures yes { IfOk result (IsYesExactlyIf agent (IsAhead (D.form dialect.now) (subject_of log.now boards.now agent) places.now (lines_at asked.now at) [] (SESSION_LINES - lines))) }
-    ensures how { IfOk result (IsFinished (D.form dialect.now) (subject_of log.now boards.now agent) asked.now ended (Through places.now at lines)) }
+    ensures how { IfOk result (IsFinished (D.form dialect.now) (subject_of log.now boards.now agent) asked.now ended memory (Through places.now at lines)) }
 {
     match pass(log, boards, agent, dialect, asked, at, places, lines)? {
         Ok(after) => match line_end(asked, at) {
-            None => Ok(vouched(agent, lines, after, ended)),
+            None => Ok(vouched(agent, lines, after, memory, ended)),
             Some(_) => Ok(Vouching::Cut {
                 agent,
                 lines,
                 after,
+                memory,
             }),
         },
         Err(left) => Ok(Vouching::Not(left)),
     }
 }
 
+/// The result for a link that differs here.
+fn unlike(difference: Difference) -> Accounted
+    ensures { result ≡ record { vouching = Vouching.Not difference; left = false } }
+{
+    Accounted {
+        vouching: Vouching::Not(difference),
+        left: false,
+    }
+}
+
+/// Judges a sound log by the lines of a link: whether they account for the log's part of its agent. After `Memory` it found nothing.
+fn account<D: KnownDialect>(
+    alloc: Global,
+    game: &Game,
+    log: &Log,
+    dialect: &D,
+    asked: &[u8],
+    said: &[u8],
+) -> Result<Accounted, Memory>
+    requires sound { IsSound game.now log.now }
+    requires short { length asked.now ≤ LINK_BYTES }
+    ensures { IfOk result (λ found. IsAccounted game.now (D.form dialect.now) log.now asked.now said.now found.vouching found.left) }
+{
+    // The log is in its ranges, and has no flaw.
+    let _head = log.head();
+    no_flaw();
+    let Some(end) = line_end(asked, 0) else {
+        return Ok(unlike(Difference::Seat));
+    };
+    let Some(agent) = seat_of(game, log, &asked[0..end]) else {
+        return Ok(unlike(Difference::Seat));
+    };
+    let Some(told) = behind_welcome(game, agent, said) else {
+        return Ok(unlike(Difference::Welcome));
+    };
+    let boards = table(alloc, game, log)?;
+    let ended = is_ended(said);
+    let memory = count_memory(dialect, said, told);
+    match hear(log, &boards, agent, dialect, asked, end + 1, said, told)? {
+        Heard::Through { places, at, lines } => {
+            let vouching = finish(
+                log, &boards, agent, dialect, asked, at, &places, lines, memory, ended,
+            )?;
+            Ok(Accounted {
+                vouching,
+                left: false,
+            })
+        }
+        Heard::Gone { lines } => Ok(Accounted {
+            vouching: vouched(agent, lines, 0, memory, ended),
+            left: true,
+        }),
+        Heard::Not(difference) => Ok(unlike(difference)),
+    }
+}
+
 /// Judges a sound log by the bytes that the far end of one link tried to send and those that it got: whether the calls of its agent are
-/// those that its lines requested, each once and in order, with the replies that arrived. After `Memory` it found nothing.
+/// those that its lines requested, each once and in order, with the replies that arrived, and whether its session can have ended as the log
+/// says. After `Memory` it found nothing.
 pub fn vouch<D: KnownDialect>(
     alloc: Global,
     game: &Game,
@@ -87,38 +160,21 @@ pub fn vouch<D: KnownDialect>(
     said: &[u8],
 ) -> Result<Vouching, Memory>
     requires sound { IsSound game.now log.now }
-    requires short { length asked.now < LINK_BYTES }
+    requires short { length asked.now ≤ LINK_BYTES }
     // The result is a yes exactly if the log is right about the link, as this agent's.
     ensures yes { IfOk result (λ vouching. (agent : ℕ) → IsYes agent vouching ↔ IsVouched game.now (D.form dialect.now) log.now agent asked.now said.now) }
     // The result is whole exactly if, in addition, nothing of the link is left over.
     ensures whole { IfOk result (λ vouching. (agent : ℕ) → IsWhole agent vouching ↔ IsWholeLink game.now (D.form dialect.now) log.now agent asked.now said.now) }
     // The numbers of a yes are those of its turns.
     ensures numbers { IfOk result (λ vouching. (agent : ℕ) (v : IsVouched game.now (D.form dialect.now) log.now agent asked.now said.now)
-        → HasNumbers vouching v.heard v.unheard) }
+        → HasNumbers (D.form dialect.now).text vouching v.account.heard v.account.unheard) }
     // A difference that it reports is the first one.
     ensures difference { IfOk result (IsDifferenceOf game.now (D.form dialect.now) log.now asked.now said.now) }
 {
-    // The log is in its ranges, and has no flaw.
-    let _head = log.head();
-    no_flaw();
-    let Some(end) = line_end(asked, 0) else {
-        return Ok(Vouching::Not(Difference::Seat));
-    };
-    let Some(agent) = seat_of(game, log, &asked[0..end]) else {
-        return Ok(Vouching::Not(Difference::Seat));
-    };
-    let Some(told) = behind_welcome(game, agent, said) else {
-        return Ok(Vouching::Not(Difference::Welcome));
-    };
-    let boards = table(alloc, game, log)?;
-    let ended = is_ended(said);
-    match hear(log, &boards, agent, dialect, asked, end + 1, said, told)? {
-        Heard::Through { places, at, lines } => {
-            finish(
-                log, &boards, agent, dialect, asked, at, &places, lines, ended,
-            )
-        }
-        Heard::Gone { lines } => Ok(vouched(agent, lines, 0, ended)),
-        Heard::Not(difference) => Ok(Vouching::Not(difference)),
+    let found = account(alloc, game, log, dialect, asked, said)?;
+    if has_cause_for(log, asked, found.left, &found.vouching) {
+        Ok(found.vouching)
+    } else {
+        Ok(Vouching::Not(Difference::Cause))
     }
 }

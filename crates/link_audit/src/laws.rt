@@ -1,5 +1,9 @@
 // Laws about links and what their far ends saw.
-ghost use Rattle.link_audit.specs.{Said, IsOneLine, said_text, json_text, VouchesForLinks};
+ghost use Rattle.std.specs.Prelude.{◌≡◌, ◌⊎◌, Err};
+ghost use Rattle.line_protocol.specs.Requests.{request_of};
+ghost use Rattle.line_protocol.specs.declared.asking.RequestFault.TheVariants.{Memory};
+ghost use Rattle.json_dialect.specs.JsonRequests.{asks_json};
+ghost use Rattle.link_audit.specs.{Said, IsOneLine, said_text, json_text, VouchesForLinks, HasOneDifference};
 
 use agent_gate::Dialect;
 
@@ -13,4 +17,10 @@ pub fn vouched_link<D: Dialect>()
 pub fn line_replies()
     ensures words { (reply : Said) → IsOneLine (said_text reply) }
     ensures json { (reply : Said) → IsOneLine (json_text reply) }
+{}
+
+/// The law of first differences, as this call's contract: a log differs from a link at one place first, in words and in JSON.
+pub fn first_differences()
+    ensures words { HasOneDifference (record { may_answer = λ line answer. answer ≡ request_of line; text = said_text }) }
+    ensures json { HasOneDifference (record { may_answer = λ line answer. (answer ≡ asks_json line) ⊎ (answer ≡ Err Memory); text = json_text }) }
 {}

@@ -3,6 +3,7 @@
 
 mod calls;
 mod cash;
+mod causes;
 mod goods;
 mod greeting;
 mod hearing;
@@ -22,5 +23,5 @@ mod vouching;
 
 pub use judging::vouch;
 pub use known::KnownDialect;
-pub use laws::{line_replies, vouched_link};
+pub use laws::{first_differences, line_replies, vouched_link};
 pub use vouching::{Difference, Vouching};

@@ -49,7 +49,7 @@ pub(crate) fn pass<D: KnownDialect>(
 ) -> Result<Result<u32, Difference>, Memory>
     requires posts { HasTruePosts log.now }
     requires table { IsTable boards.now }
-    requires short { (from ≤ length asked.now) × (length asked.now < LINK_BYTES) }
+    requires short { (from ≤ length asked.now) × (length asked.now ≤ LINK_BYTES) }
     requires wide { IsWide reached.now }
     requires few { lines ≤ SESSION_LINES }
     ensures ahead { IfOk result (IsPassed (D.form dialect.now) (subject_of log.now boards.now agent) reached.now (lines_at asked.now from) lines) }

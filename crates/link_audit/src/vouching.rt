@@ -13,9 +13,13 @@ pub enum Difference {
     Entry { good: Good, position: u32 },
     /// The same for this entry of the agent in the cash history; no entry is left over at any good.
     Cash(u32),
+    /// The cause of the session's end is not one that the record allows: another than `quit` although the `bye` arrived, a failed write although
+    /// nothing is left over, or a used-up budget of more lines and bytes than there are.
+    Cause,
 }
 
-/// The result of auditing a link. Each yes has the agent, and the number of replies that arrived.
+/// The result of auditing a link. Each yes has the agent, the number of replies that arrived, and how many of these say that the server had no
+/// memory to read the line.
 #[derive(Clone, Copy, Debug, PartialEq, Eq)]
 pub enum Vouching {
     /// The log is right about this link, and nothing is left over: each whole line, up to the one by which the agent left, has its reply, this
@@ -23,6 +27,7 @@ pub enum Vouching {
     Whole {
         agent: Agent,
         lines: u32,
+        memory: u32,
     },
     /// The log is right about this link, as far as this many replies arrived. Of the lines after them, this many left a call or a reading in
     /// the log, and no other line did. The post of a call is not counted.
@@ -30,6 +35,7 @@ pub enum Vouching {
         agent: Agent,
         lines: u32,
         after: u32,
+        memory: u32,
     },
     /// The log is not right about this link, and here it differs first.
     Not(Difference),

@@ -5,7 +5,7 @@
 //! it is generic or lends its result, is made in a closure. Nothing here is run.
 #![tactic(auto)]
 
-ghost use Rattle.std.specs.Prelude.{◌≡◌, ◌<◌, [], IfSome, length};
+ghost use Rattle.std.specs.Prelude.{◌≡◌, ◌<◌, ◌≤◌, [], IfSome, length};
 ghost use Rattle.tac_base.specs.declared.limits.TheConstants.{LINK_BYTES};
 ghost use Rattle.log_text.specs.SoundLog.{IsSound};
 
@@ -436,14 +436,15 @@ pub fn audits_of_links<D: KnownDialect>(
     said: &[u8],
 ) -> Result<Vouching, Memory>
     requires sound { IsSound game.now log.now }
-    requires short { length asked.now < LINK_BYTES }
+    requires short { length asked.now ≤ LINK_BYTES }
 {
     shape!(enum Vouching {
-        Whole { agent: Agent, lines: u32 }, Cut { agent: Agent, lines: u32, after: u32 },
+        Whole { agent: Agent, lines: u32, memory: u32 },
+        Cut { agent: Agent, lines: u32, after: u32, memory: u32 },
         Not(difference: Difference)
     });
     shape!(enum Difference {
-        Seat, Welcome, Line(line: u32), Entry { good: Good, position: u32 }, Cash(position: u32)
+        Seat, Welcome, Line(line: u32), Entry { good: Good, position: u32 }, Cash(position: u32), Cause
     });
     vouch::<D>(alloc, game, log, dialect, asked, said)
 }

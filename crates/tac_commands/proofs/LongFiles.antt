@@ -2,7 +2,7 @@
 use Rattle.std.proofs.Common.{◌≡◌, ℕ, suc, ◌<◌, ◌≤◌, List, length, true, false, ap, ◌∙◌, arith, nat_lt, replicate, Result, Ok, Err, Some, None}
 use Rattle.std.proofs.lemmas.Bool.Decides.{nat_tests}
 use Rattle.std.proofs.lemmas.List.{length-replicate}
-use Rattle.tac_commands.specs.{TEXT_BYTES, IsTooLong, account_of, game_of, log_of, HotelLine, GameLine as ScriptLine, BadLine, script_of, game_script, bytes_in, most_bytes, lines_or_fault, script_in, read_as, logged_or_fault, Content, HasFault}
+use Rattle.tac_commands.specs.{LINK_BYTES, TEXT_BYTES, IsTooLong, account_of, game_of, log_of, HotelLine, GameLine as ScriptLine, BadLine, script_of, game_script, bytes_in, most_bytes, lines_or_fault, script_in, read_as, logged_or_fault, Content, HasFault}
 use Rattle.game_text.specs.declared.fault.GameFault.TheVariants.{Line, TooLong}
 use Rattle.log_reader.specs.declared.fault.LogFault.TheVariants as logs
 use Rattle.tac_commands.specs.declared.file_kinds.FileKind.{FileKind}
@@ -20,8 +20,8 @@ long_log : (bytes : List ℕ) → TEXT_BYTES < length bytes → logged_or_fault 
 unfolding log_of
 long_log bytes long = let test : nat_lt TEXT_BYTES (length bytes) ≡ true = grind (arith, nat_tests) in rw test
 
-long_bytes : (bytes : List ℕ) → 67108863 < length bytes → bytes_in bytes ≡ Err TooLong
-long_bytes bytes long = let test : nat_lt 67108863 (length bytes) ≡ true = grind (arith, nat_tests) in rw test
+long_bytes : (bytes : List ℕ) → LINK_BYTES < length bytes → bytes_in bytes ≡ Err TooLong
+long_bytes bytes long = let test : nat_lt LINK_BYTES (length bytes) ≡ true = grind (arith, nat_tests) in rw test
 
 long_script : {A : Type 0} (bytes : List ℕ) (read : Result A BadLine) → TEXT_BYTES < length bytes → script_in bytes read ≡ Err TooLong
 long_script bytes read long = let test : nat_lt TEXT_BYTES (length bytes) ≡ true = grind (arith, nat_tests) in rw test
@@ -57,8 +57,8 @@ good_hotel bytes lines short good = short_script bytes (script_of bytes) short �
 pub bad_hotel : (bytes : List ℕ) (line reason : ℕ) → length bytes ≤ TEXT_BYTES → script_of bytes ≡ Err (line, reason) → read_as HotelScript bytes ≡ Err (Line line reason)
 bad_hotel bytes line reason short bad = short_script bytes (script_of bytes) short ∙ ap lines_or_fault bad
 
-pub good_bytes : (bytes : List ℕ) → length bytes ≤ 67108863 → read_as Bytes bytes ≡ Ok bytes
-good_bytes bytes short = let test : nat_lt 67108863 (length bytes) ≡ false = grind (arith, nat_tests) in rw test
+pub good_bytes : (bytes : List ℕ) → length bytes ≤ LINK_BYTES → read_as Bytes bytes ≡ Ok bytes
+good_bytes bytes short = let test : nat_lt LINK_BYTES (length bytes) ≡ false = grind (arith, nat_tests) in rw test
 
 pub bad_log : (bytes : List ℕ) (line : ℕ) → log_of bytes ≡ Err (logs.Line line) → read_as Log bytes ≡ Err (Line line 1)
 bad_log bytes line bad = ap logged_or_fault bad

@@ -32,8 +32,8 @@ module _ (game : GameFile) (log : LoggedGame) where
 
   module _ (dialect : Dialect) (asked said : List ℕ) (files : FilesState) where
     runs_so : (vouching : Vouching) → IsJudged game dialect log asked said vouching → Runs (link_steps game dialect log asked said) files files (vouching_outcome vouching)
-    runs_so (Whole agent lines) judged = inl ((agent, (judged.yes agent).0 refl), ((Whole agent lines, (agent, refl), judged, refl), (refl, refl)))
-    runs_so (Cut agent lines after) judged = inl ((agent, (judged.yes agent).0 refl), ((Cut agent lines after, (agent, refl), judged, refl), (refl, refl)))
+    runs_so (Whole agent lines memory) judged = inl ((agent, (judged.yes agent).0 refl), ((Whole agent lines memory, (agent, refl), judged, refl), (refl, refl)))
+    runs_so (Cut agent lines after memory) judged = inl ((agent, (judged.yes agent).0 refl), ((Cut agent lines after memory, (agent, refl), judged, refl), (refl, refl)))
     runs_so (Not difference) judged = inr (((λ vouched. (judged.yes vouched.0).1 vouched.1), (difference, judged.difference, refl)), (refl, refl))
 
     -- what was found of a link is written

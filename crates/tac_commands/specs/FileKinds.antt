@@ -1,5 +1,5 @@
 -- The kinds of files that commands read: how long such a file may be, what it holds, and what is written if it is refused.
-use Rattle.std.specs.Prelude.{ℕ, ◌-◌, List, length, nat_lt, if◌then◌else◌, Result, Ok, Err}
+use Rattle.std.specs.Prelude.{ℕ, List, length, nat_lt, if◌then◌else◌, Result, Ok, Err}
 use Rattle.tac_commands.specs.Prelude.{GAME_BYTES, LINK_BYTES, TEXT_BYTES, GameFault, GameFile, game_of, AccountFile, account_of, LoggedGame, log_of, HotelLine, GameLine as ScriptLine, BadLine, script_of, game_script}
 use Rattle.game_text.specs.declared.fault.GameFault.TheVariants.{Line, TooLong}
 use Rattle.log_reader.specs.declared.fault.LogFault.{LogFault}
@@ -12,7 +12,7 @@ use Rattle.tac_commands.specs.declared.file_kinds.FileKind.TheVariants.{Game, Ho
 -- the most bytes that such a file may have
 abbrev pub most_bytes : FileKind → ℕ
 most_bytes Game = GAME_BYTES
-most_bytes Bytes = LINK_BYTES - 1
+most_bytes Bytes = LINK_BYTES
 most_bytes kind = TEXT_BYTES
 
 -- what such a file holds: a game, the lines of a script, the last line first, an account, the log of a game, or bytes
@@ -45,7 +45,7 @@ logged_or_fault (Err fault) = Err (log_as_game_fault fault)
 
 -- any bytes, if they are not too many
 abbrev pub bytes_in : List ℕ → Result (List ℕ) GameFault
-bytes_in bytes = if nat_lt (LINK_BYTES - 1) (length bytes) then Err TooLong else Ok bytes
+bytes_in bytes = if nat_lt LINK_BYTES (length bytes) then Err TooLong else Ok bytes
 
 -- what the bytes of such a file hold; or that they are too many; or the first bad line with the first reason
 abbrev pub read_as : (kind : FileKind) → List ℕ → Result (Value kind) GameFault

@@ -32,7 +32,7 @@ impl FileKind {
             FileKind::Game => GAME_BYTES as usize,
             FileKind::HotelScript | FileKind::GameScript | FileKind::Account | FileKind::Log =>
                 TEXT_BYTES as usize,
-            FileKind::Bytes => LINK_BYTES as usize - 1,
+            FileKind::Bytes => LINK_BYTES as usize,
         }
     }
 

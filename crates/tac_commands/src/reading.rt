@@ -43,7 +43,7 @@ pub(crate) fn read_link<F: Files>(
 ) -> Result<Vec<u8>, Refusal>
     requires { MaySelect (F.state files.old) name.now }
     ensures value { IfOk result (λ bytes. IsFileRead (F.state files.old).content Bytes name.now bytes.items) }
-    ensures short { IfOk result (λ bytes. length bytes.items < LINK_BYTES) }
+    ensures short { IfOk result (λ bytes. length bytes.items ≤ LINK_BYTES) }
     ensures quiet { OnOk result ((F.state files.new).faults ≡ (F.state files.old).faults) }
     ensures unread { IfErr result (IsNotRead (F.state files.old) (F.state files.new) Bytes name.now) }
     ensures names { (F.state files.new).names ≡ known_then (F.state files.old).names (name.now ∷ []) }

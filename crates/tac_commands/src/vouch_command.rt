@@ -1,5 +1,5 @@
 // Judges the log of a game by the game, and then by one link.
-ghost use Rattle.std.specs.Prelude.{◌≡◌, ◌+◌, ◌<◌, ◌≤◌, [], ◌∷◌, length, IfSome};
+ghost use Rattle.std.specs.Prelude.{◌≡◌, ◌+◌, ◌<◌, ◌≤◌, [], ◌∷◌, ◌++◌, codes, length, IfSome};
 ghost use Rattle.tac_commands.specs.{FILE_NAMES, LINK_BYTES, NAME_BYTES, MaySelect, IsSound, dialect_in, link_file_steps, link_steps, vouch_steps, EndsBatch, EndsSteps, EndsUnasked, IsShortBatch, Reads, file};
 ghost use Rattle.tac_commands.specs.Commands as commands;
 ghost use Rattle.tac_commands.specs.declared.words.BatchCommand.TheVariants as batch;
@@ -35,25 +35,41 @@ fn difference_text(difference: Difference) -> Text
             numbered(b"unvouched entry", u32::from(good.get()), position)
         }
         Difference::Cash(position) => counted(b"unvouched cash", position),
+        Difference::Cause => plain(b"unvouched cause\n"),
+    }
+}
+
+/// A text, and how many replies say that the server had no memory to read the line, if any does, and a line end.
+fn with_memory(mut text: Text, memory: u32) -> Text
+    requires { length text ≤ 128 }
+    ensures { result ≡ text ++ texts.memory_words memory ++ codes "\n" }
+{
+    if memory > 0 {
+        text.push_bytes(b" memory ");
+        print_numeral(u64::from(memory), &mut text);
+        text.push(b'\n');
+        text
+    } else {
+        text.push(b'\n');
+        text
     }
 }
 
 /// The line that vouches for a link, all of whose lines, this many, have replies.
-fn whole_text(agent: Agent, lines: u32) -> Text
-    ensures { result ≡ texts.whole_text agent lines }
+fn whole_text(agent: Agent, lines: u32, memory: u32) -> Text
+    ensures { result ≡ texts.whole_text agent lines memory }
 {
     let mut text = Text::new();
     text.push_bytes(b"vouched ");
     print_numeral(u64::from(agent.get()), &mut text);
     text.push_bytes(b" whole ");
     print_numeral(u64::from(lines), &mut text);
-    text.push(b'\n');
-    text
+    with_memory(text, memory)
 }
 
 /// The line that vouches for a link up to this many replies, with the number of later lines that left a call or a reading.
-fn cut_text(agent: Agent, lines: u32, after: u32) -> Text
-    ensures { result ≡ texts.cut_text agent lines after }
+fn cut_text(agent: Agent, lines: u32, after: u32, memory: u32) -> Text
+    ensures { result ≡ texts.cut_text agent lines after memory }
 {
     let mut text = Text::new();
     text.push_bytes(b"vouched ");
@@ -62,8 +78,7 @@ fn cut_text(agent: Agent, lines: u32, after: u32) -> Text
     print_numeral(u64::from(lines), &mut text);
     text.push(b' ');
     print_numeral(u64::from(after), &mut text);
-    text.push(b'\n');
-    text
+    with_memory(text, memory)
 }
 
 /// Writes the result for a link.
@@ -71,8 +86,12 @@ fn write_vouching<K: Sink>(vouching: Vouching, out: &mut K) -> End
     ensures { Ends (λ outcome. outcome ≡ texts.vouching_outcome vouching) (K.state out.old) (K.state out.new) result }
 {
     match vouching {
-        Vouching::Whole { agent, lines } => {
-            match write_all(out, whole_text(agent, lines).as_slice()) {
+        Vouching::Whole {
+            agent,
+            lines,
+            memory,
+        } => {
+            match write_all(out, whole_text(agent, lines, memory).as_slice()) {
                 Ok(()) => End::Done,
                 Err(_) => End::WriteFault,
             }
@@ -81,8 +100,9 @@ fn write_vouching<K: Sink>(vouching: Vouching, out: &mut K) -> End
             agent,
             lines,
             after,
+            memory,
         } => {
-            match write_all(out, cut_text(agent, lines, after).as_slice()) {
+            match write_all(out, cut_text(agent, lines, after, memory).as_slice()) {
                 Ok(()) => End::Done,
                 Err(_) => End::WriteFault,
             }
@@ -107,7 +127,7 @@ fn judge_link<D: KnownDialect, K: Sink>(
     out: &mut K,
 ) -> End
     requires sound { IsSound game.now log.now }
-    requires short { length asked.now < LINK_BYTES }
+    requires short { length asked.now ≤ LINK_BYTES }
     ensures { EndsUnasked (link_steps game.now (D.form dialect.now) log.now asked.now said.now) (K.state out.old) (K.state out.new) result }
 {
     match vouch(alloc, game, log, dialect, asked, said) {
@@ -128,7 +148,7 @@ fn judge_said<D: KnownDialect, F: Files, K: Sink>(
     out: &mut K,
 ) -> End
     requires sound { IsSound game.now log.now }
-    requires short { length asked.now < LINK_BYTES }
+    requires short { length asked.now ≤ LINK_BYTES }
     requires name { MaySelect (F.state files.old) said.now }
     ensures { EndsSteps (Reads (file Bytes said.now) (link_steps game.now (D.form dialect.now) log.now asked.now))
         (F.state files.old) (F.state files.new) (K.state out.old) (K.state out.new) result }

@@ -1,5 +1,5 @@
 -- Links of agent 2, which bought two seats and read its cash, and the log of that game: each session ended for another cause.
-use Rattle.std.proofs.Common.{◌≡◌, ℕ, zero, suc, List, [], ◌∷◌, ◌++◌, length, refl, arith, inr, Some, codes, replicate, slice_get}
+use Rattle.std.proofs.Common.{◌≡◌, ℕ, zero, suc, List, [], ◌∷◌, ◌++◌, length, refl, arith, inl, inr, Some, codes, replicate, slice_get}
 use Rattle.std.specs.Fmt.{digits}
 use Rattle.tac_base.specs.Numerals.{numeral, signed_numeral}
 use Rattle.game_text.specs.QuietGames.{quiet_game}
@@ -25,7 +25,8 @@ use Rattle.game_run.specs.Hosted.{HostedGame, hosted_game}
 use Rattle.game_run.specs.Admission.{seats_given}
 use Rattle.game_run.specs.PlayedLinks.{IsSeatedLink}
 use Rattle.game_run.proofs.SameLinks.{seated_from_link}
-use Rattle.link_audit.specs.Links.{HasBytes, IsLinkOfLog, fresh_link, played_in}
+use Rattle.link_audit.specs.Links.{AccountsFor, AllowsCause, HasBytes, IsLinkOfLog, LeavesNothing, fresh_link, played_in}
+use Rattle.link_audit.specs.Vouchings.{memory_replies}
 use Rattle.worked_rows.proofs.Vouched.{bought, json, lawful, log, read, transcribed, words}
 
 -- the log whose head has a cause for the agent, whose link was the second to come
@@ -227,3 +228,69 @@ module _ (asked said : List ℕ) where
   -- the head has no end of the agent's session
   no_link_without_an_end : IsLinkOfLog (hosted words) (log (Serve (Seated 2 ∷ []) [] 0)) 2 asked said → ⊥
   no_link_without_an_end l = let inside = l.seated.ended.1 in omega (arith, inside)
+
+-- ---- what a record allows
+
+-- all lines up to `quit` were answered
+quit_was_answered : AccountsFor quiet_game words (ended_by causes.End) 2 quit_lines quit_replies
+unfolding quiet_game request_of points_of point_of numeral signed_numeral digits
+quit_was_answered = record {
+  listed = refl;
+  line = codes "hello seat2";
+  answered = (gots.Line, codes "bid 0 ((2 310))") ∷ (gots.Line, codes "cash") ∷ (gots.Line, codes "quit") ∷ [];
+  unanswered = [];
+  later = (gots.Line, codes "own 8") ∷ (gots.End, []) ∷ [];
+  lines = refl;
+  seat = refl;
+  heard = bought ∷ read ∷ Left ∷ [];
+  unheard = [];
+  heard_items = (refl, (refl, (refl, tt)));
+  unheard_items = tt;
+  few = omega arith;
+  lawful = lawful_more (bought ∷ read ∷ []) Left lawful tt refl;
+  replies = refl;
+  transcript = transcribed (ended_by causes.End) (bought ∷ read ∷ Left ∷ []) refl refl refl (λ good. refl);
+}
+
+-- a `bye` that arrived allows no other cause than `quit`
+a_bye_is_of_quit_alone : AllowsCause quit_was_answered causes.Quit × (AllowsCause quit_was_answered causes.End → ⊥) × (AllowsCause quit_was_answered causes.Budget → ⊥)
+unfolding quit_was_answered
+a_bye_is_of_quit_alone = (
+  record { left = λ bye. refl; cut = λ other. absurd cc; used_up = λ other. absurd cc },
+  (λ allowed. let other = allowed.left refl in cc),
+  (λ allowed. let other = allowed.left refl in cc),
+)
+
+-- both lines were answered, and nothing else was asked
+all_was_answered : AccountsFor quiet_game words (ended_by causes.End) 2 two_lines two_replies
+unfolding quiet_game request_of points_of point_of numeral signed_numeral digits
+all_was_answered = record {
+  listed = refl;
+  line = codes "hello seat2";
+  answered = (gots.Line, codes "bid 0 ((2 310))") ∷ (gots.Line, codes "cash") ∷ [];
+  unanswered = [];
+  later = (gots.End, []) ∷ [];
+  lines = refl;
+  seat = refl;
+  heard = bought ∷ read ∷ [];
+  unheard = [];
+  heard_items = (refl, (refl, tt));
+  unheard_items = tt;
+  few = omega arith;
+  lawful = lawful;
+  replies = refl;
+  transcript = transcribed (ended_by causes.End) (bought ∷ read ∷ []) refl refl refl (λ good. refl);
+}
+
+-- no write failed where nothing is left over, and three lines use nothing up
+no_fault_and_no_budget : LeavesNothing all_was_answered × (AllowsCause all_was_answered causes.WriteFault → ⊥) × (AllowsCause all_was_answered causes.Budget → ⊥)
+unfolding all_was_answered quiet_game digits
+no_fault_and_no_budget = (
+  record { all_heard = refl; last = inr (inl refl); ended = refl },
+  (λ allowed. allowed.cut refl (record { all_heard = refl; last = inr (inl refl); ended = refl })),
+  (λ allowed. elim (allowed.used_up refl) [ inl lines ↦ omega (arith, lines) | inr bytes ↦ omega (arith, bytes) ]),
+)
+
+-- of two replies one says that there was no memory
+memory_is_counted : memory_replies json.text (codes "{\"no\":\"memory\"}" ∷ codes "{\"bye\":true}" ∷ []) ≡ 1
+memory_is_counted = refl

@@ -37,7 +37,7 @@ use Rattle.agent_gate.specs.Welcome.{welcome_text}
 use Rattle.agent_gate.proofs.LawfulTurns.{none_lawful, lawful_more}
 use Rattle.tac_commands.specs.declared.services.Form.TheVariants.{Lines, Json}
 use Rattle.tac_commands.specs.Services.{dialect_in}
-use Rattle.link_audit.specs.Links.{IsVouched, MayAsk, closed_in, logged_ends, logged_verdicts, whole_lines}
+use Rattle.link_audit.specs.Links.{AccountsFor, IsVouched, MayAsk, closed_in, logged_ends, logged_verdicts, whole_lines}
 
 -- ---- parts
 
@@ -122,9 +122,9 @@ asked = codes "hello seat2\nbid 0 ((2 310))\ncash\nown 8\nquo"
 abbrev said : List ℕ
 said = welcome_text quiet_game 2 ++ codes "@0 taken 2 0\n@1 ca"
 
-link_is_vouched_for : IsVouched quiet_game words served 2 asked said
+lines_account_for_the_log : AccountsFor quiet_game words served 2 asked said
 unfolding quiet_game request_of points_of point_of numeral signed_numeral digits
-link_is_vouched_for = record {
+lines_account_for_the_log = record {
   listed = refl;
   line = codes "hello seat2";
   answered = (gots.Line, codes "bid 0 ((2 310))") ∷ [];
@@ -142,15 +142,24 @@ link_is_vouched_for = record {
   transcript = transcribed served (bought ∷ read ∷ []) refl refl refl (λ good. refl);
 }
 
+link_is_vouched_for : IsVouched quiet_game words served 2 asked said
+unfolding lines_account_for_the_log
+link_is_vouched_for = record {
+  account = lines_account_for_the_log;
+  cause = causes.End;
+  ended = (0, omega arith, refl);
+  allowed = record { left = λ bye. absurd cc; cut = λ other. absurd cc; used_up = λ other. absurd cc };
+}
+
 -- ---- links that are not vouched for, whatever the rest
 
 -- the head gives the seat to no link, or the log is that of a game from a script
 seat_is_listed : (IsVouched quiet_game words (log (Serve (Lost ∷ Seated 3 ∷ []) [] 0)) 2 asked said → ⊥) × (IsVouched quiet_game words (log Play) 2 asked said → ⊥)
-seat_is_listed = ((λ v. let listed = v.listed in absurd cc), (λ v. let listed = v.listed in absurd cc))
+seat_is_listed = ((λ v. let listed = v.account.listed in absurd cc), (λ v. let listed = v.account.listed in absurd cc))
 
 -- no line asks for the seat
 greeting_has_an_end : IsVouched quiet_game words served 2 (codes "hello seat2") said → ⊥
-greeting_has_an_end v = absurd (let kind : gots.End ≡ gots.Line = ap (λ (answers : List (LineGot × List ℕ)). kind_of answers) v.lines in cc)
+greeting_has_an_end v = absurd (let kind : gots.End ≡ gots.Line = ap (λ (answers : List (LineGot × List ℕ)). kind_of answers) v.account.lines in cc)
   where
     kind_of : List (LineGot × List ℕ) → LineGot
     kind_of [] = gots.Line
@@ -158,4 +167,4 @@ greeting_has_an_end v = absurd (let kind : gots.End ≡ gots.Line = ap (λ (answ
 
 -- nothing was said, so the ten lines did not come
 welcome_comes_whole : IsVouched quiet_game words served 2 asked [] → ⊥
-welcome_comes_whole v = let none = v.replies in absurd cc
+welcome_comes_whole v = let none = v.account.replies in absurd cc

@@ -1,10 +1,9 @@
 use Rattle.std.proofs.Common.{◌≡◌, ◌+◌, ◌-◌, ℕ, suc, List, [], ◌∷◌, true, length, refl, sym, ap, ◌∙◌, subst, arith, slice_range}
 use Rattle.link_audit.specs.{SESSION_LINES, ended_line, LineGot, Dialect, Subject, IsAsked, FitsReply, IsAhead, IsOver, IsStep, start, subject_of, FinishesLog, HasCourse, behind_course, HasHeard, HasLeft, IsAheadAt, IsBehind, EndsByLeaving, lines_at, replies_at}
-use Rattle.tac_io.specs.declared.line_got.LineGot.TheVariants as gots
 use Rattle.link_audit.specs.declared.places.Places.{Places}
 use Rattle.link_audit.specs.declared.stepping.Step.TheVariants.{Taken, Leaves, Stuck}
 use Rattle.link_audit.specs.declared.hearing.Heard.TheVariants.{Through}
-use Rattle.link_audit.proofs.Cuts.{lines_here, lines_end, replies_here, replies_end}
+use Rattle.link_audit.proofs.Cuts.{lines_here, lines_end, no_line, replies_here, replies_end}
 use Rattle.link_audit.proofs.Walked.{walked_on, walk_stuck, walk_left, left_walk, walk_ended, walk_full, more_replies, left_heard, taken_wide}
 use Rattle.link_audit.proofs.Courses.{course_stuck, end_course, heard_on}
 use Rattle.link_audit.proofs.CourseWalks.{first_line_here, full_line, heard_course, left_course, rest_on}
@@ -49,12 +48,12 @@ returns-in_default-line_end g c =
     let replies_are : replies_at said place ≡ reply ∷ replies_at said (reply_end + 1) = replies_here said place reply_end c.in-Some.ensures.2 in
     let low = c.loop-lines-test.true in
     let room_is : SESSION_LINES - lines ≡ suc (SESSION_LINES - (lines + 1)) = omega (arith, low) in
-    let none = lines_end asked at c.requires.short.1 v.within c.in_default-line_end.ensures in
+    let none = no_line (lines_at asked at) (lines_end asked at c.requires.short.1 v.within c.in_default-line_end.ensures) in
     record {
-      ahead = walk_ended dialect s Before places v.wide (lines_at asked at) [] (gots.End, []) none (SESSION_LINES - lines) (SESSION_LINES - (lines + 1)) room_is
-          (replies_at said place) (replies_at said (reply_end + 1)) reply replies_are v.behind refl;
+      ahead = walk_ended dialect s Before places v.wide (lines_at asked at) [] (none.0, []) none.2 (SESSION_LINES - lines) (SESSION_LINES - (lines + 1)) room_is
+          (replies_at said place) (replies_at said (reply_end + 1)) reply replies_are v.behind none.0 none.1 refl;
       turns = first_line_here dialect s places all replies lines (lines_at asked at) reply (replies_at said (reply_end + 1)) (replies_at said place) v.courses replies_are v.told_so low
-          (λ course is h. end_course dialect s places [] (replies_at said place) course 0 is (subst (λ (l : List (LineGot × List ℕ)). HasCourse dialect s places l (replies_at said place) course) none h));
+          (λ course is h. end_course dialect s places none.0 none.1 [] (replies_at said place) course 0 is (subst (λ (l : List (LineGot × List ℕ)). HasCourse dialect s places l (replies_at said place) course) none.2 h));
     }
 
 pub returns-in-Leaves : goal.returns-in-Leaves

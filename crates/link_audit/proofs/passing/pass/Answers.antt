@@ -1,9 +1,8 @@
 use Rattle.std.proofs.Common.{◌≡◌, ◌+◌, ◌-◌, ℕ, suc, List, [], ◌∷◌, false, refl, subst, arith, slice_range}
 use Rattle.link_audit.specs.{SESSION_LINES, ended_line, LineGot, Dialect, Subject, IsAsked, FitsReply, IsAhead, IsOver, IsStep, subject_of, HasCourse, has_entry, lines_at}
-use Rattle.tac_io.specs.declared.line_got.LineGot.TheVariants as gots
 use Rattle.link_audit.specs.declared.places.Places.{Places}
 use Rattle.link_audit.specs.declared.stepping.Step.TheVariants.{Taken, Leaves, Stuck}
-use Rattle.link_audit.proofs.Cuts.{lines_here, lines_end}
+use Rattle.link_audit.proofs.Cuts.{lines_here, lines_end, no_line}
 use Rattle.link_audit.proofs.Walked.{passed_on, pass_stuck, pass_left, pass_ended, pass_full, pass_over, taken_wide}
 use Rattle.link_audit.proofs.Courses.{end_course, finish_over, pass_course_stuck}
 use Rattle.link_audit.proofs.CourseWalks.{counted_by, most_one, passed_course, passed_finish, stop_here, stop_left}
@@ -36,11 +35,11 @@ returns-in_default-line_end g c =
     let more : IsOver s places → ⊥ = λ over. (let none = (c.first_left.ensures.none c.args.boards.now).1 over in let some = c.in-Some.is in absurd cc) in
     let since = v.since in
     let lowest = c.in-Some.ensures.lowest c.args.boards.now in
-    let none = lines_end asked at c.requires.short.1 v.within c.in_default-line_end.ensures in
+    let none = no_line (lines_at asked at) (lines_end asked at c.requires.short.1 v.within c.in_default-line_end.ensures) in
     record {
-      ahead = pass_ended dialect s Before places v.wide (lines_at asked at) [] (gots.End, []) none (SESSION_LINES - lines) (SESSION_LINES - (lines + 1)) room_is v.behind more refl;
+      ahead = pass_ended dialect s Before places v.wide (lines_at asked at) [] (none.0, []) none.2 (SESSION_LINES - lines) (SESSION_LINES - (lines + 1)) room_is v.behind more none.0 none.1 refl;
       turns = stop_here dialect s places c.args.reached.now (lines_at asked c.args.from) (lines_at asked at) (lines - c.args.lines) c.args.lines v.courses c.in-Some.left lowest (omega (arith, low, since))
-          (λ course is few h. end_course dialect s places [] [] course 0 is (subst (λ (l : List (LineGot × List ℕ)). HasCourse dialect s places l [] course) none h));
+          (λ course is few h. end_course dialect s places none.0 none.1 [] [] course 0 is (subst (λ (l : List (LineGot × List ℕ)). HasCourse dialect s places l [] course) none.2 h));
     }
 
 pub returns-in-Leaves : goal.returns-in-Leaves
