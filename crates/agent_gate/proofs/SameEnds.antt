@@ -5,7 +5,7 @@ use Rattle.agent_gate.specs.Prelude.{SESSION_LINES, LinkState, known_then, Takes
 use Rattle.tac_io.specs.declared.line_got.LineGot.TheVariants as gots
 use Rattle.line_protocol.specs.declared.admission.Cause.TheVariants as causes
 use Rattle.agent_gate.specs.Served.{Session, IsCutOff, IsUsedUp, ComesTo, EndsBy, pieces_of}
-use Rattle.agent_gate.specs.SessionEnds.{StopsBy, ReadsBy, CutsLastLine, SendsBy}
+use Rattle.agent_gate.specs.SessionEnds.{StopsBy, ReadsBy, SendsBy}
 
 known_twice : (known : Option (List ℕ)) (xs ys : List ℕ) → known_then (known_then known xs) ys ≡ known_then known (xs ++ ys)
 known_twice None xs ys = refl
@@ -19,21 +19,19 @@ pub record HasColumns (cause : Cause) (text : Said → List ℕ) (session : Sess
 
 pub columns_of : (cause : Cause) (text : Said → List ℕ) (session : Session) → EndsBy cause text session → HasColumns cause text session
 columns_of causes.Quit text session h = record { stopped = h.0; reads = h.2; sent = h.1 }
-columns_of causes.End text session h = record { stopped = ((h.0.0, h.0.1), h.0.2, h.1); reads = h.3; sent = h.2 }
-columns_of causes.ReadFault text session h = record { stopped = ((h.0.0, h.0.1), h.0.2); reads = h.2; sent = h.1 }
+columns_of causes.End text session h = record { stopped = (h.0.0, h.0.1, h.0.2, h.1); reads = h.3; sent = h.2 }
+columns_of causes.ReadFault text session h = record { stopped = (h.0.0, h.0.1, h.0.2); reads = h.2; sent = h.1 }
 columns_of causes.WriteFault text session h = record {
   stopped = tt;
   reads = h.1;
   sent = (
     h.0.whole,
     h.0.last,
+    h.0.cut.count,
     h.0.pieces,
-    record {
-      count = h.0.cut.count;
-      proper = h.0.cut.proper;
-      sent = h.0.cut.taken ∙ known_twice session.before.sent (concat h.0.whole) (take h.0.cut.count h.0.last);
-      failed = h.0.failed;
-    },
+    h.0.cut.proper,
+    h.0.cut.taken ∙ known_twice session.before.sent (concat h.0.whole) (take h.0.cut.count h.0.last),
+    h.0.failed,
   );
 }
 columns_of causes.Budget text session h = record { stopped = by_why h.0; reads = h.2; sent = h.1 }
@@ -44,15 +42,15 @@ columns_of causes.Budget text session h = record { stopped = by_why h.0; reads =
 
 pub of_columns : (cause : Cause) (text : Said → List ℕ) (session : Session) → HasColumns cause text session → EndsBy cause text session
 of_columns causes.Quit text session h = (h.stopped, h.sent, h.reads)
-of_columns causes.End text session h = ((h.stopped.0.0, h.stopped.0.1, h.stopped.1), h.stopped.2, h.sent, h.reads)
-of_columns causes.ReadFault text session h = ((h.stopped.0.0, h.stopped.0.1, h.stopped.1), h.sent, h.reads)
+of_columns causes.End text session h = ((h.stopped.0, h.stopped.1, h.stopped.2), h.stopped.3, h.sent, h.reads)
+of_columns causes.ReadFault text session h = ((h.stopped.0, h.stopped.1, h.stopped.2), h.sent, h.reads)
 of_columns causes.WriteFault text session h = (
   record {
     whole = h.sent.0;
     last = h.sent.1;
-    pieces = h.sent.2;
-    cut = record { count = h.sent.3.count; proper = h.sent.3.proper; taken = h.sent.3.sent ∙ sym (known_twice session.before.sent (concat h.sent.0) (take h.sent.3.count h.sent.1)) };
-    failed = h.sent.3.failed;
+    pieces = h.sent.3;
+    cut = record { count = h.sent.2; proper = h.sent.4; taken = h.sent.5 ∙ sym (known_twice session.before.sent (concat h.sent.0) (take h.sent.2 h.sent.1)) };
+    failed = h.sent.6;
   },
   h.reads,
 )

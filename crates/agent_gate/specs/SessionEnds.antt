@@ -18,16 +18,12 @@ use Rattle.agent_gate.specs.Turns.{Turn, said_of, has_left}
 abbrev pub reply_line : (Said → List ℕ) → Turn → List ℕ
 reply_line text turn = text (said_of turn) ++ 10 ∷ []
 
--- The agent has not quit, and has lines left.
-abbrev pub HasRoom : List Turn → Type 0
-HasRoom turns = (has_left turns ≡ false) × (length turns < SESSION_LINES)
-
 -- Why the session stopped: the agent quit; the link's bytes ended; no further line came before a read failed; a write failed; or the
 -- session's lines, or its bytes, were used up. `rest` is what the bytes that were taken give after the lines of the turns.
 abbrev pub StopsBy : Cause → List Turn → List (LineGot × List ℕ) → LinkState → Type 0
 StopsBy causes.Quit turns rest after = has_left turns ≡ true
-StopsBy causes.End turns rest after = HasRoom turns × (rest ≡ (gots.End, []) ∷ []) × IsAtEnd after.left
-StopsBy causes.ReadFault turns rest after = HasRoom turns × (rest ≡ (gots.End, []) ∷ [])
+StopsBy causes.End turns rest after = (has_left turns ≡ false) × (length turns < SESSION_LINES) × (rest ≡ (gots.End, []) ∷ []) × IsAtEnd after.left
+StopsBy causes.ReadFault turns rest after = (has_left turns ≡ false) × (length turns < SESSION_LINES) × (rest ≡ (gots.End, []) ∷ [])
 StopsBy causes.WriteFault turns rest after = ⊤
 StopsBy causes.Budget turns rest after = (has_left turns ≡ false) × ((length turns ≡ SESSION_LINES) ⊎ ((length turns < SESSION_LINES) × (rest ≡ (gots.Budget, []) ∷ [])))
 
@@ -36,15 +32,9 @@ abbrev pub ReadsBy : Cause → LinkState → LinkState → Type 0
 ReadsBy causes.ReadFault before after = LastReadFails before after
 ReadsBy cause before after = NoReadFails before after
 
--- The last line was cut off: a write failed, and nothing was sent after that. All lines before it were sent whole, and of the last one
--- a proper prefix, which may be empty.
-pub record CutsLastLine (lines : List (List ℕ)) (last : List ℕ) (before after : LinkState) : Type 0 where
-  pub count : ℕ
-  pub proper : count < length last
-  pub sent : after.sent ≡ known_then before.sent (concat lines ++ take count last)
-  pub failed : LastWriteFails before after
-
--- After a write fault the last line was cut off. With any other cause all lines were sent, and no write failed.
+-- After a write fault the last line was cut off: all lines before it were sent whole, and of the last one a proper prefix, which may be
+-- empty; a write failed, and nothing was sent after that. With any other cause all lines were sent, and no write failed.
 abbrev pub SendsBy : Cause → List (List ℕ) → LinkState → LinkState → Type 0
-SendsBy causes.WriteFault lines before after = (front : List (List ℕ)) × (last : List ℕ) × (lines ≡ front ++ last ∷ []) × CutsLastLine front last before after
+SendsBy causes.WriteFault lines before after = (front : List (List ℕ)) × (last : List ℕ) × (count : ℕ) × (lines ≡ front ++ last ∷ []) × (count < length last)
+    × (after.sent ≡ known_then before.sent (concat front ++ take count last)) × LastWriteFails before after
 SendsBy cause lines before after = (after.sent ≡ known_then before.sent (concat lines)) × NoWriteFails before after

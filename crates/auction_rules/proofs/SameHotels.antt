@@ -6,7 +6,7 @@ use Rattle.std.proofs.lemmas.Bool.{or_parts}
 use Rattle.std.proofs.lemmas.List.Sums.{sum_by-cons}
 use Rattle.auction_rules.specs.{Point, Trade, size_of, buys_of, Call, agents, house, point_units, units_from, units_of, among, without, Entry, is_admission, is_closed, goes_before, precedes, ask, sells, refusal, is_wrong_caller, is_wrong_place, need, quote_to_beat, offered, entry_of, IsLawful}
 use Rattle.auction_rules.specs.BookHotels.{wins, winning, closing_trades, sold_units}
-use Rattle.auction_rules.specs.HotelClosing.{gets_room, rooms_won, room_sales, units_sold}
+use Rattle.auction_rules.specs.HotelClosing.{gets_room, rooms_won, room_sales}
 use Rattle.auction_rules.specs.Prelude.{Reply, Closed, WrongCall, Sell, BelowQuote}
 use Rattle.tac_base.specs.declared.calls.Call.TheVariants.{Bid, Withdraw, Own as OwnCall, Update, Publish, Close}
 use Rattle.auction_rules.specs.declared.units.BidUnit.{BidUnit}
@@ -42,7 +42,7 @@ wins_same rooms units u h = ap (λ (n : ℕ). nat_lt n rooms) (count_same u unit
 pub winning_same : (rooms : ℕ) (units : List BidUnit) (agent : ℕ) → AllBuy units → rooms_won rooms units agent ≡ winning rooms units agent
 winning_same rooms units agent h = λ i. count_by (λ u. (u.agent == agent) && wins_same rooms units u h i) units
 
-pub sold_same : (rooms : ℕ) (units : List BidUnit) → AllBuy units → units_sold rooms units ≡ sold_units rooms units
+pub sold_same : (rooms : ℕ) (units : List BidUnit) → AllBuy units → count_by (gets_room rooms units) units ≡ sold_units rooms units
 sold_same rooms units h = λ i. count_by (λ u. wins_same rooms units u h i) units
 
 -- a trade for each that has a number above 0

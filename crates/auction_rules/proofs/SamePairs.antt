@@ -1,11 +1,11 @@
 -- The best of the units that face an arriving one and cross it is the best of those that face it, if that one crosses: so the two
 -- ways to say who trades with whom are the same.
-use Rattle.std.proofs.Common.{◌≡◌, ℕ, Bool, true, false, cond, List, [], ◌∷◌, ◌++◌, refl, ap, ◌∙◌, subst, Option, Some, None, not, ◌&&◌, ◌||◌, filter, find, map}
+use Rattle.std.proofs.Common.{◌≡◌, ℕ, Bool, true, false, cond, List, [], ◌∷◌, ◌++◌, refl, ap, ◌∙◌, subst, Option, Some, None, not, ◌&&◌, ◌||◌, filter, find, map, flat_map}
 use Rattle.std.specs.List.{list_all}
 use Rattle.std.proofs.lemmas.Bool.{and_parts, not-true}
 use Rattle.auction_rules.specs.declared.units.BidUnit.{BidUnit}
 use Rattle.auction_rules.specs.{same_unit, among, without, faces, goes_before, crosses, if_crossing, partner, pair_with, not_taken, pairs, pair_trade, ticket_trades, units_of_pairs, ticket_gone}
-use Rattle.auction_rules.specs.TicketMatch.{partner_of, ticket_pairs, paired_units}
+use Rattle.auction_rules.specs.TicketMatch.{partner_of, ticket_pairs}
 use Rattle.auction_rules.proofs.Lists.{filter_same, all_alike}
 use Rattle.auction_rules.proofs.Standing.{Each, each-weaker, among-filter, all_among_self}
 use Rattle.auction_rules.proofs.Matching.{one_way, crosses_better, faces_side, each_among, each_passes}
@@ -109,7 +109,7 @@ pairs_same standing (u ∷ us) =
         (more (without standing (v ∷ []))
         ∙ ap (λ (left : List BidUnit). pairs left us) (filter_same (λ x. not (same_unit x v || false)) (λ x. not (same_unit x v)) standing (all_alike _ standing (λ x. or_false (same_unit x v)))))
 
-pub gone_same : (standing units : List BidUnit) → paired_units standing units ≡ ticket_gone standing units
+pub gone_same : (standing units : List BidUnit) → flat_map (λ pair. pair.0 ∷ pair.1 ∷ []) (ticket_pairs standing units) ≡ ticket_gone standing units
 gone_same standing units = ap units_of_pairs (pairs_same standing units)
 
 pub trades_same : (good : ℕ) (standing units : List BidUnit) → map (pair_trade good) (ticket_pairs standing units) ≡ ticket_trades good standing units

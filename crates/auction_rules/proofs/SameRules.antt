@@ -8,7 +8,8 @@ use Rattle.auction_rules.specs.BookHotels.{published}
 use Rattle.auction_rules.specs.Ask.{publishes, published_price}
 use Rattle.auction_rules.specs.BookRules.{Legal}
 use Rattle.auction_rules.specs.Refusals.{other_refusal, first_refusal}
-use Rattle.auction_rules.specs.Legal.{call_trades, closing_reply, call_reply, entry_given, entry_due, AreDueEntries, IsLegalHistory}
+use Rattle.auction_rules.specs.Standing.{standing_units}
+use Rattle.auction_rules.specs.Legal.{call_trades, closing_reply, call_reply, entry_due, AreDueEntries, IsLegalHistory}
 use Rattle.tac_base.specs.declared.calls.Reply.TheVariants.{Sold, Own}
 use Rattle.tac_base.specs.declared.calls.Call.TheVariants.{Bid, Withdraw, Own as OwnCall, Update, Publish, Close}
 use Rattle.auction_rules.specs.declared.units.BidUnit.{BidUnit}
@@ -105,8 +106,24 @@ by_agents setup [] called lawful = tt
 by_agents setup (e ∷ past) called lawful =
     (λ admitted agent. agents_alone setup.rules past e.caller e.call called.0 (admitted_none setup past e lawful.0 admitted) agent, by_agents setup past called.1 lawful.1)
 
+-- the entry of a call: refused, or admitted with its trades
+abbrev given : Setup → List Entry → List BidUnit → ℕ → Call → Option Reply → Entry
+given setup past standing caller call (Some refused) = record { caller = caller; call = call; reply = refused; trades = [] }
+given setup past standing caller call None =
+    let trades = call_trades setup.rules setup.good past standing caller call in
+    record { caller = caller; call = call; reply = call_reply setup past standing caller call trades; trades = trades }
+
+given_due : (setup : Setup) (past : List Entry) (standing : List BidUnit) (caller : ℕ) (call : Call) (r : Option Reply) →
+    let trades = call_trades setup.rules setup.good past standing caller call in
+    elim r as (λ _. Entry) [
+      | Some refused ↦ record { caller = caller; call = call; reply = refused; trades = [] }
+      | None ↦ record { caller = caller; call = call; reply = call_reply setup past standing caller call trades; trades = trades }
+    ] ≡ given setup past standing caller call r
+given_due setup past standing caller call (Some refused) = refl
+given_due setup past standing caller call None = refl
+
 entry_by_same : (setup : Setup) (past : List Entry) (caller : ℕ) (call : Call) (r : Option Reply) → HotelBuys setup.rules past → IsOrdered past → caller ≤ clock → refusal setup.rules past caller call ≡ r →
-    entry_given setup past (stand setup.rules past) caller call r ≡ entry_by setup past caller call r
+    given setup past (stand setup.rules past) caller call r ≡ entry_by setup past caller call r
 entry_by_same setup past caller call (Some reply) buys ordered le is = refl
 entry_by_same setup past caller call None buys ordered le is =
     let agent : is_agents call ≡ true → caller ≤ 7 = agents_alone setup.rules past caller call le is in
@@ -115,8 +132,9 @@ entry_by_same setup past caller call None buys ordered le is =
 
 pub entry_same : (setup : Setup) (past : List Entry) (caller : ℕ) (call : Call) → caller ≤ clock → AllByRecursion (λ e. e.caller ≤ clock) past → IsLawful setup past → entry_due setup past caller call ≡ entry_of setup past caller call
 entry_same setup past caller call le called lawful =
-    ap (λ (units : List BidUnit). entry_given setup past units caller call (first_refusal setup.rules past units caller call)) (standing_same setup.rules past)
-    ∙ ap (entry_given setup past (stand setup.rules past) caller call) (refusal_same setup.rules past caller call (buys_if_lawful setup past lawful))
+    given_due setup past (standing_units setup.rules past) caller call (first_refusal setup.rules past (standing_units setup.rules past) caller call)
+    ∙ ap (λ (units : List BidUnit). given setup past units caller call (first_refusal setup.rules past units caller call)) (standing_same setup.rules past)
+    ∙ ap (given setup past (stand setup.rules past) caller call) (refusal_same setup.rules past caller call (buys_if_lawful setup past lawful))
     ∙ entry_by_same setup past caller call (refusal setup.rules past caller call) (buys_if_lawful setup past lawful) (current_same past (by_agents setup past called lawful)) le refl
 
 pub entries_due : (setup : Setup) (past : List Entry) → AllByRecursion (λ e. e.caller ≤ clock) past → IsLawful setup past → AreDueEntries setup past

@@ -17,6 +17,7 @@ use Rattle.auction_rules.specs.declared.units.BidUnit.{BidUnit}
 use Rattle.auction_rules.specs.declared.units.StandingPoint.{StandingPoint}
 use Rattle.auction_rules.specs.declared.rules.Rules.{Rules}
 use Rattle.auction_rules.specs.declared.rules.Rules.TheVariants.{Flight as FlightRules}
+use Rattle.auction_rules.specs.BookStanding.{is_sale}
 use Rattle.auction_rules.specs.Standing.{replaced_units, units_traded}
 use Rattle.auction_rules.proofs.Agents.{number_same}
 use Rattle.auction_rules.proofs.Lists.{filter-flat_map, map-flat_map, flat_map-filter, flat_map_alike}
@@ -24,6 +25,7 @@ use Rattle.auction_rules.proofs.Blocks.{length-point_units}
 use Rattle.auction_rules.proofs.LeftPoints.{signed_size, suc_not_zero}
 use Rattle.auction_rules.proofs.Standing.{Each, each-front, each-back, each-weaker, each-block, bid_owned, number_is, among-append, among-filter, not_among, AllAmong, all_among_self, count_all, signed_whole, left_none}
 use Rattle.auction_rules.proofs.AgentUnits.{units_joined}
+use Rattle.auction_rules.proofs.SameStanding.{AllCheap, all_cheap, none_traded, standing_same}
 
 -- ---- the points of a bid whose units are gone
 
@@ -294,15 +296,22 @@ module _ (first : ℕ) (bound : ℤ) (good : ℕ) (past : List Entry) (caller : 
             ∙ sym (filter-flat_map (is_sold current) (λ bid. filter (λ s. not (s.agent == caller)) (standing_of standing bid)) bids)
             ∙ ap (filter (is_sold current)) (sym (filter-flat_map (λ s. not (s.agent == caller)) (standing_of standing) bids))
 
+  -- a call that brings no unit at or above the price sells nothing
+  idle : (call : Call) (found : List Placed) → is_sale call ≡ false → map (sale good (price first bound past)) (flat_map (standing_of (units_traded rules past standing caller call)) found) ≡ []
+  idle call found is =
+      ap (λ (units : List BidUnit). map (sale good (price first bound past)) (flat_map (standing_of units) found))
+      (none_traded first bound past standing caller call is (subst (AllCheap (price first bound past)) (standing_same rules past) (all_cheap first bound past)))
+      ∙ ap (map (sale good (price first bound past))) (nothing_owned found)
+
   -- the sales of the points of which units are gone are the trades of a flight
   of_call : (call : Call) → ((points : List Point) → call ≡ Bid points → caller ≤ 7) →
       map (sale good (now call)) (flat_map (standing_of (units_traded rules past standing caller call)) (bids_found bids (length past) caller call)) ≡ trades_by rules good past caller call
   of_call (Bid points) agent = ap (map (sale good (price first bound past))) (of_bid points (agent points refl) (price first bound past))
   of_call (Update tick draw) agent = ap (map (sale good (now (Update tick draw)))) (kept (now (Update tick draw)))
-  of_call Withdraw agent = ap (map (sale good (price first bound past))) (nothing_owned (filter (λ bid. not (bid.agent == caller)) bids))
-  of_call OwnCall agent = ap (map (sale good (price first bound past))) (nothing_owned bids)
-  of_call Publish agent = ap (map (sale good (price first bound past))) (nothing_owned bids)
-  of_call Close agent = ap (map (sale good (price first bound past))) (nothing_owned bids)
+  of_call Withdraw agent = idle Withdraw (filter (λ bid. not (bid.agent == caller)) bids) refl
+  of_call OwnCall agent = idle OwnCall bids refl
+  of_call Publish agent = idle Publish bids refl
+  of_call Close agent = idle Close bids refl
 
   pub sales_same : (call : Call) → ((points : List Point) → call ≡ Bid points → caller ≤ 7) → current_bids past ≡ bids →
       flight_sales good (now call) (units_traded rules past standing caller call) (bids_found (current_bids past) (length past) caller call) ≡ trades_by rules good past caller call

@@ -1,5 +1,6 @@
 -- The units that stand after each entry, and the units of the last bids less all that ever traded, are the same.
-use Rattle.std.proofs.Common.{◌≡◌, ℕ, ◌≤◌, Bool, true, false, cond, List, [], ◌∷◌, ◌++◌, length, refl, sym, ap, ◌∙◌, subst, Option, None, not, ◌&&◌, ◌==◌, filter, flat_map, nat_le, if◌then◌else◌}
+use Rattle.std.proofs.Common.{◌≡◌, ℕ, ℤ, ◌≤◌, Bool, true, false, cond, List, [], ◌∷◌, ◌++◌, length, refl, sym, ap, ◌∙◌, subst, Option, None, not, ◌&&◌, ◌==◌, filter, flat_map, nat_le, if◌then◌else◌}
+use Rattle.std.specs.Prelude.{⊤}
 use Rattle.std.proofs.lemmas.Bool.{or_parts}
 use Rattle.auction_rules.specs.{Call, agents, units_of, among, without, Entry, is_admission, is_closed, is_close, bid_after, last_bid, bid_units, units_of_last, units_of_bids, looked_at, arriving, gone_by, gone, stand, price, price_after}
 use Rattle.tac_base.specs.declared.calls.Call.TheVariants.{Bid, Withdraw, Own as OwnCall, Update, Publish, Close}
@@ -7,10 +8,11 @@ use Rattle.auction_rules.specs.declared.units.Placed.{Placed}
 use Rattle.auction_rules.specs.declared.units.BidUnit.{BidUnit}
 use Rattle.auction_rules.specs.declared.rules.Rules.{Rules}
 use Rattle.auction_rules.specs.declared.rules.Rules.TheVariants.{Flight as FlightRules, Hotel as HotelRules, Tickets as TicketRules}
+use Rattle.auction_rules.specs.BookStanding.{is_sale}
 use Rattle.auction_rules.specs.Standing.{replaced_units, units_found, units_traded, standing_units}
 use Rattle.auction_rules.proofs.Agents.{agents_alike, agents_joined, another}
 use Rattle.auction_rules.proofs.Lists.{filter_same, filter-flat_map}
-use Rattle.auction_rules.proofs.Standing.{Each, each-append, each-weaker, number_is, among-filter, AllAmong, all_among_self, all_among_left, all_among_right}
+use Rattle.auction_rules.proofs.Standing.{Each, each-append, each-filter, each-weaker, number_is, among-filter, AllAmong, all_among_self, all_among_left, all_among_right}
 use Rattle.auction_rules.proofs.AgentUnits.{gone_now, own_units, units_joined, own_by_other, own_by_bid, without-append}
 use Rattle.auction_rules.proofs.Idle.{either_same, idle_refused, idle_stand}
 use Rattle.auction_rules.proofs.SamePairs.{gone_same}
@@ -64,9 +66,78 @@ all_found standing position caller Close = all_among_self standing
 without_same : (us xs ys : List BidUnit) → Each (λ u. among u xs ≡ among u ys) us → without us xs ≡ without us ys
 without_same us xs ys h = filter_same (λ u. not (among u xs)) (λ u. not (among u ys)) us (each-weaker (λ u. among u xs ≡ among u ys) (λ u. not (among u xs) ≡ not (among u ys)) us (λ u e. ap not e) h)
 
-taken_same : (rules : Rules) (past : List Entry) (standing : List BidUnit) (caller : ℕ) (call : Call) →
+-- ---- the units of a flight that stand are below its price
+
+abbrev pub AllCheap : ℕ → List BidUnit → Type 0
+AllCheap current units = Each (λ u. nat_le current u.price ≡ false) units
+
+none_dear : (current : ℕ) (units : List BidUnit) → AllCheap current units → filter (λ u. nat_le current u.price) units ≡ []
+none_dear current [] h = refl
+none_dear current (u ∷ us) h = rw (h.0, none_dear current us h.1) refl
+
+-- what is left once those at or above the price are taken away
+rest_cheap : (current : ℕ) (units us : List BidUnit) → AllAmong units us → AllCheap current (without us (filter (λ u. nat_le current u.price) units))
+rest_cheap current units [] h = tt
+rest_cheap current units (u ∷ us) h =
+    by_test (nat_le current u.price) refl (among-filter u (λ v. nat_le current v.price) units ∙ ap (λ (b : Bool). b && nat_le current u.price) h.0) (rest_cheap current units us h.1)
+  where
+    taken : List BidUnit
+    taken = filter (λ v. nat_le current v.price) units
+
+    by_test : (b : Bool) → nat_le current u.price ≡ b → among u taken ≡ b → AllCheap current (without us taken) → AllCheap current (cond (not (among u taken)) (u ∷ without us taken) (without us taken))
+    by_test true dear is rest = rw is rest
+    by_test false cheap is rest = rw is (cheap, rest)
+
+pub all_cheap : (first : ℕ) (bound : ℤ) (past : List Entry) → AllCheap (price first bound past) (standing_units (FlightRules first bound) past)
+all_cheap first bound [] = tt
+all_cheap first bound (e ∷ past) = by_closed (is_closed (e ∷ past)) (by_reply (is_admission e.reply) (all_cheap first bound past))
+  where
+    before : List BidUnit
+    before = standing_units (FlightRules first bound) past
+
+    found : List BidUnit
+    found = units_found before (length past) e.caller e.call
+
+    now : ℕ
+    now = price_after bound (price first bound past) e.call
+
+    kept : List BidUnit
+    kept = without found (filter (λ u. nat_le now u.price) found)
+
+    by_reply : (b : Bool) → AllCheap (price first bound past) before → AllCheap (cond b now (price first bound past)) (cond b kept before)
+    by_reply true h = rest_cheap now found found (all_among_self found)
+    by_reply false h = h
+
+    by_closed : (b : Bool) → AllCheap (cond (is_admission e.reply) now (price first bound past)) (cond (is_admission e.reply) kept before) →
+        AllCheap (cond (is_admission e.reply) now (price first bound past)) (cond b [] (cond (is_admission e.reply) kept before))
+    by_closed true h = tt
+    by_closed false h = h
+
+-- so a call that brings no unit at or above the price trades none away
+pub none_traded : (first : ℕ) (bound : ℤ) (past : List Entry) (standing : List BidUnit) (caller : ℕ) (call : Call) → is_sale call ≡ false → AllCheap (price first bound past) standing →
+    units_traded (FlightRules first bound) past standing caller call ≡ []
+none_traded first bound past standing caller (Bid points) idle h = absurd cc
+none_traded first bound past standing caller (Update tick draw) idle h = absurd cc
+none_traded first bound past standing caller Withdraw idle h =
+    none_dear (price first bound past) (replaced_units standing caller [])
+    (each_replaced (λ u. nat_le (price first bound past) u.price ≡ false) standing caller [] agents tt (λ a other. each-filter (λ u. nat_le (price first bound past) u.price ≡ false) (λ u. u.agent == a) standing h))
+none_traded first bound past standing caller OwnCall idle h = none_dear (price first bound past) standing h
+none_traded first bound past standing caller Publish idle h = none_dear (price first bound past) standing h
+none_traded first bound past standing caller Close idle h = none_dear (price first bound past) standing h
+
+-- in a flight, all of these units are below the price
+abbrev IsCheap : Rules → List Entry → List BidUnit → Type 0
+IsCheap (FlightRules first bound) past standing = AllCheap (price first bound past) standing
+IsCheap rules past standing = ⊤
+
+cheap_standing : (rules : Rules) (past : List Entry) → IsCheap rules past (standing_units rules past)
+cheap_standing (FlightRules first bound) past = all_cheap first bound past
+cheap_standing (HotelRules rooms live) past = tt
+cheap_standing TicketRules past = tt
+
+taken_same : (rules : Rules) (past : List Entry) (standing : List BidUnit) (caller : ℕ) (call : Call) → IsCheap rules past standing →
     without (units_found standing (length past) caller call) (units_traded rules past standing caller call) ≡ without (units_found standing (length past) caller call) (gone_by rules past standing caller call)
-taken_same (FlightRules first bound) past standing caller call = by_sale _
+taken_same (FlightRules first bound) past standing caller call cheap = by_sale (is_sale call) refl
   where
     at : BidUnit → Bool
     at u = nat_le (price_after bound (price first bound past) call) u.price
@@ -84,11 +155,11 @@ taken_same (FlightRules first bound) past standing caller call = by_sale _
     both [] h k = tt
     both (u ∷ us) h k = (alike u h.0 k.0, both us h.1 k.1)
 
-    by_sale : (b : Bool) → without found (cond b (filter at found) []) ≡ without found (cond b (filter at looked) [])
-    by_sale true = without_same found (filter at found) (filter at looked) (both found (all_among_self found) (all_found standing (length past) caller call))
-    by_sale false = refl
-taken_same (HotelRules rooms live) past standing caller call = refl
-taken_same TicketRules past standing caller call = ap (without (units_found standing (length past) caller call)) (gone_same standing (arriving (length past) caller call))
+    by_sale : (b : Bool) → is_sale call ≡ b → without found (filter at found) ≡ without found (cond b (filter at looked) [])
+    by_sale true sale = without_same found (filter at found) (filter at looked) (both found (all_among_self found) (all_found standing (length past) caller call))
+    by_sale false idle = ap (without found) (none_traded first bound past standing caller call idle cheap)
+taken_same (HotelRules rooms live) past standing caller call cheap = refl
+taken_same TicketRules past standing caller call cheap = ap (without (units_found standing (length past) caller call)) (gone_same standing (arriving (length past) caller call))
 
 -- ---- one entry more
 
@@ -150,19 +221,19 @@ module _ (rules : Rules) (past : List Entry) (e : Entry) (stays_open : is_closed
 -- the two definitions give the same list, for every past
 pub standing_same : (rules : Rules) (past : List Entry) → standing_units rules past ≡ stand rules past
 standing_same rules [] = refl
-standing_same rules (e ∷ past) = subst (λ (before : List BidUnit). after before ≡ stand rules (e ∷ past)) (sym (standing_same rules past)) (by_closed (is_closed (e ∷ past)) refl)
+standing_same rules (e ∷ past) = subst (λ (before : List BidUnit). after before ≡ stand rules (e ∷ past)) (sym (standing_same rules past)) (by_closed (is_closed (e ∷ past)) refl (subst (IsCheap rules past) (standing_same rules past) (cheap_standing rules past)))
   where
     after : List BidUnit → List BidUnit
     after before =
         cond (is_closed (e ∷ past)) []
         (cond (is_admission e.reply) (without (units_found before (length past) e.caller e.call) (units_traded rules past before e.caller e.call)) before)
 
-    by_reply : (b : Bool) → is_admission e.reply ≡ b → is_closed (e ∷ past) ≡ false →
+    by_reply : (b : Bool) → is_admission e.reply ≡ b → is_closed (e ∷ past) ≡ false → IsCheap rules past (stand rules past) →
         cond b (without (units_found (stand rules past) (length past) e.caller e.call) (units_traded rules past (stand rules past) e.caller e.call)) (stand rules past) ≡ stand rules (e ∷ past)
-    by_reply true admitted stays_open = taken_same rules past (stand rules past) e.caller e.call ∙ sym (one_more rules past e stays_open admitted e.call refl)
-    by_reply false refused stays_open = sym (idle_stand past e (idle_refused e refused) rules)
+    by_reply true admitted stays_open cheap = taken_same rules past (stand rules past) e.caller e.call cheap ∙ sym (one_more rules past e stays_open admitted e.call refl)
+    by_reply false refused stays_open cheap = sym (idle_stand past e (idle_refused e refused) rules)
 
-    by_closed : (b : Bool) → is_closed (e ∷ past) ≡ b →
+    by_closed : (b : Bool) → is_closed (e ∷ past) ≡ b → IsCheap rules past (stand rules past) →
         cond b [] (cond (is_admission e.reply) (without (units_found (stand rules past) (length past) e.caller e.call) (units_traded rules past (stand rules past) e.caller e.call)) (stand rules past)) ≡ stand rules (e ∷ past)
-    by_closed true closed = sym (ap (λ (b : Bool). cond b [] (without (bid_units (e ∷ past)) (gone rules (e ∷ past)))) closed)
-    by_closed false stays_open = by_reply (is_admission e.reply) refl stays_open
+    by_closed true closed cheap = sym (ap (λ (b : Bool). cond b [] (without (bid_units (e ∷ past)) (gone rules (e ∷ past)))) closed)
+    by_closed false stays_open cheap = by_reply (is_admission e.reply) refl stays_open cheap

@@ -1,10 +1,10 @@
 -- Units of bids, put together again as points, in our own form: those that a flight sells, and those that a reply to `own` shows.
-use Rattle.std.specs.Prelude.{ℕ, ◌+◌, ◌==◌, if◌then◌else◌, List, [], ◌∷◌, ℤ, pos, neg_ℤ, filter, flat_map}
+use Rattle.std.specs.Prelude.{ℕ, ◌+◌, ◌==◌, if◌then◌else◌, List, [], ◌∷◌, ℤ, pos, neg_ℤ, filter, flat_map, count_by}
 use Rattle.tac_base.specs.declared.bids.Point.{Point}
 use Rattle.tac_base.specs.Bids.{buys_of, size_of}
 use Rattle.auction_rules.specs.declared.units.BidUnit.{BidUnit}
 use Rattle.auction_rules.specs.declared.units.Placed.{Placed}
-use Rattle.auction_rules.specs.Units.{point_units, common_units}
+use Rattle.auction_rules.specs.Units.{point_units, among}
 use Rattle.auction_rules.specs.History.{Entry, current_bids}
 
 -- a number of units, negative if those of the point are to be sold
@@ -16,7 +16,7 @@ signed_as units count = if buys_of units then pos count else neg_ℤ (pos count)
 abbrev pub left_points : List BidUnit → ℕ → ℕ → ℕ → List Point → List Point
 left_points standing agent position from [] = []
 left_points standing agent position from (point ∷ points) =
-    let count = common_units (point_units agent position from point) standing in
+    let count = count_by (λ u. among u standing) (point_units agent position from point) in
     let more = left_points standing agent position (from + size_of point) points in
     if count == 0 then more else record { units = signed_as point.units count; price = point.price } ∷ more
 

@@ -11,13 +11,13 @@ use Rattle.auction_rules.specs.declared.rules.Rules.{Rules}
 use Rattle.auction_rules.specs.declared.rules.Rules.TheVariants.{Flight as FlightRules, Hotel as HotelRules, Tickets as TicketRules}
 use Rattle.auction_rules.specs.History.{Entry, is_own, is_close, is_closed}
 use Rattle.auction_rules.specs.Effects.{bought, sold, holding}
-use Rattle.auction_rules.specs.FlightRule.{price, price_after, is_sale}
+use Rattle.auction_rules.specs.FlightRule.{price, price_after}
 use Rattle.auction_rules.specs.TicketMatch.{arriving}
 use Rattle.auction_rules.specs.Ask.{ask}
 use Rattle.auction_rules.specs.Refusals.{is_wrong_caller, is_wrong_place, sells, crosses_itself, hotel_refusal}
 use Rattle.auction_rules.specs.Legal.{cap, entries_of}
 use Rattle.auction_rules.specs.BookPairs.{ticket_trades}
-use Rattle.auction_rules.specs.BookStanding.{stand, left, standing_points, points_looked_at, flight_trades}
+use Rattle.auction_rules.specs.BookStanding.{is_sale, stand, left, standing_points, points_looked_at, flight_trades}
 use Rattle.auction_rules.specs.BookHotels.{need, quote_to_beat, closing_trades, sold_units}
 
 -- ---- refusals

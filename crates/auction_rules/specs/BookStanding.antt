@@ -1,12 +1,13 @@
--- What stands, and what a flight sells, in the form that the books keep and the audit replays. Read `standing_units` in `Standing` and
--- `flight_sales` in `FlightSales` instead: `standing_same` and `sales_same` (proofs/SameStanding, proofs/SameSales) show both to be one.
+-- What stands, and what a flight sells, in the form that the books keep and the audit replays. Read `current_bids` in `History`,
+-- `standing_units` in `Standing` and `flight_sales` in `FlightSales` instead: `standing_same` (proofs/SameStanding) and, in a lawful past,
+-- `current_same` and `sales_same` (proofs/SameBids, proofs/SameSales) show both to be one.
 --
 -- The standing units are those of the last bids, less those that calls so far traded away. A unit is identified by the position of its
 -- bid and its index, so one that traded never stands again.
-use Rattle.std.specs.Prelude.{ℕ, ◌==◌, ◌&&◌, Bool, not, if◌then◌else◌, List, [], ◌∷◌, ◌++◌, length, map, filter, filter_map, flat_map, nat_lt, nat_le, Option, Some, None}
+use Rattle.std.specs.Prelude.{ℕ, ◌==◌, ◌&&◌, Bool, true, false, not, if◌then◌else◌, List, [], ◌∷◌, ◌++◌, length, map, filter, filter_map, flat_map, nat_lt, nat_le, Option, Some, None}
 use Rattle.std.specs.List.{range_with_len}
 use Rattle.auction_rules.specs.Prelude.{Point, Trade, Call, Bid, agents, house, size_of}
-use Rattle.tac_base.specs.declared.calls.Call.TheVariants.{Withdraw}
+use Rattle.tac_base.specs.declared.calls.Call.TheVariants.{Withdraw, Update}
 use Rattle.auction_rules.specs.declared.units.BidUnit.{BidUnit}
 use Rattle.auction_rules.specs.declared.units.Placed.{Placed}
 use Rattle.auction_rules.specs.declared.units.StandingPoint.{StandingPoint}
@@ -14,7 +15,7 @@ use Rattle.auction_rules.specs.declared.rules.Rules.{Rules}
 use Rattle.auction_rules.specs.declared.rules.Rules.TheVariants.{Flight as FlightRules, Hotel as HotelRules, Tickets as TicketRules}
 use Rattle.auction_rules.specs.Units.{units_of, without}
 use Rattle.auction_rules.specs.History.{Entry, is_admission, is_closed}
-use Rattle.auction_rules.specs.FlightRule.{price, price_after, is_sale}
+use Rattle.auction_rules.specs.FlightRule.{price, price_after}
 use Rattle.auction_rules.specs.TicketMatch.{arriving}
 use Rattle.auction_rules.specs.BidPoints.{left_points}
 use Rattle.auction_rules.specs.BookPairs.{ticket_gone}
@@ -49,6 +50,12 @@ units_of_bids bids = flat_map units_of_last bids
 -- the units of the last bids
 abbrev pub bid_units : List Entry → List BidUnit
 bid_units past = units_of_bids (last_bids past)
+
+-- whether the house may sell in a call
+abbrev pub is_sale : Call → Bool
+is_sale (Bid points) = true
+is_sale (Update tick draw) = true
+is_sale call = false
 
 -- the units that a call may sell: those that stand; a new bid's units, at the end, replace its caller's earlier ones
 abbrev pub looked_at : List BidUnit → ℕ → ℕ → Call → List BidUnit

@@ -1,10 +1,9 @@
--- Flights: the price, and the calls in which the house may sell. By the game description a price drifts at random and stays in
--- 150..800; how a given draw changes it is our own rule.
-use Rattle.std.specs.Prelude.{ℕ, ◌+◌, ◌%◌, min, max, Bool, true, false, if◌then◌else◌, List, [], ◌∷◌, ℤ, pos, negsuc, neg_ℤ, ◌+ℤ◌, ◌-ℤ◌, ◌*ℤ◌, int_lt, unsigned_abs}
+-- Flights: the price. By the game description it drifts at random and stays in 150..800; how a given draw changes it is our own rule.
+use Rattle.std.specs.Prelude.{ℕ, ◌+◌, ◌%◌, min, max, if◌then◌else◌, List, [], ◌∷◌, ℤ, pos, negsuc, neg_ℤ, ◌+ℤ◌, ◌-ℤ◌, ◌*ℤ◌, int_lt, unsigned_abs}
 use Rattle.std.specs.Int.{int_div_euclid}
 use Rattle.tac_base.specs.declared.limits.TheConstants.{TICKS}
 use Rattle.tac_base.specs.declared.calls.Call.{Call}
-use Rattle.tac_base.specs.declared.calls.Call.TheVariants.{Bid, Update}
+use Rattle.tac_base.specs.declared.calls.Call.TheVariants.{Update}
 use Rattle.auction_rules.specs.History.{Entry, is_admission}
 
 -- For the flight's bound x and the tick t, x(t) = 10 + floor(t * (x - 10) / 54), where floor rounds down, also for negative numbers:
@@ -48,9 +47,3 @@ price_after bound price call = price
 abbrev pub price : ℕ → ℤ → List Entry → ℕ
 price first bound [] = first
 price first bound (e ∷ past) = if is_admission e.reply then price_after bound (price first bound past) e.call else price first bound past
-
--- The house may sell at every admitted bid and at every admitted update.
-abbrev pub is_sale : Call → Bool
-is_sale (Bid points) = true
-is_sale (Update tick draw) = true
-is_sale call = false

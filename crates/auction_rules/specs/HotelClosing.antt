@@ -22,7 +22,3 @@ abbrev pub room_sales : ℕ → ℕ → List BidUnit → List Trade
 room_sales good rooms units =
     map (λ agent. record { buyer = agent; seller = house; good = good; units = rooms_won rooms units agent; price = ask rooms units })
     (filter (λ agent. not (rooms_won rooms units agent == 0)) agents)
-
--- how many units get a room, of all agents
-abbrev pub units_sold : ℕ → List BidUnit → ℕ
-units_sold rooms units = count_by (gets_room rooms units) units

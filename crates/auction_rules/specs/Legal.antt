@@ -1,5 +1,5 @@
 -- The entry that the rules give for a call, and the histories that consist of such entries. The limits of calls are our own rule.
-use Rattle.std.specs.Prelude.{◌≡◌, ℕ, ◌==◌, ◌≤◌, ⊤, if◌then◌else◌, List, [], ◌∷◌, length, map, reverse, Option, Some, None, count_by}
+use Rattle.std.specs.Prelude.{◌≡◌, ℕ, ◌==◌, ◌≤◌, ⊤, if◌then◌else◌, List, [], ◌∷◌, length, map, reverse, Some, None, count_by}
 use Rattle.std.specs.List.{AllByRecursion}
 use Rattle.tac_base.specs.declared.calls.Trade.{Trade}
 use Rattle.tac_base.specs.declared.calls.Call.{Call}
@@ -20,7 +20,7 @@ use Rattle.auction_rules.specs.TicketMatch.{arriving, ticket_pairs, pair_trade}
 use Rattle.auction_rules.specs.Standing.{units_traded, standing_units}
 use Rattle.auction_rules.specs.BidPoints.{points_of_agent}
 use Rattle.auction_rules.specs.Ask.{ask}
-use Rattle.auction_rules.specs.HotelClosing.{room_sales, units_sold}
+use Rattle.auction_rules.specs.HotelClosing.{gets_room, room_sales}
 use Rattle.auction_rules.specs.Refusals.{first_refusal}
 
 -- The trades of an admitted call: the house sells seats at the price after the call, and rooms at the closing; tickets trade at the
@@ -33,7 +33,7 @@ call_trades TicketRules good past standing caller call = map (pair_trade good) (
 
 -- The reply to the closing of a hotel night gives the number of units sold and their price.
 abbrev pub closing_reply : Rules → List BidUnit → Reply
-closing_reply (HotelRules rooms live) standing = Sold (units_sold rooms standing) (ask rooms standing)
+closing_reply (HotelRules rooms live) standing = Sold (count_by (gets_room rooms standing) standing) (ask rooms standing)
 closing_reply rules standing = Done
 
 -- The reply to a bid says how many units the agent bought and sold in this entry, and that to `Own` gives the agent's holding of the
@@ -44,17 +44,16 @@ call_reply setup past standing caller OwnCall trades = Own (holding setup past c
 call_reply setup past standing caller Close trades = closing_reply setup.rules standing
 call_reply setup past standing caller call trades = Done
 
--- A refused call has an entry with its refusal and no trades, and an admitted one with its reply and its trades.
-abbrev pub entry_given : Setup → List Entry → List BidUnit → ℕ → Call → Option Reply → Entry
-entry_given setup past standing caller call (Some refused) = record { caller = caller; call = call; reply = refused; trades = [] }
-entry_given setup past standing caller call None =
-    let trades = call_trades setup.rules setup.good past standing caller call in
-    record { caller = caller; call = call; reply = call_reply setup past standing caller call trades; trades = trades }
-
--- the entry that the rules give for a caller's call after a past
+-- The entry that the rules give for a caller's call after a past. A refused call has an entry with its refusal and no trades, and an
+-- admitted one with its reply and its trades.
 abbrev pub entry_due : Setup → List Entry → ℕ → Call → Entry
 entry_due setup past caller call =
-    let standing = standing_units setup.rules past in entry_given setup past standing caller call (first_refusal setup.rules past standing caller call)
+    let standing = standing_units setup.rules past in
+    let trades = call_trades setup.rules setup.good past standing caller call in
+    elim (first_refusal setup.rules past standing caller call) [
+      | Some refused ↦ record { caller = caller; call = call; reply = refused; trades = [] }
+      | None ↦ record { caller = caller; call = call; reply = call_reply setup past standing caller call trades; trades = trades }
+    ]
 
 -- Each entry of a past is the one that the rules give for its caller and call after the entries before it.
 abbrev pub AreDueEntries : Setup → List Entry → Type 0

@@ -26,14 +26,14 @@ pub use Rattle.auction_rules.specs.Units.{among, block, common_units, point_unit
 pub use Rattle.auction_rules.specs.History.{Entry, is_admission, is_bid, is_close, is_closed, is_own, bids_found, current_bids}
 pub use Rattle.auction_rules.specs.Effects.{bought, holding, sold}
 pub use Rattle.auction_rules.specs.FlightRule.{clamped, price, price_after}
-pub use Rattle.auction_rules.specs.TicketMatch.{arriving, best, crosses, faces, goes_before, pair_trade, paired_units, partner_of, ticket_pairs}
+pub use Rattle.auction_rules.specs.TicketMatch.{arriving, best, crosses, faces, goes_before, pair_trade, partner_of, ticket_pairs}
 pub use Rattle.auction_rules.specs.Standing.{replaced_units, standing_units, units_found, units_traded}
 pub use Rattle.auction_rules.specs.BidPoints.{left_points, points_among, points_of_agent, signed_as}
 pub use Rattle.auction_rules.specs.FlightSales.{flight_sales, point_sale}
 pub use Rattle.auction_rules.specs.Ask.{ask, published_price}
-pub use Rattle.auction_rules.specs.HotelClosing.{gets_room, room_sales, rooms_won, units_sold}
+pub use Rattle.auction_rules.specs.HotelClosing.{gets_room, room_sales, rooms_won}
 pub use Rattle.auction_rules.specs.Refusals.{crosses_itself, first_refusal, is_wrong_caller, is_wrong_place, offered, other_refusal, sells}
-pub use Rattle.auction_rules.specs.Legal.{AreDueEntries, IsLegalHistory, call_reply, call_trades, cap, closing_reply, entries_of, entry_due, entry_given}
+pub use Rattle.auction_rules.specs.Legal.{AreDueEntries, IsLegalHistory, call_reply, call_trades, cap, closing_reply, entries_of, entry_due}
 pub use Rattle.auction_rules.specs.Board.{highest_buy, lowest, lowest_sell, shown_ask, shown_bid}
 pub use Rattle.auction_rules.specs.BookPairs.{if_crossing, not_taken, pair_with, pairs, partner, ticket_gone, ticket_trades, units_of_pairs}
 pub use Rattle.auction_rules.specs.BookStanding.{bid_after, bid_units, by_position, flight_trades, gone, gone_by, is_sold, last_bid, last_bids, left, left_of, left_standing, looked_at, owned_by, placed_bids, points_looked_at, sale, stand, standing_of, standing_points, units_of_bids, units_of_last}

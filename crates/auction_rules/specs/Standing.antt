@@ -14,8 +14,8 @@ use Rattle.auction_rules.specs.declared.rules.Rules.{Rules}
 use Rattle.auction_rules.specs.declared.rules.Rules.TheVariants.{Flight as FlightRules, Hotel as HotelRules, Tickets as TicketRules}
 use Rattle.auction_rules.specs.Units.{units_of, without}
 use Rattle.auction_rules.specs.History.{Entry, is_admission, is_closed}
-use Rattle.auction_rules.specs.FlightRule.{price, price_after, is_sale}
-use Rattle.auction_rules.specs.TicketMatch.{arriving, paired_units}
+use Rattle.auction_rules.specs.FlightRule.{price, price_after}
+use Rattle.auction_rules.specs.TicketMatch.{arriving, ticket_pairs}
 
 -- the standing units, agent by agent, with `units` in place of those of one agent
 abbrev pub replaced_units : List BidUnit → ℕ → List BidUnit → List BidUnit
@@ -28,14 +28,14 @@ units_found standing position caller (Bid points) = replaced_units standing call
 units_found standing position caller Withdraw = replaced_units standing caller []
 units_found standing position caller call = standing
 
--- The units that an admitted call trades away, of those that it finds. At a bid or an update of a flight, the house sells those whose
--- price is at or above the current one, which is the new price after an update. In a hotel nothing is sold before the closing. For
--- tickets, the arriving units and their partners trade. `standing` are the units that stand before the call.
+-- The units that an admitted call trades away, of those that it finds. At a flight, the house sells those whose price is at or above the
+-- current one, which is the new price after an update; only a bid or an update brings such units. In a hotel nothing is sold before the
+-- closing. For tickets, the arriving units and their partners trade. `standing` are the units that stand before the call.
 abbrev pub units_traded : Rules → List Entry → List BidUnit → ℕ → Call → List BidUnit
 units_traded (FlightRules first bound) past standing caller call =
-    if is_sale call then filter (λ u. nat_le (price_after bound (price first bound past) call) u.price) (units_found standing (length past) caller call) else []
+    filter (λ u. nat_le (price_after bound (price first bound past) call) u.price) (units_found standing (length past) caller call)
 units_traded (HotelRules rooms live) past standing caller call = []
-units_traded TicketRules past standing caller call = paired_units standing (arriving (length past) caller call)
+units_traded TicketRules past standing caller call = flat_map (λ pair. pair.0 ∷ pair.1 ∷ []) (ticket_pairs standing (arriving (length past) caller call))
 
 -- The untraded units of the bids stand; once the auction is closed, nothing does. An admitted call leaves the units that it finds,
 -- without those that it trades away, and a refused call changes nothing.

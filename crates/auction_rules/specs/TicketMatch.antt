@@ -1,5 +1,5 @@
 -- Tickets: which standing unit an arriving unit trades with, and what is traded. The rule follows TAC.
-use Rattle.std.specs.Prelude.{ℕ, ◌==◌, Bool, not, ◌&&◌, ◌||◌, nat_lt, nat_le, if◌then◌else◌, List, [], ◌∷◌, Option, Some, None, filter, find, flat_map}
+use Rattle.std.specs.Prelude.{ℕ, ◌==◌, Bool, not, ◌&&◌, ◌||◌, nat_lt, nat_le, if◌then◌else◌, List, [], ◌∷◌, Option, Some, None, filter, find}
 use Rattle.std.specs.List.{list_all}
 use Rattle.tac_base.specs.declared.calls.Trade.{Trade}
 use Rattle.tac_base.specs.declared.calls.Call.{Call}
@@ -51,10 +51,6 @@ abbrev pub ticket_pairs : List BidUnit → List BidUnit → List (BidUnit × Bid
 ticket_pairs standing [] = []
 ticket_pairs standing (unit ∷ units) =
     elim (partner_of standing unit) [ None ↦ ticket_pairs standing units | Some taken ↦ (unit, taken) ∷ ticket_pairs (without standing (taken ∷ [])) units ]
-
--- both units of each pair
-abbrev pub paired_units : List BidUnit → List BidUnit → List BidUnit
-paired_units standing units = flat_map (λ pair. pair.0 ∷ pair.1 ∷ []) (ticket_pairs standing units)
 
 -- The trade is at the price of the standing unit. Each pair of units makes a trade of its own, and an arriving unit that does not
 -- trade becomes a standing unit.

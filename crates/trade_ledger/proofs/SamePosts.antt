@@ -12,7 +12,16 @@ use Rattle.trade_ledger.specs.declared.cash_calls.CashReply.{CashReply}
 use Rattle.trade_ledger.specs.declared.cash_calls.CashReply.TheVariants.{Done, Cash}
 use Rattle.trade_ledger.specs.declared.cash_calls.CashEntry.{CashEntry}
 use Rattle.trade_ledger.specs.BookPosts.{HoldSame, is_post, posts_of, due_to, due_posts, Matched}
-use Rattle.trade_ledger.specs.Posts.{post_for, due_post, is_post_at, due_post_at, IsPosted}
+use Rattle.trade_ledger.specs.Posts.{post_for, due_post, is_post_at, IsPosted}
+
+-- the post that is due to the entry at a place, if there is an entry
+abbrev due_post_at : ℕ → ℕ → Option Entry → List CashEntry
+due_post_at good position None = []
+due_post_at good position (Some e) = due_post good position e
+
+due_there : (good position : ℕ) (o : Option Entry) → elim o as (λ _. List CashEntry) [ None ↦ [] | Some e ↦ due_post good position e ] ≡ due_post_at good position o
+due_there good position None = refl
+due_there good position (Some e) = refl
 
 abbrev at : ℕ → ℕ → CashEntry → Bool
 at good position e = is_post_at good position e.call
@@ -258,6 +267,7 @@ posted_from_matched histories cash matched good position =
     ∙ same_due good position (filter (at good position) (posts_of cash)) (slice_get (slice_index_or histories good []) position)
     (subst (HoldSame (filter (at good position) (posts_of cash))) (named_due_posts good position histories)
     (same_filtered (at good position) (posts_of cash) (due_posts (map (enumerate_from 0) histories)) matched))
+    ∙ sym (due_there good position (slice_get (slice_index_or histories good []) position))
 
 -- ---- and the other way round
 
@@ -390,4 +400,7 @@ spread (x ∷ xs) ys h k same w = step (λ zs posts alike. spread xs zs h.1 post
 pub matched_from_posted : (histories : List (List Entry)) (cash : List CashEntry) → IsPosted histories cash → Matched histories cash
 matched_from_posted histories cash posted =
     spread (posts_of cash) (due_posts (map (enumerate_from 0) histories)) (posts_are cash) (rows_posts 0 (map (enumerate_from 0) histories))
-    (λ good position. sym (named_posts good position cash) ∙ posted good position ∙ sym (named_due_posts good position histories))
+    (λ good position. sym (named_posts good position cash)
+    ∙ posted good position
+    ∙ due_there good position (slice_get (slice_index_or histories good []) position)
+    ∙ sym (named_due_posts good position histories))

@@ -1,5 +1,5 @@
 -- The posts of a cash history, place by place: those that are due to the entries of the auctions, by our own rule, and no other.
-use Rattle.std.specs.Prelude.{◌≡◌, ℕ, ◌==◌, Bool, false, ◌&&◌, List, [], ◌∷◌, filter, slice_get, slice_index_or, Option, Some, None}
+use Rattle.std.specs.Prelude.{◌≡◌, ℕ, ◌==◌, Bool, false, ◌&&◌, List, [], ◌∷◌, filter, slice_get, slice_index_or, Some, None}
 use Rattle.tac_base.specs.declared.calls.Trade.{Trade}
 use Rattle.auction_rules.specs.History.{Entry}
 use Rattle.auction_rules.specs.Effects.{nets}
@@ -20,11 +20,6 @@ abbrev pub due_post : ℕ → ℕ → Entry → List CashEntry
 due_post good position e =
     post_for e.trades (record { caller = e.caller; call = Post good position (record { dollars = nets e.trades }); reply = Done })
 
--- the post that is due to the entry at a place, if there is an entry
-abbrev pub due_post_at : ℕ → ℕ → Option Entry → List CashEntry
-due_post_at good position None = []
-due_post_at good position (Some e) = due_post good position e
-
 -- whether a call is a post that names a place: a good, and a position in its history
 abbrev pub is_post_at : ℕ → ℕ → CashCall → Bool
 is_post_at good position (Post g p nets) = (g == good) && (p == position)
@@ -34,4 +29,5 @@ is_post_at good position (Read agent) = false
 -- with trades has exactly one post, and there is no other post. The posts may be in any order.
 abbrev pub IsPosted : List (List Entry) → List CashEntry → Type 0
 IsPosted histories cash = (good position : ℕ) →
-    filter (λ e. is_post_at good position e.call) cash ≡ due_post_at good position (slice_get (slice_index_or histories good []) position)
+    filter (λ e. is_post_at good position e.call) cash
+    ≡ elim (slice_get (slice_index_or histories good []) position) [ None ↦ [] | Some e ↦ due_post good position e ]

@@ -69,17 +69,17 @@ no_quit_without_it : EndsFor causes.Quit (Skipped ∷ []) no_line (quiet (codes 
 no_quit_without_it ends = let e : false ≡ true = ends.stopped in cc
 
 end_with_all_taken : EndsFor causes.End (Skipped ∷ []) no_line (quiet (codes "hi\nno toolong\n") [])
-end_with_all_taken = record { stopped = ((refl, one_line), refl, refl); reads = (refl, refl); sent = (refl, (refl, refl)) }
+end_with_all_taken = record { stopped = (refl, one_line, refl, refl); reads = (refl, refl); sent = (refl, (refl, refl)) }
 
 no_end_with_bytes_left : EndsFor causes.End (Skipped ∷ []) no_line (quiet (codes "hi\nno toolong\n") (codes "x")) → ⊥
-no_end_with_bytes_left ends = let e : ◌≡◌ {A = List ℕ} (120 ∷ []) [] = ends.stopped.2 in cc
+no_end_with_bytes_left ends = let e : ◌≡◌ {A = List ℕ} (120 ∷ []) [] = ends.stopped.3 in cc
 
 read_fault_with_bytes_left : EndsFor causes.ReadFault (Skipped ∷ []) no_line (link (codes "hi\nno toolong\n") (codes "x") (three ++ 0 ∷ []) three)
-read_fault_with_bytes_left = record { stopped = ((refl, one_line), refl); reads = (counts_rise_or_stay.1, refl); sent = (refl, (refl, refl)) }
+read_fault_with_bytes_left = record { stopped = (refl, one_line, refl); reads = (counts_rise_or_stay.1, refl); sent = (refl, (refl, refl)) }
 
 -- a whole line is left without an answer, and then a read failed
 no_read_fault_with_a_line_left : EndsFor causes.ReadFault (Skipped ∷ []) ((gots.Line, codes "cash") ∷ no_line) (link (codes "hi\nno toolong\n") (codes "x") (three ++ 0 ∷ []) three) → ⊥
-no_read_fault_with_a_line_left ends = let e : ◌≡◌ {A = List LineGot} (gots.Line ∷ gots.End ∷ []) (gots.End ∷ []) = ap answered ends.stopped.1 in cc
+no_read_fault_with_a_line_left ends = let e : ◌≡◌ {A = List LineGot} (gots.Line ∷ gots.End ∷ []) (gots.End ∷ []) = ap answered ends.stopped.2 in cc
 
 end_counts_no_fault : EndsFor causes.End (Skipped ∷ []) no_line (link (codes "hi\nno toolong\n") [] (three ++ 0 ∷ []) three) → ⊥
 end_counts_no_fault ends = let e : ◌≡◌ {A = ℕ} 4 3 = ends.reads.0 in omega (arith, e)
@@ -91,12 +91,12 @@ write_fault_cuts_the_last_line : EndsFor causes.WriteFault (Skipped ∷ []) no_l
 write_fault_cuts_the_last_line = record {
   stopped = tt;
   reads = (refl, refl);
-  sent = (codes "hi\n" ∷ [], codes "no toolong\n", refl, record { count = 6; proper = omega arith; sent = refl; failed = (counts_rise_or_stay.1, refl) });
+  sent = (codes "hi\n" ∷ [], codes "no toolong\n", 6, refl, omega arith, refl, (counts_rise_or_stay.1, refl));
 }
 
 -- a write failed after two bytes, and seven more were sent
 no_session_writes_after_a_failed_write : EndsFor causes.WriteFault (Skipped ∷ []) no_line (link (codes "hi\nno too") [] three (three ++ 2 ∷ [])) → ⊥
-no_session_writes_after_a_failed_write ends = let e : ◌≡◌ {A = ℕ} 2 9 = ap fourth_known ends.sent.3.failed.1 in omega (arith, e)
+no_session_writes_after_a_failed_write ends = let e : ◌≡◌ {A = ℕ} 2 9 = ap fourth_known ends.sent.6.1 in omega (arith, e)
 
 -- one turn is less than all, and the bytes give their end
 no_budget_after_one_turn : EndsFor causes.Budget (Skipped ∷ []) no_line (quiet (codes "hi\nno toolong\n") []) → ⊥

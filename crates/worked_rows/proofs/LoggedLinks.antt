@@ -72,7 +72,7 @@ ended_by_its_end = record {
   few = omega arith;
   lawful = lawful;
   transcript = transcribed (ended_by causes.End) (bought ∷ read ∷ []) refl refl refl (λ good. refl);
-  stopped = ((refl, omega arith), refl, refl);
+  stopped = (refl, omega arith, refl, refl);
   reads = (refl, refl);
   sent = (refl, (refl, refl));
 }
@@ -124,7 +124,7 @@ ended_by_a_read = record {
   few = omega arith;
   lawful = lawful;
   transcript = transcribed (ended_by causes.ReadFault) (bought ∷ read ∷ []) refl refl refl (λ good. refl);
-  stopped = ((refl, omega arith), refl);
+  stopped = (refl, omega arith, refl);
   reads = (rose_once, refl);
   sent = (refl, (refl, refl));
 }
@@ -152,12 +152,7 @@ ended_by_a_write = record {
   transcript = transcribed (ended_by causes.WriteFault) (bought ∷ read ∷ []) refl refl refl (λ good. refl);
   stopped = tt;
   reads = (refl, refl);
-  sent = (
-    welcome_text quiet_game 2 ∷ reply_line said_text bought ∷ [],
-    reply_line said_text read,
-    refl,
-    record { count = 5; proper = omega arith; sent = refl; failed = (rose_once, refl) },
-  );
+  sent = (welcome_text quiet_game 2 ∷ reply_line said_text bought ∷ [], reply_line said_text read, 5, refl, omega arith, refl, (rose_once, refl));
 }
 
 -- a JSON line for which memory was refused has its reply, and left nothing
@@ -187,7 +182,7 @@ memory_was_refused = record {
   few = omega arith;
   lawful = lawful_more [] (Refused Memory) none_lawful tt refl;
   transcript = transcribed nothing_called (Refused Memory ∷ []) refl refl refl (λ good. refl);
-  stopped = ((refl, omega arith), refl, refl);
+  stopped = (refl, omega arith, refl, refl);
   reads = (refl, refl);
   sent = (refl, (refl, refl));
 }
