@@ -30,7 +30,7 @@ IsInterrupted text session lines =
     ⊎ ((answered : List Turn) × (last : Turn) × (session.turns ≡ answered ++ last ∷ [])
     × TakesSome (known_then session.before.sent (session_text text session.welcome answered)) session.after.sent (reply_line text last) × (lines ≡ length answered))
 
--- the causes of a session's end, but for the counts of faults
+-- the causes of a session's end, except for the counts of faults
 abbrev pub EndsFor : Cause → (Said → List ℕ) → Session → ℕ → Type 0
 EndsFor causes.Quit text session lines = (has_left session.turns ≡ true) × IsWhole text session lines
 EndsFor causes.End text session lines = ComesTo gots.End session × IsAtEnd session.after.left × IsWhole text session lines

@@ -26,7 +26,7 @@ abbrev pub seat_verdict : List Bool → Option ℕ → Verdict
 seat_verdict taken None = WrongWord
 seat_verdict taken (Some seat) = if slice_index_or taken seat false then Taken else Seated seat
 
--- A line that is no greeting has the verdict `Syntax`. The word of a greeting decides by the seat that has it.
+-- The verdict on a link's first line: `Syntax` if it is no greeting, and otherwise that of the seat which has the greeting's word.
 abbrev pub word_verdict : Seats → Option (List ℕ) → Verdict
 word_verdict seats None = Syntax
 word_verdict seats (Some word) = seat_verdict seats.taken (position (bytes_eq word) seats.words)

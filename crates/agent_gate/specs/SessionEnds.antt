@@ -1,5 +1,4 @@
--- Why a session ended, in three independent columns: why it stopped, whether a read failed, and what was sent. The causes are our own
--- rule.
+-- Why a session ended, in three parts: why it stopped, whether a read failed, and what was sent. The causes are our own rule.
 use Rattle.std.specs.Prelude.{⊤, ◌≡◌, ℕ, ◌<◌, ◌⊎◌, List, [], ◌∷◌, ◌++◌, true, false, length, take}
 use Rattle.std.specs.List.{concat}
 use Rattle.tac_base.specs.declared.limits.TheConstants.{SESSION_LINES}

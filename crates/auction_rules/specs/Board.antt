@@ -1,5 +1,5 @@
--- What an auction shows. The form of a board is our own. It is said by the books' `stand` and `published`, which are `standing_units` and
--- `published_price` (`standing_same`, `published_same`): by these two, the types of the locks above grow too large for the prover.
+-- What an auction shows, in a form of our own. `stand` and `published` are the books' forms of `standing_units` and `published_price`,
+-- equal to them by `standing_same` and `published_same`: with these two, the types of the locks above grow too large for the prover.
 use Rattle.std.specs.Prelude.{ℕ, max, min, not, List, [], ◌∷◌, length, map, filter, fold}
 use Rattle.tac_base.specs.declared.calls.Board.{Board}
 use Rattle.auction_rules.specs.declared.units.BidUnit.{BidUnit}

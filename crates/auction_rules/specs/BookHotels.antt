@@ -1,6 +1,6 @@
 -- Hotels in the form that the books compute: with an order of buying units alone, over the units that `stand`. Read `published_price` in
 -- `Ask` and `gets_room` to `room_sales` in `HotelClosing` instead: `published_same` (proofs/SameRules) and `winning_same`, `sold_same` and
--- `closing_same` (proofs/SameHotels) show both to be one in a lawful past.
+-- `closing_same` (proofs/SameHotels) prove the two equal in a lawful past.
 use Rattle.std.specs.Prelude.{ℕ, ◌+◌, ◌==◌, max, Bool, ◌&&◌, ◌||◌, nat_lt, if◌then◌else◌, List, [], ◌∷◌, Option, Some, None, count_by, filter_map}
 use Rattle.auction_rules.specs.Prelude.{Trade, agents, house}
 use Rattle.auction_rules.specs.declared.units.BidUnit.{BidUnit}

@@ -1,5 +1,5 @@
 -- The pairs of units that trade in a ticket auction, in the form that the books compute. Read `ticket_pairs` in `TicketMatch` instead:
--- `pairs_same` (proofs/SamePairs) shows both to be one.
+-- `pairs_same` (proofs/SamePairs) proves the two equal.
 use Rattle.std.specs.Prelude.{ℕ, not, if◌then◌else◌, List, [], ◌∷◌, ◌++◌, Option, Some, None, map, filter, flat_map}
 use Rattle.auction_rules.specs.Prelude.{Trade}
 use Rattle.auction_rules.specs.declared.units.BidUnit.{BidUnit}

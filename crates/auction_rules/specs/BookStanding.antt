@@ -1,6 +1,6 @@
 -- What stands, and what a flight sells, in the form that the books keep and the audit replays. Read `current_bids` in `History`,
 -- `standing_units` in `Standing` and `flight_sales` in `FlightSales` instead: `standing_same` (proofs/SameStanding) and, in a lawful past,
--- `current_same` and `sales_same` (proofs/SameBids, proofs/SameSales) show both to be one.
+-- `current_same` and `sales_same` (proofs/SameBids, proofs/SameSales) prove the two equal.
 --
 -- The standing units are those of the last bids, less those that calls so far traded away. A unit is identified by the position of its
 -- bid and its index, so one that traded never stands again.

@@ -9,7 +9,7 @@ use Rattle.auction_rules.specs.declared.units.BidUnit.{BidUnit}
 use Rattle.auction_rules.specs.declared.units.Placed.{Placed}
 use Rattle.auction_rules.specs.BidPoints.{points_among}
 
--- The house sells all these units of a point at the current price, in one trade.
+-- the trade in which the house sells an agent all units of a point, at the current price
 abbrev pub point_sale : ℕ → ℕ → ℕ → Point → Trade
 point_sale good current agent point = record { buyer = agent; seller = house; good = good; units = size_of point; price = current }
 

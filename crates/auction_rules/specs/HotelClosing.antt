@@ -7,8 +7,8 @@ use Rattle.auction_rules.specs.declared.units.BidUnit.{BidUnit}
 use Rattle.auction_rules.specs.TicketMatch.{goes_before}
 use Rattle.auction_rules.specs.Ask.{ask}
 
--- The closing sells a room to each unit that fewer units go before than the night has rooms. Hotel units only buy: of two, the one
--- with the higher price goes first, then the one of the earlier bid, and within one bid the one with the lower index.
+-- A unit gets a room at the closing if fewer units go before it than the night has rooms. Hotel units only buy: of two, the one with the
+-- higher price goes first, then the one of the earlier bid, and within one bid the one with the lower index.
 abbrev pub gets_room : ℕ → List BidUnit → BidUnit → Bool
 gets_room rooms units u = nat_lt (count_by (λ v. goes_before v u) units) rooms
 

@@ -37,7 +37,7 @@ closing_reply (HotelRules rooms live) standing = Sold (count_by (gets_room rooms
 closing_reply rules standing = Done
 
 -- The reply to a bid says how many units the agent bought and sold in this entry, and that to `Own` gives the agent's holding of the
--- good and its standing points. Any other call gets an acknowledgement, but for the closing of a hotel night.
+-- good and its standing points. Any other call gets an acknowledgement, except the closing of a hotel night.
 abbrev pub call_reply : Setup → List Entry → List BidUnit → ℕ → Call → List Trade → Reply
 call_reply setup past standing caller (Bid points) trades = Taken (bought trades caller) (sold trades caller)
 call_reply setup past standing caller OwnCall trades = Own (holding setup past caller) (points_of_agent standing past caller)

@@ -1,4 +1,4 @@
--- What a game fixes for an auction before its first call: by the game description, but for rooms other than 16 and for live quotes,
+-- What a game fixes for an auction before its first call: by the game description, except for rooms other than 16 and live quotes,
 -- which are our own.
 use Rattle.std.specs.Prelude.{ℕ, List, ℤ}
 use Rattle.auction_rules.specs.declared.rules.Rules.{Rules}

@@ -21,16 +21,17 @@ use Rattle.auction_rules.specs.TicketMatch.{arriving, ticket_pairs}
 abbrev pub replaced_units : List BidUnit → ℕ → List BidUnit → List BidUnit
 replaced_units standing agent units = flat_map (λ a. if agent == a then units else filter (λ u. u.agent == a) standing) agents
 
--- The units that a call finds. A new bid replaces its agent's whole earlier bid, and all its units get the new bid's place in time. A
--- withdrawal removes its agent's units, and any other call finds those that stand.
+-- The units once an admitted call has changed its agent's own, before any of them trade. A new bid replaces its agent's whole earlier
+-- bid, and all its units get the new bid's place in time. A withdrawal removes its agent's units, and any other call changes none.
 abbrev pub units_found : List BidUnit → ℕ → ℕ → Call → List BidUnit
 units_found standing position caller (Bid points) = replaced_units standing caller (units_of (record { agent = caller; position = position; points = points }))
 units_found standing position caller Withdraw = replaced_units standing caller []
 units_found standing position caller call = standing
 
 -- The units that an admitted call trades away, of those that it finds. At a flight, the house sells those whose price is at or above the
--- current one, which is the new price after an update; only a bid or an update brings such units. In a hotel nothing is sold before the
--- closing. For tickets, the arriving units and their partners trade. `standing` are the units that stand before the call.
+-- current one, which is the new price after an update; only a bid or an update brings such units. In a hotel there are none: its closing
+-- alone sells, and then nothing stands. For tickets, the arriving units and their partners trade. `standing` are the units that stand
+-- before the call.
 abbrev pub units_traded : Rules → List Entry → List BidUnit → ℕ → Call → List BidUnit
 units_traded (FlightRules first bound) past standing caller call =
     filter (λ u. nat_le (price_after bound (price first bound past) call) u.price) (units_found standing (length past) caller call)

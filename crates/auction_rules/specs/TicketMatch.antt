@@ -1,4 +1,4 @@
--- Tickets: which standing unit an arriving unit trades with, and what is traded. The rule follows TAC.
+-- Tickets: which standing unit an arriving unit trades with, and what is traded. The rule is our own, modelled on TAC.
 use Rattle.std.specs.Prelude.{ℕ, ◌==◌, Bool, not, ◌&&◌, ◌||◌, nat_lt, nat_le, if◌then◌else◌, List, [], ◌∷◌, Option, Some, None, filter, find}
 use Rattle.std.specs.List.{list_all}
 use Rattle.tac_base.specs.declared.calls.Trade.{Trade}
@@ -19,7 +19,7 @@ arriving position caller call = []
 abbrev pub faces : BidUnit → BidUnit → Bool
 faces arriving standing = not (arriving.agent == standing.agent) && not (same_side arriving.buys standing.buys)
 
--- The two units trade if the seller's price is at most the buyer's.
+-- The two units can trade if the seller's price is at most the buyer's.
 -- Row: equal_prices_trade (worked_rows/proofs/Auctions.antt)
 abbrev pub crosses : BidUnit → BidUnit → Bool
 crosses arriving standing = if arriving.buys then nat_le standing.price arriving.price else nat_le arriving.price standing.price
@@ -39,8 +39,8 @@ goes_before u v = better u v || ((u.price == v.price) && earlier u v)
 abbrev pub best : List BidUnit → Option BidUnit
 best units = find (λ u. list_all (λ v. not (goes_before v u)) units) units
 
--- A buying unit is matched with the cheapest standing selling unit of another agent, and a selling unit with the standing buying unit
--- of another agent that has the highest price: the first one by the order above, if their prices cross.
+-- The partner of an arriving unit is the first one, in the order above, of the standing units that it faces and whose prices cross with
+-- its own: the cheapest that sells, or the buying one with the highest price.
 -- Row: trade_is_at_the_standing_price (worked_rows/proofs/Auctions.antt)
 abbrev pub partner_of : List BidUnit → BidUnit → Option BidUnit
 partner_of standing arriving = best (filter (λ u. faces arriving u && crosses arriving u) standing)

@@ -1,6 +1,6 @@
 -- What happened to the links of a game that was played, and of one that was not, in the form that `run_game` promises and `vouch` checks.
 -- For a game that was played read `IsSeatedLink` and `IsPlayedGame` in `PlayedLinks` instead: `played_game` and `played_over`
--- (proofs/SameLinks) show both to be one.
+-- (proofs/SameLinks) prove the two equivalent.
 use Rattle.std.specs.Prelude.{◌≡◌, ℕ, List, [], ◌∷◌, Some, Contains, length, take, slice_get}
 use Rattle.game_run.specs.Prelude.{LINK_BYTES, all_answers, GaveBytes, SendsNothing, LinkState, LinksState, known_then, then_known, LineGot, Cause, Verdict, Seated, Lost, Seats, verdict_of, IsServed, IsTranscript, Turn, welcome_text}
 use Rattle.tac_io.specs.declared.line_got.LineGot.TheVariants as gots

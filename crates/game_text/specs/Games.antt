@@ -18,7 +18,7 @@ use Rattle.game_text.specs.declared.hotel_nights.HotelNights.{HotelNights}
 use Rattle.game_text.specs.HotelNights.{AreNights, nights_in, night_lines}
 use Rattle.game_text.specs.Headers.{header_of, header_text, read_end_line}
 
--- what a game file fixes for a game. The lists have the lengths that are named below: a text with others is refused as a game file.
+-- What a game file fixes for a game. Its lists have the lengths named below: a text with others is not a game file.
 pub record GameFile : Type 0 where
   -- 1 or 2
   pub version : ℕ

@@ -10,7 +10,8 @@ pub enum Said {
     Cash(u32, i64),
     /// The board of an auction after its first `count` entries.
     Quote(Board),
-    /// The agent has no calls left in this auction. No call was made, and there is no entry.
+    /// The agent has no calls left in this auction, or no readings of its cash. No call was made, and there is
+    /// no entry.
     Spent,
     /// The line was not a request.
     Fault(RequestFault),

@@ -2,7 +2,7 @@
 use Rattle.std.specs.Prelude.{ℕ, ◌+◌, ◌-◌, ◌/◌, ◌%◌, nat_lt, if◌then◌else◌}
 use Rattle.tac_base.specs.Goods.{inbound_flight, outbound_flight, hotel_night, ticket_night}
 
--- one unit of a good, as what a traveller uses
+-- a good, as what a traveller uses: a seat, a room or a ticket
 pub data Thing : Type 0 where
   -- an inbound seat on a day, 1..4
   inbound : ℕ → Thing

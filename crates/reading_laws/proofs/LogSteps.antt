@@ -1,4 +1,4 @@
--- The reader of logs goes from line to line, but for the block of a certificate.
+-- The reader of logs goes from line to line, except for the block of a certificate.
 use Rattle.std.proofs.Common.{◌≡◌, ℕ, ◌+◌, ◌<◌, ◌≤◌, inl, inr, Bool, true, false, not, ◌&&◌, eqb, cond, List, [], ◌∷◌, ◌++◌, Option, Some, None, Result, Ok, Err, refl, sym, ap, subst, ◌∙◌, arith, lit≤, lit<, pos, codes, decimal, replicate, ◌==◌, eq-eqb}
 use Rattle.std.proofs.lemmas.Fmt.{decimal_digit}
 use Rattle.reading_laws.specs.Prelude.{TEXT_BYTES, numeral, BadLine, TextEnd, Spelling, NumberedLine, Remaining, block_of, row, ◌>>=◌, repeat, words_of, CertFault, cert_of, cert_text, Tree, leaf, Play, Serve, package_line, formed, is_text, read_link, read_end, read_missed, first_is, auction_of, trade_of, read_entry, read_cash_line, cash_entry_of, read_score, package_of, read_count, line_by, as_long_as, is_served, served_in, head_by, head_in, entry_in, history_in, cash_in, cert_by, block_by, cert_in, score_in, log_in}

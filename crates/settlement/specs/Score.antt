@@ -1,4 +1,5 @@
--- The score of an agent, by the game description.
+-- The score of an agent: by the game description its best total and its cash, and by our own rule, modelled on TAC, a penalty for each
+-- ticket that it sold but does not have.
 use Rattle.std.specs.Prelude.{ℕ, ◌+◌, ◌*◌, List, ℤ, pos, negsuc, ◌+ℤ◌, ◌-ℤ◌, drop, sum_by}
 
 -- by how many units a holding is below 0

@@ -4,7 +4,7 @@ use Rattle.tac_base.specs.declared.limits.TheConstants.{LINE_BYTES}
 use Rattle.tac_io.specs.declared.line_got.LineGot.{LineGot}
 use Rattle.tac_io.specs.declared.line_got.LineGot.TheVariants.{Line, TooLong, End, Budget}
 
--- A line of at most 512 bytes is given without its line end; of a longer one it is only told that it is too long.
+-- A line of at most 512 bytes is given without its line end; a longer one is only reported to be too long.
 -- Row: longest_line (worked_rows/proofs/Links.antt)
 abbrev pub ended_line : List ℕ → LineGot × List ℕ
 ended_line line = if nat_le (length line) LINE_BYTES then (Line, line) else (TooLong, [])

@@ -44,7 +44,7 @@ module _ (past : List Entry) (e : Entry) (agent : ℕ) (still_open : is_closed p
   another : (a : ℕ) → (agent == a) ≡ false → (is_admission e.reply && (e.caller == a)) ≡ false
   another a differ = rw (caller, differ) (and_right (is_admission e.reply) false refl)
 
-  -- the others have what they had, but for what the entry trades away
+  -- the others have what they had, except for what the entry trades away
   pub others_keep : others agent (stand TicketRules (e ∷ past)) ≡ others agent (without (stand TicketRules past) (gone_now TicketRules past e))
   others_keep =
       ap (others agent) (sym (units_joined TicketRules (e ∷ past)))

@@ -1,5 +1,6 @@
 -- The posts of a cash history against those that the auctions require, by sums over both, in the form that the floor keeps and the audit
--- checks. Read `IsPosted` in `Posts` instead: `posted_from_matched` and `matched_from_posted` (proofs/SamePosts) show both to be one.
+-- checks. Read `IsPosted` in `Posts` instead: `posted_from_matched` and `matched_from_posted` (proofs/SamePosts) prove the two
+-- equivalent.
 use Rattle.std.specs.Prelude.{◌≡◌, ℕ, Bool, true, false, List, map, filter, sum_by, flat_map}
 use Rattle.std.specs.List.{enumerate_from}
 use Rattle.trade_ledger.specs.Prelude.{Trade, Entry}

@@ -24,7 +24,7 @@ abbrev pub IsCashReply : CashReply → Type 0
 IsCashReply (Cash dollars) = IsWithin 600000000000000 dollars
 IsCashReply Done = ⊤
 
--- an entry of one of the nine callers, in its ranges: all of those of a log, but for the position of a post
+-- an entry of one of the nine callers, in its ranges: all of those of a log, except for the position of a post
 pub record IsLoggableCash (e : CashEntry) : Type 0 where
   pub caller : e.caller ≤ clock
   pub call : IsCashCall e.call
