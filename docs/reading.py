@@ -3,7 +3,7 @@
 
     docs/reading.py            checks the definitions, docs/READING.md and docs/RULES.md
     docs/reading.py --print    prints the definitions, to be read beside docs/READING.md
-    docs/reading.py --rows     prints them with what each of their rows states
+    docs/reading.py --rows     prints them with their rows, and what each row states
     docs/reading.py --write    writes the table of docs/RULES.md, from docs/rules.tsv
 
 From the clause `headline` of `tac` it follows each name through `specs/`. A definition is printed
@@ -174,8 +174,8 @@ class Reading:
             lemma, crate, file = ROW.findall(row)[0]
             statement, leads_to = self.lemma(f"{crate}.proofs.{file}", lemma)
             if (path, name) in leads_to:
-                yield margin + row
                 if self.with_rows or (path, name) in self.left_out:
+                    yield margin + row
                     yield from self.once(file, lemma, [f"{margin}    {line}" for line in statement])
             elif row in rows:
                 self.faults.append(f"the row {lemma} does not lead to {name} of {path}")
@@ -304,7 +304,7 @@ def main() -> int:
     kept = argparse.RawDescriptionHelpFormatter
     parser = argparse.ArgumentParser(description=__doc__, formatter_class=kept)
     parser.add_argument("--print", action="store_true", help="print the definitions")
-    parser.add_argument("--rows", action="store_true", help="print what each row states, too")
+    parser.add_argument("--rows", action="store_true", help="print them with their rows")
     parser.add_argument("--write", action="store_true", help="write the table of docs/RULES.md")
     options = parser.parse_args()
     reading = Reading(options.rows)
