@@ -216,10 +216,9 @@ def main() -> int:
             whole_link = link if has_quotes else filled(link)
             vouch("vouch, all quotes" if has_quotes else "vouch, lines too long", played,
                   whole_link)
-            rest = b"x" * 511 + b"\n"
-            more = rest * ((MOST - len(whole_link.said)) // len(rest))
+            more = (b"x" * 511 + b"\n") * (MOST // 512)
             vouch("the same, sent as much as can be", played,
-                  Link(whole_link.asked, whole_link.said + more))
+                  Link(whole_link.asked, (whole_link.said + more)[:MOST]))
     return 0
 
 

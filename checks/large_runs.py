@@ -53,13 +53,13 @@ def ran(program: str, words: List[Word]) -> "subprocess.CompletedProcess[bytes]"
         raise ProgramError(f"tac {words[0]} took longer than {MOST} seconds") from None
 
 
-def served(program: str, game: Path) -> "Tuple[subprocess.CompletedProcess[bytes], bool]":
-    """A served game of eight agents: how the program ended, and whether each agent was sent its
-    last line."""
+def served(program: str, game: Path
+           ) -> "Tuple[subprocess.CompletedProcess[bytes], List[bytes]]":
+    """A served game of eight agents: how the program ended, and what each agent was sent."""
     port = free_port()
     with LinesInOrder(port, [lines_of(seat) for seat in range(8)]) as agents:
         done = ran(program, ["serve", game, str(port), "5"])
-    return done, all(sent.endswith(b"bye\n") for sent in agents.sent)
+    return done, agents.sent
 
 
 def log_in(text: bytes) -> bytes:
@@ -83,8 +83,9 @@ def shown(program: str, folder: Path) -> Iterator[Tuple[str, bool]]:
     yield "a table of 64 games", table.returncode == 0 and table.stdout.startswith(b"table 64\n")
     upgraded = ran(program, ["upgrade", GAME]).stdout
     live.write_bytes(upgraded.replace(b"\nquotes minute\n", b"\nquotes live\n"))
-    done, are_heard = served(program, live)
-    yield "a served game with live quotes", done.returncode == 0 and are_heard
+    done, sent = served(program, live)
+    yield "a served game with live quotes", (
+        done.returncode == 0 and all(text.endswith(b"bye\n") for text in sent))
     log.write_bytes(done.stdout)
     yield "the audit of its log", ran(program, ["audit", live, log]).stdout == b"sound\n"
     game = Path(GAME).read_bytes()
@@ -97,11 +98,13 @@ def shown(program: str, folder: Path) -> Iterator[Tuple[str, bool]]:
     long.write_bytes(bytes(TEXT_BYTES + 1))
     done = ran(program, ["solve", long])
     yield "an account that is too long", (done.returncode, done.stdout) == (8, b"text too long\n")
-    for size, due in ((TEXT_BYTES, (9, b"unvouched seat\n")),
+    # What stands behind the last line end of a file of a link is not compared.
+    for size, due in ((TEXT_BYTES, (0, b"vouched 0 cut 17 0\n")),
                       (TEXT_BYTES + 1, (8, b"text too long\n"))):
-        long.write_bytes(bytes(size))
-        done = ran(program, ["vouch", live, log, long, long])
-        yield f"a record of {size} bytes", (done.returncode, done.stdout) == due
+        for file, text in ((script, lines_of(0).encode("ascii")), (long, sent[0])):
+            file.write_bytes(text.ljust(size, b"x"))
+        done = ran(program, ["vouch", live, log, script, long])
+        yield f"a record of two files of {size} bytes", (done.returncode, done.stdout) == due
 
 
 def main() -> int:

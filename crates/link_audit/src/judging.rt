@@ -166,8 +166,8 @@ pub fn vouch<D: KnownDialect>(
     // The result is whole exactly if, in addition, nothing of the link is left over.
     ensures whole { IfOk result (λ vouching. (agent : ℕ) → IsWhole agent vouching ↔ IsWholeLink game.now (D.form dialect.now) log.now agent asked.now said.now) }
     // The numbers of a yes are those of its turns.
-    ensures numbers { IfOk result (λ vouching. (agent : ℕ) (v : IsVouched game.now (D.form dialect.now) log.now agent asked.now said.now)
-        → HasNumbers (D.form dialect.now).text vouching v.account.heard v.account.unheard) }
+    ensures numbers { IfOk result (λ v. (n : ℕ) (w : IsVouched game.now (D.form dialect.now) log.now n asked.now said.now)
+        → HasNumbers (D.form dialect.now).text v w.account.heard w.account.unheard) }
     // A difference that it reports is the first one.
     ensures difference { IfOk result (IsDifferenceOf game.now (D.form dialect.now) log.now asked.now said.now) }
 {
