@@ -143,7 +143,8 @@ class Link:
 
     def _take_welcome(self, limit: Optional[float]) -> None:
         """Takes the seat. Each line may take so many seconds."""
-        _prepare(self.stream, limit)
+        self.stream.settimeout(limit)
+        prepare(self.stream)
         self.record.begin()
         first = self._exchange(f"hello {self.word}").split()
         if first[:1] != ["welcome"]:
@@ -348,10 +349,9 @@ def _usual_limit() -> float:
         raise LinkError(f"the variable AGENT_LIMIT: {fault}") from None
 
 
-def _prepare(stream: socket.socket, limit: Optional[float]) -> None:
+def prepare(stream: socket.socket) -> None:
     """Lets each line be sent at once, and an end of the other side be noticed while nothing is
     sent, where the system has the means for it."""
-    stream.settimeout(limit)
     stream.setsockopt(socket.IPPROTO_TCP, socket.TCP_NODELAY, 1)
     stream.setsockopt(socket.SOL_SOCKET, socket.SO_KEEPALIVE, 1)
     for name, value in KEEPALIVE.items():

@@ -9,6 +9,7 @@ import contextlib
 import errno
 import os
 import platform
+import select
 import shutil
 import signal
 import tempfile
@@ -29,6 +30,7 @@ Moves = List[Tuple[Any, ...]]
 
 OK, CLOCK, REFUSED, UNSOUND = 0, 6, 8, 9  # exit statuses
 INPUT = "/dev/stdin"  # the file that has what a command is given
+LOOK = 0.05  # seconds between two looks at a process and at signals, at most
 BUNDLED = Path(__file__).resolve().parent / "bin" / "tac"  # in a release
 LEAST_LIBRARY = (2, 34)  # the version of glibc that a released program needs
 # By glibc's default each block of a megabyte is mapped by itself, and each thread has a heap of its
@@ -221,19 +223,27 @@ def exit_status(process: int, timeout: Optional[float] = None) -> int:
     Raises:
         TimeoutError: It took longer.
     """
-    end, pause = time.monotonic() + (timeout or 0), 0.0005
-    while True:
-        try:
-            found, status = os.waitpid(process, 0 if timeout is None else os.WNOHANG)
-        except ChildProcessError:
-            return 0  # somebody else has waited for it
-        if found:
-            return -os.WTERMSIG(status) if os.WIFSIGNALED(status) else os.WEXITSTATUS(status)
-        left = end - time.monotonic()
-        if left <= 0:
-            raise TimeoutError
-        pause = min(2 * pause, left, 0.05)
-        time.sleep(pause)
+    end, pause = time.monotonic() + (float("inf") if timeout is None else timeout), 0.0005
+    with contextlib.ExitStack() as stack:
+        waiting = select.poll()
+        with contextlib.suppress(AttributeError, OSError):  # some systems cannot watch a process
+            watched = os.pidfd_open(process)
+            stack.callback(os.close, watched)
+            waiting.register(watched, select.POLLIN)
+            pause = LOOK
+        while True:
+            try:
+                found, status = os.waitpid(process, os.WNOHANG)
+            except ChildProcessError:
+                return 0  # somebody else has waited for it
+            if found:
+                return -os.WTERMSIG(status) if os.WIFSIGNALED(status) else os.WEXITSTATUS(status)
+            left = end - time.monotonic()
+            if left <= 0:
+                raise TimeoutError
+            # A signal that comes just before a wait does not end it.
+            pause = min(2 * pause, left, LOOK)
+            waiting.poll(1000 * pause)
 
 
 def _end(process: int) -> None:

@@ -25,7 +25,6 @@ class Commands(test_relay.Case):
     def setUp(self) -> None:
         super().setUp()
         self.control = Control()
-        self.addCleanup(self.control.close)
         self.console = Console(self.relay, self.control)
 
     def who(self, number: int) -> str:

@@ -30,6 +30,20 @@ class Place:
         return visit
 
 
+class Networks(unittest.TestCase):
+    def test_many_networks_are_seldom_looked_through(self) -> None:
+        place = Place()
+        kept, times = place.gate._until, 0
+        for number in range(3000):
+            place.gate.put_off(str(number), LINE)
+            times, kept = times + (place.gate._until is not kept), place.gate._until
+        self.assertLess(times, 5)
+        place.now += LINE  # none of them is put off any longer
+        for number in range(2000):
+            place.gate.put_off(f"again {number}", LINE)
+        self.assertLess(len(place.gate._until), 3000)
+
+
 class Admission(unittest.TestCase):
     def test_a_first_line_has_a_total_time(self) -> None:
         visit = Place().come("10.0.0.1")

@@ -30,7 +30,6 @@ class Beginning(Case):
         """
         made = Lobby(LobbySettings(GAME, 0, 5, None, **settings))
         self.addCleanup(made._listeners[0].close)
-        self.addCleanup(made.control.close)
         clock = SimpleNamespace(now=0.0)
 
         def turn(seconds: float) -> None:

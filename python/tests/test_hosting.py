@@ -314,7 +314,6 @@ class Pages(Case):
     def lobby(self, page: Optional[int], **more: Any) -> Lobby:
         made = Lobby(LobbySettings(GAME, 0, 5, None, page=page, **more))
         self.addCleanup(made._listeners[0].close)
-        self.addCleanup(made.control.close)
         return made
 
     def test_links_come_in_at_every_address(self) -> None:

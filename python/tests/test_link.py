@@ -270,8 +270,7 @@ class Lost(unittest.TestCase):
             timer = threading.Timer(
                 0.3, lambda: theirs.sendall("".join(f"{line}\n" for line in WELCOME).encode()))
             timer.start()
-            with mock.patch.object(link, "_prepare",
-                                   lambda stream, limit: stream.settimeout(limit)):
+            with mock.patch.object(link, "prepare"):
                 agent._take_welcome(None)
             timer.join()
             self.assertEqual((agent.agent, ours.gettimeout()), (3, 0.05))

@@ -9,7 +9,7 @@ from pathlib import Path
 from typing import Any, Callable, Deque, Dict, Optional
 from unittest import mock
 
-from geesefuton.hosting.orders import Orders
+from geesefuton.hosting.console import Orders
 
 
 class Selecting:

@@ -1,7 +1,6 @@
 """The server of pages: whom it serves, for how long, and how it ends."""
 
 import asyncio
-import asyncio.selector_events
 import contextlib
 import resource
 import socket
@@ -62,16 +61,18 @@ class Case(unittest.TestCase):
     def run_it(self, work: Any) -> Any:
         """What some work gives that is given the server's port."""
         async def served() -> Any:
+            asyncio.get_running_loop().set_exception_handler(
+                lambda _, fault: self.told.append(fault["message"]))
             server = PageServer(self.answer, page_gate(), Faults(self.told.append))
             with socket.create_server(("", 0), backlog=128) as listener:
-                serving = asyncio.ensure_future(server.serve(listener))
+                self.serving = asyncio.ensure_future(server.serve(listener))
                 try:
                     return await work(listener.getsockname()[1])
                 finally:
                     for writer in self.opened:
                         writer.transport.abort()
-                    serving.cancel()
-                    await asyncio.wait([serving])
+                    self.serving.cancel()
+                    await asyncio.wait([self.serving])
 
         return asyncio.run(asyncio.wait_for(served(), MOST))
 
@@ -264,21 +265,34 @@ class Crowds(Case):
 
         self.assertGreater(self.run_it(work), MOST_EACH)
 
+    def test_links_that_come_at_once_need_few_files(self) -> None:
+        async def work(port: int) -> str:
+            for _ in range(100):  # before any of them is taken
+                link = stack.enter_context(socket.create_connection(("127.0.0.1", port)))
+            resource.setrlimit(resource.RLIMIT_NOFILE, (link.fileno() + 60, most[1]))
+            return (await self.ask(port, GET % b"/"))[0]
+
+        self.patch("MOST_LINKS", 20)
+        most = resource.getrlimit(resource.RLIMIT_NOFILE)
+        self.addCleanup(resource.setrlimit, resource.RLIMIT_NOFILE, most)
+        with contextlib.ExitStack() as stack:
+            self.assertEqual(self.run_it(work), "HTTP/1.1 200 OK")
+        self.assertEqual(self.told, [])
+
     def test_a_system_without_open_files_is_told_once_and_asked_again(self) -> None:
         async def work(port: int) -> str:
             return (await self.ask(port, GET % b"/"))[0]
 
         faults = [OSError(24, "Too many open files")] * 3
-        loop = asyncio.selector_events.BaseSelectorEventLoop
-        accept = loop.sock_accept
+        accept = socket.socket.accept
 
-        async def sock_accept(self: Any, listener: socket.socket) -> Any:
+        def refused(listener: socket.socket) -> Any:
             if faults:
                 raise faults.pop()
-            return await accept(self, listener)
+            return accept(listener)
 
         self.patch("AGAIN", 0.01)
-        with mock.patch.object(loop, "sock_accept", sock_accept):
+        with mock.patch.object(socket.socket, "accept", refused):
             self.assertEqual(self.run_it(work), "HTTP/1.1 200 OK")
         self.assertEqual(self.told, ["cannot accept a browser: Too many open files"])
 
@@ -291,6 +305,17 @@ class Crowds(Case):
 
 
 class Stopping(Case):
+    def test_a_server_that_is_stopped_as_a_link_comes_ends_without_a_fault(self) -> None:
+        async def work(port: int) -> None:
+            await asyncio.sleep(0)  # it waits for links
+            with socket.create_connection(("127.0.0.1", port)):
+                await asyncio.sleep(0)  # and is about to take this one
+                self.serving.cancel()
+                await asyncio.wait([self.serving])
+
+        self.run_it(work)
+        self.assertEqual(self.told, [])
+
     def test_a_server_with_links_ends_at_any_moment(self) -> None:
         async def work(port: int, pause: float) -> None:
             await self.hold(port, 40, GET % b"/events", "127.0.0.1")

@@ -2,10 +2,11 @@ import os
 import signal
 import subprocess
 import tempfile
+import threading
 import time
 import unittest
 from pathlib import Path
-from typing import Any, Dict, List, Tuple
+from typing import Any, Callable, Dict, List, Tuple
 from unittest import mock
 
 from geesefuton import program
@@ -14,6 +15,10 @@ from tests.helpers import (SERVED_GAME, SERVED_LOG, fake_program, needs_program,
                            served_game, variables)
 
 MOST = 60.0  # seconds that anything may take, on a machine that is busy with other work
+
+
+class Interrupted(BaseException):
+    """What a signal raises."""
 
 
 class Commands(unittest.TestCase):
@@ -30,6 +35,14 @@ class Commands(unittest.TestCase):
         patch = mock.patch.dict(os.environ, values)
         patch.start()
         self.addCleanup(patch.stop)
+
+    def interruptible(self) -> Callable[[int, object], None]:
+        """Lets SIGINT raise, and gives its handler."""
+        def interrupt(number: int, _: object) -> None:
+            raise Interrupted
+
+        self.addCleanup(signal.signal, signal.SIGINT, signal.signal(signal.SIGINT, interrupt))
+        return interrupt
 
     def refused(self, *words: object) -> ProgramError:
         with self.assertRaises(ProgramError) as caught:
@@ -146,14 +159,7 @@ class Commands(unittest.TestCase):
                       str(self.refused("make", 1)))
 
     def test_a_signal_while_the_process_is_made_leaves_none_behind(self) -> None:
-        class Interrupted(BaseException):
-            """What the handler raises."""
-
-        def interrupt(number: int, _: object) -> None:
-            raise Interrupted
-
-        former = signal.signal(signal.SIGINT, interrupt)
-        self.addCleanup(signal.signal, signal.SIGINT, former)
+        interrupt = self.interruptible()
         made: List[int] = []
         make, end = os.posix_spawn, os.waitpid
         ends: List[Tuple[int, int]] = []
@@ -167,12 +173,32 @@ class Commands(unittest.TestCase):
             ends.append(end(*words))
             return ends[-1]
 
-        self.set({"TAC": fake_program(self.place, "exec sleep 60")})
+        self.use("exec sleep 60")
         with mock.patch("os.posix_spawn", slow), mock.patch("os.waitpid", ended), \
                 self.assertRaises(Interrupted):
             program.make(1)
         self.assertIs(signal.getsignal(signal.SIGINT), interrupt)
-        self.assertEqual(ends, [(made[0], signal.SIGKILL)])
+        self.assertEqual(ends[-1], (made[0], signal.SIGKILL))
+
+    def test_a_signal_that_does_not_interrupt_the_wait_is_taken_all_the_same(self) -> None:
+        """One that comes just before the wait does not, nor one that another thread gets."""
+        waiting, wait = threading.Event(), os.waitpid
+
+        def begun(*words: int) -> Tuple[int, int]:
+            waiting.set()
+            return wait(*words)
+
+        def send() -> None:
+            waiting.wait()  # and until the main thread lets others go on
+            signal.pthread_kill(threading.get_ident(), signal.SIGINT)
+
+        self.interruptible()
+        self.use(f"exec sleep {MOST}")
+        began = time.monotonic()
+        threading.Thread(target=send, daemon=True).start()
+        with mock.patch("os.waitpid", begun), self.assertRaises(Interrupted):
+            program.make(1)
+        self.assertLess(time.monotonic() - began, MOST / 2)
 
     def test_the_file_is_that_of_the_variable_and_holds_in_any_folder(self) -> None:
         file = fake_program(self.place, "exit")

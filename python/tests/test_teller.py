@@ -35,6 +35,27 @@ def texts_of(*happened: Event) -> List[str]:
     return [text for _, _, text in parts_of(*happened)]
 
 
+class Held(unittest.TestCase):
+    def test_a_flood_does_not_wait_at_a_terminal_that_is_held(self) -> None:
+        held, told = threading.Event(), list[str]()
+
+        def tell(text: str) -> None:
+            held.wait()
+            told.append(text)
+
+        with mock.patch("geesefuton.hosting.teller.tell", tell):
+            teller = Teller(WORDS)
+            for number in range(5000):
+                teller.tell(events.Refused(0.0, "10.0.0.7", "syntax", "x"))
+                teller.tell(events.Lost(0.0, "10.0.0.8", "it ended"))
+            waiting = teller._told.qsize()
+            teller.tell(events.Warned(0.0, "mind the gap"))
+            held.set()
+            teller.close()
+        self.assertLess(waiting, 2000)
+        self.assertTrue(any("mind the gap" in text for text in told))
+
+
 class Texts(unittest.TestCase):
     def test_a_game(self) -> None:
         self.assertEqual(texts_of(

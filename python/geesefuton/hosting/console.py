@@ -1,17 +1,71 @@
-"""The host's commands on the lobby's terminal, one a line."""
+"""The host's commands on the lobby's terminal, one a line, read while the game goes on."""
 
 from __future__ import annotations
 
+import os
 import time
-from typing import Callable, Dict, NamedTuple
+from typing import Callable, Deque, Dict, NamedTuple, Optional, TextIO
 
 from geesefuton.hosting.control import Control, Phase
 from geesefuton.hosting.relay import OWN, Relay
 from geesefuton.hosting.seats import Seat, State
 from geesefuton.network.addresses import Network, network_of, parsed, plain_network
+from geesefuton.network.loop import Loop
 from geesefuton.records.games import is_seat_word
 
 SILENT = 10.0  # seconds without a word after which an agent is told as silent
+
+
+class Orders:
+    """Reads the host's commands, from a terminal only while the lobby is in its foreground."""
+
+    def __init__(self, source: Optional[TextIO], orders: Deque[str]) -> None:
+        self._orders, self._tail = orders, b""
+        self._number: Optional[int] = None
+        self._is_attended = False
+        if source is None:
+            return
+        try:
+            self._number = source.fileno()
+        except (OSError, ValueError):  # a text in memory, or closed
+            orders.extend(line.strip() for line in ([] if source.closed else source))
+
+    def look(self, loop: Loop) -> None:
+        """Begins to listen, and does so again once the lobby is in the foreground."""
+        if self._number is None or self._is_attended or not self._may_read():
+            return
+        try:
+            loop.attend(self._number, lambda: self._read(loop))
+            self._is_attended = True
+        except (OSError, ValueError):  # a file, which can always be read
+            while self._number is not None:
+                self._read(loop)
+
+    def _may_read(self) -> bool:
+        assert self._number is not None
+        try:
+            return not os.isatty(self._number) or os.tcgetpgrp(self._number) == os.getpgrp()
+        except OSError:
+            return False
+
+    def _read(self, loop: Loop) -> None:
+        assert self._number is not None
+        if not self._may_read():
+            loop.forget(self._number)
+            self._is_attended = False
+            return
+        try:
+            data = os.read(self._number, 4096)
+        except BlockingIOError:
+            return
+        except OSError:
+            data = b""
+        if not data:
+            loop.forget(self._number)
+            self._number = None
+            return
+        *lines, self._tail = (self._tail + data).split(b"\n")
+        self._orders.extend(line.decode("ascii", "replace").strip() for line in lines)
 
 
 class NotDone(Exception):
@@ -23,7 +77,7 @@ class Command(NamedTuple):
 
     words: str  # after its own
     does: str
-    run: Callable[..., str]
+    run: Callable[..., Optional[str]]  # gives what is to be told
 
 
 class Console:
@@ -34,15 +88,15 @@ class Console:
         self._commands: Dict[str, Command] = {
             "who": Command("", "shows which agents are here, from where, and which are silent",
                            self._who),
-            "begin": Command("", "begins the game now; an empty line does the same", self._go_on),
+            "begin": Command("", "begins the game now; an empty line does the same", control.go_on),
             "without": Command("SEAT", "stops waiting for this agent", self._waive),
             "end": Command("SEAT", "closes the seat's link; its agent may reconnect", self._end),
             "ban": Command("ADDRESS", "closes the address's links and accepts no more; also of "
                            "addresses such as 2001:db8::/64", self._ban),
             "allow": Command("ADDRESS", "accepts links from the address again", self._allow),
             "word": Command("SEAT WORD", "changes the word that takes the seat", self._word),
-            "finish": Command("", "after the last tick: stops waiting for agents", self._go_on),
-            "stop": Command("", "stops the game at once, without a log", self._stop),
+            "finish": Command("", "after the last tick: stops waiting for agents", control.go_on),
+            "stop": Command("", "stops the game at once, without a log", control.stop),
             "help": Command("", "lists these commands", self._help),
         }
 
@@ -60,7 +114,7 @@ class Console:
             raise NotDone(f"unknown command {name!r}; type `help` for the list")
         if len(words) != len(known.words.split()):
             raise NotDone(f"expected `{_usage(name, known)}`")
-        return known.run(*words)
+        return known.run(*words) or ""
 
     def _who(self) -> str:
         return "\n".join(map(self._presence, self._relay.seats.seats))
@@ -78,17 +132,8 @@ class Console:
             text += f", silent for {silent:.0f} s"
         return text + (", and another link waits for its seat" if seat.heir is not None else "")
 
-    def _go_on(self) -> str:
-        self._control.go_on()
-        return ""
-
-    def _stop(self) -> str:
-        self._control.stop()
-        return ""
-
-    def _waive(self, word: str) -> str:
+    def _waive(self, word: str) -> None:
         self._relay.waive(self._seat(word))
-        return ""
 
     def _end(self, word: str) -> str:
         link = self._relay.holder(self._seat(word))

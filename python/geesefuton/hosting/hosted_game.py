@@ -13,10 +13,9 @@ from pathlib import Path
 from typing import Callable, Deque, List, Optional, Protocol
 
 from geesefuton.hosting import events
-from geesefuton.hosting.console import Console, NotDone
+from geesefuton.hosting.console import Console, NotDone, Orders
 from geesefuton.hosting.control import Control, Phase
 from geesefuton.hosting.events import Event
-from geesefuton.hosting.orders import Orders
 from geesefuton.hosting.page_process import SideProcess
 from geesefuton.hosting.relay import Relay
 from geesefuton.hosting.settings import LobbySettings
@@ -42,7 +41,6 @@ class HostedGame:
         self._orders.look(relay.loop)
         self._console = Console(relay, control)
         self._looked = self._last = 0.0
-        control.wake_by(relay.loop)
 
     @property
     def is_stopped(self) -> bool:

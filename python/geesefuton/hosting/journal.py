@@ -1,16 +1,6 @@
 """The journal of a game: what the lobby writes while the game runs, so that nothing is lost.
 
 A journal is a text with one JSON object a line (docs/FORMATS.md, "The journal of a game").
-
-    {"journal":1,"at":SECONDS,"pace":MS,"form":"words","game":TEXT}   the first line
-    {"here":A,"from":SOURCE}   {"gone":A}   {"without":A}             links come and go
-    {"begin":[A,..]}                                                  these have an agent
-    {"tick":N,"t":MS}                                                 0 is the welcome
-    {"a":A,"q":LINE}   {"a":A,"r":LINE,"t":MS}                        a line, and a reply
-    {"a":A,"q64":BASE64}                                              a line that is no plain text
-    {"end":A,"why":WHY,"t":MS}                                        a session is over
-    {"over":STATUS,"t":MS}                                            the server has ended
-
 The lobby writes a reply, with all lines before it, before it passes it on. So each reply that an
 agent has got is here, after every line that affected it. What the lobby has written survives even
 SIGKILL. A power failure may lose the last second or so, if the system's `fsync` waits for the disk,

@@ -14,7 +14,7 @@ from typing import Deque, List, Optional
 
 from geesefuton.hosting.events import End
 from geesefuton.hosting.seats import Seat
-from geesefuton.link import KEEPALIVE
+from geesefuton.link import prepare
 from geesefuton.network.gate import Visit
 from geesefuton.network.loop import Link
 from geesefuton.records.dialects import MOST_LINE, is_bye, is_refusal
@@ -97,12 +97,9 @@ class OuterLink(Link):
 
 
 def tune(link: socket.socket) -> None:
-    """Sets up a link: small pieces are sent at once, and one whose machine has gone is noticed
-    after some ten seconds, where the system can do so. There a link that takes nothing of what it
-    is sent for as long is ended, too."""
-    options = {"TCP_NODELAY": 1, **KEEPALIVE, "TCP_USER_TIMEOUT": UNACKNOWLEDGED}
+    """Sets up a link as its other side does. One that takes nothing of what it is sent is ended as
+    soon as one whose machine is gone, where the system can do so."""
     with contextlib.suppress(OSError):  # it may have gone already
-        link.setsockopt(socket.SOL_SOCKET, socket.SO_KEEPALIVE, 1)
-        for name, value in options.items():
-            if hasattr(socket, name):
-                link.setsockopt(socket.IPPROTO_TCP, getattr(socket, name), value)
+        prepare(link)
+        if hasattr(socket, "TCP_USER_TIMEOUT"):
+            link.setsockopt(socket.IPPROTO_TCP, socket.TCP_USER_TIMEOUT, UNACKNOWLEDGED)

@@ -21,7 +21,6 @@ import argparse
 import asyncio
 import contextlib
 import json
-import sys
 import time
 from collections import deque
 from pathlib import Path
@@ -216,7 +215,3 @@ def _main() -> int:
 def main() -> int:
     """The command `live`."""
     return command("live", _main)
-
-
-if __name__ == "__main__":
-    sys.exit(main())

@@ -24,7 +24,7 @@ from geesefuton.hosting.page_process import PageProcess
 from geesefuton.hosting.relay import Relay
 from geesefuton.hosting.seats import State
 from geesefuton.hosting.server import ClockServer
-from geesefuton.hosting.server_links import audit_journal, is_vouched
+from geesefuton.hosting.server_links import audit_link, is_vouched, server_links
 from geesefuton.hosting.settings import LobbySettings
 from geesefuton.network.addresses import listen
 from geesefuton.processes import Children, why
@@ -82,7 +82,6 @@ class Lobby:
         with contextlib.ExitStack() as stack:
             told = EventQueue(on_event)
             stack.callback(told.close)
-            stack.callback(self.control.close)
             for listener in self._listeners:
                 stack.callback(listener.close)
             children = stack.enter_context(Children())
@@ -204,10 +203,12 @@ def _vouching(game: HostedGame) -> Tuple[str, ...]:
     journal, log = game.relay.journal, b"".join(game.log)
     if journal.file is None or not journal.is_whole or not log.startswith(SERVED):
         return ()
-    file = game.folder / "played.game"
+    file, deadline = game.folder / "played.game", time.monotonic() + VOUCHING
     try:
         file.write_text(game.text, encoding="ascii")
-        return audit_journal(journal.file, file, log, game.settings.form, game.folder, VOUCHING)
+        return tuple(audit_link(link, file, log, game.settings.form, game.folder,
+                                max(0.0, deadline - time.monotonic()))
+                     for link in server_links(journal.file))
     except (JournalError, OSError, program.ProgramError) as fault:
         game.warn(f"cannot compare the log with the lobby's links: {why(fault)}")
     return ()

@@ -220,7 +220,3 @@ def _main() -> int:
     finally:
         teller.close()
     return 128 + signals.number if status == STOPPED and signals.number else status
-
-
-if __name__ == "__main__":
-    sys.exit(main())

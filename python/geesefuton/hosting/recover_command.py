@@ -14,7 +14,6 @@ is then 1. It places readings of cash near where they were, and does not compare
 from __future__ import annotations
 
 import argparse
-import sys
 from pathlib import Path
 
 from geesefuton import program
@@ -96,7 +95,3 @@ def _main() -> int:
 def main() -> int:
     """The command `recover`."""
     return command("recover", _main)
-
-
-if __name__ == "__main__":
-    sys.exit(main())

@@ -8,9 +8,8 @@ to its server in place of a seat's word is not told: nobody else has to know it.
 
 from __future__ import annotations
 
-import time
 from pathlib import Path
-from typing import Any, Dict, List, NamedTuple, Optional, Sequence, Tuple, Union
+from typing import Any, Dict, List, NamedTuple, Optional, Sequence, Union
 
 from geesefuton import program
 from geesefuton.hosting.journal import read_journal
@@ -66,20 +65,6 @@ def audit_link(link: LinkBytes, game: Path, log: Union[Path, bytes], form: str, 
     asked.write_bytes(link.asked)
     said.write_bytes(link.said)
     return program.vouch(game, log, asked, said, form, timeout)
-
-
-def audit_journal(journal: Path, game: Path, log: Union[Path, bytes], form: str, folder: Path,
-                  most: float) -> Tuple[str, ...]:
-    """What is said of a log by the lobby's link of each seat, as `audit_link` does, all of it
-    within some seconds; nothing if the server had not started.
-
-    Raises:
-        JournalError: It is no journal.
-        OSError, program.ProgramError: As in `audit_link`; or it cannot be read.
-    """
-    deadline = time.monotonic() + most
-    return tuple(audit_link(link, game, log, form, folder, max(0.0, deadline - time.monotonic()))
-                 for link in server_links(journal))
 
 
 def summary(words: Sequence[str], said: Sequence[str]) -> str:

@@ -18,6 +18,7 @@ from geesefuton.records.games import TICKS
 
 LOOK = 1.0  # seconds between two looks at what recurs and is still to be told
 FEW = 6  # times in a while that it is told at once that a seat's agent came or went
+MOST_WAITING = 1000  # events
 
 
 class Teller:
@@ -34,8 +35,9 @@ class Teller:
         self._thread.start()
 
     def tell(self, event: Event) -> None:
-        """Tells an event."""
-        self._told.put((self._clock(), event))
+        """Tells an event, but no refusal while many events wait, as at a terminal that is held."""
+        if self._told.qsize() < MOST_WAITING or not isinstance(event, REFUSALS):
+            self._told.put((self._clock(), event))
 
     def say(self, text: str) -> None:
         """Tells a text."""
@@ -64,7 +66,7 @@ class Teller:
         text, counted = self._text(event), None
         if isinstance(event, (events.Arrived, events.Rejoined, events.Departed)):
             counted, by = self._comings, event.word
-        elif isinstance(event, (events.Refused, events.Lost)):
+        elif isinstance(event, REFUSALS):
             counted, by = self._refusals, event.source
         if counted is not None:  # it may recur
             self._tell_due(now)
@@ -120,7 +122,8 @@ TEXTS: Dict[Type[Event], str] = {
     events.Warned: "{text}",
     events.Answered: "{text}",
 }
-FAULTS = (events.Refused, events.Lost, events.Warned, events.Departed)
+REFUSALS = (events.Refused, events.Lost)
+FAULTS = (events.Warned, events.Departed, *REFUSALS)
 ENDS = {
     End.LEFT: "has left",
     End.GONE: "lost its link and did not reconnect",

@@ -20,7 +20,6 @@ A folder may have records of several seats, but of one game only: otherwise name
 from __future__ import annotations
 
 import argparse
-import sys
 from pathlib import Path
 from typing import Dict, List, Optional, Tuple
 
@@ -198,7 +197,3 @@ def _main() -> int:
 def main() -> int:
     """The command `vouch`."""
     return command("vouch", _main)
-
-
-if __name__ == "__main__":
-    sys.exit(main())

@@ -74,8 +74,13 @@ class Visit:
     def whole(self) -> Optional[float]:
         """Its first line is whole: the seconds until it may be judged; None if too many lines of
         its network wait, so that it is to be closed."""
-        self.deadline = float("inf")
-        return self._gate.line_up(self)
+        gate, self.deadline = self._gate, float("inf")
+        wait = max(0.0, gate.put_off(self.network, LINE) - CREDIT)
+        if wait and gate.count_judged(self.network) >= WAITING:
+            gate.put_off(self.network, -LINE)
+            return None
+        self.standing, self.due = Standing.JUDGED, gate.clock() + wait
+        return wait
 
     def know(self, word: str) -> bool:
         """It has shown a word or a token. Returns whether no more links have it than may."""
@@ -118,6 +123,7 @@ class Gate:
         self._known: Counts[str] = Counter()
         self._crowds: Dict[str, List[Visit]] = {}  # those not known by networks, the eldest first
         self._until: Dict[str, float] = {}  # until when the lines of a network are put off
+        self._most_networks = MOST_NETWORKS  # at which those are left out that are no longer
 
     def arrive(self, address: str) -> Optional[Visit]:
         """A link comes from an address. Returns None if there is no place for it, or its address
@@ -142,21 +148,16 @@ class Gate:
         self._crowds.setdefault(network, []).append(visit)
         return visit
 
-    def line_up(self, visit: Visit) -> Optional[float]:
-        """A visit's first line is to be judged (`Visit.whole`)."""
-        wait = max(0.0, self.put_off(visit.network, LINE) - CREDIT)
-        crowd = self._crowds.get(visit.network, [])
-        if wait and sum(each.standing is Standing.JUDGED for each in crowd) >= WAITING:
-            self.put_off(visit.network, -LINE)
-            return None
-        visit.standing, visit.due = Standing.JUDGED, self.clock() + wait
-        return wait
+    def count_judged(self, network: str) -> int:
+        """How many first lines of a network are judged, or wait for that."""
+        return sum(each.standing is Standing.JUDGED for each in self._crowds.get(network, []))
 
     def put_off(self, network: str, seconds: float) -> float:
         """Puts off the first lines of a network. Returns by how much they are now."""
         now = self.clock()
-        if len(self._until) > MOST_NETWORKS:
+        if len(self._until) > self._most_networks:
             self._until = {each: until for each, until in self._until.items() if until > now}
+            self._most_networks = max(MOST_NETWORKS, 2 * len(self._until))
         until = max(now, self._until.get(network, now)) + seconds
         self._until[network] = min(until, now + CREDIT + LONGEST)
         return self._until[network] - now

@@ -17,7 +17,7 @@ import socket
 import time
 from pathlib import Path
 from typing import (Any, AsyncGenerator, Awaitable, Callable, Coroutine, Dict, Iterator, List,
-                    NamedTuple, Optional, Set)
+                    NamedTuple, Optional, Set, Tuple)
 
 from geesefuton.network.gate import Gate, Visit, most_links
 from geesefuton.processes import why
@@ -25,6 +25,7 @@ from geesefuton.processes import why
 MOST_LINKS, MOST_EACH = 200, 50  # links at a time, and strangers' of one network
 KEPT = 4  # one place of so many is kept for those who have a token, and for this machine
 OTHERS = 48  # open files that the rest of the process may need
+AT_ONCE = 16  # links that are taken before others are served
 MOST_HEAD = 1 << 16  # bytes of a request's head, which has the cookies of the host's other servers
 MOST_BODY = 4096  # bytes of its body
 FIRST = 3.0  # seconds for the head of a link's first request
@@ -142,44 +143,55 @@ class PageServer:
     def __init__(self, answer: Answering, gate: Gate, faults: Faults) -> None:
         self._answer, self._gate, self._faults = answer, gate, faults
         self._links: "Set[asyncio.Future[None]]" = set()
+        self._leaving: "Set[asyncio.Future[None]]" = set()  # those that make room
 
     async def serve(self, listener: socket.socket) -> None:
         """Takes links and serves them, until it is cancelled."""
         listener.setblocking(False)
+        loop, have_come = asyncio.get_running_loop(), asyncio.Event()
         try:
             while True:
+                loop.add_reader(listener, have_come.set)
+                await have_come.wait()
+                loop.remove_reader(listener)
+                have_come.clear()
                 try:
-                    link, source = await asyncio.get_running_loop().sock_accept(listener)
+                    for _ in range(AT_ONCE):
+                        self._begin(*listener.accept())
+                except (BlockingIOError, ConnectionError):
+                    pass
                 except OSError as fault:  # such as too many open files
                     self._faults.tell("cannot accept a browser", why(fault))
                     await asyncio.sleep(AGAIN)
-                    continue
-                visit = self._gate.arrive(source[0])
-                if visit is None:
-                    link.close()
-                else:
-                    self._begin(link, visit)
+                if self._leaving:  # they are closed before more are opened
+                    await asyncio.wait(self._leaving, timeout=AGAIN)
         finally:
+            loop.remove_reader(listener)
             for serving in list(self._links):
                 serving.cancel()
             await asyncio.gather(*self._links, return_exceptions=True)
 
-    def _begin(self, link: socket.socket, visit: Visit) -> None:
+    def _begin(self, link: socket.socket, source: Tuple[str, int]) -> None:
+        visit = self._gate.arrive(source[0])
+        if visit is None:
+            return link.close()
         serving = asyncio.ensure_future(self._serve(link, visit))
         self._links.add(serving)
 
         def cancel() -> None:
+            self._leaving.add(serving)
             serving.cancel()
 
         def end(_: "asyncio.Future[None]") -> None:
             self._links.discard(serving)
+            self._leaving.discard(serving)
             visit.leave()
             link.close()
             if not serving.cancelled() and serving.exception() is not None:
                 self._faults.tell("a page failed", repr(serving.exception()))
 
         visit.end = cancel
-        serving.add_done_callback(end)
+        return serving.add_done_callback(end)
 
     async def _serve(self, link: socket.socket, visit: Visit) -> None:
         """Answers the requests of a link, until it ends."""
