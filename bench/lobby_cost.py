@@ -19,7 +19,6 @@ ask as often as a seat by hand does. For each it writes the requests, and what t
 import contextlib
 import json
 import os
-import re
 import socket
 import statistics
 import subprocess
@@ -181,8 +180,15 @@ def ask(address: str, what: str, **given: Any) -> Dict[str, Any]:
         return told
 
 
-def play_by_hand(address: str) -> None:
-    """Somebody who has the page of a seat open, and bids now and then, until it is gone."""
+def play_by_hand(place: str, word: str) -> None:
+    """Somebody who joins by a seat's word, has its page open, and bids now and then, until it is
+    gone."""
+    address = ""
+    while not address:
+        with contextlib.suppress(OSError), urllib.request.urlopen(
+                f"{place}play", word.encode(), timeout=20) as response:
+            address = f"{place}{response.read().decode()}/"
+        time.sleep(0.1)
     with contextlib.suppress(OSError, ValueError):
         page, version, bids = ask(address, "open", page="")["page"], -1, 0
         while True:
@@ -195,23 +201,17 @@ def play_by_hand(address: str) -> None:
 
 def spent_in_a_game(is_by_hand: bool, folder: Path, before: List[str]) -> Spent:
     """Measures a part of a game whose seats are played by hand, or by agents."""
-    game, port = folder / "game", free_port()
+    game, port, page = folder / "game", free_port(), free_port()
     game.write_text(program.make(42))
     journal = folder / f"{time.monotonic_ns()}.journal"
     with Children() as children:
         words = [sys.executable, str(TOP / "tools/lobby"), str(game), str(port), str(PACE),
-                 "--journal", str(journal), *["--by-hand", str(free_port())] * is_by_hand]
+                 "--journal", str(journal), *["--page", str(page)] * is_by_hand]
         host = children.start([*before, *words], stdin=subprocess.DEVNULL,
-                              stdout=subprocess.DEVNULL, stderr=subprocess.PIPE)
-        assert host.stderr is not None
-        found: List[str] = []
-        while is_by_hand and len(found) < 8:
-            line = host.stderr.readline().decode()
-            found += re.findall(r"http://[^ ]*(:[0-9]+/[a-z0-9]+/)", line)
-        for place in found:
-            threading.Thread(target=play_by_hand, args=(f"http://127.0.0.1{place}",),
+                              stdout=subprocess.DEVNULL, stderr=subprocess.DEVNULL)
+        for number in range(8 if is_by_hand else 0):
+            threading.Thread(target=play_by_hand, args=(f"http://127.0.0.1:{page}/", f"seat{number}"),
                              daemon=True).start()
-        threading.Thread(target=host.stderr.read, daemon=True).start()
         for number in range(0 if is_by_hand else 8):
             children.start([sys.executable, "-c", PROBE, str(port), f"seat{number}", "1000000",
                             str(1 / OFTEN)], stdout=subprocess.DEVNULL, stderr=subprocess.DEVNULL)

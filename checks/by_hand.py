@@ -1,6 +1,6 @@
 #!/usr/bin/env python3
-"""Plays a game of eight seats by hand: headless Chromium opens the eight pages that `tools/lobby
---by-hand` offers, and only what a person sees there is tapped.
+"""Plays a game of eight seats by hand: headless Chromium joins eight times at the page of
+`tools/lobby`, and only what a person sees there is tapped.
 
     checks/by_hand.py [--pace 3000]
 
@@ -11,7 +11,6 @@ whose bytes the journal has. It takes some four minutes. It ends with 0 if all t
 if not, and is skipped, with 0, if there is no Chromium or no program.
 """
 
-import re
 import shutil
 import subprocess
 import sys
@@ -100,30 +99,31 @@ class Player:
         self.seen[what] = is_seen
 
 
-def addresses(lobby: "subprocess.Popen[bytes]") -> List[str]:
-    """The addresses that the lobby shows, as this machine itself reaches them."""
-    assert lobby.stderr is not None
-    found: List[str] = []
-    while len(found) < SEATS:
-        line = lobby.stderr.readline().decode()
-        if not line:
-            raise ByHandError("the lobby has ended")
-        found += re.findall(r"http://[^ ]*(:[0-9]+/[a-z0-9]+/)", line)
-    return [f"http://127.0.0.1{address}" for address in found]
+def joined(browser: Browser, port: int, number: int) -> Tab:
+    """The page of a seat, which is joined by its word."""
+    tab, until = Tab(browser, "about:blank"), time.monotonic() + LIMIT
+    while not tab.sees("Join the game"):
+        if time.monotonic() > until:
+            raise ByHandError("there is no page on which to join")
+        tab.call("Page.navigate", url=f"http://127.0.0.1:{port}/join")
+        time.sleep(0.3)
+    tab.tap("input", "")
+    tab.call("Input.insertText", text=f"seat{number}")
+    tab.tap("button", "Play in this browser")
+    return tab
 
 
 def play(children: Children, folder: Path, pace: int) -> List[Player]:
     """Plays a game in a folder: `by_hand.game` gives `by_hand.log`."""
-    game, port = folder / "by_hand.game", free_port()
+    game, port, page = folder / "by_hand.game", free_port(), free_port()
     game.write_text(program.make(42))
     with (folder / "by_hand.log").open("wb") as log:
         lobby = children.start([sys.executable, str(TOP / "tools" / "lobby"), str(game), str(port),
                                 str(pace), "--journal", str(folder / "by_hand.journal"),
-                                "--by-hand", str(free_port())],
-                               stdin=subprocess.DEVNULL, stdout=log, stderr=subprocess.PIPE)
+                                "--page", str(page)],
+                               stdin=subprocess.DEVNULL, stdout=log, stderr=subprocess.DEVNULL)
     browser = Browser(children)
-    players = [Player(Tab(browser, address), number)
-               for number, address in enumerate(addresses(lobby))]
+    players = [Player(joined(browser, page, number), number) for number in range(SEATS)]
     until = time.monotonic() + LIMIT + TICKS * pace / 1000
     while lobby.poll() is None and time.monotonic() < until:
         for player in players:

@@ -6,7 +6,7 @@ started and no folder that it made.
 
 Each script runs to its end, and is ended by SIGINT, SIGTERM, SIGHUP and SIGKILL at three moments;
 in the tournament an agent hangs, and ignores every signal that can be ignored. The room has a guest
-beside it, and the seat a lobby and a browser. All that a script starts inherits an environment
+beside it, and one of the lobbies a browser. All that a script starts inherits an environment
 variable, by which it is found in /proc, so this needs Linux; its temporary files stand in a folder
 of its own. It takes some five minutes, and ends with 0 if nothing is left, and with 1 if something
 is, or there is no program.
@@ -39,14 +39,21 @@ link.sendall(f"hello {sys.argv[3]}\\n".encode())
 while True:
     time.sleep(1)
 """
-# A browser: it opens the seat whose address it reads, and stays until the game is over.
+# A browser: it joins at the page of a port by a word, and stays until the game is over.
 BROWSER = """import json, sys, time, urllib.request
+place = f"http://127.0.0.1:{sys.argv[1]}/"
+def sent(what, body):
+    request = urllib.request.Request(place + what, body, {"Content-Type": "application/json"})
+    with urllib.request.urlopen(request) as answer:
+        return answer.read().decode()
 def ask(what, given):
-    body = json.dumps(given).encode()
-    head = {"Content-Type": "application/json"}
-    with urllib.request.urlopen(urllib.request.Request(place + what, body, head)) as answer:
-        return json.load(answer)
-place = sys.stdin.readline().split()[1]
+    return json.loads(sent(f"{token}/{what}", json.dumps(given).encode()))
+token = ""
+while not token:
+    try:
+        token = sent("play", b"seat0")
+    except OSError:
+        time.sleep(0.1)
 page, phase = ask("open", {})["page"], ""
 while phase not in ("over", "failed"):
     phase = ask("state", {"page": page})["phase"]
@@ -61,14 +68,12 @@ class Script(NamedTuple):
         name: What it is called here.
         words: Its file and its words. PORT and PAGE stand for free ports.
         beside: The same of a script that it plays with, which is started before it.
-        reader: The file of a script that reads what it prints; "" for none.
         stays: Whether it goes on until a signal ends it.
     """
 
     name: str
     words: List[str]
     beside: List[str] = []
-    reader: str = ""
     stays: bool = False
 
 
@@ -88,8 +93,8 @@ class Run(NamedTuple):
 
 
 def scripts(hanger: str, browser: str, record: str) -> Iterator[Script]:
-    """Each script; the lobby comes four times, waiting for its agents, running a game, and showing
-    one on a page or letting it be played by hand.
+    """Each script; the lobby comes four times: waiting for its agents, running a game, showing one
+    on a page, and letting it be played by hand there.
 
     Args:
         hanger: The file of an agent that hangs.
@@ -113,15 +118,14 @@ def scripts(hanger: str, browser: str, record: str) -> Iterator[Script]:
     yield Script("lobby, game", [*lobby, "--start", "0.1"])
     yield Script("lobby, page", [*lobby, "--start", "0.1", "--page", "PAGE"])
     yield Script("live page", ["tools/live", journal, "PORT"], stays=True)
-    yield Script("lobby, by hand", [*lobby, "--start", "0.1", "--by-hand", "PAGE"])
     yield Script("recovery", ["tools/recover", journal])
     yield Script("vouching", ["tools/vouch", str(data / "served.game"), str(data / "served.log"),
                               record])
     yield Script("room", ["tools/room", "--port", "PORT", "--page", "PAGE", "--pace", "50",
                           "--wait", "0.3", "--after", "1", "--games", "1"],
                  [planner, "localhost", "PORT", "seat0", "--pause", "0.05", "--again"])
-    yield Script("seat", ["tools/seat", "localhost", "PORT", "seat0"], [*lobby, "--start", "1.5"],
-                 browser, stays=True)
+    yield Script("lobby, by hand", [*lobby, "--start", "1.5", "--page", "PAGE"],
+                 [browser, "PAGE"])
     yield Script("learner", ["examples/learner.py", "--rounds", "2", "--games", "2", "--unseen",
                              "10"])
     yield Script("game in steps", ["examples/step.py"])
@@ -169,11 +173,7 @@ def tried(run: Run, children: Children) -> List[str]:
                                      stdin=subprocess.DEVNULL, **quiet))
     with subprocess.Popen(
             words_of(script.words), cwd=place, stdin=subprocess.DEVNULL, start_new_session=True,
-            env={**variables, MARK: mark, "TMPDIR": str(temporary)},
-            **{**quiet, **({"stdout": subprocess.PIPE} if script.reader else {})}) as process:
-        if script.reader:
-            beside.append(children.start([sys.executable, script.reader], stdin=process.stdout,
-                                         **quiet))
+            env={**variables, MARK: mark, "TMPDIR": str(temporary)}, **quiet) as process:
         time.sleep(run.moment)
         try:
             end(process, run.number)

@@ -18,7 +18,6 @@ import shutil
 import socket
 import subprocess
 import sys
-import tempfile
 import time
 from pathlib import Path
 from typing import Callable, Dict, Iterator, List, NamedTuple, Optional
@@ -28,6 +27,8 @@ from trying import TOP, Parser
 
 from geesefuton import program
 from geesefuton.arguments import whole
+from geesefuton.hosting.page_process import PageProcess
+from geesefuton.hosting.settings import LobbySettings
 from geesefuton.processes import Children, command, free_port
 from geesefuton.records.games import TICKS
 from tests.seat_server import SeatServer
@@ -98,23 +99,16 @@ def asked(server: SeatServer, line: str) -> None:
 
 @contextlib.contextmanager
 def seat(children: Children, server: SeatServer) -> Iterator[str]:
-    """Runs the command that serves the page of a seat, whose address is given."""
-    words = [sys.executable, str(TOP / "tools" / "seat"), "127.0.0.1", str(server.port), "seat3",
-             "--page", str(free_port()), "--pace", "60000"]
-    process = children.start(words, stdin=subprocess.DEVNULL, stdout=subprocess.PIPE,
-                             stderr=subprocess.STDOUT)
-    assert process.stdout is not None
-    line = ""
-    while not re.search("http://[^ ]+/[a-z0-9]+/", line):
-        line = process.stdout.readline().decode()
-        if not line:
-            raise BrowserError("tools/seat has ended")
-    found = re.search("http://[^ ]+/[a-z0-9]+/", line)
-    assert found is not None
+    """Runs the process that serves the page of a seat, whose address is given."""
+    port = free_port()
+    settings = LobbySettings(JOURNAL, server.port, 60000, None, page=port)
+    pages = PageProcess(children, settings, ["seat3"], server.port, None)
+    pages.look()
+    wait_for("the page's port", lambda: _listens(port))
     try:
-        yield found[0]
+        yield f"http://127.0.0.1:{port}/{pages.seats[0][1]}/"
     finally:
-        children.end(process)
+        pages.end()
 
 
 class Keyboard:
@@ -294,13 +288,13 @@ def _listens(port: int) -> bool:
 
 
 def look_at_starters(children: Children, browser: Browser, port: int) -> List[str]:
-    """What is wrong with the page of a game that waits, from which a starter is fetched."""
+    """What is wrong with the page on which a game is joined, from which a starter is fetched."""
     folder = children.folder("downloads")
     browser.call("Browser.setDownloadBehavior", behavior="deny")
     faults = []
     for look in LOOKS:
         tab = look.tab(browser, f"http://127.0.0.1:{port}/join")
-        wait_for("the page of starters", lambda: tab.sees("A first agent"))
+        wait_for("the page of starters", lambda: tab.sees("Or let an agent play"))
         tab.call("Page.setDownloadBehavior", behavior="allow", downloadPath=str(folder))
         keys = Keyboard(tab)
         keys.reach("^Download starter.py$")

@@ -33,7 +33,6 @@ PROGRAMS: Dict[str, Program] = {
     "recover": Program("geesefuton.hosting.recover_command", "makes a log from a lobby's journal"),
     "vouch": Program("geesefuton.hosting.vouch_command",
                      "checks whether a log is right about links"),
-    "seat": Program("geesefuton.playing.seat_command", "lets a person play a seat in a browser"),
     "report": Program("geesefuton.experiments.report_command",
                       "makes a page of a game, or of the games of a tournament"),
     "tournament": Program("geesefuton.experiments.tournament",

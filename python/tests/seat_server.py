@@ -1,9 +1,11 @@
 """A stand-in for a game's server in tests of seats: one agent's auctions, over sockets."""
 
 import contextlib
+import json
 import socket
 import threading
-from typing import Dict, List
+import urllib.request
+from typing import Any, Dict, List
 
 from geesefuton.records.games import GOODS
 
@@ -11,8 +13,16 @@ WELCOME = ["welcome 3", "endow 3 0 1 1 2 2 0 2 2 2 0 1 1",
            *(f"client 3 {number} {1 + number % 4} 5 {50 + number} 1 2 {number}"
              for number in range(8))]
 
-
 HANG = "hang"
+
+
+def ask(address: str, **given: Any) -> Dict[str, Any]:
+    """What a seat's page is answered."""
+    request = urllib.request.Request(address, json.dumps(given).encode(),
+                                     {"Content-Type": "application/json"})
+    with urllib.request.urlopen(request, timeout=60.0) as answer:
+        told: Dict[str, Any] = json.loads(answer.read())
+        return told
 
 
 class SeatServer:

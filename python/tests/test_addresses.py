@@ -7,8 +7,8 @@ from typing import Any, Dict, List, Optional
 from unittest import mock
 
 from geesefuton.network import addresses
-from geesefuton.network.addresses import (listen, new_token, own_address, own_addresses,
-                                          page_address)
+from geesefuton.network.addresses import (join_address, listen, new_token, own_address,
+                                          own_addresses)
 
 
 class Machine:
@@ -82,9 +82,9 @@ class Own(unittest.TestCase):
 
 
 class Pages(unittest.TestCase):
-    def test_the_address_of_a_page(self) -> None:
-        self.assertEqual(page_address("192.0.2.7", 80, "ab"), "http://192.0.2.7:80/ab/")
-        self.assertEqual(page_address("fe80::1", 80, "ab"), "http://[fe80::1]:80/ab/")
+    def test_where_a_game_is_joined(self) -> None:
+        self.assertEqual(join_address("192.0.2.7", 80), "http://192.0.2.7:80/join")
+        self.assertEqual(join_address("fe80::1", 80), "http://[fe80::1]:80/join")
 
     def test_tokens_are_not_alike(self) -> None:
         tokens = {new_token() for _ in range(100)}

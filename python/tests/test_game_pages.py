@@ -19,8 +19,7 @@ from geesefuton.hosting.settings import LobbySettings
 from geesefuton.processes import Children, free_port, python_words
 from tests.helpers import DATA, TOP
 from tests.journals import LINES, place_of
-from tests.seat_server import SeatServer
-from tests.test_seat_command import ask
+from tests.seat_server import SeatServer, ask
 
 GAME = TOP / "examples" / "first.game"
 TICK_9 = place_of(9)
@@ -48,14 +47,14 @@ class Serving(unittest.TestCase):
         self.children = self.enter(Children())
         self.enter(mock.patch.object(self.children, "start", functools.partial(
             self.children.start, stderr=told)))
-        self.board, self.by_hand = free_port(), free_port()
+        self.port = free_port()
         self.journal = self.folder / "journal"
         self.journal.write_text("\n".join(LINES[:TICK_9 + 1]) + '\n{"a":1,"q')
         self.pages = PageProcess(self.children, LobbySettings(
-            GAME, self.server.port, 500, None, page=self.board, by_hand=self.by_hand,
-            advice=False), WORDS, self.server.port, self.journal)
+            GAME, self.server.port, 500, None, page=self.port, advice=False), WORDS,
+            self.server.port, self.journal)
         self.addCleanup(self.pages.end)
-        self.seats = [f"http://127.0.0.1:{self.by_hand}/{token}/" for _, token in self.pages.seats]
+        self.seats = [f"http://127.0.0.1:{self.port}/{token}/" for _, token in self.pages.seats]
 
     def enter(self, context: Any) -> Any:
         """What a context gives, which ends with the test."""
@@ -63,10 +62,9 @@ class Serving(unittest.TestCase):
         return context.__enter__()
 
     def begin(self) -> None:
-        """Starts the process, if there is none, and waits until it serves both pages."""
+        """Starts the process, if there is none, and waits until it serves its pages."""
         self.assertEqual(self.pages.look(), "")
-        for port in (self.board, self.by_hand):
-            self.wait(lambda port=port: is_listening(port))
+        self.wait(lambda: is_listening(self.port))
 
     def wait(self, holds: Any) -> None:
         """Waits until something holds."""
@@ -89,7 +87,7 @@ class Serving(unittest.TestCase):
         page = ask(self.seats[0] + "open")["page"]  # the others are served as before
         self.wait(lambda: self.phase(self.seats[0], page) != "waiting")
         self.assertTrue(self.pages.is_running())
-        with urllib.request.urlopen(f"http://127.0.0.1:{self.board}/", timeout=MOST) as board:
+        with urllib.request.urlopen(f"http://127.0.0.1:{self.port}/", timeout=MOST) as board:
             self.assertIn(b"<title>TAC Classic</title>", board.read())
         self.pages.close()
         self.pages.wait(MOST, lambda: False)
@@ -100,7 +98,7 @@ class Serving(unittest.TestCase):
         self.begin()
         page = ask(self.seats[0] + "open")["page"]
         self.wait(lambda: self.phase(self.seats[0], page) == "running")
-        with socket.create_connection(("127.0.0.1", self.board)) as link, \
+        with socket.create_connection(("127.0.0.1", self.port)) as link, \
                 link.makefile("rb") as screen:
             link.settimeout(MOST)
             link.sendall(b"GET /events HTTP/1.1\r\n\r\n")
@@ -131,8 +129,8 @@ class Serving(unittest.TestCase):
         self.begin()
         page = ask(self.seats[0] + "open")["page"]
         self.wait(lambda: self.phase(self.seats[0], page) == "running")
-        lines = re.findall("(?m)^(?:red|blue): http.*$", (self.folder / "told").read_text("utf-8"))
-        self.assertEqual((len(lines), lines[:2]), (4, lines[2:]))
+        with urllib.request.urlopen(f"http://127.0.0.1:{self.port}/play", b"red") as token:
+            self.assertIn(f"/{token.read().decode()}/", self.seats[0])
 
     def test_nobody_reads_seat_words_or_lends_it_code(self) -> None:
         before = os.getcwd()
@@ -247,12 +245,10 @@ class Told(unittest.TestCase):
         told = self.told(1.0, page=7080, start=20.0, late=3, names=True, form="json")
         self.assertEqual(told, {
             "port": 7000, "form": "json", "pace": 500, "page": 7080, "journal": "my.journal",
-            "late": 3, "names": True, "words": WORDS, "by_hand": None,
-            "advice": True, "seats": [], "begins": 19.0})
-        told = self.told(25.0, by_hand=7090, start=20.0, advice=False)
-        self.assertEqual((told["page"], told["by_hand"], told["begins"], told["advice"]),
-                         (None, 7090, 0.0, False))
+            "late": 3, "names": True, "advice": True, "seats": told["seats"], "begins": 19.0})
         self.assertEqual([word for word, _ in told["seats"]], WORDS)
+        told = self.told(25.0, page=7080, start=20.0, advice=False)
+        self.assertEqual((told["begins"], told["advice"]), (0.0, False))
 
 
 if __name__ == "__main__":

@@ -108,7 +108,7 @@ class Hosting(Case):
             page = mock.Mock(look=mock.Mock(return_value=""))
             with mock.patch.object(lobby, "PageProcess", return_value=page):
                 host = Host(self.folder, pace=2, start=0, linger=0, stays=stays, page=free_port(),
-                            by_hand=free_port(), journal=self.folder / f"{stays}.journal")
+                            journal=self.folder / f"{stays}.journal")
                 host.end()
             showing = page.wait.call_args[0][0]
             self.assertTrue(showing == NEVER if stays else 10 <= showing <= 60, showing)
@@ -116,15 +116,12 @@ class Hosting(Case):
             page.end.assert_called_once_with()
 
     def test_what_the_page_says_in_the_game_is_told(self) -> None:
-        for ports in ({"page": free_port()}, {"by_hand": free_port()}):
-            page = mock.Mock(look=mock.Mock(side_effect=["the page has ended", *[""] * 999]))
-            with mock.patch.object(lobby, "PageProcess", return_value=page) as made:
-                host = Host(self.folder, pace=5, start=0, linger=0, **ports)
-                host.end()
-            self.assertEqual([event.text for event in host.of(events.Warned)],
-                             ["the page has ended"])
-            self.assertEqual(made.call_args[0][2:4], (WORDS, host.lobby.port))
-            (self.folder / "my.journal").unlink()
+        page = mock.Mock(look=mock.Mock(side_effect=["the page has ended", *[""] * 999]))
+        with mock.patch.object(lobby, "PageProcess", return_value=page) as made:
+            host = Host(self.folder, pace=5, start=0, linger=0, page=free_port())
+            host.end()
+        self.assertEqual([event.text for event in host.of(events.Warned)], ["the page has ended"])
+        self.assertEqual(made.call_args[0][2:4], (WORDS, host.lobby.port))
 
 
 class Limits(Case):

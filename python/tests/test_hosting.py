@@ -46,16 +46,16 @@ class Words(Case):
         self.assertEqual(vars(self.given("my.game", "7000", "500")), {
             "game": Path("my.game"), "port": 7000, "pace": 500, "form": None, "start": None,
             "after": 30.0, "patience": 30.0, "silence": 10.0, "journal": None, "page": None,
-            "late": 6, "names": False, "by_hand": None, "no_advice": False})
+            "late": 6, "names": False, "no_advice": False})
 
     def test_all_that_may_be_said(self) -> None:
         self.assertEqual(vars(self.given(
             "g", "65535", "60000", "--start", "0", "--after", "1.5", "--patience", "2",
             "--silence", "3", "--journal", "j", "--page", "1", "--late", "54", "--names",
-            "--by-hand", "2", "--no-advice", "json"
+            "--no-advice", "json"
         )), {"game": Path("g"), "port": 65535, "pace": 60000, "form": "json", "start": 0.0,
              "after": 1.5, "patience": 2.0, "silence": 3.0, "journal": Path("j"), "page": 1,
-             "late": 54, "names": True, "by_hand": 2, "no_advice": True})
+             "late": 54, "names": True, "no_advice": True})
         self.assertEqual(self.given("g", "1", "1", "--late", "0").late, 0)
 
     def test_what_is_refused(self) -> None:
@@ -94,12 +94,12 @@ class Main(Case):
 
     def test_the_lobby_is_told_all(self) -> None:
         self.run_it(0, 0, "json", "--start", "1", "--after", "2", "--patience", "3", "--silence",
-                    "4", "--journal", "j", "--page", "8", "--late", "9", "--names", "--by-hand",
-                    "10", "--no-advice")
+                    "4", "--journal", "j", "--page", "8", "--late", "9", "--names",
+                    "--no-advice")
         self.assertEqual(self.settings(), LobbySettings(
             game=Path("my.game"), port=7000, pace=500, log=sys.stdout.buffer, form="json",
             start=1.0, linger=2.0, patience=3.0, silence=4.0, journal=Path("j"), page=8, late=9,
-            names=True, by_hand=10, advice=False, orders=sys.stdin, vouches=True))
+            names=True, advice=False, orders=sys.stdin, vouches=True))
         self.made.return_value.words = list("abcdefgh")
         said, page = (call[0][0] for call in self.teller.say.call_args_list)
         self.assertIn("port 7000", said)
@@ -336,10 +336,8 @@ class Pages(Case):
 
     def test_the_page_needs_a_port_of_its_own(self) -> None:
         port = free_port()
-        with self.assertRaisesRegex(LobbyError, f"port {port} is for the .*: choose another"):
+        with self.assertRaisesRegex(LobbyError, f"port {port} is for the game: choose another"):
             Lobby(LobbySettings(GAME, port, 5, None, page=port))
-        with self.assertRaisesRegex(LobbyError, f"port {port} is for the .*: choose another"):
-            Lobby(LobbySettings(GAME, free_port(), 5, None, page=port, by_hand=port))
 
     def test_its_port_has_to_be_free(self) -> None:
         with socket.create_server(("", 0)) as other, \

@@ -23,7 +23,6 @@ import json
 import logging
 import os
 import random
-import re
 import resource
 import signal
 import socket
@@ -33,7 +32,7 @@ import sys
 import tempfile
 from concurrent.futures import ThreadPoolExecutor
 from pathlib import Path
-from typing import Awaitable, Callable, Dict, List, Optional, Set, Tuple
+from typing import Callable, Dict, List, Optional, Set, Tuple
 
 TOP = Path(__file__).resolve().parents[2]
 sys.path.insert(0, str(TOP / "python"))
@@ -134,7 +133,7 @@ class Hostile:
         """Asks for pages, and reads nothing."""
         for _ in range(10):
             path = self._dice.choice(["/", "/events", "/join"])
-            await self._send(f"GET {path} HTTP/1.1\r\nHost: a\r\n\r\n".encode(), "page", "by hand")
+            await self._send(f"GET {path} HTTP/1.1\r\nHost: a\r\n\r\n".encode(), "page")
 
     async def reset(self) -> None:
         """Ends a link by a reset, with something on its way."""
@@ -151,7 +150,7 @@ class Hostile:
         for _ in range(20):
             word = "".join(self._dice.choice("abcdefgh") for _ in range(5))
             await self._send(f"hello {word}\n".encode(), "agents")
-            await self._send(f"GET /{word} HTTP/1.1\r\nHost: a\r\n\r\n".encode(), "page", "by hand")
+            await self._send(f"GET /{word} HTTP/1.1\r\nHost: a\r\n\r\n".encode(), "page")
 
     async def take(self) -> None:
         """Wants a seat that is taken, by its right word, once somebody plays it, and not by hand: a
@@ -168,9 +167,9 @@ class Hostile:
             await self._send(b"GET /events HTTP/1.1\r\nHost: a\r\n\r\n", "page")
 
     async def pages(self) -> None:
-        """Opens the pages for playing by hand of seats that agents have."""
-        for path in re.findall(r"http://[^/\s]+(/\S*)", self._told()):
-            await self._send(f"GET {path} HTTP/1.1\r\nHost: a\r\n\r\n".encode(), "by hand")
+        """Asks for the pages for playing by hand of seats that agents have."""
+        await self._send(f"POST /play HTTP/1.1\r\nHost: a\r\nContent-Length: 5\r\n\r\n"
+                         f"seat{self._dice.randrange(SEATS)}".encode(), "page")
 
 
 KINDS = [name for name, what in vars(Hostile).items() if name[0] != "_" and name != "harm"]
@@ -194,7 +193,7 @@ class Classroom:
 
     def __init__(self, seed: int, folder: Path) -> None:
         self._seed, self._dice, self._folder = seed, random.Random(seed), folder
-        self._ports = {name: free_port() for name in ("agents", "page", "by hand")}
+        self._ports = {name: free_port() for name in ("agents", "page")}
         self._game, self._log = folder / "my.game", folder / "log"
         self._game.write_text(program.make(seed))
         self.befalls = BEFALLS[seed % len(BEFALLS)]
@@ -212,12 +211,12 @@ class Classroom:
             host = children.start(
                 [*LOBBY, str(self._game), str(self._ports["agents"]), str(PACE), "--start", str(START),
                  "--after", "15", "--journal", str(self._folder / "journal"), "--page",
-                 str(self._ports["page"]), "--by-hand", str(self._ports["by hand"])],
+                 str(self._ports["page"])],
                 stdin=subprocess.PIPE, stdout=log, stderr=told, cwd=self._folder,
                 env={**os.environ, "AGENT_RECORD": str(self._folder)})
             resource.prlimit(host.pid, resource.RLIMIT_NOFILE, (FILES, FILES))
             players = children.start(
-                [*PLAYERS, str(self._ports["agents"]), str(self._seed), str(self._folder)],
+                [*PLAYERS, *map(str, self._ports.values()), str(self._seed), str(self._folder)],
                 stdout=subprocess.PIPE)
             hostile = [Hostile(self._ports, address_of(number, kind),
                                random.Random(f"{self._seed} {number}"), self._told)

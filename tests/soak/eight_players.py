@@ -13,7 +13,6 @@ by hand took, whose page runs at a lower priority, and a list of what went wrong
 import asyncio
 import json
 import random
-import re
 import sys
 import time
 from pathlib import Path
@@ -29,13 +28,14 @@ class Players:
 
     Args:
         port: The lobby's port.
+        page: That of its page.
         seed: What their requests are drawn from.
         folder: For their records.
     """
 
-    def __init__(self, port: int, seed: int, folder: Path) -> None:
-        self.port, self.seed, self.folder = port, seed, folder
-        self.longest = 0.0
+    def __init__(self, port: int, page: int, seed: int, folder: Path) -> None:
+        self.port, self.page, self.seed, self.folder = port, page, seed, folder
+        self.longest, self._token = 0.0, ""  # and that of the seat's page, once it is joined
         self._page: Optional[Links] = None  # the browser's link
         self.by_hand: List[float] = []  # seconds that each bid by hand took
         self.wrong: List[str] = []
@@ -73,45 +73,58 @@ class Players:
                 break
             await asyncio.sleep(dice.random() * PAUSE)
             try:
-                page = page or (await self._post(told, "open", page=""))["page"]
+                page = page or (await self._post("open", page=""))["page"]
                 begun = time.monotonic()
                 if state.get("phase") == "failed":
-                    await self._post(told, "again", page=page)
+                    await self._post("again", page=page)
                 elif state.get("phase") == "running":
-                    await self._post(told, "bid", page=page, good=dice.randrange(28),
+                    await self._post("bid", page=page, good=dice.randrange(28),
                                      points=[[1, dice.randint(1, 400)]])
                     self.by_hand.append(round(time.monotonic() - begun, 2))
-                state = await self._post(told, "state", page=page, after=state.get("version"))
+                state = await self._post("state", page=page, after=state.get("version"))
             except (EOFError, OSError, KeyError, ValueError):
                 page = ""
         if state.get("phase") != "over":
             self.wrong.append(f"by hand: {state.get('phase')} {state.get('fault')}")
 
-    async def _post(self, told: str, what: str, **given: Any) -> Dict[str, Any]:
-        """The answer of the seat's page.
+    async def _post(self, what: str, **given: Any) -> Dict[str, Any]:
+        """The answer of the seat's page, which is joined by its word.
 
         Raises:
             EOFError, OSError: It is not there.
-            ValueError: It has no address, or the answer is none.
+            ValueError: The answer is none.
         """
-        found = re.search(rf"seat{BY_HAND}: http://[^/]+:(\d+)(/\w+/)", told)
-        if found is None:
-            raise ValueError("it has no address")
+        if not self._token:
+            status, token = await self._sent("/play", f"seat{BY_HAND}")
+            self._leave()  # what has shown no token ends with its answer
+            if status != 200:
+                raise ValueError(token)
+            self._token = token
+        _, text = await self._sent(f"/{self._token}/{what}", json.dumps(given))
+        answer: Dict[str, Any] = json.loads(text)
+        return answer
+
+    async def _sent(self, path: str, body: str) -> Tuple[int, str]:
+        """The status and the body of an answer."""
         if self._page is None:
             self._page = await asyncio.open_connection(
-                "127.0.0.1", int(found[1]), local_addr=(f"127.1.0.{2 + BY_HAND // 4}", 0))
-        (reader, writer), body = self._page, json.dumps(given)
+                "127.0.0.1", self.page, local_addr=(f"127.1.0.{2 + BY_HAND // 4}", 0))
+        reader, writer = self._page
         try:
-            writer.write(f"POST {found[2]}{what} HTTP/1.1\r\nContent-Type: application/json\r\n"
+            writer.write(f"POST {path} HTTP/1.1\r\nContent-Type: application/json\r\n"
                          f"Content-Length: {len(body)}\r\n\r\n{body}".encode())
             head = (await reader.readuntil(b"\r\n\r\n")).decode()
             length = int(head.partition("Content-Length: ")[2].split("\r\n")[0])
-            answer: Dict[str, Any] = json.loads(await reader.readexactly(length))
-            return answer
+            return int(head.split()[1]), (await reader.readexactly(length)).decode()
         except (EOFError, OSError, ValueError):
-            writer.close()
-            self._page = None
+            self._leave()
             raise
+
+    def _leave(self) -> None:
+        """Ends the link to the page."""
+        if self._page is not None:
+            self._page[1].close()
+            self._page = None
 
     async def _seated(self, seat: int) -> Links:
         """A link that has greeted. Four players have one address, as behind a router."""
@@ -137,8 +150,8 @@ async def _play(players: Players) -> None:
 
 def main() -> int:
     """Plays the game."""
-    port, seed, folder = sys.argv[1:]
-    players = Players(int(port), int(seed), Path(folder))
+    port, page, seed, folder = sys.argv[1:]
+    players = Players(int(port), int(page), int(seed), Path(folder))
     asyncio.run(_play(players))
     print(json.dumps({"longest": players.longest, "by hand": players.by_hand,
                       "wrong": players.wrong}))

@@ -1,5 +1,4 @@
-"""The process that serves the pages of a game: the board, and the seats that persons play, at ports
-of their own or at the board's.
+"""The process that serves the pages of a game: the board, and the seats that persons play.
 
 The lobby starts it, and alone decides when it ends. Standard input is a pipe: its first line says
 what is to be served, so that no seat word stands among the words of a process, which everybody on
@@ -14,7 +13,7 @@ import contextlib
 import json
 import os
 import time
-from typing import Any, BinaryIO, Dict, List
+from typing import Any, BinaryIO, Dict
 
 from geesefuton.hosting.handouts import Handouts
 from geesefuton.hosting.journal import JournalError
@@ -23,10 +22,9 @@ from geesefuton.hosting.projection import View
 from geesefuton.hosting.recovery import Player
 from geesefuton.hosting.viewers import Viewers
 from geesefuton.network.addresses import listen, own_address
-from geesefuton.network.pages import Answering, Faults, PageServer, page_gate, read_page, run
-from geesefuton.playing.seat_command import address_lines
+from geesefuton.network.pages import Faults, PageServer, page_gate, read_page, run
 from geesefuton.playing.seat_page import Host, Site
-from geesefuton.processes import Children, command, give_way, tell, why
+from geesefuton.processes import Children, command, give_way, tell
 from geesefuton.records.seat_names import names_of
 
 TELLING = 30.0  # seconds that players have to get the result
@@ -71,34 +69,22 @@ async def _serve(given: Dict[str, Any], player: Player) -> None:
     """Serves the pages until the lobby has ended the game, and a while longer."""
     ended: "asyncio.Future[None]" = asyncio.get_running_loop().create_future()
     _watch_standard_input(ended)
-    names = dict(zip(given["words"], names_of(given["words"], given["names"])))
+    words = [word for word, _ in given["seats"]]
+    names = dict(zip(words, names_of(words, given["names"])))
     site = Site(Host("127.0.0.1", given["port"], given["form"], given["pace"], given["advice"],
                      names, False, given["journal"] is not None), given["seats"])
-    faults, gate, viewers = Faults(tell), page_gate(), Viewers(read_page(PAGE), site)
-    tasks: "List[asyncio.Future[None]]" = []
+    faults, viewers = Faults(tell), Viewers(read_page(PAGE), site)
     with contextlib.ExitStack() as stack:
-
-        def begin(answer: Answering, port: int) -> None:
-            try:
-                listener = stack.enter_context(contextlib.closing(listen(port)))
-            except OSError as fault:
-                raise OSError(fault.errno, why(fault), f"port {port}") from None
-            tasks.append(asyncio.ensure_future(PageServer(answer, gate, faults).serve(listener)))
-
-        if given["by_hand"] is not None:
-            begin(site.answer, given["by_hand"])
-            for line in address_lines(given["seats"], given["by_hand"]):
-                tell(line)
-        if given["page"] is not None:
-            begin(viewers.answer, given["page"])
+        listener = stack.enter_context(contextlib.closing(listen(given["page"])))
+        server = PageServer(viewers.answer, page_gate(), faults)
+        serving = asyncio.ensure_future(server.serve(listener))
         if given["journal"] is not None:
             journal = stack.enter_context(open(given["journal"], "rb"))
             await _follow(_make_board(given, journal, viewers, faults, player), site, ended)
         await ended
         await _linger(viewers, site)
-        for task in tasks:
-            task.cancel()
-        await asyncio.gather(*tasks, return_exceptions=True)
+        serving.cancel()
+        await asyncio.gather(serving, return_exceptions=True)
 
 
 async def _linger(viewers: Viewers, site: Site) -> None:

@@ -57,7 +57,7 @@ class Lobby:
         self._serving = serving or ClockServer()
         self._text = program.show(settings.game)
         self.words = self._text.split("\n")[1].split()[1:]
-        _check_pages(settings)
+        _check_page(settings)
         # Links are taken from the beginning on.
         self._listeners = list(settings.listeners) or [listener_at(settings.port)]
         self.port: int = self._listeners[0].getsockname()[1]  # for agents
@@ -95,7 +95,7 @@ class Lobby:
             relay.gate.banned = self.settings.banned
             game = HostedGame(self.settings, self._text, self.control, children, folder, relay,
                               told.put)
-            if self.settings.page is not None or self.settings.by_hand is not None:
+            if self.settings.page is not None:
                 game.page = PageProcess(children, self.settings, self.words, self.port,
                                         journal.file)
                 stack.callback(game.page.end)
@@ -214,20 +214,16 @@ def _vouching(game: HostedGame) -> Tuple[str, ...]:
     return ()
 
 
-def _check_pages(settings: LobbySettings) -> None:
-    """Looks whether the ports of the pages are free.
+def _check_page(settings: LobbySettings) -> None:
+    """Looks whether the port of the pages is free.
 
     Raises:
-        LobbyError: One is not, or two things are to have the same port.
+        LobbyError: It is not, or it is that of the game.
     """
-    taken = {settings.port}
-    for port in (settings.page, settings.by_hand):
-        if port is not None:
-            if port in taken:
-                other = "game" if port == settings.port else "other page"
-                raise LobbyError(f"port {port} is for the {other}: choose another for the page")
-            taken.add(port)
-            listener_at(port).close()
+    if settings.page is not None:
+        if settings.page == settings.port:
+            raise LobbyError(f"port {settings.port} is for the game: choose another for the page")
+        listener_at(settings.page).close()
 
 
 def listener_at(port: int) -> socket.socket:

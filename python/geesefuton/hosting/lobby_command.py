@@ -66,11 +66,8 @@ def _arguments() -> argparse.Namespace:
     add("--journal", type=Path, metavar="FILE",
         help="write the journal to this new file (default: GAME-DATE.journal beside the log)")
     add("--page", type=whole(1, 65535), metavar="PORT",
-        help="show the game on a page at this port, for a projector")
-    add("--by-hand", type=whole(1, 65535), metavar="PORT",
-        help="let people play in their browsers: print the address of a page for each seat at this "
-             "port, also as a QR code if `qrencode` is installed; an agent may take any seat whose "
-             "page nobody has opened")
+        help="show the game on a page at this port, for a projector, where people also join, to "
+             "play in their browsers or to download an agent")
     add("--no-advice", action="store_true",
         help="do not let the pages of people plan trips")
     add("--late", type=whole(0, TICKS), default=6, metavar="TICKS",
@@ -197,7 +194,7 @@ def _main() -> int:
         linger=given.after, patience=given.patience, silence=given.silence,
         journal=given.journal, page=given.page, late=given.late, names=given.names,
         stays=given.page is not None and bool(sys.stdin and sys.stdin.isatty()),
-        by_hand=given.by_hand, advice=not given.no_advice, orders=sys.stdin, vouches=True)
+        advice=not given.no_advice, orders=sys.stdin, vouches=True)
     lobby = Lobby(settings)
     teller = Teller(lobby.words)
     settings.journal = settings.journal or _default_journal(given.game, teller)

@@ -96,14 +96,13 @@ class SideProcess:
 
 
 class PageProcess(SideProcess):
-    """The pages of a game: the board, which shows a journal, and the seats that persons play, whose
-    addresses the host is shown. Started again, it serves each seat at the same address."""
+    """The pages of a game: the board, which shows a journal, and the seats that persons play.
+    Started again, it serves each seat at the same address."""
 
     def __init__(self, children: Children, settings: LobbySettings, words: List[str], port: int,
                  journal: Optional[Path]) -> None:
         begins = None if settings.start is None else time.monotonic() + settings.start
-        # For each seat that persons may play its word, and the token of its page.
-        self.seats = [(word, new_token()) for word in words] if settings.by_hand is not None else []
+        self.seats = [(word, new_token()) for word in words]  # and the tokens of their pages
 
         def told() -> bytes:
             """What is to be served, with the seconds until the game begins."""
@@ -111,8 +110,7 @@ class PageProcess(SideProcess):
             return json.dumps({
                 "port": port, "form": settings.form, "pace": settings.pace, "page": settings.page,
                 "journal": journal and str(journal), "late": settings.late, "begins": left,
-                "names": settings.names, "words": words, "by_hand": settings.by_hand,
-                "seats": self.seats,
-                "advice": settings.advice}).encode("ascii") + b"\n"
+                "names": settings.names, "seats": self.seats, "advice": settings.advice,
+                }).encode("ascii") + b"\n"
 
         super().__init__(children, "the page", "geesefuton.hosting.game_pages", told)

@@ -30,12 +30,11 @@ class LobbySettings:
     patience: float = 30.0  # seconds that a link has for its first line
     silence: float = SILENCE  # seconds, of which `longest_silence` makes two ticks at least
     journal: Optional[Path] = None  # a new file; a copy of the log is written beside it
-    page: Optional[int] = None  # the port of the live page
+    page: Optional[int] = None  # the port of the pages
     late: int = 6  # ticks by which it shows later what agents cannot ask
     names: bool = False  # whether it calls agents by their seat words, which are passwords
     stays: bool = False  # whether it stays after the game until the host stops it
-    by_hand: Optional[int] = None  # the port of the pages by which persons play seats
-    advice: bool = True  # whether these plan trips
+    advice: bool = True  # whether the pages of people plan trips
     orders: Optional[TextIO] = None  # the host's commands
     vouches: bool = False  # whether the log is compared with the lobby's links after the game
     listeners: Sequence[socket.socket] = ()  # for agents; none for a new one at the port

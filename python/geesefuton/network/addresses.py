@@ -76,30 +76,20 @@ def _named_addresses() -> List[str]:
     return []
 
 
-def page_address(host: str, port: int, token: str) -> str:
-    """The address of a page that is reached by a token."""
-    return f"http://{f'[{host}]' if ':' in host else host}:{port}/{token}/"
-
-
 def join_address(host: str, port: int) -> str:
     """Where a game is joined whose pages are at a port."""
-    return page_address(host, port, "join")[:-1]
-
-
-def qr_code(text: str, kind: str) -> str:
-    """A text as a QR code of some kind, by `qrencode`; "" if that is not installed."""
-    coder = shutil.which("qrencode")
-    if coder is None or not text:
-        return ""
-    code = subprocess.run([coder, "-t", kind, text], stdout=subprocess.PIPE,
-                          stdin=subprocess.DEVNULL, check=False).stdout
-    return code.decode("utf-8", "replace").rstrip("\n")
+    return f"http://{f'[{host}]' if ':' in host else host}:{port}/join"
 
 
 def qr_picture(text: str) -> str:
-    """The address of a picture of a QR code, which it has in itself; "" if there is none."""
-    code = base64.b64encode(qr_code(text, "SVG").encode()).decode()
-    return code and f"data:image/svg+xml;base64,{code}"
+    """The address of a picture of a text's QR code, which it has in itself, by `qrencode`; "" if
+    that is not installed, or there is no text."""
+    coder = shutil.which("qrencode")
+    if coder is None or not text:
+        return ""
+    code = subprocess.run([coder, "-t", "SVG", text], stdout=subprocess.PIPE,
+                          stdin=subprocess.DEVNULL, check=False).stdout
+    return code and f"data:image/svg+xml;base64,{base64.b64encode(code).decode()}"
 
 
 def new_token() -> str:
