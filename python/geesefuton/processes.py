@@ -34,6 +34,7 @@ for group in *; do kill -s KILL -- "-$group" 2> /dev/null; done
 cd / && rm -rf "$place"
 """
 START = ': > "$0/$$" && exec "$@"'
+UNFINISHED = ".new"  # the end of the name of a file until it is there whole
 
 
 class Stopped(BaseException):
@@ -179,6 +180,31 @@ def why(fault: Exception) -> str:
     if isinstance(fault, BrokenPipeError):
         return "its reader has gone"
     return fault.strerror or str(fault) if isinstance(fault, OSError) else str(fault)
+
+
+def write_whole(file: Path, data: bytes) -> None:
+    """Writes a file that only its owner may read, so that it is there whole, and on the disk, or is
+    as it was before.
+
+    Raises:
+        OSError: The disk takes no more, for instance.
+    """
+    number, new = tempfile.mkstemp(UNFINISHED, f".{file.name}.", file.parent)
+    try:
+        with open(number, "wb") as out:
+            out.write(data)
+            out.flush()
+            os.fsync(out.fileno())
+        os.replace(new, file)
+    except OSError:
+        with contextlib.suppress(OSError):
+            os.unlink(new)
+        raise
+    folder = os.open(file.parent, os.O_RDONLY)
+    try:
+        os.fsync(folder)
+    finally:
+        os.close(folder)
 
 
 class Output:

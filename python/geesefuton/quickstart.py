@@ -1,6 +1,6 @@
 """Plays a game of eight small agents over links, and shows their output and the scores.
 
-It uses the file that the variable TAC names, or else the proved program if it is built, or else the
+The game is drawn from a secret, and its seed is shown in the end. It uses the file that the variable TAC names, or else the proved program if it is built, or else the
 toolchain's quick run.
 """
 
@@ -16,13 +16,14 @@ from geesefuton import program
 from geesefuton.arguments import Parser
 from geesefuton.processes import Children, Output, command, free_port, tell
 from geesefuton.records.logs import LogError, read_scores
+from geesefuton.records.secret_deals import deal_seed, new_secret
 
 PACE = 150  # milliseconds between the 54 ticks
 AGENTS = ["planner"] * 4 + ["trader"] * 3 + ["watcher"]
 MISSING = """. A build or a quick run needs the toolchain, Rattle, but there is no command `rt` in \
 PATH (see START-HERE.md in its folder, such as /opt/rattle); with a program that was built \
 elsewhere: TAC=/path/to/tac ./quickstart"""
-PROVED = "The server was the program {}, a single file."
+PROVED = "The game was that of `tac make {}`. The server was the program {}, a single file."
 QUICK = """This was a quick run, which proves nothing. To build the proved program, run \
 (cd crates/tacd && rt run -- make 42), and then ./quickstart again."""
 
@@ -53,10 +54,11 @@ def start_server(children: Children, place: Path, port: int,
         with (place / "log").open("wb") as log, (place / "told").open("wb") as told:
             quick = children.start(words, stdout=log, stderr=told, cwd=crate)
         return quick, 600, QUICK
-    game.write_text(program.make(42))
+    seed = deal_seed(new_secret(), 1)
+    game.write_text(program.make(seed))
     with (place / "log").open("wb") as log:
         served = children.start(program.served_words(game, port, PACE), stdout=log)
-    return served, 120, PROVED.format(file)
+    return served, 120, PROVED.format(seed, file)
 
 
 def listens(port: int) -> bool:

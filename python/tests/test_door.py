@@ -4,7 +4,7 @@ import contextlib
 import socket
 import time
 import unittest
-from typing import Callable, Dict, List, Optional
+from typing import Callable, Dict, List
 from unittest import mock
 
 from geesefuton.hosting.relay import Relay
@@ -22,8 +22,9 @@ class Case(unittest.TestCase):
         self.addCleanup(listener.close)
         self.port: int = listener.getsockname()[1]
         self.house: Dict[str, Handed] = {}
+        self.games: Dict[str, int] = {}
         self.door = Door(listener, [Team(f"Team {n}", f"team{n}", f"w{n}") for n in range(30)],
-                         self.house.get)
+                         self.house.get, self.games)
         self.addCleanup(self.door.close)
         self.links: List[socket.socket] = []
 
@@ -181,14 +182,26 @@ class Links(Case):
 
 
 class Places(Case):
-    def next(self, games: Optional[Dict[str, int]] = None, free: int = 1,
-             wait: float = 0.0) -> List[str]:
-        return self.door.next_teams(games or {}, free, wait)
+    def next(self, free: int = 1, wait: float = 0.0) -> List[str]:
+        return self.door.next_teams(free, wait)
 
     def test_who_has_played_fewest_games_comes_first_and_then_who_waits_longest(self) -> None:
+        self.games.update(team2=1, team4=3, team1=1)
         self.come(4, 2, 7, 1)
-        self.assertEqual(self.door.places({"team2": 1, "team4": 3, "team1": 1}),
-                         ["team7", "team2", "team1", "team4"])
+        self.assertEqual(self.door.places(), ["team7", "team2", "team1", "team4"])
+
+    def test_a_team_is_told_its_place_on_another_link(self) -> None:
+        self.games.update(team2=1)
+        link, *_ = self.come(2, 4, 7)
+        for word, due in (("w2", "place 3 of 3"), ("w4", "place 1 of 3"), ("w5", "place 0 of 3"),
+                          ("nobody", "refused wrongword"), ("team2", "refused wrongword")):
+            with self.subTest(word=word):
+                self.assertEqual(self.answer(self.link(f"place {word}\n".encode())),
+                                 f"{due}\n".encode())
+        link.setblocking(False)
+        with self.assertRaises(BlockingIOError):
+            link.recv(1)
+        self.assertEqual(self.door.places(), ["team4", "team7", "team2"])
 
     def test_a_game_begins_once_the_free_tables_are_full_or_the_first_team_has_waited(
             self) -> None:
@@ -200,6 +213,15 @@ class Places(Case):
         self.assertEqual(len(self.next(wait=MOST)), 8)
         self.assertEqual(self.next(free=2, wait=MOST), [])
         self.assertEqual(self.next(free=0), [])
+
+    def test_a_game_begins_once_all_teams_are_here_that_do_not_play(self) -> None:
+        table = self.handed()
+        self.come(*range(27))
+        self.door.seat([f"team{number}" for number in range(8)], table)
+        self.assertEqual(self.next(free=3, wait=MOST), [])
+        self.come(27, 28, 29)
+        self.assertEqual(len(self.next(free=3, wait=MOST)), 8)
+        self.assertEqual(len(self.door.waiting), 22)
 
     def test_tables_are_filled_evenly(self) -> None:
         self.come(*range(12))

@@ -10,6 +10,7 @@ from unittest import mock
 
 from geesefuton import program, quickstart
 from geesefuton.processes import Children, Output
+from geesefuton.records.secret_deals import BYTES, deal_seed
 from tests.helpers import SERVED_LOG, TOP, fake_program
 
 # It takes eight links, keeps what each said first, and writes a log.
@@ -22,6 +23,7 @@ words = sorted(link.makefile("rb").readline().decode() for link in links)
 open(heard, "w").write("".join(words))
 sys.stdout.write(open(log).read())
 """
+SECRET = bytes(range(BYTES))
 AGENT = """
 import os, socket, sys
 print(os.path.basename(sys.argv[0]), *sys.argv[3:], flush=True)
@@ -54,7 +56,8 @@ class Playing(unittest.TestCase):
             f'if [ "$1" = make ]; then grep -v "^#" {game}; exit; fi\n{serve}')
         file, told = self.place / "written", list[str]()
         with mock.patch.dict(os.environ, {"TAC": self.tac}), Children() as children, \
-                mock.patch("geesefuton.quickstart.tell", told.append):
+                mock.patch("geesefuton.quickstart.tell", told.append), \
+                mock.patch("geesefuton.quickstart.new_secret", return_value=SECRET):
             out = Output(file)
             status = quickstart.play(children, out)
             out.close()
@@ -79,7 +82,8 @@ class Playing(unittest.TestCase):
                          "".join(f"hello seat{seat}\n" for seat in range(8)))
         made, served = (self.place / "asked").read_text().splitlines()
         self.assertEqual((made, served.split()[0], served.split()[3:]),
-                         ("make 42", "serve", [str(quickstart.PACE)]))
+                         (f"make {deal_seed(SECRET, 1)}", "serve", [str(quickstart.PACE)]))
+        self.assertIn(f"`tac {made}`", rest)
 
     def test_a_server_that_fails_is_told_with_what_it_said(self) -> None:
         status, written, told = self.play("echo fault links; exit 5")

@@ -1,6 +1,7 @@
 """The practice room: its folder, its standings and its teams by themselves, and whole games."""
 
 import contextlib
+import hashlib
 import json
 import os
 import signal
@@ -19,13 +20,13 @@ from geesefuton import program
 from geesefuton.hosting.journal import Journal
 from geesefuton.practice import room as room_module
 from geesefuton.practice.board import Board
-from geesefuton.practice.folder import Finished, Folder, FolderError, digest_of, write_whole
+from geesefuton.practice.folder import Finished, Folder, FolderError
 from geesefuton.practice.house import HouseServer
 from geesefuton.practice.room import Room
 from geesefuton.practice.standings import standings_of
 from geesefuton.practice.table import TableSettings
 from geesefuton.practice.teams import TeamsError, keep_words, read_teams, slips_of
-from geesefuton.processes import Children, free_port
+from geesefuton.processes import Children, free_port, write_whole
 from geesefuton.records.logs import read_scores
 from tests.helpers import TOP, needs_program, refusal, variables
 
@@ -136,7 +137,7 @@ class Folders(Case):
         with mock.patch.dict(os.environ, {"TAC": str(tac)}):
             for words, told in ((["--folder", self.place], "is not the folder of a practice room"),
                                 (["--house", "nobody.py"], "there is no file nobody.py"),
-                                (["--slips", "slips.txt"], "--slips needs --teams"),
+                                (["--slips", "slips.html"], "--slips needs --teams"),
                                 (["--page", "7000"], "choose another for the page"),
                                 (["--folder", self.path, "--teams", tac], "is not a team")):
                 status, text = refusal("practice.room_command", *words)
@@ -149,9 +150,9 @@ class Standings(unittest.TestCase):
         games = [game_of(1, ["red", "blue", "house", "house"], [10, 10, 1, 2]),
                  game_of(2, ["blue", "", "red"], [11, 99, 10]), game_of(4, ["blue"], [9])]
         rows = standings_of(games)
-        self.assertEqual([(row.rank, row.name, row.games, row.total, row.average) for row in rows],
-                         [(1, "blue", 3, 30, Fraction(10)), (1, "red", 2, 20, Fraction(10)),
-                          (3, "house", 2, 3, Fraction(3, 2))])
+        self.assertEqual([(row.rank, row.name, row.games, row.average) for row in rows],
+                         [(1, "blue", 3, Fraction(10)), (1, "red", 2, Fraction(10)),
+                          (3, "house", 2, Fraction(3, 2))])
         self.assertEqual([(row.last, row.best) for row in rows], [(9, 11), (10, 10), (2, 2)])
         self.assertAlmostEqual(rows[0].half or 0.0, 4.302652729911275 / 3 ** 0.5)
         self.assertIsNone(rows[2].half)  # two seats of one game
@@ -196,11 +197,10 @@ class Teams(Case):
         file = self.place / "teams.csv"
         file.write_text("<Red>,r3d\nB & C,b7\n")
         teams = read_teams(file, self.path)
-        text = slips_of(teams, "10.0.0.1", 7000, 7080, False)
-        self.assertIn("python3 mine.py 10.0.0.1 7000 r3d --again", text)
-        self.assertIn("Join at http://10.0.0.1:7080/join, or run:", text)
-        self.assertNotIn("Join", slips_of(teams, "10.0.0.1", 7000, None, False))
-        page = slips_of(teams, "10.0.0.1", 7000, 7080, True)
+        self.assertNotIn("Join", slips_of(teams, "10.0.0.1", 7000, None))
+        page = slips_of(teams, "10.0.0.1", 7000, 7080)
+        self.assertIn("python3 mine.py 10.0.0.1 7000 r3d --again", page)
+        self.assertIn("Join at http://10.0.0.1:7080/join, or run:", page)
         self.assertEqual((page.count("<section>"), page.count("&lt;Red&gt;"), "<Red>" in page),
                          (2, 1, False))
         self.assertIn("<h2>B &amp; C</h2>", page)
@@ -289,7 +289,7 @@ class Games(Case):
         for game in self.manifests():
             log = (self.path / f"{game['number']:04}.log").read_bytes()
             self.assertEqual(program.audit(self.path / f"{game['number']:04}.game", log), "sound")
-            self.assertEqual(digest_of(log), game["files"]["log"])
+            self.assertEqual(hashlib.sha256(log).hexdigest(), game["files"]["log"])
             for player, score in zip(game["players"], read_scores(log)):
                 scores.setdefault(player, []).append(score.score)
         return {player: Fraction(sum(own), len(own)) for player, own in scores.items() if player}

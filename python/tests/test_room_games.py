@@ -1,6 +1,7 @@
 """The games of a practice room, with a lobby that plays what a test says: for whom seats count,
 what the host and the page are told, and what fails."""
 
+import hashlib
 import json
 import unittest
 from types import SimpleNamespace
@@ -15,7 +16,7 @@ from geesefuton.hosting.journal import Journal
 from geesefuton.hosting.lobby import LobbyError
 from geesefuton.hosting.relay import OWN
 from geesefuton.practice import room, table
-from geesefuton.practice.folder import Finished, digest_of
+from geesefuton.practice.folder import Finished
 from geesefuton.practice.room import AUDITING, Room
 from geesefuton.practice.table import TableSettings
 from geesefuton.practice.teams import Team
@@ -218,7 +219,7 @@ class Rooms(Case):
         game, = self.kept.finished
         self.assertEqual((game.number, game.seed, game.scores, game.fault), (1, 7, SCORES, ""))
         self.assertEqual(game.players, ("seat0", "", "", "seat3", "", "", "", ""))
-        self.assertEqual(game.files["log"], digest_of(LOG))
+        self.assertEqual(game.files["log"], hashlib.sha256(LOG).hexdigest())
         self.assertEqual(self.kept.next_number(), (2, []))
 
     def test_a_game_in_which_ticks_lapsed_counts(self) -> None:

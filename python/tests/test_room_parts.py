@@ -5,7 +5,6 @@ import json
 import os
 import signal
 import socket
-import sys
 import tempfile
 import time
 import unittest
@@ -22,10 +21,10 @@ from geesefuton.hosting.journal import Journal
 from geesefuton.hosting.relay import OWN, Relay
 from geesefuton.practice import house, room_command
 from geesefuton.practice.board import Board
-from geesefuton.practice.folder import Finished, Folder, FolderError, write_whole
+from geesefuton.practice.folder import Finished, Folder, FolderError
 from geesefuton.practice.house import HouseServer
 from geesefuton.practice.teams import Team, keep_words, read_teams
-from geesefuton.processes import Children, free_port, python_words
+from geesefuton.processes import Children, free_port, python_words, write_whole
 from geesefuton.records.secret_deals import commitment, deal_seed, read_secret
 from tests.helpers import TOP
 
@@ -253,7 +252,7 @@ class Boards(Case):
 
     def test_the_file_has_the_game_the_names_and_the_room(self) -> None:
         made = self.board()
-        made.show(None, ["a"], {"game": 1})
+        made.show(None, ["a"], {"game": 1}, {})
         words, file = self.children.start.call_args[0][0], self.path / "board"
         self.assertEqual(words, python_words("geesefuton.practice.page"))
         self.process.stdin.write.assert_called_once_with(json.dumps(
@@ -269,9 +268,9 @@ class Boards(Case):
 
     def test_a_page_that_has_ended_is_told_and_started_again(self) -> None:
         made = self.board()
-        made.show(None, [], {})
+        made.show(None, [], {}, {})
         self.process.poll.return_value = self.process.returncode = 3
-        made.show(None, [], {})
+        made.show(None, [], {}, {})
         self.assertEqual(self.told, ["the page ended with exit status 3, and was restarted"])
         self.children.end.assert_called_once_with(self.process)
         self.assertEqual(self.children.start.call_count, 2)
@@ -280,28 +279,28 @@ class Boards(Case):
         self.children.start.side_effect = OSError(11, "Resource temporarily unavailable")
         made = self.board()
         for _ in range(3):
-            made.show(None, ["a"], {})
+            made.show(None, ["a"], {}, {})
         self.assertEqual(self.told, ["the page cannot be started: Resource temporarily unavailable; "
                                      "the game goes on, and it is tried again in 5 s"])
         self.assertEqual(self.children.start.call_count, 1)
 
     def test_what_cannot_be_written_is_told_and_the_page_has_what_it_had(self) -> None:
         made = self.board()
-        made.show(None, ["a"], {})
+        made.show(None, ["a"], {}, {})
         with mock.patch("os.replace", side_effect=OSError(28, "No space left on device")):
-            made.show(None, ["b"], {})
+            made.show(None, ["b"], {}, {})
         self.assertEqual(self.told, ["cannot show the page: No space left on device"])
         self.assertEqual(self.shown()["names"], ["a"])
 
     def test_without_a_page_nothing_is_written_or_started(self) -> None:
         made = self.board(None)
-        made.show(None, [], {})
+        made.show(None, [], {}, {})
         made.close(lambda: False)
         self.assertEqual((list(self.path.iterdir()), self.children.start.call_count), ([], 0))
 
     def test_the_end_of_the_page_is_waited_for_unless_the_room_is_stopped(self) -> None:
         made = self.board()
-        made.show(None, [], {})
+        made.show(None, [], {}, {})
         made.close(lambda: True)
         self.assertTrue(self.shown()["is_over"])
         self.process.poll.side_effect = [None, None, None, 0]
@@ -316,12 +315,12 @@ class Boards(Case):
         page = free_port()
         with Children() as children:
             made = Board(children, page, 6, "10.0.0.1", self.told.append)
-            made.show(None, [], {"port": 7000, "begins": None})
+            made.show(None, [], {"port": 7000, "begins": None}, {})
             deadline, link = time.monotonic() + MOST, socket.socket()
             while link.connect_ex(("127.0.0.1", page)):
                 self.assertLess(time.monotonic(), deadline)
                 time.sleep(0.02)
-                made.show(None, [], {"port": 7000, "begins": None})
+                made.show(None, [], {"port": 7000, "begins": None}, {})
                 self.assertEqual(self.told, [])
             link.close()
             made.close(lambda: False)

@@ -9,7 +9,6 @@ from __future__ import annotations
 import json
 import os
 from pathlib import Path
-from types import MappingProxyType
 from typing import Any, Callable, Dict, Mapping, Optional, Sequence
 
 from geesefuton.hosting.page_process import SideProcess
@@ -39,7 +38,7 @@ class Board:
         self._shown: Dict[str, Any] = {}
 
     def show(self, journal: Optional[Path], names: Sequence[str], room: Dict[str, Any],
-             words: Mapping[str, str] = MappingProxyType({})) -> None:
+             words: Mapping[str, str]) -> None:
         """Shows the game of a journal, whose agents have names, or the room while there is none;
         `words` says how who has a seat word is called."""
         self._shown = {"journal": None if journal is None else str(journal), "names": list(names),

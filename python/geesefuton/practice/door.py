@@ -2,19 +2,21 @@
 
 The first line of a link is looked at, but left in the link, which is handed on whole to the table
 where its team plays. Without such a table it waits. It is told nothing then: before its welcome an
-agent understands nothing but a refusal, which would end its link. The page shows its place.
+agent understands nothing but a refusal, which would end its link. So a team's place is told on
+another link, whose first line is `place WORD`, and on the page.
 """
 
 from __future__ import annotations
 
 import contextlib
+import re
 import select
 import socket
 import time
 from collections import deque
 from dataclasses import dataclass
 from functools import partial
-from typing import Any, Callable, Deque, Dict, List, Optional, Sequence, Tuple
+from typing import Any, Callable, Deque, Dict, List, Mapping, Optional, Sequence, Tuple
 
 from geesefuton.hosting.links import tune
 from geesefuton.hosting.seats import GREETING
@@ -27,6 +29,7 @@ PATIENCE = 30.0  # seconds that a link has for its first line
 MOST_LINKS, MOST_EACH, KEPT = 200, 32, 100  # links at a time, as a `Gate` counts them
 OTHERS = 200  # open files that the tables and the rest of the process may need
 REST = 0.05  # seconds until a link is taken after one could not be
+PLACE = re.compile(rb"place ([a-z0-9]{1,16})")
 HAS_ENDED = select.EPOLLRDHUP | select.EPOLLHUP | select.EPOLLERR
 
 
@@ -80,14 +83,15 @@ class Door:
         listener: Where they come in; the door does not close it.
         teams: Who may play.
         table_of: Gives the table of a house agent's word; None if no house agent has the word.
+        games: How many games each team has played, by its key.
 
     Attributes:
         waiting: The links of teams that wait, by their keys.
     """
 
     def __init__(self, listener: socket.socket, teams: Sequence[Team],
-                 table_of: Callable[[str], Optional[Handed]]) -> None:
-        self._listener, self._table_of = listener, table_of
+                 table_of: Callable[[str], Optional[Handed]], games: Mapping[str, int]) -> None:
+        self._listener, self._table_of, self._games = listener, table_of, games
         self._keys = {team.word: team.key for team in teams}
         self._tables: Dict[str, Handed] = {}  # where teams play or played last, by their keys
         self.waiting: Dict[str, Visitor] = {}
@@ -111,22 +115,19 @@ class Door:
             elif visitor.visit.is_due(now):
                 self._judge(visitor)
 
-    def places(self, games: Dict[str, int]) -> List[str]:
+    def places(self) -> List[str]:
         """The teams that wait, in the order in which they play: first who has played fewest games,
         and of these who waits longest."""
-        return sorted(self.waiting, key=lambda key: (games.get(key, 0), self.waiting[key].since))
+        return sorted(self.waiting,
+                      key=lambda key: (self._games.get(key, 0), self.waiting[key].since))
 
-    def next_teams(self, games: Dict[str, int], free: int, wait: float) -> List[str]:
-        """The teams of the next game; none if it does not begin yet. It begins once the free tables
-        are full, or the first team has waited so many seconds: then they are filled evenly.
-
-        Args:
-            games: How many games each team has played.
-            free: The number of free tables.
-            wait: The seconds.
-        """
-        places, tables = self.places(games), min(free, -(-len(self.waiting) // SEATS))
-        if not tables or len(places) < SEATS * free and time.monotonic() < wait + min(
+    def next_teams(self, free: int, wait: float) -> List[str]:
+        """The teams of the next game at so many free tables; none if it does not begin yet. It
+        begins once these are full, nobody else can come, or the first team has waited so many
+        seconds: then they are filled evenly."""
+        places, tables = self.places(), min(free, -(-len(self.waiting) // SEATS))
+        most = min(SEATS * free, sum(self._table(key) is None for key in self._keys.values()))
+        if not tables or len(places) < most and time.monotonic() < wait + min(
                 visitor.since for visitor in self.waiting.values()):
             return []
         return places[:min(SEATS, -(-len(places) // tables))]
@@ -179,29 +180,40 @@ class Door:
         return b""
 
     def _judge(self, visitor: Visitor) -> None:
-        """Lets a link wait or play, or refuses it, by its first line."""
-        greeting = GREETING.fullmatch(self._said(visitor).split(b"\n", 1)[0])
-        if greeting is None:
-            return self._refuse(visitor, "syntax")
-        word = greeting[1].decode("ascii")
+        """Lets a link wait or play, or tells it its last line, by its first line."""
+        line = self._said(visitor).split(b"\n", 1)[0]
+        place, greeting = PLACE.fullmatch(line), GREETING.fullmatch(line)
+        said = place or greeting
+        if said is None:
+            return self._tell(visitor, "refused syntax")
+        word = said[1].decode("ascii")
         key = self._keys.get(word)
-        table = self._table_of(word) if key is None else self._tables.get(key)
-        if table is not None and table.fileno() >= 0:
+        table = self._table_of(word) if key is None else self._table(key)
+        if greeting and table is not None:
             return self._hand_on(visitor, table)
-        if key is None or key in self.waiting:
-            return self._refuse(visitor, "wrongword" if key is None else "taken")
+        if key is None:
+            visitor.visit.refuse()
+            return self._tell(visitor, "refused wrongword")
+        if place:
+            number = self.places().index(key) + 1 if key in self.waiting else 0
+            return self._tell(visitor, f"place {number} of {len(self.waiting)}")
+        if key in self.waiting:
+            return self._tell(visitor, "refused taken")
         visitor.visit.know(key)
         visitor.since, self.waiting[key] = time.monotonic(), visitor
         return None
 
-    def _refuse(self, visitor: Visitor, answer: str) -> None:
-        """Tells a link that it is refused. Its first line is taken, so that it gets the answer."""
-        if answer == "wrongword":
-            visitor.visit.refuse()
+    def _table(self, key: str) -> Optional[Handed]:
+        """Where a team plays; None if it does not."""
+        table = self._tables.get(key)
+        return table if table is not None and table.fileno() >= 0 else None
+
+    def _tell(self, visitor: Visitor, line: str) -> None:
+        """Tells a link its last line. Its first one is taken, so that it gets this."""
         visitor.visit.part()
         with contextlib.suppress(OSError):
             visitor.link.recv(MOST_LINE + 1)
-            visitor.link.send(f"refused {answer}\n".encode("ascii"))
+            visitor.link.send(f"{line}\n".encode("ascii"))
             visitor.link.shutdown(socket.SHUT_WR)
 
     def _hand_on(self, visitor: Visitor, table: Handed) -> None:

@@ -12,23 +12,21 @@ for good. Or they are those of consecutive seeds, which can be guessed.
 
 from __future__ import annotations
 
-import contextlib
 import fcntl
-import hashlib
 import json
 import os
-import tempfile
 from dataclasses import asdict, dataclass
 from pathlib import Path
 from typing import Any, Dict, List, Optional, Tuple
 
 from geesefuton.hosting.journal import JournalError, read_journal
+from geesefuton.processes import UNFINISHED, write_whole
 from geesefuton.program import CommandError
 from geesefuton.records.games import SEATS
 from geesefuton.records.secret_deals import commitment, deal_seed, new_secret, read_secret
 
 VERSION = 2  # of the form of a room's files
-ABOUT, LOCK, NEW, SECRET = "room.json", "lock", ".new", "secret"
+ABOUT, LOCK, SECRET = "room.json", "lock", "secret"
 
 
 class FolderError(CommandError):
@@ -52,31 +50,6 @@ class Finished:
     fault: str = ""  # why it is lost
 
 
-def write_whole(file: Path, data: bytes) -> None:
-    """Writes a file that only its owner may read, so that it is there whole, and on the disk, or is
-    as it was before.
-
-    Raises:
-        OSError: The disk takes no more, for instance.
-    """
-    number, new = tempfile.mkstemp(NEW, f".{file.name}.", file.parent)
-    try:
-        with open(number, "wb") as out:
-            out.write(data)
-            out.flush()
-            os.fsync(out.fileno())
-        os.replace(new, file)
-    except OSError:
-        with contextlib.suppress(OSError):
-            os.unlink(new)
-        raise
-    folder = os.open(file.parent, os.O_RDONLY)
-    try:
-        os.fsync(folder)
-    finally:
-        os.close(folder)
-
-
 class Folder:
     """The folder of a room, which one room at a time may use.
 
@@ -86,7 +59,8 @@ class Folder:
 
     Raises:
         FolderError: The folder is another's, in use, over, or not as a room leaves it.
-        OSError: It cannot be made, read or written.
+        OSError: It cannot be made, read or written. The methods that write raise it too, and may
+            be called again then.
 
     Attributes:
         seed: The seed of the first game; None if games are drawn from a secret.
@@ -99,13 +73,13 @@ class Folder:
         self.path, self.seed, self._secret = path, seed, b""
         path.mkdir(parents=True, exist_ok=True)
         names = {name for name in os.listdir(path)
-                 if name not in (LOCK, SECRET) and not name.endswith(NEW)}
+                 if name not in (LOCK, SECRET) and not name.endswith(UNFINISHED)}
         if names and ABOUT not in names:
             raise FolderError(f"{path} has files, but is not the folder of a practice room")
         self._lock = open(path / LOCK, "ab")
         try:
             fcntl.flock(self._lock, fcntl.LOCK_EX | fcntl.LOCK_NB)
-            for rest in path.glob(f".*{NEW}"):  # half of it was written when the room was killed
+            for rest in path.glob(f".*{UNFINISHED}"):  # by a room that was killed
                 rest.unlink()
             if names:
                 self._resume(seed)
@@ -132,11 +106,7 @@ class Folder:
         return deal_seed(self._secret, number) if self.seed is None else self.seed + number - 1
 
     def end(self) -> str:
-        """Ends the room for good, and gives its secret, in hexadecimal digits; "" for none.
-
-        Raises:
-            OSError: The disk takes no more, for instance. Then the room goes on.
-        """
+        """Ends the room for good, and gives its secret, in hexadecimal digits; "" for none."""
         about = self._read(self.path / ABOUT)
         write_whole(self.path / ABOUT, _json({**about, "secret": self._secret.hex()}))
         return self._secret.hex()
@@ -161,29 +131,17 @@ class Folder:
         return max([0, *done, *begun]) + 1, begun
 
     def write(self, game: Finished) -> None:
-        """Writes a game's manifest.
-
-        Raises:
-            OSError: The disk takes no more, for instance. It may be tried again.
-        """
+        """Writes a game's manifest."""
         write_whole(self.file(game.number, "json"), _json(asdict(game)))
 
     def keep(self, game: Finished, log: bytes) -> None:
-        """Writes the log and the manifest of a game that is over.
-
-        Raises:
-            OSError: As `write`.
-        """
+        """Writes the log and the manifest of a game that is over."""
         write_whole(self.file(game.number, "log"), log)
         self.write(game)
         self.unjudged[game.number] = game
 
     def judge(self, game: Finished) -> None:
-        """Writes the manifest of a game that is judged: then it is finished.
-
-        Raises:
-            OSError: As `write`.
-        """
+        """Writes the manifest of a game that is judged: then it is finished."""
         self.write(game)
         del self.unjudged[game.number]
         self.finished.append(game)
@@ -242,11 +200,6 @@ class Folder:
         if not isinstance(what, dict):
             raise FolderError(f"{file} was not written by a room")
         return what
-
-
-def digest_of(data: bytes) -> str:
-    """The SHA-256 of a file's bytes."""
-    return hashlib.sha256(data).hexdigest()
 
 
 def _json(what: Dict[str, Any]) -> bytes:

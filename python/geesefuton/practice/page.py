@@ -13,7 +13,7 @@ import json
 import sys
 import time
 from pathlib import Path
-from typing import Any, Dict, List, Optional, Sequence
+from typing import Any, Dict, Optional, Sequence
 
 from geesefuton.hosting.handouts import Handouts
 from geesefuton.hosting.live import LINGER, NICE, PAGE, Live
@@ -123,7 +123,8 @@ class RoomPage:
                 tasks = [asyncio.ensure_future(live.follow()),
                          asyncio.ensure_future(live.project())]
                 last = time.monotonic()  # when the game was going on, or its scores were made
-                while what["journal"] in (None, journal) and not _have_failed(tasks):
+                while what["journal"] in (None, journal) and not any(
+                        task.done() and task.exception() for task in tasks):
                     is_going = what["journal"] is not None and not what["is_over"]
                     if is_going:
                         screens.names = what["names"]
@@ -141,17 +142,12 @@ class RoomPage:
         except Exception as fault:  # it costs the screens this game, and not the room's page
             self._faults.tell(f"room: cannot show {journal}", why(fault) or repr(fault))
 
-
     def _tell_seats(self, live: Live) -> None:
         """Gives the scores of a game that is over to those who have played in it by hand."""
         results = [(name, score) for name, (_, score) in zip(self._screens.names, live.results())]
         for table in self._screens.site.tables:
             if results and not table.results and table.seat.phase in ("over", "failed"):
                 table.end(results)
-
-
-def _have_failed(tasks: "Sequence[asyncio.Future[None]]") -> bool:
-    return any(task.done() and task.exception() for task in tasks)
 
 
 async def _end(tasks: "Sequence[asyncio.Future[None]]") -> None:

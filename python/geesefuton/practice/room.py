@@ -18,10 +18,11 @@ from dataclasses import replace
 from typing import Callable, Dict, List, Optional, Sequence, Tuple
 
 from geesefuton import program
+from geesefuton.experiments.provenance import digest_of
 from geesefuton.hosting.lobby import LobbyError, listener_at, recovery_line
 from geesefuton.practice.board import Board
 from geesefuton.practice.door import Door, Handed
-from geesefuton.practice.folder import Finished, Folder, digest_of
+from geesefuton.practice.folder import Finished, Folder
 from geesefuton.practice.standings import standings_of
 from geesefuton.practice.table import Deal, Table, TableSettings
 from geesefuton.practice.teams import Team, keep_words
@@ -100,7 +101,7 @@ class Room:
                 if not count:
                     raise
                 self._tell(f"{why(fault)}; trying the next game again in {AGAIN:g} seconds")
-                self._pause()
+                time.sleep(AGAIN)
 
     def _host_tables(self) -> None:
         """Plays games at several tables, and takes the links of all."""
@@ -108,18 +109,19 @@ class Room:
         port, places = listener.getsockname()[1], list[str]()
         self._tell(f"{len(self._tables)} tables wait for guests at port {port}")
         with contextlib.closing(listener), \
-                contextlib.closing(Door(listener, self._teams, self._table_of)) as self._door:
+                contextlib.closing(Door(listener, self._teams, self._table_of,
+                                        self._played)) as self._door:
             while self._running or not self._is_closing and begun != self._games:
                 self._running = {table: thread for table, thread in self._running.items()
                                  if thread.is_alive()}
                 free = [table for table in self._tables if table not in self._running]
                 if self._is_closing or begun == self._games or time.monotonic() < self._again:
                     free = []
-                keys = self._door.next_teams(self._played, len(free), self._given.wait)
+                keys = self._door.next_teams(len(free), self._given.wait)
                 if keys:
                     self._begin(free[0], number + begun, keys, port)
                     begun += 1
-                now = self._door.places(self._played)
+                now = self._door.places()
                 if now != places or not self._is_shown:
                     places, self._is_shown = now, True
                     self._show()
@@ -159,11 +161,6 @@ class Room:
     def _note(self) -> None:
         """Lets the main thread show what is known of the tables."""
         self._is_shown = False
-
-    def _pause(self) -> None:
-        deadline = time.monotonic() + AGAIN
-        while not self._is_closing and time.monotonic() < deadline:
-            time.sleep(0.1)
 
     def _next_number(self) -> int:
         """The number of the next game. Tells the host of games that were stopped."""
@@ -251,23 +248,22 @@ class Room:
             OSError: The log cannot be read.
             program.ProgramError: The log cannot be audited.
         """
-        fault, log = game.fault, self._folder.file(game.number, "log").read_bytes()
-        scores: Sequence[int] = ()
+        fault, file = game.fault, self._folder.file(game.number, "log")
+        log, scores = file.read_bytes(), tuple[int, ...]()
         try:
-            said = "sound" if fault else program.audit(self._folder.file(game.number, "game"), log,
-                                                       AUDITING)
+            said = "sound" if fault else program.audit(file.with_suffix(".game"), log, AUDITING)
             if said != "sound":
                 fault = f"the audit says `{said}`"
             elif not fault:
-                scores = [score.score for score in read_scores(log)]
+                scores = tuple(score.score for score in read_scores(log))
         except LogError as failed:
             fault = f"its log: {failed}"
         except program.ProgramError as failed:
             if failed.status != program.REFUSED:
                 raise
             fault = f"its log: {failed}"
-        return replace(game, is_judged=True, scores=tuple(scores), fault=fault,
-                       files={**game.files, "log": digest_of(log)})
+        return replace(game, is_judged=True, scores=scores, fault=fault,
+                       files={**game.files, "log": digest_of(file)})
 
     def _leader(self) -> str:
         leaders = self._named([row.name for row in self._rows if row.rank == 1])
@@ -295,7 +291,7 @@ class Room:
                  "commitment": self._folder.commitment,
                  "last": last and [last.number, str(last.seed), *self._winner(last)]}
         if self._door is not None:
-            waiting = self._named(self._door.places(self._played))
+            waiting = self._named(self._door.places())
             tables = [[table.deal.number, self._named(table.guests.names())]
                       for table in self._running]
             words = {team.word: team.name for team in self._teams}

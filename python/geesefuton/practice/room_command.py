@@ -31,11 +31,11 @@ from geesefuton.hosting.lobby import listener_at
 from geesefuton.hosting.teller import Teller
 from geesefuton.network.addresses import join_address, own_address
 from geesefuton.practice.board import Board
-from geesefuton.practice.folder import Folder, write_whole
+from geesefuton.practice.folder import Folder
 from geesefuton.practice.room import Room
 from geesefuton.practice.table import TableSettings
 from geesefuton.practice.teams import MOST, Team, keep_words, read_teams, slips_of
-from geesefuton.processes import Children, command
+from geesefuton.processes import Children, command, write_whole
 from geesefuton.records.games import SEATS, TICKS
 
 USUAL = "planner.py"  # of the examples
@@ -71,7 +71,7 @@ def _arguments() -> argparse.Namespace:
         help="play this many games at once, for up to 64 teams: who has played fewest games comes "
              "first (default: 1)")
     add("--slips", type=Path, metavar="FILE",
-        help="write a slip for each team, with its word, as text or .html")
+        help="write a page with a slip for each team, with its word, to be printed")
     add("--address",
         help="show this address of the host on the slips and the page (default: this machine's)")
     add("--late", type=whole(0, TICKS), default=6, metavar="TICKS",
@@ -111,9 +111,7 @@ def _make_teams(given: argparse.Namespace, address: str) -> List[Team]:
     teams = read_teams(given.teams, given.folder, SEATS if given.tables == 1 else MOST)
     keep_words(given.folder, teams)
     if given.slips:
-        text = slips_of(teams, address, given.port, given.page,
-                        given.slips.suffix in (".html", ".htm"))
-        write_whole(given.slips, text.encode())
+        write_whole(given.slips, slips_of(teams, address, given.port, given.page).encode())
     return teams
 
 
@@ -135,13 +133,6 @@ class _Signals:
             self._say(f"ctrl-C: {text}")
 
 
-def _end(folder: Folder) -> str:
-    """Ends a room for good, and gives what is to be told."""
-    secret = folder.end()
-    return "the room is over; " + (f"its secret was {secret}" if secret else
-                                   f"its games were those of the seeds from {folder.seed} on")
-
-
 def _main() -> int:
     given = _arguments()
     program.find()
@@ -149,7 +140,9 @@ def _main() -> int:
     with contextlib.closing(Teller(())) as teller, \
             contextlib.closing(Folder(given.folder, given.seed)) as folder, Children() as children:
         if given.end:
-            teller.say(_end(folder))
+            secret = folder.end()
+            teller.say("the room is over; its " + (f"secret was {secret}" if secret else
+                       f"games were those of the seeds from {folder.seed} on"))
             return 0
         if given.page is not None:
             listener_at(given.page).close()  # so that a port that is taken is told now

@@ -10,6 +10,7 @@ from typing import Callable, Dict, List, NamedTuple, Optional, Sequence, Set, Te
 
 from geesefuton import program
 from geesefuton.experiments.entrants import Entrant
+from geesefuton.experiments.provenance import digest_of
 from geesefuton.hosting import events
 from geesefuton.hosting.control import STOPPED, Phase
 from geesefuton.hosting.events import Event
@@ -20,8 +21,9 @@ from geesefuton.hosting.settings import LobbySettings
 from geesefuton.hosting.teller import Teller
 from geesefuton.network.addresses import Network
 from geesefuton.practice.door import Handed
-from geesefuton.practice.folder import Finished, Folder, digest_of, write_whole
+from geesefuton.practice.folder import Finished, Folder
 from geesefuton.practice.house import HouseServer
+from geesefuton.processes import write_whole
 from geesefuton.records.games import SEATS, GameError, read_game
 
 
@@ -150,7 +152,7 @@ class Table:
             banned=self._banned), self.house)
         self.house.port = lobby.port
         self.deal, self.guests = deal, Guests(deal.words, self.house)
-        self._files = {"game": digest_of(made)}
+        self._files = {"game": digest_of(file)}
         status = self._host(lobby)
         if status == STOPPED:
             return None

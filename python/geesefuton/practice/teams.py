@@ -11,7 +11,7 @@ from pathlib import Path
 from typing import Dict, List, Optional, Sequence
 
 from geesefuton.network.addresses import join_address, new_token, qr_picture
-from geesefuton.practice.folder import write_whole
+from geesefuton.processes import write_whole
 from geesefuton.program import CommandError
 from geesefuton.records.games import SEATS, is_seat_word
 
@@ -86,24 +86,18 @@ def _known_words(folder: Path) -> Dict[str, str]:
     return words
 
 
-def slips_of(teams: Sequence[Team], address: str, port: int, page: Optional[int], is_html: bool
-             ) -> str:
-    """A slip for each team, to be printed and cut: as text, or as HTML with QR codes if `qrencode`
-    is installed. `port` is that for agents, and `page` that of the room's page, if it has one."""
+def slips_of(teams: Sequence[Team], address: str, port: int, page: Optional[int]) -> str:
+    """A page with a slip for each team, to be printed and cut, with QR codes if `qrencode` is
+    installed. `port` is that for agents, and `page` that of the room's page, if it has one."""
     join = join_address(address, page) if page else ""
-    where = f"Join at {join}, or run:" if join else "Run:"
-    slips = [(team.name, team.word, where, f"python3 mine.py {address} {port} {team.word} --again")
-             for team in teams]
-    if not is_html:
-        rule = "- " * 36 + "\n"
-        return rule + rule.join(f"\n{name}\n\nYour word is {word}: it is a password.\n{where}\n\n"
-                                f"    {line}\n\n" for name, word, where, line in slips) + rule
     code = qr_picture(join)
     picture = f'<img alt="The address as a QR code" src="{code}">' if code else ""
+    where = f"Join at {join}, or run:" if join else "Run:"
     parts = ["<!doctype html><html lang=en><meta charset=utf-8><title>Words of the teams</title>",
              "<style>body{font:16px sans-serif}section{border-top:1px dashed;padding:1em 0;"
              "break-inside:avoid}img{float:right;height:8em}b{font-size:2em}</style>"]
-    parts += [f"<section>{picture}<h2>{html.escape(name)}</h2><p>Your word, a password: "
-              f"<b>{word}</b><p>{html.escape(where)}<p><code>{html.escape(line)}</code></section>"
-              for name, word, where, line in slips]
+    parts += [f"<section>{picture}<h2>{html.escape(team.name)}</h2><p>Your word, a password: "
+              f"<b>{team.word}</b><p>{html.escape(where)}<p><code>python3 mine.py "
+              f"{html.escape(address)} {port} {team.word} --again</code></section>"
+              for team in teams]
     return "\n".join([*parts, "</html>", ""])
