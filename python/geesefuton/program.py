@@ -224,13 +224,12 @@ def exit_status(process: int, timeout: Optional[float] = None) -> int:
         TimeoutError: It took longer.
     """
     end, pause = time.monotonic() + (float("inf") if timeout is None else timeout), 0.0005
-    with contextlib.ExitStack() as stack:
-        waiting = select.poll()
-        with contextlib.suppress(AttributeError, OSError):  # some systems cannot watch a process
-            watched = os.pidfd_open(process)
-            stack.callback(os.close, watched)
-            waiting.register(watched, select.POLLIN)
-            pause = LOOK
+    waiting, watched = select.poll(), -1
+    with contextlib.suppress(AttributeError, OSError):  # some systems cannot watch a process
+        watched = os.pidfd_open(process)
+        waiting.register(watched, select.POLLIN)
+        pause = LOOK
+    try:
         while True:
             try:
                 found, status = os.waitpid(process, os.WNOHANG)
@@ -244,6 +243,9 @@ def exit_status(process: int, timeout: Optional[float] = None) -> int:
             # A signal that comes just before a wait does not end it.
             pause = min(2 * pause, left, LOOK)
             waiting.poll(1000 * pause)
+    finally:
+        if watched >= 0:
+            os.close(watched)
 
 
 def _end(process: int) -> None:

@@ -17,7 +17,7 @@ import socket
 import time
 from pathlib import Path
 from typing import (Any, AsyncGenerator, Awaitable, Callable, Coroutine, Dict, Iterator, List,
-                    NamedTuple, Optional, Set, Tuple)
+                    NamedTuple, Optional, Set)
 
 from geesefuton.network.gate import Gate, Visit, most_links
 from geesefuton.processes import why
@@ -157,7 +157,12 @@ class PageServer:
                 have_come.clear()
                 try:
                     for _ in range(AT_ONCE):
-                        self._begin(*listener.accept())
+                        link, source = listener.accept()
+                        visit = self._gate.arrive(source[0])
+                        if visit is None:
+                            link.close()
+                        else:
+                            self._begin(link, visit)
                 except (BlockingIOError, ConnectionError):
                     pass
                 except OSError as fault:  # such as too many open files
@@ -171,10 +176,7 @@ class PageServer:
                 serving.cancel()
             await asyncio.gather(*self._links, return_exceptions=True)
 
-    def _begin(self, link: socket.socket, source: Tuple[str, int]) -> None:
-        visit = self._gate.arrive(source[0])
-        if visit is None:
-            return link.close()
+    def _begin(self, link: socket.socket, visit: Visit) -> None:
         serving = asyncio.ensure_future(self._serve(link, visit))
         self._links.add(serving)
 
@@ -191,7 +193,7 @@ class PageServer:
                 self._faults.tell("a page failed", repr(serving.exception()))
 
         visit.end = cancel
-        return serving.add_done_callback(end)
+        serving.add_done_callback(end)
 
     async def _serve(self, link: socket.socket, visit: Visit) -> None:
         """Answers the requests of a link, until it ends."""
