@@ -8,7 +8,8 @@ from unittest import mock
 
 from geesefuton.experiments import study
 from geesefuton.experiments.comparisons import Estimate
-from geesefuton.experiments.forms import FORMS, as_csv, as_json, as_text, number_text
+from geesefuton.experiments.forms import (FORMS, as_csv, as_json, as_text, columns,
+                                          number_text)
 from geesefuton.experiments.results import Kind, Outcome, Row
 from geesefuton.experiments.summary import summarize
 from tests.helpers import needs_study
@@ -16,6 +17,22 @@ from tests.test_summary import SWAPPED, row
 
 if not study.missing("these tests"):
     from geesefuton.experiments.study import deals_to_detect
+
+
+class Columns(unittest.TestCase):
+    def test_columns_without_room_stand_below(self) -> None:
+        rows = [["agent", "mean", "luck", "seats"], ["a", "1000", "12", "3"]]
+        self.assertEqual(columns(rows), ["agent  mean  luck  seats", "a      1000    12      3"])
+        self.assertEqual(columns(rows, 17), ["agent  mean  luck", "a      1000    12", "",
+                                             "agent  seats", "a          3"])
+        self.assertEqual(columns(rows, 3)[::3], ["agent  mean", "agent  luck", "agent  seats"])
+
+    def test_a_summary_fits_a_terminal(self) -> None:
+        summary = summarize([row("1", rotation, seat, name, 100 * seat) for rotation in range(2)
+                             for seat, name in enumerate("abc")], detect=100)
+        self.assertGreater(max(map(len, as_text(summary).splitlines()[:9])), 80)
+        tables = [line for line in as_text(summary, 80).splitlines() if "  " in line]
+        self.assertLessEqual(max(map(len, tables)), 80)
 
 
 class Texts(unittest.TestCase):

@@ -22,31 +22,19 @@ class GameClocks(unittest.TestCase):
         clock.move(102.1)
         self.assertEqual(clock.now(110.0).tick, 2)
 
-    def test_the_pace_is_measured(self) -> None:
-        clock = GameClock()
-        clock.begin(100.0, 0, True)
-        self.assertEqual(clock.now(101.0), (100.0, 0))
-        clock.move(103.0)
-        self.assertEqual((clock.tick, clock.pace), (1, 3.0))
-        clock.move(105.0)
-        self.assertEqual((clock.tick, clock.pace), (2, 2.5))
-        clock.close(112.0, 1)
-        self.assertEqual((clock.tick, clock.pace), (6, 2.0))
-        self.assertEqual(clock.now(113.0), (112.0, 6))
-
     def test_a_seat_that_comes_in_the_game_waits_for_a_closing(self) -> None:
-        clock = GameClock()
+        clock = GameClock(2.0)
         clock.begin(100.0, 2, False)
         self.assertEqual((clock.tick, clock.is_exact, clock.now(101.0).tick), (12, False, 12))
         clock.move(101.0)
-        clock.move(103.0)
-        self.assertEqual((clock.tick, clock.pace, clock.is_exact), (14, 2.0, False))
+        clock.move(103.1)
+        self.assertEqual((clock.tick, clock.is_exact), (14, False))
         clock.move(105.0)
         clock.close(105.0, 3)
-        self.assertEqual((clock.tick, clock.pace, clock.is_exact), (18, 2.0, True))
+        self.assertEqual((clock.tick, clock.is_exact), (18, True))
         self.assertEqual(clock.now(106.0), (105.0, 18))
-        clock.close(119.0, 4)  # 18 seconds for the 8 ticks since the first move that was seen
-        self.assertEqual((clock.tick, clock.pace), (24, 2.25))
+        clock.close(117.0, 4)
+        self.assertEqual(clock.tick, 24)
 
     def test_a_closing_as_the_first_thing_that_is_seen(self) -> None:
         clock = GameClock(1.0)

@@ -34,7 +34,7 @@ MOST = 60.0  # seconds that anything may take, on a machine that is busy with ot
 
 class Page(unittest.TestCase):
     def test_nothing_is_loaded_from_elsewhere(self) -> None:
-        text = PAGE.read_text()
+        text = read_page(PAGE).decode()
         self.assertEqual(re.findall(r"https?://[^\"\s]+", text), ["http://www.w3.org/2000/svg"])
         for word in ("src=", "@import", "url(", "innerHTML", "insertAdjacent", "eval("):
             self.assertNotIn(word, text)
@@ -47,8 +47,7 @@ class Page(unittest.TestCase):
 
 
 def projection(tick: int) -> Projection:
-    return Projection(tick, [[tick, 0, 0, 0]] * 8, [[tick, 0, 0, tick]] * 8, [], [], [tick] * 8,
-                      [], [], [])
+    return Projection(tick, [[tick, 0, 0, 0]] * 8, [[tick, 0, 0, tick]] * 8, [], [], [], [], [])
 
 
 class Lateness(unittest.TestCase):
@@ -388,10 +387,7 @@ class Serving(unittest.TestCase):
     def test_it_stays_until_it_is_stopped(self) -> None:
         self.journal.write_text("\n".join(LINES) + "\n")
         live = self.start("--names", "--late", "0")
-        deadline = time.monotonic() + MOST
-        while b'"phase":"over"' not in self.get("/state")[0] and time.monotonic() < deadline:
-            time.sleep(0.05)
-        state = json.loads(self.get("/state")[0])
+        state = json.loads(re.findall(rb"data: (\{.*\})", self.get("/events")[0])[-1])
         self.assertEqual((state["phase"], state["late"]), ("over", 0))
         self.assertEqual([agent["name"] for agent in state["agents"]][:2], ["red7k", "orange3x"])
         viewer = self.events()

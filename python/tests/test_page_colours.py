@@ -40,9 +40,8 @@ class Colours(unittest.TestCase):
                     with self.subTest(name=name, ground=ground):
                         self.assertGreaterEqual(contrast(colours[name], colours[ground]), least)
 
-    def test_there_is_a_light_theme_and_twice_the_same_dark_one(self) -> None:
-        light, dark, again = THEMES
-        self.assertEqual(dark, again)
+    def test_there_is_a_light_theme_and_a_dark_one(self) -> None:
+        light, dark = THEMES
         self.assertEqual(light.keys(), dark.keys())
 
     def test_all_pages_have_these_colours_and_no_others(self) -> None:
@@ -50,7 +49,6 @@ class Colours(unittest.TestCase):
             text = (PACKAGE / "geesefuton" / page).read_text(encoding="utf-8")
             style = text if page.endswith(".css") else \
                 text[text.index("<style>"):text.index("</style>")]
-            self.assertEqual(style.count("/* style.css */"), style is not text, page)
             style = style.replace("#000", "")  # what a mask shows
             self.assertEqual(re.findall(r"#[0-9a-f]{3,8}\b|--\w+: #", style), [], page)
             self.assertLessEqual(set(re.findall(r"var\(--(\w+)\)", text)) - {"row", "fade"},

@@ -11,7 +11,6 @@ from pathlib import Path
 from typing import Any, AsyncGenerator, Dict, List, Tuple
 from unittest import mock
 
-from geesefuton.network import pages
 from geesefuton.network.pages import (FIRST, MOST_BODY, MOST_EACH, MOST_LINKS, SELDOM, Bell, Faults,
                                       PageServer, Request, Response, page_gate, read_page)
 
@@ -369,12 +368,10 @@ class Style(unittest.TestCase):
     def test_a_page_has_what_all_share_in_it(self) -> None:
         with tempfile.TemporaryDirectory() as folder:
             file = Path(folder, "a.html")
-            file.write_text("<style>\n/* style.css */\nb { c: d }\n</style>\n"
-                            "<script>\n/* page.js */\n\ne();\n</script>")
+            file.write_text("<title>A</title>")
             text = read_page(file).decode()
-        self.assertRegex(text, r"(?s)^<style>\n:root \{.*\}\nb \{ c: d \}\n</style>\n"
-                               r"<script>\n\"use strict\";\n.*;\n\ne\(\);\n</script>$")
-        self.assertFalse([name for name in pages.SHARED if name in text])
+        self.assertRegex(text, r"(?s)^<!doctype html>\n.*<style>\n:root \{.*\}\n</style>\n<script>\n"
+                               r"\"use strict\";\n.*;\n</script>\n<title>A</title>$")
 
 
 if __name__ == "__main__":

@@ -48,7 +48,7 @@ class Projecting(unittest.TestCase):
                        *asked(1, "hm", "no syntax", 25), *asked(2, "hm", "no syntax", 30),
                        {"a": 3, "q": "bid 21 ((1 5))"}, tick=4)
         made = self.project(reader)
-        self.assertEqual((made.tick, made.asked, made.refused), (4, [0, 3, 1, 1, 0, 0, 0, 0], [2]))
+        self.assertEqual((made.tick, made.refused), (4, [2]))
         self.assertEqual(self.player.given, [(GAME.text(), "1 bid 20 ((1 5))\n")])
         self.assertEqual(made.asks, [night.asks for night in nights_of(reader)])
 
@@ -163,8 +163,7 @@ class Views(unittest.TestCase):
         return Projection(**{"tick": 3, "plans": [[9, agent, 0, 0] for agent in range(8)],
                              "scores": [[agent, 0, 0, agent] for agent in range(8)],
                              "asks": [night.asks for night in nights_of(begun())],
-                             "trades": [], "asked": list(range(8)),
-                             "silent": [], "refused": [], "empty": [], **more})
+                             "trades": [], "silent": [], "refused": [], "empty": [], **more})
 
     def test_before_the_game(self) -> None:
         reader = JournalReader()
@@ -205,18 +204,17 @@ class Views(unittest.TestCase):
                                       for number, night in enumerate(nights)])
 
     def test_what_only_one_agent_knows_is_that_of_the_projection(self) -> None:
-        trades = [[number / 10, 20, 1, 2, number] for number in range(402)]
+        trades = [[number / 10, 20, 1, 2, number] for number in range(62)]
         asks = [[[0, 0], [2.5, good]] for good in range(8, 16)]
         state = self.state(begun(tick=9), secret=self.secret(trades=trades, asks=asks))
-        self.assertEqual((state["shown"], state["traded"]), (3, 402))
+        self.assertEqual(state["shown"], 3)
         self.assertEqual(state["trades"], trades[2:])
         self.assertEqual(state["asks"], asks)
-        self.assertEqual([(agent["plan"], agent["score"], agent["asked"])
-                          for agent in state["agents"]],
-                         [([9, agent, 0, 0], [agent, 0, 0, agent], agent) for agent in range(8)])
+        self.assertEqual([(agent["plan"], agent["score"]) for agent in state["agents"]],
+                         [([9, agent, 0, 0], [agent, 0, 0, agent]) for agent in range(8)])
         plain = self.state(begun(tick=9))
         self.assertEqual([set(agent) for agent in plain["agents"]], [{"name", "here"}] * 8)
-        self.assertFalse({"asks", "trades", "traded"} & set(plain))
+        self.assertFalse({"asks", "trades"} & set(plain))
 
     def test_what_agents_do(self) -> None:
         here = [{"here": agent, "from": "10.0.0.7"} for agent in (1, 2, 4)]
@@ -255,11 +253,11 @@ class Showing(unittest.TestCase):
                                      if line.startswith('{"tick":20,'))])
         nights = nights_of(reader)
         made = Projection(9, [[4000, -3, 70, 9]] * 8, [], [], [[3.0, 20, 1, 2, 70]] * 401,
-                          [7] * 8, [1, 5], [4], [6])
+                          [1, 5], [4], [6])
         early = View(6, False).state(reader, nights, None, False)
         late = View(6, False).state(reader, nights, made, False)
-        self.assertFalse({"asks", "trades", "traded"} & set(early))
-        self.assertFalse({"plan", "asked", "doing"} & {
+        self.assertFalse({"asks", "trades"} & set(early))
+        self.assertFalse({"plan", "doing"} & {
             key for agent in early["agents"] for key in agent})
         self.assertEqual((early["phase"], early["tick"], early["shown"], late["shown"]),
                          ("running", 19, None, 9))
@@ -269,7 +267,7 @@ class Showing(unittest.TestCase):
         closed = [night["closed"] for night in early["hotels"] if night["closed"]]
         self.assertEqual([len(night) for night in closed], [2] * 3)
         self.assertEqual([len(flight) for flight in early["flights"]], [20] * 8)
-        self.assertEqual((late["traded"], len(late["trades"])), (401, 400))
+        self.assertEqual(len(late["trades"]), 60)
         self.assertEqual(late["agents"][4]["doing"], "refused")
         self.assertEqual(late["agents"][1].get("doing"), "silent" if reader.agents[1].is_here
                          else None)

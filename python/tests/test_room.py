@@ -357,7 +357,7 @@ class Games(Case):
                 mock.patch("geesefuton.hosting.teller.tell"), \
                 mock.patch.object(room_module, "AGAIN", 0.05):
             room = Room(TableSettings(self.port, 5, 0.1, 0.2), folder,
-                        Board(children, None, 6, "here", told.append), told.append, games=1)
+                        Board(children, None, 6, 500, "here", told.append), told.append, games=1)
             self.guest("seat2")
             faults = [OSError(28, "No space left on device")] * 3
 

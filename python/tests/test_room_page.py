@@ -65,7 +65,7 @@ class Pages(unittest.TestCase):
         self.place = Path(place.name)
         self.now, self.told = 1000.0, list[str]()
         self.steps: List[Step] = []
-        self.screens = Screens(b"", 7080)
+        self.screens = Screens(b"", 7080, 500)
         self.until, sleep = 0.0, asyncio.sleep
         self.last: List[int] = []  # which states were said to be the last one
         self.shown: List[Tuple[float, Dict[str, Any], bytes]] = []

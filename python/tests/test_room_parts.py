@@ -243,7 +243,7 @@ class Boards(Case):
         self.patch(page_process, "STEADY", 0.0)
 
     def board(self, page: Optional[int] = 7080) -> Board:
-        return Board(self.children, page, 6, "10.0.0.1", self.told.append)
+        return Board(self.children, page, 6, 500, "10.0.0.1", self.told.append)
 
     def shown(self) -> Dict[str, Any]:
         """What the file has."""
@@ -256,7 +256,7 @@ class Boards(Case):
         words, file = self.children.start.call_args[0][0], self.path / "board"
         self.assertEqual(words, python_words("geesefuton.practice.page"))
         self.process.stdin.write.assert_called_once_with(json.dumps(
-            {"board": str(file), "port": 7080, "late": 6}).encode() + b"\n")
+            {"board": str(file), "port": 7080, "late": 6, "pace": 500}).encode() + b"\n")
         self.assertEqual(self.shown(), {
             "journal": None, "names": ["a"], "room": {"game": 1, "address": "10.0.0.1"},
             "words": {}, "is_over": False})
@@ -314,7 +314,7 @@ class Boards(Case):
         self.addCleanup(os.chdir, before)
         page = free_port()
         with Children() as children:
-            made = Board(children, page, 6, "10.0.0.1", self.told.append)
+            made = Board(children, page, 6, 500, "10.0.0.1", self.told.append)
             made.show(None, [], {"port": 7000, "begins": None}, {})
             deadline, link = time.monotonic() + MOST, socket.socket()
             while link.connect_ex(("127.0.0.1", page)):

@@ -13,6 +13,7 @@ from geesefuton.records.replies import Request
 from tests.seat_server import SeatServer
 
 MOST = 60.0  # seconds that anything may take, on a machine that is busy with other work
+PACE = 0.08  # seconds from tick to tick
 
 
 class Case(unittest.TestCase):
@@ -22,14 +23,14 @@ class Case(unittest.TestCase):
         self.server = SeatServer()
         self.addCleanup(self.server.close)
         self.addCleanup(self.end)
-        for name, value in (("LOOK", 0.02), ("LEAST", 0.02)):
+        for name, value in (("MOST", 0.02), ("LEAST", 0.02)):
             patch = mock.patch(f"geesefuton.playing.seat.{name}", value)
             patch.start()
             self.addCleanup(patch.stop)
         patch = mock.patch("geesefuton.link.tell")
         patch.start()
         self.addCleanup(patch.stop)
-        self.seat = Seat(lambda: Link.greet("127.0.0.1", self.server.port, "red", limit=5))
+        self.seat = Seat(lambda: Link.greet("127.0.0.1", self.server.port, "red", limit=5), PACE)
         self.changed = threading.Event()
         self.seat.tell = self.changed.set
 
@@ -125,16 +126,17 @@ class Seats(Case):
         self.assertEqual((self.seat._clock.tick, state["exact"]), (6, True))
 
     def test_a_price_that_moves_is_a_tick(self) -> None:
-        self.assertEqual(self.begin()["tick"], 0)
+        self.begin()
+        self.assertEqual(self.seat._clock.tick, 0)
         for tick in (1, 2):
             self.server.quotes[3][1] += 7
-            self.wait(lambda state: state["tick"] >= tick and state["pace"])
+            self.wait(lambda _: self.seat._clock.tick >= tick)
 
     def test_prices_that_stay_are_no_tick(self) -> None:
         self.begin()
         looks = len(self.server.heard)
-        state = self.wait(lambda _: self.server.heard[looks:].count("quote 7") > 3)
-        self.assertEqual((state["tick"], state["pace"]), (0, None))
+        self.wait(lambda _: self.server.heard[looks:].count("quote 7") > 3)
+        self.assertEqual(self.seat._clock.tick, 0)
 
     def test_where_nothing_stands_nothing_is_read(self) -> None:
         self.begin()
@@ -169,11 +171,11 @@ class Seats(Case):
             raise queue.Empty
 
         self.seat._orders = mock.Mock(get=get)
-        with mock.patch("geesefuton.playing.seat.LEAST", 0.2), \
+        with mock.patch.multiple("geesefuton.playing.seat", LEAST=0.2, MOST=2.0), \
                 mock.patch("time.monotonic", return_value=100.0):
-            for pace, took, due in ((None, 0.0, 0.02), (4.0, 0.0, 1.0), (0.1, 0.0, 0.2),
-                                    (60.0, 0.0, 2.0), (4.0, 1.5, 1.5)):
-                self.seat._clock.pace, self.seat._took, self.seat._looked = pace, took, 100.0
+            for pace, took, due in ((4.0, 0.0, 1.0), (0.1, 0.0, 0.2), (60.0, 0.0, 2.0),
+                                    (4.0, 1.5, 1.5)):
+                self.seat._pace, self.seat._took, self.seat._looked = pace, took, 100.0
                 self.seat._wait(mock.Mock())
                 self.assertAlmostEqual(waits.pop(), due)
 
@@ -228,7 +230,7 @@ class Seats(Case):
 
     def test_whatever_ends_the_link_is_told(self) -> None:
         for host in ("a..b", "x" * 70):  # names that the system cannot look up at all
-            seat = Seat(greeting(host, 7000, "red", "words", lambda: True))
+            seat = Seat(greeting(host, 7000, "red", "words", lambda: True), PACE)
             self.seat, seat.tell = seat, self.changed.set
             seat.begin()
             state = self.wait(lambda state: state["phase"] == "failed")
@@ -236,7 +238,8 @@ class Seats(Case):
 
     def test_a_lost_link_is_left_while_no_browser_has_the_page_open(self) -> None:
         is_open = threading.Event()
-        self.seat = Seat(greeting("127.0.0.1", self.server.port, "red", "words", is_open.is_set))
+        self.seat = Seat(greeting("127.0.0.1", self.server.port, "red", "words", is_open.is_set),
+                         PACE)
         self.seat.tell = self.changed.set
         self.server.refusals["hello"] = ""  # the host ends its link before the game
         self.seat.begin()

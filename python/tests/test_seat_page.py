@@ -73,7 +73,7 @@ class Served(Case):
 
         async def serve() -> None:
             self.loop, self.ended = asyncio.get_running_loop(), asyncio.Event()
-            host = Host("127.0.0.1", self.server.port)
+            host = Host("127.0.0.1", self.server.port, 60000, names={"red7k": "red"})
             self.table = Table(self.seat, Pages(), TripBoard(True), TOKEN, "red7k", host)
             site = Site(host)
             site.tables.append(self.table)
@@ -258,7 +258,7 @@ class Served(Case):
 
 class Sites(unittest.TestCase):
     def site(self, *seats: Tuple[str, str]) -> Site:
-        host = Host("localhost", 7000, "json", 500, names={"red7k": "red", "blue4": "blue"})
+        host = Host("localhost", 7000, 500, "json", names={"red7k": "red", "blue4": "blue"})
         return Site(host, seats)
 
     def join(self, site: Site, word: str, visit: Visit) -> Tuple[str, str]:

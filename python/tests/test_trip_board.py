@@ -143,13 +143,13 @@ class Costs(Case):
         self.cash = -50
         (cost, text), = [each for each in self.look()["costs"] if "closed at" in each[1]]
         self.assertEqual(cost, 350)  # a trip for 400, which a room for 50 would have made
-        self.assertEqual(text, "Tick 6: Shanties, night 1 closed at 60, and you won 0 rooms where "
-                               "your plan wanted 0, Towers, night 1 closed at 50, and you won 1 "
-                               "rooms where your plan wanted 2")
+        self.assertEqual(text, "Tick 6: Shoreline Shanties, night 1 closed at 60, you won 0 and "
+                               "your plan wanted 0; Tampa Towers, night 1 closed at 50, you won 1 "
+                               "and your plan wanted 2")
 
     def test_rooms_that_were_won_cost_nothing_and_those_beyond_the_plan_their_price(self) -> None:
-        for units, due in ((6, []), (9, [(3 * 70, "Tick 1: Towers, night 4 closed at 70, and you "
-                                                  "won 9 rooms where your plan wanted 6")])):
+        text = "Tick 1: Tampa Towers, night 4 closed at 70, you won 9 and your plan wanted 6"
+        for units, due in ((6, []), (9, [(3 * 70, text)])):
             with self.subTest(units=units):
                 self.setUp()
                 self.quotes[room(0, 4)][1] = 200
@@ -157,6 +157,10 @@ class Costs(Case):
                 self.quotes[room(1, 4)] = [0, 70, True]
                 self.units[room(1, 4)], self.cash = units, -70 * units
                 self.assertEqual(self.cost(), due)
+
+    def test_trips_use_the_rooms_that_are_bid_for_though_others_have_become_cheaper(self) -> None:
+        self.points, self.quotes[room(1, 1)][1] = {room(1, 1): ((2, 90),)}, 60
+        self.assertEqual(self.look()["need"][room(1, 1)], 2)
 
     def test_a_bid_below_the_price_counts_for_nothing(self) -> None:
         self.quotes[room(0, 1)][1] = self.quotes[room(1, 1)][1] = 40
@@ -169,7 +173,7 @@ class Costs(Case):
         self.hold(inbound(4), inbound(4))
         self.cash = -600
         # They serve clients who want to come a day earlier, for 100 dollars less each.
-        self.assertEqual(self.cost(), [(200, "Tick 1: you bought 2 of in, day 4")])
+        self.assertEqual(self.cost(), [(200, "Tick 1: you bought 2 of Flights in, day 4")])
 
     def test_a_flight_that_is_wanted_costs_nothing(self) -> None:
         self.look()

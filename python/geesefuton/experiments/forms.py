@@ -44,12 +44,17 @@ def shown(name: str) -> str:
     return "".join(letter if letter.isprintable() else ascii(letter)[1:-1] for letter in name)
 
 
-def columns(rows: Sequence[Sequence[str]]) -> List[str]:
-    """Lines with the cells of each column one below the other, the first aligned left."""
+def columns(rows: Sequence[Sequence[str]], most: float = math.inf) -> List[str]:
+    """Lines with the cells of each column one below the other, the first aligned left. Columns for
+    which lines of so many letters have no room stand below, beside the first column again."""
     widths = [max(map(len, column)) for column in zip(*rows)]
-    return ["  ".join(cell.ljust(width) if place == 0 else cell.rjust(width)
-                      for place, (cell, width) in enumerate(zip(row, widths))).rstrip()
-            for row in rows]
+    count = max([2, *(number for number in range(3, len(widths) + 1)
+                      if sum(widths[:number]) + 2 * (number - 1) <= most)])
+    lines = ["  ".join(cell.ljust(width) if place == 0 else cell.rjust(width)
+                       for place, (cell, width) in enumerate(zip(row[:count], widths))).rstrip()
+             for row in rows]
+    rest = [[row[0], *row[count:]] for row in rows]
+    return lines + (["", *columns(rest, most)] if len(widths) > count else [])
 
 
 def _reasons(standing: Standing) -> str:
@@ -139,8 +144,8 @@ def undecided(summary: Summary) -> List[str]:
     return lines + ([summary.missing] if summary.missing else [])
 
 
-def as_text(summary: Summary) -> str:
-    """The summary in lines for a reader."""
+def as_text(summary: Summary, most: float = math.inf) -> str:
+    """The summary in lines for a reader, with tables that are at most so many letters wide."""
     lines = [f"{count_text(summary.games, 'game')} of {count_text(summary.deals, 'deal')}; dollars "
              "with 95 % intervals by deals (Student's t)", *_kinds(summary), ""]
     rows = [["agent", "mean", "of seats that played", "luck", f"mean {ADJUSTED}",
@@ -148,12 +153,12 @@ def as_text(summary: Summary) -> str:
     rows += [[shown(standing.agent), _marked(standing), number_text(standing.played),
               f"{standing.luck:.0f}", number_text(standing.adjusted), _reasons(standing)]
              for standing in summary.standings]
-    lines += columns(rows)
+    lines += columns(rows, most)
     if any(standing.untaken for standing in summary.standings):
         lines.append(f"{MARK} includes seats that nobody took, with the scores of their logs")
     pairs = [pair for pair in summary.differences if pair.score]
     if pairs:
-        lines += ["", *columns(_of_pairs(pairs, summary)), *_below_pairs(pairs, summary)]
+        lines += ["", *columns(_of_pairs(pairs, summary), most), *_below_pairs(pairs, summary)]
     told = [*undecided(summary), *summary.lost]
     return "\n".join([*lines, *([""] if told else []), *told]) + "\n"
 

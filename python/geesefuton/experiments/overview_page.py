@@ -2,7 +2,7 @@
 report of a game."""
 
 import html
-from typing import Any, Iterator, List, NamedTuple, Sequence
+from typing import Any, Iterator, List, NamedTuple, Sequence, Tuple
 
 import numpy as np
 import pandas as pd
@@ -13,8 +13,9 @@ from geesefuton.experiments.overview import PARTS, PREDICTORS, SIDES, Overview
 from geesefuton.experiments.results import Row
 from geesefuton.experiments.study import deals_to_detect
 from geesefuton.experiments.summary import Difference, Summary
-from geesefuton.records.games import AUCTIONS, FLIGHTS, HOTELS, TICKETS, TICKS, name_of
-from geesefuton.records.report_page import Cell, bar, chart, document, round_up, scale_of, table
+from geesefuton.records.games import FLIGHTS, HOTELS, TICKETS, TICKS, name_of
+from geesefuton.records.report_page import (Cell, bar, chart, chart_rows, document, half_text,
+                                            number, round_up, scale_of, table)
 
 Frame = Any  # of pandas
 SHOWN = range(0, TICKS + 1, 6)  # the ticks of a table of prices
@@ -60,7 +61,7 @@ def page(overview: Overview, name: str, row: Row, summary: Summary) -> str:
 def _cell(value: object) -> str:
     if isinstance(value, str):
         return html.escape(value)
-    return "–" if pd.isna(value) else f"{value:.0f}"
+    return "–" if pd.isna(value) else number(value)  # type: ignore[arg-type]
 
 
 def _bars(frame: Frame) -> str:
@@ -81,17 +82,17 @@ def _ranking(summary: Summary) -> Iterator[str]:
     high = max((standing.score.mean + half for standing, half in told), default=1.0)
     scale = 100 / max(1.0, high - low)  # of a picture that has at least a dollar
     rows: List[List[Cell]] = []
-    for number, (standing, half) in enumerate(told, 1):
+    for rank, (standing, half) in enumerate(told, 1):
         mean = standing.score.mean
         left, middle = ((each - low) * scale for each in (mean - half, mean))
         picture = (f'<span class="bar"><i class="fill" style="left:{left:.1f}%;'
                    f'width:{2 * half * scale:.1f}%"></i>'
                    f'<i class="zero" style="left:{middle:.1f}%"></i></span>')
-        rows.append([number, html.escape(standing.agent), f"<b>{mean:.0f}</b>",
-                     "?" if standing.score.half is None else f"± {half:.0f}", picture,
-                     letters_of(summary, standing.agent), standing.seats, standing.failed or "–"])
-    yield table(["", "agent", "mean", "", f"{low:.0f} to {high:.0f}", "groups", "seats",
-                 "not played<br>to the end"], rows, (1, 5))
+        rows.append([rank, html.escape(standing.agent), f"<b>{number(mean)}</b>",
+                     half_text(standing.score.half), letters_of(summary, standing.agent), picture,
+                     standing.seats, standing.failed or "–"])
+    yield table(["", "agent", "mean", "", "groups", f"{number(low)} to {number(high)}", "seats",
+                 "not played<br>to the end"], rows, (1, 4))
 
 
 def _differences(summary: Summary) -> Iterator[str]:
@@ -108,10 +109,9 @@ def _differences(summary: Summary) -> Iterator[str]:
         if pair.score is None:
             cells += ["not compared", "", "", "", 0]
         else:
-            cells += [f"<b>{pair.score.mean:.0f}</b>", *(
-                "?" if half is None else f"± {half:.0f}"
-                for half in (pair.score.half, pair.bonferroni)),
-                "?" if pair.holm is None else f"{pair.holm:.3f}", pair.score.count]
+            cells += [f"<b>{number(pair.score.mean)}</b>", half_text(pair.score.half),
+                      half_text(pair.bonferroni),
+                      "?" if pair.holm is None else f"{pair.holm:.3f}", pair.score.count]
         (neighbours if near else others).append(cells + ([_more_deals(pair)] if near else []))
     heads = ["", "mean", "", "all pairs", "p (Holm)", "deals"]
     if neighbours:
@@ -132,13 +132,13 @@ def _more_deals(pair: Difference) -> Cell:
 
 def _errors(overview: Overview) -> Section:
     note = ("The mean error in dollars of three predictions of a night's closing price, over the "
-            "nights that are open after a tick: the quote at the tick, the mean closing price of "
-            "that night in the games of other deals, and the quote plus its mean rise in those "
-            "games.")
+            "nights that are open after a tick, 0 at the left to 54: the quote, the mean closing "
+            "price of that night in the games of other deals, and the quote plus its mean rise in "
+            "those games.")
     errors = overview.errors()
     paths = {f"{predictor} ({line})": list(errors[predictor].dropna().items())
              for predictor, line in zip(PREDICTORS, ("line", "dashed", "dotted"))}
-    title = "; ".join(f"{name}: <b>{path[0][1]:.0f} to {path[-1][1]:.0f}</b>"
+    title = "; ".join(f"{name}: <b>{number(path[0][1])} to {number(path[-1][1])}</b>"
                       for name, path in paths.items() if path)
     first, *more = filter(None, paths.values())
     picture = chart(title, first, 0, round_up(max(1.0, errors.max().max()), 50), False, more=more)
@@ -148,7 +148,7 @@ def _errors(overview: Overview) -> Section:
 
 def _parts(overview: Overview) -> Section:
     seats = overview.seats.groupby("agent")
-    means = seats[[*PARTS, "score"]].mean().loc[overview.order]
+    means = seats[["score", *PARTS]].mean().loc[overview.order]
     told = means.copy()
     told.insert(0, "seats", seats.size())
     return Section("parts", "The parts of scores", (
@@ -162,23 +162,20 @@ def _prices(overview: Overview) -> Iterator[Section]:
             "half of the games. A night that is closed keeps its price.")
     for name, goods in (("flights", FLIGHTS), ("rooms", HOTELS)):
         bands = pd.concat({good: overview.quartiles(good) for good in goods}, axis=1)
-        low, high = scale_of(goods, bands.to_numpy().ravel().tolist())
-        picture = ""
-        for group in (goods[:4], goods[4:]):
-            charts = []
-            for good in group:
-                below, middle, above = (list(bands[good][part].items()) for part in (.25, .5, .75))
-                day = f"{'day' if good in FLIGHTS else 'night'} {AUCTIONS[good].day}"
-                charts.append(chart(f"{day}: <b>{middle[0][1]:.0f} to {middle[-1][1]:.0f}</b>",
-                                    middle, low, high, False, (below, above)))
-            picture += f'<h3>{AUCTIONS[group[0]].group}</h3><div class="charts">{"".join(charts)}' \
-                       "</div>"
+        scale = scale_of(goods, bands.to_numpy().ravel().tolist())
+
+        def chart_of(good: int, title: str, bands: Frame = bands,
+                     scale: Tuple[int, int] = scale) -> str:
+            below, middle, above = (list(bands[good][part].items()) for part in (.25, .5, .75))
+            return chart(f"{title}: <b>{number(middle[0][1])} to {number(middle[-1][1])}</b>",
+                         middle, *scale, False, (below, above))
+
         shown = pd.DataFrame({f"{name_of(good)}{end}": bands[good][part]
                               for part, end in ((.5, ""), (.25, LOWER), (.75, UPPER))
                               for good in goods}).rename_axis("tick")
         medians = shown.loc[list(SHOWN), list(map(name_of, goods))].T
         yield Section(name, "Prices" if goods is FLIGHTS else "", note, shown,
-                      medians.rename_axis("median at tick"), picture)
+                      medians.rename_axis("median at tick"), "".join(chart_rows(goods, chart_of)))
 
 
 def _tickets(overview: Overview) -> Section:

@@ -37,6 +37,7 @@ the signal's number if a signal stopped it.
 
 import argparse
 import os
+import shutil
 import subprocess
 import sys
 import time
@@ -312,10 +313,12 @@ def _join(given: argparse.Namespace) -> int:
 def _print_summary(summary: Summary, texts: Mapping[Path, str]) -> bool:
     """Writes the summary to standard output, and texts to files; tells what failed, and gives
     whether anything did."""
-    targets: List[Tuple[Union[int, Path], str]] = [(1, as_text(summary)), *texts.items()]
+    shown = as_text(summary, shutil.get_terminal_size().columns)
+    targets: List[Tuple[Union[int, Path], str]] = [
+        (1, shown if os.isatty(1) else as_text(summary)), *texts.items()]
     failed = False
     if os.isatty(2) and not os.isatty(1):  # it goes to a file, but somebody looks on
-        tell(as_text(summary).rstrip())
+        tell(shown.rstrip())
     for target, text in targets:
         out = Output(target)
         out.write(text)

@@ -13,7 +13,7 @@ import contextlib
 import json
 import os
 import time
-from typing import Any, BinaryIO, Dict
+from typing import Any, Dict
 
 from geesefuton.hosting.handouts import Handouts
 from geesefuton.hosting.journal import JournalError
@@ -30,16 +30,6 @@ from geesefuton.records.seat_names import names_of
 TELLING = 30.0  # seconds that players have to get the result
 LOOK = 0.05  # seconds between two looks at whether all have them
 GRACE = 0.5  # seconds for what is being sent
-
-
-def _make_board(given: Dict[str, Any], journal: BinaryIO, viewers: Viewers, faults: Faults,
-                player: Player) -> Live:
-    """What shows the game on screens."""
-    handouts = Handouts(given["port"], own_address(), given["page"], given["form"] == "words")
-    viewers.handouts = handouts
-    begins = None if given["begins"] is None else time.monotonic() + given["begins"]
-    view = View(given["late"], given["names"])
-    return Live(journal, view, player, viewers, faults, handouts.told, begins)
 
 
 async def _follow(live: Live, site: Site, ended: "asyncio.Future[None]") -> None:
@@ -71,7 +61,7 @@ async def _serve(given: Dict[str, Any], player: Player) -> None:
     _watch_standard_input(ended)
     words = [word for word, _ in given["seats"]]
     names = dict(zip(words, names_of(words, given["names"])))
-    site = Site(Host("127.0.0.1", given["port"], given["form"], given["pace"], given["advice"],
+    site = Site(Host("127.0.0.1", given["port"], given["pace"], given["form"], given["advice"],
                      names, False, given["journal"] is not None), given["seats"])
     faults, viewers = Faults(tell), Viewers(read_page(PAGE), site)
     with contextlib.ExitStack() as stack:
@@ -80,7 +70,11 @@ async def _serve(given: Dict[str, Any], player: Player) -> None:
         serving = asyncio.ensure_future(server.serve(listener))
         if given["journal"] is not None:
             journal = stack.enter_context(open(given["journal"], "rb"))
-            await _follow(_make_board(given, journal, viewers, faults, player), site, ended)
+            handouts = viewers.handouts = Handouts(given["port"], own_address(), given["page"],
+                                                   given["form"] == "words")
+            begins = None if given["begins"] is None else time.monotonic() + given["begins"]
+            await _follow(Live(journal, View(given["late"], given["names"]), player, viewers,
+                               faults, handouts.told, begins), site, ended)
         await ended
         await _linger(viewers, site)
         serving.cancel()

@@ -8,11 +8,11 @@ agent's best plan from its holdings, the cost of missing goods at current prices
 that it has paid. When the game is over it sends the scores to all viewers, whose pages keep them.
 
 With --late TICKS the page shows at once only what each agent can ask itself: published prices,
-closed auctions, the time, and which agents are here. It shows scores, trades, numbers of requests
-and standing bids as they were TICKS before, or after the game if TICKS is 54. With --late 0 it
-shows everything at once: then no agent may see the page. Seat words are passwords: the page calls
-an agent by the letters before the digits of its word, if these differ between agents, and
-otherwise by its number. With --names it shows the words.
+closed auctions, the time, and which agents are here. It shows scores, trades and standing bids as
+they were TICKS before, or after the game if TICKS is 54. With --late 0 it shows everything at once:
+then no agent may see the page. Seat words are passwords: the page calls an agent by the letters
+before the digits of its word, if these differ between agents, and otherwise by its number. With
+--names it shows the words.
 """
 
 from __future__ import annotations

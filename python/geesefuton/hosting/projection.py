@@ -1,5 +1,5 @@
 """What the live page shows of a game: the worth of each agent's best plan at current prices, the
-trades, and the numbers of requests; and how much of it agents may see.
+trades; and how much of it agents may see.
 
 A plan counts what an agent holds, what it still has to buy for its trips at the prices shown, and
 what it has paid. It ignores later prices and closings. The page shows what only one agent can know
@@ -35,7 +35,6 @@ class Projection:
     scores: List[List[int]]  # after the game each agent's best total, cash, tickets short, score
     asks: List[PriceSteps]  # of the hotel nights 8 to 15
     trades: List[List[float]]  # of tickets: tick, good, buyer, seller and dollars
-    asked: List[int]  # how many lines each agent has sent
     silent: List[int]  # the agents that are here and have said nothing for some ticks
     refused: List[int]  # those whose lines were all refused
     empty: List[int]  # those that have neither a flight nor a room
@@ -61,7 +60,6 @@ def project(reader: JournalReader, nights: List[Night], player: Player) -> Proje
         [[row.best, row.cash, row.short, row.score] for row in log.scores] if is_over else [],
         [night.asks for night in nights],
         _trades(log, reader),
-        [agent.asked for agent in agents],
         [number for number, agent in enumerate(agents)
          if agent.is_here and agent.end is None and reader.tick - agent.last >= SILENT],
         [number for number, agent in enumerate(agents)
@@ -151,7 +149,6 @@ class View:
         if secret is not None:
             state["asks"] = secret.asks
             state["trades"] = secret.trades[-MOST_TRADES:]
-            state["traded"] = len(secret.trades)
         return state
 
     def _agent(self, reader: JournalReader, number: int, name: str,
@@ -161,7 +158,6 @@ class View:
             agent["plan"] = secret.plans[number]
             if secret.scores:
                 agent["score"] = secret.scores[number]
-            agent["asked"] = secret.asked[number]
             agent["empty"] = number in secret.empty
             if number in secret.refused:
                 agent["doing"] = "refused"
@@ -170,7 +166,7 @@ class View:
         return agent
 
 
-MOST_TRADES = 400
+MOST_TRADES = 60
 
 
 def _presence(reader: JournalReader, number: int) -> str:

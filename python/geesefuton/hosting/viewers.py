@@ -1,5 +1,4 @@
-"""What a game's page answers its screens: the page, the newest state, and the states as they come.
-"""
+"""What a game's page answers its screens: the page, and the states as they come."""
 
 from __future__ import annotations
 
@@ -19,10 +18,9 @@ class Viewers:
 
     def __init__(self, page: bytes, site: Optional[Site] = None) -> None:
         self.page, self.count = page, 0  # and how many screens follow the states
-        self._site = site
         self.handouts: Optional[Handouts] = None  # what authors of agents are given
         self._state, self._number, self._is_final = b"{}", 0, False
-        self._bell = Bell()
+        self._site, self._bell = site, Bell()
 
     async def show(self, state: bytes, is_final: bool) -> None:
         """Sends a new state to all screens."""
@@ -40,8 +38,6 @@ class Viewers:
             return NOT_FOUND
         if path == "/":
             return Response("200 OK", "text/html; charset=utf-8", self.page)
-        if path == "/state":
-            return Response("200 OK", "application/json", self._state)
         if path == "/events":
             return Response("200 OK", "text/event-stream", pieces=self._events())
         given = self.handouts and self.handouts.answer(path, request.fields.get("host", ""))

@@ -1,18 +1,25 @@
 "use strict";
-const QUIET = 5000, RETRY = 3000;  // milliseconds without news, and between two links
+const TICKS = 54, QUIET = 5000, RETRY = 3000;  // milliseconds without news, and between two links
 const $ = id => document.getElementById(id);
-const number = value => Math.round(value).toLocaleString("en-US").replace("-", "\u2212");
-const theme = location.hash.slice(1);
-if (["dark", "light"].includes(theme)) document.documentElement.dataset.theme = theme;
+const number = value => (Math.round(value) + 0).toLocaleString("en-US").replace("-", "\u2212");
+const money = cash => cash > 0 ? `earned ${number(cash)}` : `paid ${number(-cash)}`;
+const clockText = time => {
+  const left = Math.max(0, Math.ceil(time));
+  return left < 100 ? `${left} s`
+    : `${Math.floor(left / 60)}:${String(left % 60).padStart(2, "0")}`;
+};
+const darkness = matchMedia("(prefers-color-scheme: dark)");
+darkness.onchange = () => {
+  const asked = location.hash, isDark = asked === "#dark" || asked !== "#light" && darkness.matches;
+  document.documentElement.dataset.theme = isDark ? "dark" : "light";
+};
+darkness.onchange();
 
 // An element of a class, or with styles and a class by their names.
 function node(kind, props = {}, ...children) {
-  const made = document.createElement(kind);
-  const styles = typeof props === "string" ? { class: props } : props;
-  for (const [key, value] of Object.entries(styles)) {
-    if (key === "class") made.className = value;
-    else made.style.setProperty(key, value);
-  }
+  const { class: name, ...styles } = typeof props === "string" ? { class: props } : props;
+  const made = Object.assign(document.createElement(kind), { className: name || "" });
+  Object.assign(made.style, styles);
   made.append(...children);
   return made;
 }
@@ -37,12 +44,13 @@ function connect(take) {
   };
   events.addEventListener("here", hear);
   events.addEventListener("end", () => { over = true; events.close(); });
-  events.onerror = () => { if (!over) events.close(); };
+  events.onerror = () => events.close();
 }
+// After a game the host may begin another one at the same port.
 function stayConnected(take) {
   const now = performance.now();
   if (!over && now - heard > QUIET) lost = true;
-  if (!over && now > due && (lost || events.readyState === EventSource.CLOSED)) connect(take);
+  if (now > due && (lost || events.readyState === EventSource.CLOSED)) connect(take);
 }
 const unheard = () => lost ? "No news from the host for "
   + `${Math.floor((performance.now() - heard) / 1000)} seconds; trying again` : "";

@@ -32,7 +32,17 @@ FIRST = 3.0  # seconds for the head of a link's first request
 PATIENCE = 15.0  # seconds for a body, for a piece of an answer, and until the next head is whole
 AGAIN = 0.5  # seconds until links are taken again, after the system gave none
 SELDOM = 60.0  # seconds until a fault that lasts is told again
-SHARED = ("style.css", "page.js")  # what all pages share; each has a comment in its place
+# What all pages begin with, before their own title, style, body and script.
+START = """<!doctype html>
+<html lang="en">
+<meta charset="utf-8">
+<meta name="viewport" content="width=device-width, initial-scale=1">
+<link rel="icon" href="data:,">
+<style>
+{}</style>
+<script>
+{}</script>
+"""
 HEAD = (
     "HTTP/1.1 {}\r\nContent-Type: {}\r\nCache-Control: no-store\r\n"
     "X-Content-Type-Options: nosniff\r\nReferrer-Policy: no-referrer\r\n"
@@ -124,11 +134,8 @@ def page_gate() -> Gate:
 
 def read_page(file: Path) -> bytes:
     """A page, with what all pages share."""
-    text = file.read_text(encoding="utf-8")
-    for name in SHARED:
-        part = Path(__file__).with_name(name).read_text(encoding="utf-8")
-        text = text.replace(f"/* {name} */", part.rstrip("\n"), 1)
-    return text.encode()
+    shared = (Path(__file__).with_name(name).read_text() for name in ("style.css", "page.js"))
+    return (START.format(*shared) + file.read_text(encoding="utf-8")).encode()
 
 
 class PageServer:

@@ -16,14 +16,13 @@ class Mark(NamedTuple):
 
 
 class GameClock:
-    """The tick of a game. Flights change their prices at each tick, and each closing of a hotel
-    tells the tick exactly. The pace is measured unless it is told."""
+    """The tick of a game. Flights change their prices at each tick, a known number of seconds after
+    the last one, and each closing of a hotel tells the tick exactly."""
 
-    def __init__(self, pace: Optional[float] = None) -> None:
+    def __init__(self, pace: float) -> None:
         self.tick = 0  # the last one that was seen
-        self.pace = pace  # the seconds from tick to tick; None while they are not known
+        self.pace = pace  # the seconds from tick to tick
         self.is_exact = False  # whether `tick` is known, and is not just the least that it can be
-        self._is_told = pace is not None
         self._mark: Optional[Mark] = None
 
     def begin(self, now: float, closed: int, is_fresh: bool) -> None:
@@ -34,31 +33,22 @@ class GameClock:
 
     def move(self, now: float) -> None:
         """The flights have new prices."""
-        if self._mark is None:
-            self.tick += 1
-            self._mark = Mark(now, self.tick)
-            return
-        passed, count = now - self._mark.moment, self.tick + 1 - self._mark.tick
-        if self._is_told and self.pace:
-            count = max(count, round(passed / self.pace))
-        else:
-            self.pace = passed / count
-        self.tick = self._mark.tick + count
+        mark = self._mark or Mark(now, self.tick + 1)
+        self._mark = mark
+        self.tick = max(self.tick + 1, mark.tick + round((now - mark.moment) / self.pace))
 
     def close(self, now: float, closed: int) -> None:
         """A hotel night has closed: so many are closed now, which tells the tick."""
         mark, tick = self._mark or Mark(now, self.tick), MINUTE * closed
         if not self.is_exact:
             self._mark = Mark(mark.moment, mark.tick + tick - self.tick)
-        elif not self._is_told and tick > mark.tick:
-            self.pace = (now - mark.moment) / (tick - mark.tick)
         self.tick, self.is_exact = tick, True
 
     def now(self, now: float) -> Mark:
         """The tick at a moment, and when it came. A tick that is due but was not seen yet counts,
         and the one after it does not."""
-        if self._mark is None or not self.pace:
-            return Mark(self._mark.moment if self._mark else now, self.tick)
+        if self._mark is None:
+            return Mark(now, self.tick)
         due = self._mark.tick + int((now - self._mark.moment) / self.pace)
         tick = min(max(self.tick, due), self.tick + 1, TICKS)
         return Mark(self._mark.moment + (tick - self._mark.tick) * self.pace, tick)

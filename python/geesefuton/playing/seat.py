@@ -21,7 +21,6 @@ from geesefuton.playing.game_clock import GameClock
 from geesefuton.records.games import FLIGHTS, GOODS, HOTELS, TICKETS, Client
 from geesefuton.records.replies import Cash, Own, Points, Quote, Reply, Request
 
-LOOK = 0.25  # seconds from one look at the quotes to the next, while the pace is not known
 LOOKS = 4  # looks in a tick; an auction answers at most 1024 `own` requests of an agent
 LEAST, MOST = 0.2, 2.0  # seconds from one look to the next; so a session's 65,536 lines last
 FRESH = 1.5  # seconds of waiting for the welcome after which it came as the game began
@@ -81,10 +80,10 @@ class Seat:
 
     Args:
         greet: Takes the seat, and waits until the game begins.
-        pace: The seconds from tick to tick, if they are known.
+        pace: The seconds from tick to tick.
     """
 
-    def __init__(self, greet: Callable[[], Link], pace: Optional[float] = None) -> None:
+    def __init__(self, greet: Callable[[], Link], pace: float) -> None:
         self._greet, self._pace = greet, pace
         self.version = 0  # the number of the newest state
         self.tell: Callable[[], None] = lambda: None  # called in any thread once there is one
@@ -141,7 +140,7 @@ class Seat:
         mark = self._clock.now(now)
         asked = self._asked
         return {**state, "version": version, "tick": mark.tick, "since": now - mark.moment,
-                "pace": self._clock.pace, "exact": self._clock.is_exact,
+                "pace": self._pace, "exact": self._clock.is_exact,
                 "silent": now - asked if asked is not None else 0}
 
     def publish(self) -> None:
@@ -215,8 +214,7 @@ class Seat:
 
     def _wait(self, link: Link) -> None:
         """Takes orders until the next look is due."""
-        pace = self._clock.pace
-        pause = min(MOST, max(LEAST, pace / LOOKS)) if pace else LOOK
+        pause = min(MOST, max(LEAST, self._pace / LOOKS))
         due = self._looked + max(pause, self._took)  # so that a slow link is not always busy
         while True:
             try:
@@ -269,7 +267,7 @@ class Seat:
         if own.holding != each.units:
             self._readings = READINGS
         each.units, each.points, each.at = own.holding, own.points, own.at or 0
-        each.due = time.monotonic() + (self._clock.pace or 0) / LOOKS
+        each.due = time.monotonic() + self._pace / LOOKS
         return own
 
     def _read_cash(self, link: Link) -> None:

@@ -26,7 +26,6 @@ from geesefuton.playing.seat import Seat, greeting
 from geesefuton.playing.trip_board import TripBoard
 from geesefuton.records.games import GOODS
 from geesefuton.records.replies import Points, Request
-from geesefuton.records.seat_names import name_of_word
 
 WAIT = 1.0  # seconds that a page's question for news is kept: browsers keep few for one host
 QUIET = 9.0  # seconds without a question after which another page may play without asking
@@ -96,10 +95,10 @@ class Pages:
 class Host:
     """Where games are, and what their pages are told."""
 
-    host: str  # of the server or the lobby
+    host: str  # of the lobby
     port: int
+    pace: int  # in milliseconds
     form: str = "words"
-    pace: Optional[int] = None  # in milliseconds; None if it is not known
     has_plan: bool = True  # whether boards of trips plan
     names: Dict[str, str] = field(default_factory=dict)  # what agents are called, by seat words
     has_games: bool = True  # whether another game may come after each
@@ -110,7 +109,7 @@ class Table:
     """A seat at the address with its token, its board of trips, and the pages that are open there.
 
     Attributes:
-        name: What the game's host calls it; "" if that is not known.
+        name: What the game's host calls it.
         results: After the game the names and the scores of all agents, once they are known.
         is_told: Whether the game is over, and a page has all that will be known of its result.
     """
@@ -118,7 +117,7 @@ class Table:
     def __init__(self, seat: Seat, pages: Pages, board: TripBoard, token: str, word: str,
                  host: Host) -> None:
         self.seat, self.pages, self.token, self.word, self.is_told = seat, pages, token, word, False
-        self.name, self.results = host.names.get(word, ""), list[Tuple[str, int]]()
+        self.name, self.results = host.names[word], list[Tuple[str, int]]()
         self._board, self._host, self._bell = board, host, Bell()
         self._looking, self._shown, self._version = asyncio.Lock(), dict[str, Any](), -1
         seat.tell = self._bell.ring
@@ -163,8 +162,7 @@ class Table:
         is_over, number = told["phase"] == "over", self.seat.number
         self.is_told = is_over and bool(self.results or not self._host.has_results)
         return {**told, "plays": self.pages.plays(page), "board": self._shown, "me": number,
-                "name": self.name or number is not None and name_of_word(self.word, number),
-                "again": self._host.has_games, "results": self.results,
+                "name": self.name, "again": self._host.has_games, "results": self.results,
                 "hosted": self._host.has_results}
 
     def end(self, results: List[Tuple[str, int]]) -> None:
@@ -218,7 +216,7 @@ class Site:
         """Makes the table of a seat, in the event loop in which its page is served."""
         pages, given = Pages(), self.host
         greet = greeting(given.host, given.port, word, given.form, pages.is_open)
-        seat = Seat(greet, given.pace and given.pace / 1000)
+        seat = Seat(greet, given.pace / 1000)
         self.tables.append(Table(seat, pages, TripBoard(given.has_plan), token, word, given))
         return self.tables[-1]
 

@@ -1,21 +1,23 @@
 """The board of trips of a seat: for each client the trip of the seat's best plan at the prices of
 the moment, with each flight and night that is held, bid for, still to be had, or impossible.
 
-A plan counts each room once, in whichever hotel it is: so what the seat holds or bids for beyond
-the plan is of no use to any client. The board also keeps what each decision of the seat cost: by
+A plan counts each room once, in whichever hotel it is, and uses those that are bid for: so what the
+seat holds or bids for beyond the plan is of no use to any client. The board also keeps what each decision of the seat cost: by
 how much less its plans were worth after it.
 """
 
 from __future__ import annotations
 
 from collections import Counter
+from operator import add
 from typing import Any, Dict, List, NamedTuple, Optional, Sequence, Tuple
 
+from geesefuton.playing.answers import title_of
 from geesefuton.records.best_plans import Plan, best_plan, parts_of
-from geesefuton.records.games import (FLIGHTS, GOODS, HOTELS, TICKETS, Client, Package, name_of)
+from geesefuton.records.games import FLIGHTS, GOODS, HOTELS, TICKETS, Client, Package
 
 MOST = 3  # decisions that are told
-KEPT = 4  # plans that are kept
+KEPT = 6  # plans that are kept
 HELD, BID, OPEN, NONE = range(4)  # what is known of a flight or a night of a trip
 
 Prices = Sequence[Optional[int]]
@@ -66,7 +68,13 @@ class TripBoard:
             if self._before is not None:
                 self._judge(self._before, now, told["tick"])
             self._before = now
-        return self._shown(now, bids)
+        # Bids for rooms cannot be taken back: so the trips that are shown use what they would win.
+        won = [units * (good in HOTELS) for good, units in enumerate(bids)]
+        above = [price if price is None else price + (good in HOTELS)  # as a new bid has to be
+                 for good, price in enumerate(prices)]
+        cost = sum(units * (price or 0) for units, price in zip(won, prices))
+        hoped = self._moment(list(map(add, held, won)), above, told["cash"] - cost)
+        return self._shown(hoped._replace(held=held, prices=prices), bids)
 
     def _moment(self, held: Sequence[int], prices: Prices, cash: int) -> Moment:
         key = (*held, *prices)
@@ -87,12 +95,12 @@ class TripBoard:
         if closed:
             first = self._moment(before.held, [now.asks[good] if good in closed else price for
                                                good, price in enumerate(prices)], before.cash)
-            self._keep(first.worth - traded.worth, f"Tick {tick}: " + ", ".join(
-                f"{name_of(good)} closed at {now.asks[good]}, and you won {won[good]} rooms where "
-                f"your plan wanted {first.plan.missing[good]}" for good in closed))
+            self._keep(first.worth - traded.worth, f"Tick {tick}: " + "; ".join(
+                f"{title_of(good)} closed at {now.asks[good]}, you won {won[good]} and your plan "
+                f"wanted {first.plan.missing[good]}" for good in closed))
         elif any(won):
             self._keep(before.worth - traded.worth, f"Tick {tick}: you " + ", ".join(
-                f"{'bought' if units > 0 else 'sold'} {abs(units)} of {name_of(good)}"
+                f"{'bought' if units > 0 else 'sold'} {abs(units)} of {title_of(good)}"
                 for good, units in enumerate(won) if units))
         dearer = self._moment(now.held, [*now.prices[:HOTELS.start], *prices[HOTELS.start:]],
                               now.cash)

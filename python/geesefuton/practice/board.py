@@ -24,15 +24,17 @@ class Board:
         children: By which its process is started.
         page: The port of the page; None for no page.
         late: By how many ticks the page shows later what agents cannot ask.
+        pace: The milliseconds from tick to tick.
         address: The host's address, as guests are to use it.
         tell: Is given a line for the host.
     """
 
-    def __init__(self, children: Children, page: Optional[int], late: int, address: str,
-                 tell: Callable[[str], None]) -> None:
+    def __init__(self, children: Children, page: Optional[int], late: int, pace: int,
+                 address: str, tell: Callable[[str], None]) -> None:
         self._page, self._address, self._tell, self._told = page, address, tell, ""
         self._file = children.folder("board") / "board"
-        given = json.dumps({"board": str(self._file), "port": page, "late": late})
+        given = json.dumps({"board": str(self._file), "port": page, "late": late,
+                            "pace": pace})
         self._process = SideProcess(children, "the page", "geesefuton.practice.page",
                                     lambda: given.encode("ascii") + b"\n")
         self._shown: Dict[str, Any] = {}

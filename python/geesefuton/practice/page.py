@@ -31,13 +31,13 @@ STOPPED = 3.0  # seconds for which a game stays that was stopped
 
 
 class Screens(Viewers):
-    """The screens of a room's page, which has a port. No state of a game is the last one, and
-    seats are called by their players."""
+    """The screens of a room's page at a port. No state of a game is the last one, and seats are
+    called by their players."""
 
-    def __init__(self, page: bytes, port: Optional[int] = None) -> None:
+    def __init__(self, page: bytes, port: int, pace: int) -> None:
         self.port, self.names = port, list[str]()
         self.last = b"{}"  # the state that was sent last
-        self.site = Site(Host("127.0.0.1", 0))
+        self.site = Site(Host("127.0.0.1", 0, pace))
         super().__init__(page, self.site)
 
     async def show(self, state: bytes, is_final: bool) -> None:
@@ -161,7 +161,7 @@ async def _end(tasks: "Sequence[asyncio.Future[None]]") -> None:
 
 async def _run(given: Dict[str, Any], player: Player) -> None:
     faults = Faults(tell)
-    screens = Screens(b"", given["port"])
+    screens = Screens(b"", given["port"], given["pace"])
     page = RoomPage(Path(given["board"]), screens, player, given["late"], faults)
     with contextlib.closing(listen(given["port"])) as listener:
         server = PageServer(screens.answer, page_gate(), faults)

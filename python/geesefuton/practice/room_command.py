@@ -150,7 +150,7 @@ def _main() -> int:
         teams = _make_teams(given, address)
         room = Room(TableSettings(given.port, given.pace, given.wait, given.after, house,
                                   sys.stdin), folder,
-                    Board(children, given.page, given.late, address, teller.say),
+                    Board(children, given.page, given.late, given.pace, address, teller.say),
                     teller.say, teams, given.games, given.tables)
         signals = _Signals(room, teller.say)
         if given.page is not None:

@@ -5,7 +5,7 @@ import json
 from collections import defaultdict
 from dataclasses import dataclass
 from importlib.resources import files
-from typing import Dict, Iterable, Iterator, List, Optional, Sequence, Tuple, Union
+from typing import Callable, Dict, Iterable, Iterator, List, Optional, Sequence, Tuple, Union
 
 from geesefuton.records.games import (AUCTIONS, CLIENTS, FLIGHTS, GOODS, HOTELS, ROOMS, TICKETS,
                                       TICKS, Game, Package, name_of)
@@ -13,12 +13,11 @@ from geesefuton.records.hindsight import Moment, Story
 from geesefuton.records.logs import Log, Score, trades_of
 from geesefuton.records.prices import MarketEvent
 
-# The colours of all pages, what is a report's own, and the choice of a theme by the address.
-STYLE = "<style>{}{}</style>".format(*(
+# The style and the script of all pages, and the style of reports.
+STYLE = "<style>{}{}</style><script>{}</script>".format(*(
     files(f"geesefuton.{room}").joinpath(name).read_text(encoding="ascii")
-    for room, name in (("network", "style.css"), ("records", "report.css")))) + (
-    "<script>if (/^#(dark|light)$/.test(location.hash)) document.documentElement.dataset.theme = "
-    "location.hash.slice(1);</script>")
+    for room, name in (("network", "style.css"), ("records", "report.css"),
+                       ("network", "page.js"))))
 Cell = Union[str, int]
 KINDS: Tuple[Tuple[str, range], ...] = (("flights", FLIGHTS), ("Shanties", range(8, 12)),
                                         ("Towers", range(12, 16)), ("tickets", TICKETS))
@@ -28,16 +27,13 @@ ENDS = {"quit": "played to the end", "end": "left without quit", "readfault": "l
 
 
 SCRIPT = """<script>
-"use strict";
 for (const team of document.querySelectorAll(".story")) {
   const moments = JSON.parse(team.querySelector("script").textContent);
   const slider = team.querySelector("input"), said = team.querySelector("output");
   const body = team.querySelector("tbody");
-  const number = value => value.toLocaleString("en-US").replace("-", "\\u2212");
   const show = () => {
     const { worth, cash, goods } = moments[slider.value];
-    const money = cash > 0 ? `earned ${number(cash)}` : `paid ${number(-cash)}`;
-    said.textContent = `Tick ${slider.value}: best plan worth ${number(worth)}, ${money}`;
+    said.textContent = `Tick ${slider.value}: best plan worth ${number(worth)}, ${money(cash)}`;
     body.replaceChildren(...goods.map(cells => {
       const row = document.createElement("tr");
       for (const text of cells) row.insertCell().textContent = text;
@@ -108,7 +104,12 @@ def why_nothing(log: Log, events: Sequence[MarketEvent], score: Score) -> str:
 
 def number(value: float) -> str:
     """A number as all reports have it, such as `−1,234`."""
-    return f"{value:,.0f}".replace("-", "−")
+    return f"{round(value):,}".replace("-", "−")
+
+
+def half_text(half: Optional[float]) -> str:
+    """Half the width of an interval, as it stands beside its middle; `?` where there is none."""
+    return "?" if half is None else f"± {number(half)}"
 
 
 def table(heads: Sequence[str], rows: Iterable[Sequence[Cell]], text: Sequence[int] = ()) -> str:
@@ -180,7 +181,7 @@ def _tickets(events: Sequence[MarketEvent]) -> str:
         if units:
             mean = sum(count * dollars for count, dollars in trades) / units
             prices = [dollars for _, dollars in trades]
-            rows.append([name_of(good), units, min(prices), f"{mean:.0f}", max(prices)])
+            rows.append([name_of(good), units, min(prices), number(mean), max(prices)])
         else:
             rows.append([name_of(good), 0, "–", "–", "–"])
     return ("<h2>Ticket prices</h2>"
@@ -227,7 +228,8 @@ def chart(title: str, points: PricePath, low: int, high: int, steps: bool,
     return (f'<figure><figcaption>{title}</figcaption><div class="plot">'
             f'<svg viewBox="0 0 {TICKS} 100" preserveAspectRatio="none" aria-hidden="true">'
             f'{shade}<path class="grid" d="{grid}"/>{"".join(map(line, [points, *more]))}</svg>{dot}'
-            f'<span class="top">{high}</span><span class="low">{low}</span></div></figure>')
+            f'<span class="top">{number(high)}</span><span class="low">{number(low)}</span></div>'
+            "</figure>")
 
 
 def scale_of(goods: range, prices: Iterable[float]) -> Tuple[int, int]:
@@ -241,6 +243,14 @@ def scale_of(goods: range, prices: Iterable[float]) -> Tuple[int, int]:
     return low, high
 
 
+def chart_rows(goods: range, chart_of: Callable[[int, str], str]) -> Iterator[str]:
+    """The charts of flights, or of hotel nights, of which each is given its good and its name."""
+    for group in (goods[:4], goods[4:]):
+        charts = "".join(chart_of(good, f"{'day' if good in FLIGHTS else 'night'} "
+                                        f"{AUCTIONS[good].day}") for good in group)
+        yield f'<h3>{AUCTIONS[group[0]].group}</h3><div class="charts">{charts}</div>'
+
+
 def _price_rows(game: Game, events: Sequence[MarketEvent]) -> Iterator[str]:
     paths: Dict[int, List[Tuple[int, int]]] = defaultdict(list)
     for event in events:
@@ -249,18 +259,15 @@ def _price_rows(game: Game, events: Sequence[MarketEvent]) -> Iterator[str]:
     for good in FLIGHTS:
         paths[good].append((TICKS, paths[good][-1][1]))
     for goods in (FLIGHTS, HOTELS):
-        low, high = scale_of(goods, (dollars for good in goods for _, dollars in paths[good]))
-        for group in (goods[:4], goods[4:]):
-            charts = []
-            for good in group:
-                auction = AUCTIONS[good]
-                title = f"{'day' if good in FLIGHTS else 'night'} {auction.day}"
-                last = paths[good][-1][1]
-                closes = (f"{number(last)} at tick {game.hotels[good - 8].closes}" if good in HOTELS
-                          else f"{paths[good][0][1]} to {last}")
-                charts.append(chart(f"{title}: <b>{closes}</b>", paths[good], low, high,
-                                    good in HOTELS))
-            yield f'<h3>{AUCTIONS[group[0]].group}</h3><div class="charts">{"".join(charts)}</div>'
+        scale = scale_of(goods, (dollars for good in goods for _, dollars in paths[good]))
+
+        def chart_of(good: int, title: str, scale: Tuple[int, int] = scale) -> str:
+            first, last = (number(paths[good][place][1]) for place in (0, -1))
+            closes = (f"{last} at tick {game.hotels[good - 8].closes}" if good in HOTELS
+                      else f"{first} to {last}")
+            return chart(f"{title}: <b>{closes}</b>", paths[good], *scale, good in HOTELS)
+
+        yield from chart_rows(goods, chart_of)
 
 
 def _prices(game: Game, events: Sequence[MarketEvent]) -> str:

@@ -15,12 +15,6 @@ def names_of(words: Sequence[str], by_word: bool) -> List[str]:
     return [f"agent {agent}" for agent in range(len(words))]
 
 
-def name_of_word(word: str, agent: int) -> str:
-    """How an agent is called by whoever knows its word alone."""
-    stem = _stem(word)
-    return f"agent {agent}" if stem in ("", "seat") else stem
-
-
 def _stem(word: str) -> str:
     letters = re.match("[a-z]*", word)
     return letters[0] if letters and len(letters[0]) < len(word) else ""
