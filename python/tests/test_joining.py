@@ -137,8 +137,8 @@ class Reading(unittest.TestCase):
     def test_folders(self) -> None:
         read, told = read_source(self.folder("run", 2))
         assert read is not None
-        self.assertEqual((read.rows, told, read.label, missing(read)),
-                         (source("", 2).rows, [], "run", ""))
+        self.assertEqual((read.rows, told, missing(read)),
+                         (source("", 2).rows, [], ""))
 
     def test_what_cannot_be_read_is_named(self) -> None:
         old = self.folder("old", 1)

@@ -64,6 +64,7 @@ class Lobby:
     status = 0
     log = b""
     seconds = 0.0
+    awaited = 0  # how many orders it waits for first
     lines: Sequence[events.Ticked] = ()
     orders: List[str] = []
     last: Any = None  # the settings of the last one
@@ -72,6 +73,7 @@ class Lobby:
         self.settings = Lobby.last = settings
 
     def run(self, on_event: Callable[[events.Event], None]) -> int:
+        Lobby.orders = [self.settings.orders.readline() for _ in range(self.awaited)]
         time.sleep(self.seconds)
         for seat in self.departed:
             on_event(events.Departed(0.0, seat, f"red{seat}"))
@@ -83,7 +85,7 @@ class Lobby:
             on_event(events.Ended(0.0, seat, "word", end, 5))
         self.settings.log.write_bytes(self.log)
         os.set_blocking(self.settings.orders.fileno(), False)
-        Lobby.orders = self.settings.orders.readlines()
+        Lobby.orders += self.settings.orders.readlines()
         return self.status
 
 
@@ -234,13 +236,14 @@ class Matches(unittest.TestCase):
 
     def test_the_lobby_is_told_of_agents_that_have_ended(self) -> None:
         self.patch("geesefuton.experiments.match.LEAVE", 0.3)
-        self.play("sleep 5")
+        self.lobby.awaited = 7
+        self.play("sleep 600")
         self.assertEqual(sorted(Lobby.orders), [f"without red{seat}\n" for seat in range(1, 8)])
 
     def test_the_lobby_is_told_again_if_a_link_ended_after_its_agent(self) -> None:
-        self.lobby.departed = [1, 2]
+        self.lobby.departed, self.lobby.awaited = [1, 2], 7
         self.patch("geesefuton.experiments.match.LEAVE", 0.3)
-        self.play("exit 0", "exit 0", "sleep 5")
+        self.play("exit 0", "exit 0", "sleep 600")
         self.assertEqual(Lobby.orders.count("without red0\n"), 1)
         self.assertEqual(Lobby.orders.count("without red1\n"), 2)
         self.assertEqual(Lobby.orders.count("without red2\n"), 0)

@@ -6,6 +6,7 @@ import os
 import pickle
 import signal
 import subprocess
+import sys
 import tempfile
 import unittest
 from collections import Counter
@@ -78,11 +79,13 @@ class Commands(unittest.TestCase):
             patch(mock.patch("sys.argv", ["profiles", *agents, *WORDS, "--at-once", "3", *words]))
             patch(mock.patch("geesefuton.processes.stop_on_signals"))
             patch(mock.patch.dict(os.environ, {"TAC": self.tac, "PLACE": str(self.place), **more}))
-            patch(mock.patch("geesefuton.experiments.tournament.PROGRAM", WORKER))
+            patch(mock.patch("geesefuton.experiments.tournament.PLAYER",
+                             [sys.executable, "-c", WORKER]))
             patch(mock.patch("geesefuton.experiments.profile_study.find", find))
-            patch(mock.patch("geesefuton.experiments.profile_study.Output", lambda target: Output(
+            patch(mock.patch("geesefuton.experiments.forms.Output", lambda target: Output(
                 out if target == 1 else target, "standard output" if target == 1 else "")))
-            for module in ("experiments.profile_study", "experiments.tournament", "processes"):
+            for module in ("experiments.profile_study", "experiments.tournament",
+                           "experiments.forms", "processes"):
                 patch(mock.patch(f"geesefuton.{module}.tell",
                                  lambda text, is_passing=False: told.append(text + "\n")))
             got = profiles.main()

@@ -191,7 +191,7 @@ class Command(unittest.TestCase):
 
     def refused(self, told: str, *words: object) -> None:
         with mock.patch.dict(os.environ, {"TAC": self.tac}), \
-                mock.patch("geesefuton.experiments.report_command.Output",
+                mock.patch("geesefuton.experiments.forms.Output",
                            side_effect=AssertionError("written")):
             status, text = refusal("experiments.report_command", *words)
         self.assertEqual(status, 1)

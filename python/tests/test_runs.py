@@ -54,7 +54,7 @@ class Folders(unittest.TestCase):
         self.addCleanup(patch.stop)
 
     def plan(self, **more: Any) -> Plan:
-        plan = Plan([], Rule(seed=1), 4, 1, 1, 7, 0, 0.1, "words", 1.5, 2.5, [], self.out,
+        plan = Plan([], Rule(seed=1), 4, 1, 1, 7, 0, 0.1, "words", 1.5, 2.5, self.out,
                     Seating(1), settings={"turns": 40, "rooms": "16..16"}, agents={"mine": MINE})
         return replace(plan, **more)
 
@@ -289,7 +289,7 @@ class Killed(unittest.TestCase):
                            "RESULT": str(self.place / "result")})
         sys.argv = ["tournament", "--games", str(self.GAMES), "--at-once", "3", "--out",
                     str(self.out), "--resume", "sh", "cat"]
-        tournament.PROGRAM = WORKER
+        tournament.PLAYER = [sys.executable, "-c", WORKER]
         sys.exit(tournament.main())
 
     def printed(self) -> str:

@@ -5,6 +5,7 @@ import json
 import os
 import pickle
 import stat
+import sys
 import tempfile
 import time
 import unittest
@@ -103,7 +104,7 @@ class Playing(unittest.TestCase):
         variable.start()
         self.addCleanup(variable.stop)
         self.told: List[str] = []
-        self.patch("geesefuton.experiments.tournament.PROGRAM", WORKER)
+        self.patch("geesefuton.experiments.tournament.PLAYER", [sys.executable, "-c", WORKER])
         self.patch("geesefuton.experiments.tournament.tell",
                    lambda line, is_passing=False: self.told.append(line))
         self.patch("geesefuton.program.make", lambda seed: SERVED_GAME.read_text())
@@ -118,7 +119,7 @@ class Playing(unittest.TestCase):
              turns: int = 0) -> Plan:
         agents = entrants(*(names or "ab"))
         return Plan(agents, Rule(seed=1), games, rotations, at_once, 7, turns, 0.1, "json", 1.5,
-                    2.5, [], self.place, Seating(len(agents)))
+                    2.5, self.place, Seating(len(agents)))
 
     def tournament(self, plan: Plan, *how: Any, out: Optional[Output] = None) -> Tournament:
         (self.place / "scores.csv").write_text(csv_of([HEAD]))
@@ -141,7 +142,7 @@ class Playing(unittest.TestCase):
     def test_every_game_is_played(self) -> None:
         made = self.play(games=4)
         rows = self.rows()
-        self.assertEqual(rows, made.report.all_rows())
+        self.assertEqual(rows, sorted(made.rows, key=lambda row: (row.place, row.seat)))
         self.assertEqual([(row.number, row.rotation, row.seat) for row in rows],
                          [(deal, rotation, seat) for deal in (1, 2) for rotation in (0, 1)
                           for seat in range(8)])
@@ -153,13 +154,13 @@ class Playing(unittest.TestCase):
         self.assertEqual([row.end for row in rows[:8]], [Outcome.PLAYED] * 7 + [Outcome.HUNG])
         self.assertEqual([row.luck for row in rows[:8]], [drawn.luck for drawn in covariates_of(served_game())])
         self.assertEqual({row.kind for row in rows}, {Kind.SERVED})
-        self.assertEqual((made.report.lost, self.left), ([], 0))
+        self.assertEqual((made.lost, self.left), ([], 0))
         self.assertRegex(self.told[-1], r"^game 4 of 4 \(deal [12], rotation [01]\): scored; 0:00 left$")
 
     def test_the_time_that_is_left_is_told_in_minutes_and_seconds(self) -> None:
         plan = self.plan("a", games=3, rotations=1)
         made = self.tournament(plan)
-        game = Running(0, Table(Deal(1, served_game()), 0), list(plan.entrants) * 8,
+        game = Running(Table(Deal(1, served_game()), 0), list(plan.entrants) * 8,
                        Player(mock.Mock(), mock.Mock()), 0.0, Result(fault="why"))
         with mock.patch("time.monotonic", return_value=made._began + 29.9):
             made._finish(game)  # two games more, of 29.9 seconds each
@@ -191,7 +192,7 @@ class Playing(unittest.TestCase):
         for fault, told in (("lose", "why"), ("die", "its process ended without a result")):
             made = self.play(fault, "1.1")
             self.assertEqual([row.place for row in self.rows()[::8]], [(1, 0)])
-            self.assertEqual(made.report.lost, [f"game 1.1 is lost: {told}"])
+            self.assertEqual(made.lost, [f"game 1.1 is lost: {told}"])
             self.assertIn(f"game 1.1 is lost: {told}", self.told)
 
     def test_a_deal_that_cannot_be_made_ends_the_tournament_after_the_games_before(self) -> None:
@@ -201,13 +202,13 @@ class Playing(unittest.TestCase):
             with mock.patch("geesefuton.experiments.deals.made_deal", side_effect=made):
                 played = self.play(games=3, rotations=1)
             self.assertEqual([row.seat for row in self.rows()], list(range(8)))
-            self.assertEqual(played.report.lost, [f"stopped playing games: {told}"])
+            self.assertEqual(played.lost, [f"stopped playing games: {told}"])
 
     def test_a_game_that_takes_too_long_is_ended(self) -> None:
         self.patch("geesefuton.experiments.plan.MARGIN", -3.0)
         made = self.play("hang", "1.0", games=2, rotations=1, at_once=1)
         self.assertIn("game 1.0 is lost: it took longer than its ticks and all its waits",
-                      made.report.lost)
+                      made.lost)
 
     def test_a_game_that_has_ended_is_not_late_because_nobody_looked(self) -> None:
         """As after ctrl-Z: its messages came in time, and are read later than it may take."""
@@ -216,7 +217,7 @@ class Playing(unittest.TestCase):
         ours, theirs = Pipe()
         result = Result(tuple(range(8)), (Outcome.PLAYED,) * 8)
         with ours, theirs:
-            game = Running(0, Table(Deal(1, served_game()), 0), list(plan.entrants) * 8,
+            game = Running(Table(Deal(1, served_game()), 0), list(plan.entrants) * 8,
                            Player(ours, mock.Mock()), deadline=time.monotonic() - 1.0)
             for message in (events.Ticked(0.0, 54), Note("a note"), result):
                 theirs.send(message)
@@ -229,7 +230,7 @@ class Playing(unittest.TestCase):
         made = self.play(turns=5)
         rows = self.rows()
         self.assertEqual([row.kind for row in rows], [Kind.TURNS] * 8 + [Kind.UNREPEATABLE] * 8)
-        self.assertEqual(rows, made.report.all_rows())
+        self.assertEqual(rows, sorted(made.rows, key=lambda row: (row.place, row.seat)))
 
     def test_a_game_in_turns_may_take_its_time_as_long_as_ticks_come(self) -> None:
         for turns, is_later in ((5, True), (0, False)):
@@ -237,7 +238,7 @@ class Playing(unittest.TestCase):
             ours, theirs = Pipe()
             with ours, theirs:
                 theirs.send(events.Ticked(0.0, 1))
-                game = Running(0, Table(Deal(1, served_game()), 0), list(plan.entrants) * 8,
+                game = Running(Table(Deal(1, served_game()), 0), list(plan.entrants) * 8,
                                Player(ours, mock.Mock()), deadline=0.0)
                 self.tournament(plan)._hear([game])
             self.assertEqual(game.deadline > time.monotonic(), is_later)
@@ -247,14 +248,14 @@ class Playing(unittest.TestCase):
 
     def test_a_game_whose_rows_are_not_taken_is_lost(self) -> None:
         made = self.play(out=Output("/dev/full"))
-        self.assertEqual(made.report.all_rows(), [])
-        self.assertEqual(made.report.lost[-1].partition(": ")[2],
+        self.assertEqual(sorted(made.rows, key=lambda row: (row.place, row.seat)), [])
+        self.assertEqual(made.lost[-1].partition(": ")[2],
                          "/dev/full: No space left on device")
 
     def test_what_agents_missed_is_in_the_rows(self) -> None:
         made = self.tournament(self.plan())
         result = Result(tuple(range(8)), (Outcome.PLAYED,) * 8, missed=(None, *range(7)))
-        game = Running(0, Table(Deal(1, served_game()), 0), entrants(*"abababab"),
+        game = Running(Table(Deal(1, served_game()), 0), entrants(*"abababab"),
                        Player(mock.Mock(), mock.Mock()), 0.0, result)
         made._finish(game)
         rows = self.rows()

@@ -117,18 +117,16 @@ class Commands(unittest.TestCase):
         self.assertEqual(plan.turns, 0)
         plan = plan_of("sh", "--seed", "18446744073709551612")
         self.assertEqual((plan.rule.seed, plan.games), (2 ** 64 - 4, 4))
-        plan = plan_of("sh", "--game", SERVED_GAME, "--summary", "a.csv", "--summary", "b.txt",
-                       "--start", "0", "--games", "1")
-        self.assertEqual((plan.rule.file, plan.summaries, plan.start, plan.games),
-                         (SERVED_GAME, [Path("a.csv"), Path("b.txt")], 0.0, 1))
+        plan = plan_of("sh", "--game", SERVED_GAME, "--start", "0", "--games", "1")
+        self.assertEqual((plan.rule.file, plan.start, plan.games), (SERVED_GAME, 0.0, 1))
         plan = plan_of("sh", "--turns", "20")
         self.assertEqual((plan.turns, plan.patience, plan.linger), (20, 30.0, 30.0))
         plan = plan_of("sh", "--turns", "20", "--patience", "3", "--after", "0")
         self.assertEqual((plan.patience, plan.linger), (3.0, 0.0))
         plan = plan_of("--games", "6")
         self.assertEqual((plan.pace, plan.linger, plan.games, plan.rotations, plan.at_once,
-                          plan.turns, plan.form, plan.start, plan.summaries),
-                         (100, 5.0, 6, 3, os.cpu_count(), 0, "words", 20.0, []))
+                          plan.turns, plan.form, plan.start),
+                         (100, 5.0, 6, 3, os.cpu_count(), 0, "words", 20.0))
         self.assertEqual([entrant.name for entrant in plan.entrants],
                          ["planner", "trader", "watcher"])
 

@@ -3,14 +3,11 @@
     agent_host.py CONNECTION GROUPS OUTSIDE
 
 It is started once for an agent and a run, inside its sandbox if it has one, and told over a
-connection what to run. For each game it forks. If the agent is a Python file, the child then runs
-it, and so pays neither for the start of Python nor for its imports; otherwise the child executes
-its words. No code of the agent runs in the host itself, and nothing is left of a game: what the
-agent has started is killed, and in a sandbox its temporary files are removed.
-
-OUTSIDE has the namespaces of who starts the host of a sandbox. Killing all processes and removing
-all temporary files is right in a sandbox alone, so the host ends at once if one of these namespaces
-is its own.
+connection what to run. For each game it forks. If the agent is a Python file, the child runs it,
+and so pays neither for the start of Python nor for its imports; otherwise it executes its words. No
+code of the agent runs in the host itself, and nothing is left of a game: what the agent has started
+is killed, and in a sandbox its temporary files are removed. As that is right in a sandbox alone,
+the host ends at once if it has one of the namespaces OUTSIDE, of who starts it.
 
 It uses the standard library alone, and no module of the package, so that it starts quickly.
 """
@@ -32,7 +29,7 @@ import socket
 import sys
 import time
 from pathlib import Path
-from typing import Any, Dict, List, Optional, Sequence, Set
+from typing import Any, Dict, Iterator, List, Optional, Sequence, Set
 
 MOST_MESSAGE = 1 << 20  # bytes
 PORT = 7000  # at which an agent in a sandbox finds its game
@@ -41,20 +38,52 @@ SET_DUMPABLE = 4  # of prctl
 TEMPORARY = ("/tmp", "/dev/shm")  # of a sandbox
 
 
+class Messages:
+    """Messages over a connection, each a line of JSON, and files, which `files` has once they have
+    come."""
+
+    def __init__(self, connection: socket.socket) -> None:
+        self.connection = connection
+        self.files: List[int] = []
+        self._held = b""
+
+    def say(self, message: Dict[str, Any], files: Sequence[int] = ()) -> None:
+        """Sends a message, with files."""
+        socket.send_fds(self.connection, [json.dumps(message).encode() + b"\n"], files)
+
+    def has_one(self) -> bool:
+        """Whether a message has come, and was not heard."""
+        return b"\n" in self._held
+
+    def hear(self, seconds: Optional[float] = None) -> Optional[Dict[str, Any]]:
+        """The next message, if it comes within some seconds; None if the connection has ended."""
+        while not self.has_one():
+            if not select.select([self.connection], [], [], seconds)[0]:
+                return None
+            try:
+                piece, files, _, _ = socket.recv_fds(self.connection, MOST_MESSAGE, 1)
+            except OSError:
+                return None
+            self.files += files
+            if not piece:
+                return None
+            self._held += piece
+        line, self._held = self._held.split(b"\n", 1)
+        message: Dict[str, Any] = json.loads(line)
+        return message
+
+
 class Host:
-    """The host of an agent's processes.
+    """The host of an agent's processes, by its messages with whoever runs the games.
 
     Args:
-        connection: To whoever runs the games. Each message is a line of JSON.
         groups: The folder in which the numbers of running process groups stand; "" for none.
         is_isolated: Whether this is a sandbox, with processes and temporary files of its own.
     """
 
-    def __init__(self, connection: socket.socket, groups: str, is_isolated: bool) -> None:
-        self._connection, self._groups, self._is_isolated = connection, groups, is_isolated
+    def __init__(self, messages: Messages, groups: str, is_isolated: bool) -> None:
+        self._messages, self._groups, self._is_isolated = messages, groups, is_isolated
         self._child = 0
-        self._held = b""
-        self._files: List[int] = []
         self._woken, wakes = os.pipe()
         os.set_blocking(wakes, False)
         signal.signal(signal.SIGCHLD, lambda *_: None)
@@ -63,18 +92,18 @@ class Host:
     def serve(self) -> Optional[Dict[str, Any]]:
         """Serves until the connection ends. Returns what is to be run, in a child."""
         while True:
-            seconds = 0 if b"\n" in self._held else None
-            ready, _, _ = select.select([self._connection, self._woken], [], [], seconds)
+            seconds = 0 if self._messages.has_one() else None
+            ready, _, _ = select.select([self._messages.connection, self._woken], [], [], seconds)
             if self._woken in ready:
                 os.read(self._woken, 512)
                 self._reap()
-            if seconds == 0 or self._connection in ready:
-                message = self._next()
+            if seconds == 0 or self._messages.connection in ready:
+                message = self._messages.hear()
                 if message is None:
                     self._end()
                     return None
                 if "load" in message:
-                    load(message["load"])
+                    load(Path(message["load"]))
                     gc.freeze()
                     self._be_ready()
                 elif "run" in message:
@@ -83,33 +112,18 @@ class Host:
                 elif self._child:
                     os.killpg(self._child, signal.SIGKILL)
 
-    def _next(self) -> Optional[Dict[str, Any]]:
-        """The next message; None if the connection has ended."""
-        while b"\n" not in self._held:
-            piece, files, _, _ = socket.recv_fds(self._connection, MOST_MESSAGE, 1)
-            self._files += files
-            if not piece:
-                return None
-            self._held += piece
-        line, self._held = self._held.split(b"\n", 1)
-        message: Dict[str, Any] = json.loads(line)
-        return message
-
-    def _say(self, message: Dict[str, Any], files: Sequence[int] = ()) -> None:
-        socket.send_fds(self._connection, [json.dumps(message).encode() + b"\n"], files)
-
     def _be_ready(self) -> None:
         """Tells that games may begin. A sandbox hands out a listener in its own network: only who
         is in it can come there."""
         if not self._is_isolated:
-            self._say({"port": 0})
+            self._messages.say({"port": 0})
             return
         with socket.create_server(("127.0.0.1", PORT)) as listener:
-            self._say({"port": PORT}, [listener.fileno()])
+            self._messages.say({"port": PORT}, [listener.fileno()])
 
     def _run(self, message: Dict[str, Any]) -> bool:
         """Forks. Whether this is the child."""
-        out = self._files.pop(0)
+        out, connection = self._messages.files.pop(0), self._messages.connection
         child = os.fork()
         if child:
             os.close(out)
@@ -123,8 +137,8 @@ class Host:
         nothing = os.open(os.devnull, os.O_RDONLY)
         for number, source in enumerate((nothing, out, out)):
             os.dup2(source, number)
-        os.closerange(3, max(out, nothing, self._woken, self._connection.fileno()) + 2)
-        self._connection.detach()
+        os.closerange(3, max(out, nothing, self._woken, connection.fileno()) + 2)
+        connection.detach()
         dumpable(True)
         return True
 
@@ -137,8 +151,8 @@ class Host:
                     return
                 if process == self._child:
                     self._end()
-                    self._say({"status": -os.WTERMSIG(status) if os.WIFSIGNALED(status)
-                               else os.WEXITSTATUS(status)})
+                    self._messages.say({"status": -os.WTERMSIG(status) if os.WIFSIGNALED(status)
+                                        else os.WEXITSTATUS(status)})
 
     def _end(self) -> None:
         """Ends what is left of a game."""
@@ -168,26 +182,23 @@ def dumpable(may_be: bool) -> None:
     ctypes.CDLL(None).prctl(SET_DUMPABLE, DUMPABLE if may_be else NOT_DUMPABLE, 0, 0, 0)
 
 
-def load(file: str) -> None:
-    """Imports what a Python file imports, but for modules of its own folder. "" is no file."""
+def imports_of(file: Path) -> Iterator[str]:
+    """The modules that a Python file imports; none if it cannot be read, which it will tell."""
     with contextlib.suppress(OSError, SyntaxError, ValueError):
-        tree = ast.parse(Path(file).read_bytes())
-        for node in ast.walk(tree):
+        for node in ast.walk(ast.parse(file.read_bytes())):
             if isinstance(node, ast.Import):
-                names = [alias.name for alias in node.names]
+                yield from (alias.name for alias in node.names)
             elif isinstance(node, ast.ImportFrom) and node.module and not node.level:
-                names = [node.module]
-            else:
-                continue
-            for name in names:
-                if not _stands_in(name.split(".")[0], Path(file).parent):
-                    with contextlib.suppress(Exception):  # the agent will meet it, too
-                        importlib.import_module(name)
+                yield node.module
 
 
-def _stands_in(name: str, folder: Path) -> bool:
-    """Whether a module would be taken from a folder."""
-    return (folder / name).is_dir() or any(folder.glob(f"{name}.*"))
+def load(file: Path) -> None:
+    """Imports what a Python file imports, but for modules of its own folder."""
+    for name in imports_of(file):
+        top = file.parent / name.split(".")[0]
+        if not (top.is_dir() or any(file.parent.glob(f"{top.name}.*"))):
+            with contextlib.suppress(Exception):  # the agent will meet it, too
+                importlib.import_module(name)
 
 
 def run(words: List[str], variables: Dict[str, str], limits: Dict[str, int]) -> int:
@@ -226,7 +237,7 @@ def main() -> int:
         print("this is no sandbox", file=sys.stderr)
         return 1
     dumpable(False)
-    host = Host(socket.socket(fileno=int(number)), groups, outside != "")
+    host = Host(Messages(socket.socket(fileno=int(number))), groups, outside != "")
     given = host.serve()
     return 0 if given is None else run(given["run"], given["variables"], given["limits"])
 

@@ -3,8 +3,6 @@
 from __future__ import annotations
 
 import contextlib
-import json
-import select
 import socket
 import subprocess
 import sys
@@ -13,7 +11,7 @@ from pathlib import Path
 from typing import Any, BinaryIO, Dict, List, Optional, Sequence, Tuple
 
 from geesefuton import program
-from geesefuton.experiments.agent_host import namespaces
+from geesefuton.experiments.agent_host import Messages, namespaces
 from geesefuton.experiments.apart import sandbox
 from geesefuton.experiments.entrants import Entrant, environment
 from geesefuton.experiments.messages import Job
@@ -21,17 +19,11 @@ from geesefuton.processes import Children
 
 HOST = str(Path(__file__).with_name("agent_host.py"))
 KILLED = 10.0  # seconds until an agent has to have ended that was killed
-MOST = 1 << 16  # bytes that are read at once
 
 
 class AgentProcess:
-    """An agent's process, in one game after another.
-
-    Args:
-        children: By which its host is started.
-        entrant: The agent.
-        variables: The environment that its host is started with.
-        before: The words of its sandbox; none if it has none.
+    """An agent's process, in one game after another, by a host that is started with these
+    variables, and with the words of its sandbox before, if it has one.
 
     Attributes:
         listener: A listener in the agent's own network; None if it has none.
@@ -43,9 +35,10 @@ class AgentProcess:
         self._children, self._entrant = children, entrant
         self.listener: Optional[socket.socket] = None
         self.port = 0
-        self._held, self._is_ready = b"", False
+        self._is_ready = False
         self._status: Optional[int] = None
-        self._connection, theirs = socket.socketpair()
+        ours, theirs = socket.socketpair()
+        self._messages = Messages(ours)
         with theirs:
             self._host = children.start(
                 [*before, sys.executable, HOST, str(theirs.fileno()),
@@ -57,47 +50,22 @@ class AgentProcess:
         self._say({"load": second if first == sys.executable else ""})
 
     def wait(self) -> None:
-        """Waits until its host is ready, if it is not.
-
-        Raises:
-            OSError: Its host has ended.
-        """
+        """Waits until its host is ready, if it is not."""
         if self._is_ready:
             return
-        message, files = self._hear(None)
+        message = self._messages.hear()
         if message is None:
-            raise OSError(0, f"the process of {self._entrant.name} did not start: {self._why()}")
+            assert self._host.stderr is not None
+            with self._host.stderr as printed:
+                said = printed.read().decode("utf-8", "replace").strip().split("\n")[-1]
+            raise OSError(0, f"the process of {self._entrant.name} did not start: {said}")
         self._is_ready, self.port = True, int(message["port"])
-        self.listener = socket.socket(fileno=files[0]) if files else None
-
-    def _why(self) -> str:
-        """The last line that its host or the sandbox printed."""
-        assert self._host.stderr is not None
-        with self._host.stderr as printed:
-            said = printed.read().decode("utf-8", "replace").strip()
-        return said.split("\n")[-1]
+        for file in self._messages.files:
+            self.listener = socket.socket(fileno=file)
 
     def _say(self, message: Dict[str, Any], files: Sequence[int] = ()) -> None:
         with contextlib.suppress(OSError):  # it has ended, which is seen when it is heard
-            socket.send_fds(self._connection, [json.dumps(message).encode() + b"\n"], files)
-
-    def _hear(self, seconds: Optional[float]) -> Tuple[Optional[Dict[str, Any]], List[int]]:
-        """What the host says next within some seconds, with files; None if it has ended, or says
-        nothing."""
-        files: List[int] = []
-        while b"\n" not in self._held:
-            if not select.select([self._connection], [], [], seconds)[0]:
-                return None, files
-            try:
-                piece, more, _, _ = socket.recv_fds(self._connection, MOST, 1)
-            except OSError:
-                piece, more = b"", []
-            files += more
-            if not piece:
-                return None, files
-            self._held += piece
-        line, self._held = self._held.split(b"\n", 1)
-        return json.loads(line), files
+            self._messages.say(message, files)
 
     @property
     def number(self) -> int:
@@ -115,7 +83,7 @@ class AgentProcess:
         """The exit status of the agent in this game, negative for a signal; None if it runs. A
         host that has ended was ended by the agent, and so counts as killed."""
         if self._status is None:
-            message, _ = self._hear(0)
+            message = self._messages.hear(0)
             if message is not None:
                 self._status = int(message["status"])
             elif self.has_ended():
@@ -130,7 +98,7 @@ class AgentProcess:
         """Ends the agent's process, if it has not ended. Its status in this game."""
         if self.poll() is None:
             self._say({"end": True})
-            message, _ = self._hear(KILLED)
+            message = self._messages.hear(KILLED)
             if message is None:
                 self.close()
                 return -9
@@ -140,7 +108,7 @@ class AgentProcess:
 
     def close(self) -> None:
         """Ends its host."""
-        self._connection.close()
+        self._messages.connection.close()
         if self.listener is not None:
             self.listener.close()
         self._children.end(self._host)
@@ -156,13 +124,9 @@ class Agents:
         self._running: Dict[Tuple[Entrant, int], AgentProcess] = {}
 
     def seated(self, job: Job) -> List[AgentProcess]:
-        """The processes for the seats of a game. An agent with several seats has as many.
-
-        Raises:
-            OSError: A host cannot be started.
-            ProgramError: There is no file of `tac`.
-            ValueError: An agent's folder holds what it may not see.
-        """
+        """The processes for the seats of a game. An agent with several seats has as many. Raises
+        ProgramError where there is no file of `tac`, and ValueError where an agent's folder holds
+        what it may not see."""
         counts: "Counter[Entrant]" = Counter()
         seated = []
         for entrant in job.entrants:
@@ -179,13 +143,12 @@ class Agents:
         return seated
 
     def _started(self, entrant: Entrant, job: Job) -> AgentProcess:
-        tac, before = program.find(), list[str]()
-        variables = environment(tac, Path("/tmp"), job.limits is not None)
-        if job.limits is not None:
-            before = sandbox(entrant, tac, [job.folder.parent])
+        tac, is_apart = program.find(), job.limits is not None
+        variables = environment(tac, Path("/tmp"), is_apart)
         if job.turns:
             variables["PYTHONHASHSEED"] = "0"  # holds from the start of a Python on
-        return AgentProcess(self._children, entrant, variables, before)
+        return AgentProcess(self._children, entrant, variables,
+                            sandbox(entrant, tac, [job.folder.parent]) if is_apart else ())
 
     def close(self) -> None:
         """Ends all of them."""

@@ -64,11 +64,8 @@ def own_files(entrant: Entrant) -> List[Path]:
 
 
 def folder_of(entrant: Entrant, secret: Sequence[Path]) -> Optional[Path]:
-    """The folder that an agent sees as its own, that of its first file; None if it has none.
-
-    Raises:
-        ValueError: The folder holds one of these, or the home folder.
-    """
+    """The folder that an agent sees as its own, that of its first file; None if it has none. Raises
+    ValueError where the folder holds one of these, or the home folder."""
     files = own_files(entrant)
     if not files:
         return None
@@ -83,11 +80,8 @@ def folder_of(entrant: Entrant, secret: Sequence[Path]) -> Optional[Path]:
 
 def sandbox(entrant: Entrant, tac: str, secret: Sequence[Path]) -> List[str]:
     """The words before a command that let it run in an agent's sandbox, in its folder, where it
-    sees nothing of the secret folders, such as that of the run.
-
-    Raises:
-        ValueError: Its folder holds one of these.
-    """
+    sees nothing of the secret folders, such as that of the run. Raises ValueError where its folder
+    holds one of these."""
     own, folder = own_files(entrant), folder_of(entrant, secret)
     words = ["bwrap", *_namespaces(), "--proc", "/proc", "--dev", "/dev", "--tmpfs", "/tmp"]
     for place in SYSTEM:

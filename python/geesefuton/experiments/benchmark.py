@@ -2,30 +2,28 @@
 
     benchmark --out FOLDER classic mine.py
 
-There are two lists of deals, in examples/benchmarks: `classic`, with 16 rooms a night and tickets
-in clumps as in the original game, and `scarce`, with 3 to 6 rooms a night and live quotes. Games
-are in turns, so they are the same on any machine with the same program, package and minor version
-of Python. Their seeds are known: compare agents that were not made for these deals.
+The lists of deals are in examples/benchmarks. Games are in turns, so they are the same on any
+machine with the same program, package and minor version of Python. Their seeds are known: compare
+agents that were not made for these deals.
 
-FOLDER keeps the games like a tournament's --out, and --resume continues. At the end it has
-benchmark.json, which tells nothing of the machine: the list and its SHA-256, how the games were
-played, each agent's digest and its mean, and how much more the agent has than each reference agent,
-paired by deals, with 95 % intervals. The command prints these means and differences.
-
-The exit status is that of `tournament`.
+FOLDER keeps the games like a tournament's --out. At the end it has benchmark.json, which tells
+nothing of the machine: the list and its SHA-256, how the games were played, each agent's digest and
+its mean, and how much more the agent has than each reference agent, paired by deals, with 95 %
+intervals. The command prints these figures; its exit status is that of `tournament`.
 """
 
 import hashlib
 import json
 import shlex
 from dataclasses import asdict, replace
+from functools import partial
 from pathlib import Path
 from typing import List
 
 from geesefuton import program
 from geesefuton.arguments import Parser, whole
 from geesefuton.experiments.comparisons import Estimate
-from geesefuton.experiments.forms import columns, count_text, number_text, shown
+from geesefuton.experiments.forms import columns, count_text, number_text, printed, shown
 from geesefuton.experiments.plan import Plan, make_parser, read_plan
 from geesefuton.experiments.results import Row
 from geesefuton.experiments.summary import Difference, summarize
@@ -36,14 +34,14 @@ LISTS = ("classic", "scarce")
 RESULT = "benchmark.json"
 
 
-def _file_of(name: str) -> Path:
-    """The file of a list."""
-    return program.examples() / "benchmarks" / f"{name}.json"
+def _list(name: str) -> bytes:
+    """The text of a list's file."""
+    return (program.examples() / "benchmarks" / f"{name}.json").read_bytes()
 
 
 def _words(name: str, agent: str, deals: int) -> List[str]:
     """The words of the tournament that plays a list, or some of its deals."""
-    told, folder = json.loads(_file_of(name).read_bytes()), program.examples()
+    told, folder = json.loads(_list(name)), program.examples()
     others = [folder / file for file in told["references"]]
     own = Path(agent).resolve()
     if own in others:  # it is one of them
@@ -83,7 +81,7 @@ def _written(plan: Plan, name: str, rows: List[Row]) -> str:
         table.append([f"{place}.", shown(standing.agent), number_text(standing.score),
                       number_text(less), "-" if pair is None or pair.student is None
                       else f"{pair.student:.3f}"])
-    told = {"benchmark": name, "sha256": hashlib.sha256(_file_of(name).read_bytes()).hexdigest(),
+    told = {"benchmark": name, "sha256": hashlib.sha256(_list(name)).hexdigest(),
             "deals": summary.deals, "settings": plan.settings, "agents": agents}
     out = Output(plan.out / RESULT)
     out.write(json.dumps(told, indent=1) + "\n")
@@ -104,26 +102,14 @@ def _main() -> int:
     parser.add_argument("--deals", type=whole(1), default=0, metavar="N",
                         help="play only so many of the deals, to try it")
     given = parser.parse_args()
-    try:
-        words = _words(given.list, given.agent, given.deals)
-    except OSError as fault:
-        parser.error(f"{fault.filename}: {fault.strerror}")
+    words = _words(given.list, given.agent, given.deals)
     more = ["--resume"] if given.resume else []
     plan = read_plan(parser, make_parser(None).parse_args(
         [*words, *more, f"--out={given.out}"]))
     if any("/" in entrant.name for entrant in plan.entrants):
         parser.error(f"{given.agent}: a reference agent has this name: give it another one")
-    status, rows, lost = play_in_folder(parser, plan)
-    for text in lost:
-        tell(f"benchmark: {text}")
-    if status:
-        return status
-    text = _written(plan, given.list, rows)
-    out = Output(1)
-    out.write(text)
-    return 1 if out.fault else 0
+    status, rows, _ = play_in_folder(parser, plan)
+    return status or printed("benchmark", _written(plan, given.list, rows))
 
 
-def main() -> int:
-    """The command `benchmark`."""
-    return command("benchmark", _main)
+main = partial(command, "benchmark", _main)

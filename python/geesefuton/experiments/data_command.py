@@ -1,21 +1,17 @@
-"""The command `data`: writes the games of a tournament as CSV tables.
+"""Writes the games of a tournament as CSV tables (docs/FORMATS.md, "The tables of a tournament").
 
-    tournament --turns 40 --games 20 --out runs/1 mine.py theirs.py
     data runs/1 tables
 
 FOLDER is the folder of a run (`tournament --out`), and OUT a new folder, for the tables `games`,
-`deals`, `goods`, `quotes`, `bids`, `trades`, `cash`, `scores` and `trips`. `schema.json`, written
-last, has the version of their form (docs/FORMATS.md, "The tables of a tournament"). Each call has
-its tick. `geesefuton.records.data.read_data` reads the tables back, as does any program that reads
-CSV.
-
-The command reports a game whose files are missing or do not belong together, and goes on with the
-others. The exit status is 0 if it wrote all games.
+`deals`, `goods`, `quotes`, `bids`, `trades`, `cash`, `scores` and `trips`. The command reports a
+game whose files are missing or do not belong together, and goes on with the others. The exit status
+is 0 if it wrote all games.
 """
 
 import os
+from functools import partial
 from pathlib import Path
-from typing import Iterable, Iterator, Sequence, Set, Tuple
+from typing import Iterable, Iterator, List, Sequence, Set, Tuple
 
 from geesefuton.arguments import Parser
 from geesefuton.experiments.joining import read_source
@@ -34,42 +30,35 @@ Cells = Sequence[object]
 
 
 class Tables:
-    """The files of the tables.
-
-    Args:
-        folder: A new or empty folder.
-
-    Attributes:
-        games: How many games were written.
-    """
+    """The files of the tables, in a new or empty folder."""
 
     def __init__(self, folder: Path) -> None:
         self._folder = folder
         self._files = {table: Output(file_of(folder, table)) for table in TABLES}
         self._deals: Set[str] = set()
-        self.games = 0
+        self._games = 0
         for table, columns in TABLES.items():
             self._put(table, [list(columns)])
 
     def write(self, kept: KeptGame) -> None:
         """Writes a game."""
-        self.games += 1
+        self._games += 1
         if kept.rows[0].deal not in self._deals:
             self._deals.add(kept.rows[0].deal)
             self._put("deals", _clients(kept))
             self._put("goods", _goods(kept))
         for table, rows in ROWS.items():
-            self._put(table, ((self.games, *row) for row in rows(kept)))
+            self._put(table, ((self._games, *row) for row in rows(kept)))
 
-    def end(self) -> str:
-        """Writes the schema and closes all; gives what failed, "" if nothing did."""
+    def end(self) -> List[str]:
+        """Writes the schema and closes all; gives what failed."""
         files = list(self._files.values())
         if all(file.fault is None for file in files):
             files.append(Output(self._folder / SCHEMA))
             files[-1].write(schema_text())
         for file in files:
             file.close()
-        return next((f"{file.name}: {file.fault}" for file in files if file.fault is not None), "")
+        return [f"{file.name}: {file.fault}" for file in files if file.fault is not None][:1]
 
     def _put(self, table: str, rows: Iterable[Cells]) -> None:
         self._files[table].write(csv_of(rows))
@@ -167,17 +156,6 @@ ROWS = {"games": _game, "quotes": _quotes, "bids": _bids, "trades": _trades, "ca
         "scores": _scores, "trips": _trips}
 
 
-def _make(parser: Parser, folder: Path) -> None:
-    """Makes the folder of the tables. No table is written over."""
-    try:
-        folder.mkdir(parents=True, exist_ok=True)
-        names = sorted(os.listdir(folder))
-    except OSError as fault:
-        parser.error(f"{folder}: {why(fault)}")
-    if names:
-        parser.error(f"{folder} is not empty (it has {names[0]}): name a new folder")
-
-
 def _main() -> int:
     parser = Parser("data", __doc__)
     parser.add_argument("folder", type=Path, metavar="FOLDER", help="the folder of a run")
@@ -187,17 +165,20 @@ def _main() -> int:
         parser.error(f"{given.folder} is not a folder")
     source, told = read_source(given.folder)
     if source is not None:
-        _make(parser, given.out)
+        try:
+            given.out.mkdir(parents=True, exist_ok=True)
+            names = sorted(os.listdir(given.out))
+        except OSError as fault:
+            parser.error(f"{given.out}: {why(fault)}")
+        if names:
+            parser.error(f"{given.out} is not empty (it has {names[0]}): name a new folder")
         tables = Tables(given.out)
         for kept in read_games(given.folder, source.rows, told):
             tables.write(kept)
-        fault = tables.end()
-        told += [fault] if fault else []
+        told += tables.end()
     for text in told:
         tell(f"data: {text}")
     return 1 if told else 0
 
 
-def main() -> int:
-    """The command `data`."""
-    return command("data", _main)
+main = partial(command, "data", _main)

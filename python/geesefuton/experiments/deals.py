@@ -5,6 +5,7 @@ A run draws its deals from a secret (`records.secret_deals`), or from seeds that
 has the one deal of a game file. Deals with the same text are the same deal, in whatever run.
 """
 
+import contextlib
 import hashlib
 import json
 import os
@@ -14,6 +15,7 @@ from pathlib import Path
 from typing import Container, Dict, Iterator, Optional, Tuple
 
 from geesefuton import program
+from geesefuton.processes import why
 from geesefuton.records.drawing import varied
 from geesefuton.records.games import MOST_ROOMS, Game, GameError, read_game
 from geesefuton.records.secret_deals import commitment, deal_seed, read_secret
@@ -22,7 +24,7 @@ SHORT = 12  # digits of a digest in a row
 RUN, SECRET = "run.json", "secret"  # files in the folder of a run
 
 
-class DealError(Exception):
+class DealError(program.CommandError):
     """A deal that cannot be made, or words that name none."""
 
 
@@ -79,11 +81,7 @@ class Table:
 
 
 def read_rooms(text: str) -> Tuple[int, int]:
-    """Reads `4` or `3..6`, the numbers of rooms that a hotel night may have.
-
-    Raises:
-        DealError: The text is neither, or a number is not from 1 to 64.
-    """
+    """Reads `4` or `3..6`, the numbers of rooms, 1 to 64, that a hotel night may have."""
     ends = text.split("..")
     if not all(end.isascii() and end.isdigit() for end in ends) or len(ends) > 2:
         raise DealError(f"expected rooms as a number or a range such as 3..6, not {text!r}")
@@ -94,26 +92,16 @@ def read_rooms(text: str) -> Tuple[int, int]:
 
 
 def made_deal(rule: Rule, number: int) -> Deal:
-    """The deal of a number, from 1.
-
-    Raises:
-        DealError: The file cannot be read, or is no game file.
-        ProgramError: `tac make` refused.
-    """
+    """The deal of a number, from 1. Raises DealError where the file cannot be read, or is no game
+    file, and ProgramError where `tac make` refused."""
     if rule.file is not None:
-        return Deal(number, _read(rule.file))
+        try:
+            return Deal(number, read_game(rule.file.read_bytes().decode("latin-1")))
+        except (OSError, GameError) as fault:
+            raise DealError(f"{rule.file}: {why(fault)}") from None
     seed = rule.seed_of(number)
     return Deal(number, varied(read_game(program.make(seed)), seed, rule.rooms, rule.live,
                                rule.is_clumped))
-
-
-def _read(file: Path) -> Game:
-    try:
-        return read_game(file.read_bytes().decode("latin-1"))
-    except OSError as fault:
-        raise DealError(f"{file}: {fault.strerror}") from None
-    except GameError as fault:
-        raise DealError(f"{file}: {fault}") from None
 
 
 def place_of(rule: Rule, number: int, rotations: int) -> Tuple[int, int]:
@@ -135,37 +123,35 @@ def tables(rule: Rule, games: int, rotations: int,
             yield Table(deal, rotation)
 
 
+def write_whole(file: Path, text: str, mode: int = 0o666) -> None:
+    """Writes a file so that it is there whole, or as it was."""
+    new = file.with_name(f".{file.name}.new")
+    new.unlink(missing_ok=True)
+    with open(new, "w", encoding="utf-8",
+              opener=lambda path, how: os.open(path, how | os.O_EXCL, mode)) as out:
+        out.write(text)
+        out.flush()
+        os.fsync(out.fileno())
+    os.replace(new, file)
+
+
 def shared_secret(file: Path, secret: bytes) -> bytes:
     """The secret that a file has, which nobody else can read; where there is none it gets this one.
-
-    Raises:
-        DealError: The file has something else.
-        OSError: It cannot be read or written.
-    """
+    Raises DealError where the file has something else."""
     file.parent.mkdir(parents=True, exist_ok=True)
     new = file.with_name(f".{file.name}.{os.getpid()}")
-    with open(new, "x", encoding="ascii",
-              opener=lambda name, how: os.open(name, how, 0o600)) as text:
-        text.write(secret.hex() + "\n")
-        text.flush()
-        os.fsync(text.fileno())
+    write_whole(new, secret.hex() + "\n", 0o600)
     try:
-        # So the file is there whole, and if two make it, the first one counts.
-        os.link(new, file)
-    except FileExistsError:
-        pass
+        with contextlib.suppress(FileExistsError):  # if two make it, the first one counts
+            os.link(new, file)
     finally:
         new.unlink()
     return _read_secret(file)
 
 
 def kept_secret(folder: Path) -> Optional[bytes]:
-    """The secret of a run that is in a folder; None if it has none.
-
-    Raises:
-        DealError: A file has something else.
-        OSError: A file cannot be read.
-    """
+    """The secret of a run that is in a folder; None if it has none. Raises DealError where a file
+    has something else."""
     if (folder / SECRET).exists():
         return _read_secret(folder / SECRET)
     try:

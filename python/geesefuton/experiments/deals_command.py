@@ -7,24 +7,21 @@ be the one of the commitment that the run began with. The exit status is 0 if al
 the secret.
 """
 
+from functools import partial
 from pathlib import Path
-from typing import List
 
 from geesefuton.arguments import Parser
-from geesefuton.experiments.deals import DealError, Rule, made_deal, read_rooms
+from geesefuton.experiments.deals import Rule, made_deal, read_rooms
+from geesefuton.experiments.forms import printed
 from geesefuton.experiments.runs import GAMES, RunError, read_record, secret_of
-from geesefuton.processes import Output, command, tell, why
+from geesefuton.processes import command
 from geesefuton.records.games import GameError, read_game
 
 
-def _flaws(folder: Path) -> List[str]:
-    """What differs in the games of a run, each in a line; what was compared is told.
-
-    Raises:
-        RunError: It is no run, or its secret is not known.
-        OSError: A file cannot be read.
-        ProgramError: `tac make` refused.
-    """
+def _main() -> int:
+    parser = Parser("deals", __doc__)
+    parser.add_argument("folder", type=Path, metavar="FOLDER", help="the folder of a run")
+    folder = parser.parse_args().folder
     settings = read_record(folder)["settings"]
     if "game" in settings:
         raise RunError(f"{folder}: its games are those of a file")
@@ -42,25 +39,8 @@ def _flaws(folder: Path) -> List[str]:
             flaws += [f"{file}: it is not the game of the secret"] if made != text else []
     if not files:
         raise RunError(f"{folder}: it has no games")
-    Output(1).write(f"{len(files) - len(flaws)} of {len(files)} games are those of the secret\n")
-    return flaws
+    return printed("deals", f"{len(files) - len(flaws)} of {len(files)} games are those of the "
+                   "secret\n", flaws)
 
 
-def _main() -> int:
-    parser = Parser("deals", __doc__)
-    parser.add_argument("folder", type=Path, metavar="FOLDER", help="the folder of a run")
-    folder = parser.parse_args().folder
-    try:
-        flaws = _flaws(folder)
-    except (RunError, DealError) as fault:
-        flaws = [str(fault)]
-    except OSError as fault:
-        flaws = [f"{fault.filename}: {why(fault)}"]
-    for text in flaws:
-        tell(f"deals: {text}")
-    return 1 if flaws else 0
-
-
-def main() -> int:
-    """The command `deals`."""
-    return command("deals", _main)
+main = partial(command, "deals", _main)

@@ -33,11 +33,8 @@ class Entrant:
 
 
 def read_entrant(command: str) -> Entrant:
-    """Reads an agent's command.
-
-    Raises:
-        EntrantError: It is no command, or its program is not there.
-    """
+    """Reads an agent's command. Raises EntrantError where it is no command, or its program is not
+    there."""
     try:
         words = shlex.split(command)
     except ValueError as fault:
@@ -73,11 +70,8 @@ def _variant(entrant: Entrant) -> str:
 
 def read_entrants(commands: Sequence[str]) -> List[Entrant]:
     """Reads the agents' commands. Different agents of one name get the words after their file added
-    to it, and their commands as names where these are the same.
-
-    Raises:
-        EntrantError: One of them cannot be run, or its name would read as a missing value.
-    """
+    to it, and their commands as names where these are the same. Raises EntrantError where one of
+    them cannot be run, or its name would read as a missing value."""
     entrants = [read_entrant(command) for command in commands]
     different = {entrant.command: entrant for entrant in entrants}  # one may be given twice
     names = Counter(entrant.name for entrant in different.values())
@@ -100,11 +94,8 @@ def read_entrants(commands: Sequence[str]) -> List[Entrant]:
 
 
 def refuse_twins(entrants: Sequence[Entrant]) -> None:
-    """Refuses an agent that is given twice.
-
-    Raises:
-        EntrantError: Two agents have the same name, or are run by the same words.
-    """
+    """Refuses an agent that is given twice. Raises EntrantError where two agents have the same
+    name, or are run by the same words."""
     seen: Dict[Tuple[str, ...], str] = {}
     for entrant in entrants:
         for key in (entrant.words, (entrant.name,)):

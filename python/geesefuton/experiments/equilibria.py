@@ -1,9 +1,8 @@
 """Symmetric equilibria of symmetric games, from payoffs alone. It needs the extra `study`.
 
-In a symmetric game all players choose from the same strategies, and a player's payoff depends on
-its own choice and on how many of the others chose each strategy. A mixture gives each strategy a
-share. Its regret is the most that a player would gain by a single strategy while the others draw
-from the mixture; a mixture without regret is a symmetric equilibrium. Each symmetric game has one.
+A mixture gives each strategy a share. Its regret is the most that a player would gain by a single
+strategy while the others draw from the mixture; a mixture without regret is a symmetric
+equilibrium. Each symmetric game has one.
 
 Payoffs come deal by deal: a sample is the payoffs of one deal, for each strategy a payoff against
 each of `counts_of(players - 1, mixed)`, where rivals have only the first `mixed` strategies.
@@ -38,20 +37,15 @@ KNOWN = 0.95  # the part of resamples from which on an equilibrium is called kno
 
 
 class _Shape:
-    """The choices of rivals.
-
-    Attributes:
-        counts: For each choice how many of them have each strategy.
-        orders: In how many orders they can have chosen so.
-        raised: For each strategy and each choice of one rival less the number of the choice in
-            which one more has that strategy.
-    """
+    """The choices of rivals."""
 
     def __init__(self, rivals: int, strategies: int) -> None:
         choices = counts_of(rivals, strategies)
-        self.counts = np.array(choices)
+        self.counts = np.array(choices)  # for each choice how many of them have each strategy
         self.orders = np.array([math.factorial(rivals) / math.prod(map(math.factorial, counts))
-                                for counts in choices])
+                                for counts in choices])  # in how many orders they can choose so
+        # For each strategy and each choice of one rival less the number of the choice in which one
+        # more has that strategy.
         self.raised = [[choices.index(with_one(counts, strategy))
                         for counts in counts_of(rivals - 1, strategies)]
                        for strategy in range(strategies)] if rivals else []
@@ -188,12 +182,9 @@ def gains(players: int, samples: Array, mixture: Sequence[float]) -> List[Estima
 
 def resampled(samples: Array, count: int) -> Array:
     """Payoffs as other deals might have given them: means over deals that are drawn from these
-    again.
-
-    Means of deals that are drawn again lie too close together, and the more so the fewer deals
-    there are. So each one's distance from the mean of all is widened until a payoff scatters as
-    wide as its interval by Student's t.
-    """
+    again. These lie too close together, and the more so the fewer deals there are. So each one's
+    distance from the mean of all is widened until a payoff scatters as wide as its interval by
+    Student's t."""
     size, source = len(samples), random.Random(1)
     wider = math.sqrt(size / (size - 1)) * student_quantile(size - 1) / NormalDist().inv_cdf(0.975)
     drawn = [Counter(source.choices(range(size), k=size)) for _ in range(count)]

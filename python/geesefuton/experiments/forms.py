@@ -9,6 +9,7 @@ from typing import Any, Callable, Dict, List, Optional, Sequence
 from geesefuton.experiments.comparisons import LEVEL, POWER, Estimate
 from geesefuton.experiments.results import Kind, Outcome
 from geesefuton.experiments.summary import Difference, Standing, Summary
+from geesefuton.processes import Output, tell
 from geesefuton.records.games import TICKS
 from geesefuton.records.tables import csv_of
 
@@ -30,8 +31,15 @@ def _chance(value: Optional[float]) -> str:
     return "-" if value is None else f"{value:.3f}"
 
 
-def _marked(standing: Standing) -> str:
-    return number_text(standing.score) + (MARK if standing.untaken else "")
+def printed(command: str, text: str, told: Sequence[str] = ()) -> int:
+    """Writes a text to standard output, tells each fault of before and of writing, and gives the
+    exit status of a command."""
+    out = Output(1)
+    out.write(text)
+    told = [*told, *([f"{out.name}: {out.fault}"] if out.fault is not None else [])]
+    for each in told:
+        tell(f"{command}: {each}")
+    return 1 if told else 0
 
 
 def count_text(number: int, what: str) -> str:
@@ -150,9 +158,9 @@ def as_text(summary: Summary, most: float = math.inf) -> str:
              "with 95 % intervals by deals (Student's t)", *_kinds(summary), ""]
     rows = [["agent", "mean", "of seats that played", "luck", f"mean {ADJUSTED}",
              "did not play"]]
-    rows += [[shown(standing.agent), _marked(standing), number_text(standing.played),
-              f"{standing.luck:.0f}", number_text(standing.adjusted), _reasons(standing)]
-             for standing in summary.standings]
+    rows += [[shown(standing.agent), number_text(standing.score) + MARK * (standing.untaken > 0),
+              number_text(standing.played), f"{standing.luck:.0f}", number_text(standing.adjusted),
+              _reasons(standing)] for standing in summary.standings]
     lines += columns(rows, most)
     if any(standing.untaken for standing in summary.standings):
         lines.append(f"{MARK} includes seats that nobody took, with the scores of their logs")
@@ -177,20 +185,18 @@ def as_csv(summary: Summary) -> str:
             "paired_by", "left_out", "all_pairs_half", "student_p", "holm_p", "wilcoxon_p",
             "deals_needed"]
     lines: List[List[Any]] = [head]
-    for standing in summary.standings:
-        lines.append(["mean", standing.agent, "", *_cells(standing.score),
-                      *_cells(standing.adjusted), standing.score.count, standing.seats,
-                      *(standing.ends.get(end, 0) for end in Outcome), round(standing.luck, 2),
-                      *_cells(standing.played)])
-    for pair in summary.differences:
-        lines.append(["difference", pair.first, pair.second, *_cells(pair.score),
-                      *_cells(pair.adjusted), pair.score.count if pair.score else 0,
-                      *[""] * (len(Outcome) + 4), _way(pair) if pair.score else "", pair.left_out,
-                      "" if pair.bonferroni is None else round(pair.bonferroni, 2),
-                      *("" if chance is None else f"{chance:.6g}"
-                        for chance in (pair.student, pair.holm, pair.wilcoxon)),
-                      "" if pair.needed is None else pair.needed])
-    return csv_of(line + [""] * (len(head) - len(line)) for line in lines)
+    lines += [["mean", standing.agent, "", *_cells(standing.score), *_cells(standing.adjusted),
+               standing.score.count, standing.seats,
+               *(standing.ends.get(end, 0) for end in Outcome), round(standing.luck, 2),
+               *_cells(standing.played), *[""] * 7] for standing in summary.standings]
+    lines += [["difference", pair.first, pair.second, *_cells(pair.score), *_cells(pair.adjusted),
+               pair.score.count if pair.score else 0, *[""] * (len(Outcome) + 4),
+               _way(pair) if pair.score else "", pair.left_out,
+               None if pair.bonferroni is None else round(pair.bonferroni, 2),
+               *(None if chance is None else f"{chance:.6g}"
+                 for chance in (pair.student, pair.holm, pair.wilcoxon)), pair.needed]
+              for pair in summary.differences]
+    return csv_of(lines)
 
 
 def as_json(summary: Summary) -> str:
@@ -203,11 +209,7 @@ def as_json(summary: Summary) -> str:
 
 def as_grades(summary: Summary) -> str:
     """Grades as CSV, the best first: an agent's mean, the ends of its interval in dollars, its
-    groups, and how many of its seats did not play to the end.
-
-    A group is a letter. These games do not separate agents that have a letter in common, by Holm's
-    test over all pairs.
-    """
+    groups, and how many of its seats did not play to the end."""
     lines: List[Sequence[object]] = [GRADES_HEAD]
     for standing in summary.standings:
         mean, half = standing.score.mean, standing.score.half
@@ -218,7 +220,8 @@ def as_grades(summary: Summary) -> str:
 
 
 def letters_of(summary: Summary, agent: str) -> str:
-    """The groups of an agent."""
+    """The groups of an agent, each a letter. These games do not separate agents that have one in
+    common, by Holm's test over all pairs."""
     return "".join(ascii_uppercase[number] if number < len(ascii_uppercase) else f"({number + 1})"
                    for number, group in enumerate(summary.groups) if agent in group)
 

@@ -1,9 +1,8 @@
 """Joins the results of several tournaments, if they belong together.
 
 Results belong together if their games were played in the same way, with the same settings, by the
-same agents with the same files, and no game occurs twice. Otherwise the differences are reported,
-and nothing is summarized; as pools, each group that belongs together has a name of its own. A run
-that lacks games is refused, too, unless its whole deals are enough.
+same agents with the same files, and no game occurs twice. As pools, each group that belongs
+together has a name of its own.
 """
 
 from collections import Counter
@@ -21,39 +20,18 @@ WAYS = {Kind.SERVED: "by the clock", Kind.TURNS: "in turns", Kind.UNREPEATABLE: 
 
 @dataclass(frozen=True)
 class Source:
-    """What one folder has.
+    """What one folder has."""
 
-    Attributes:
-        name: As it was given.
-        rows: Its rows, one or more.
-        planned: How many games it was to have.
-        stopped: Whether its last run did not end by itself.
-        lost: What its last run lost, each in a line.
-    """
-
-    name: str
-    rows: Sequence[Row]
-    planned: int = 0
-    is_stopped: bool = False
-    lost: Sequence[str] = ()
-
-    @property
-    def label(self) -> str:
-        """A short name: the folder's."""
-        return Path(self.name).name or self.name
-
-    @property
-    def played(self) -> int:
-        """How many games it has."""
-        return len({row.place for row in self.rows})
+    name: str  # as it was given
+    rows: Sequence[Row]  # one or more
+    planned: int = 0  # how many games it was to have
+    is_stopped: bool = False  # whether its last run did not end by itself
+    lost: Sequence[str] = ()  # what its last run lost, each in a line
 
 
 def read_source(path: Path) -> Tuple[Optional[Source], List[str]]:
-    """Reads the folder of a run.
-
-    Returns:
-        What it has, None if that is nothing, and what is to be told, each in a line.
-    """
+    """What the folder of a run has, None if that is nothing, and what is to be told, each in a
+    line."""
     try:
         if not is_run(path):
             within = sorted(each.name for each in path.iterdir() if is_run(each)) \
@@ -76,10 +54,11 @@ def read_source(path: Path) -> Tuple[Optional[Source], List[str]]:
 
 def missing(source: Source) -> str:
     """What a source lacks of its plan; "" if it has all."""
-    if source.played >= source.planned and not source.lost:
+    played = len({row.place for row in source.rows})
+    if played >= source.planned and not source.lost:
         return ""
     how = "it was stopped" if source.is_stopped else f"{len(source.lost)} were lost"
-    return f"{source.name}: {source.played} of {source.planned} games were played ({how})"
+    return f"{source.name}: {played} of {source.planned} games were played ({how})"
 
 
 def whole_deals(source: Source) -> Tuple[Source, int]:
@@ -120,17 +99,14 @@ def twice(sources: Sequence[Source]) -> List[str]:
     told: Dict[Tuple[str, str], List[str]] = {}
     for source in sources:
         for row in source.rows:
-            key = (row.deal, row.rotation, row.seat)
-            if key in seen:
-                told.setdefault((seen[key], source.name), []).append(
-                    f"{row.number}.{row.rotation}")
-            seen.setdefault(key, source.name)
-    lines = []
-    for (first, other), games in told.items():
-        where = f"{other} and {first} both have" if first != other else f"{first} has twice"
-        many = len(set(games))
-        lines.append(f"{where} game {games[0]}" + (f" and {many - 1} more" if many > 1 else ""))
-    return lines
+            first = seen.get((row.deal, row.rotation, row.seat), "")
+            seen.setdefault((row.deal, row.rotation, row.seat), source.name)
+            if first:
+                told.setdefault((first, source.name), []).append(f"{row.number}.{row.rotation}")
+    return [(f"{other} and {first} both have" if first != other else f"{first} has twice")
+            + f" game {games[0]}"
+            + (f" and {len(set(games)) - 1} more" if len(set(games)) > 1 else "")
+            for (first, other), games in told.items()]
 
 
 def joined(sources: Sequence[Source]) -> Tuple[List[Row], List[str]]:
@@ -149,19 +125,16 @@ def pooled(sources: Sequence[Source]) -> Tuple[List[Row], List[str]]:
     """
     pools: List[List[Source]] = []
     for source in sources:
-        fitting = (pool for pool in pools if not differences(pool[0], source))
-        pool = next(fitting, None)
+        pool = next((pool for pool in pools if not differences(pool[0], source)), None)
         if pool is None:
-            pools.append([source])
-        else:
-            pool.append(source)
-    rows = [replace(row, agent=f"{row.agent} in {label}", source=label)
-            for pool, label in zip(pools, _labels([pool[0] for pool in pools]))
-            for source in pool for row in source.rows]
+            pool = []
+            pools.append(pool)
+        pool.append(source)
+    short = Counter(Path(pool[0].name).name for pool in pools)  # names, if they are not alike
+    rows = []
+    for pool in pools:
+        label = Path(pool[0].name).name
+        label = label if label and short[label] == 1 else pool[0].name
+        rows += [replace(row, agent=f"{row.agent} in {label}", source=label)
+                 for source in pool for row in source.rows]
     return rows, [line for pool in pools for line in twice(pool)]
-
-
-def _labels(sources: Sequence[Source]) -> List[str]:
-    """Short names of sources, or their whole ones where short ones are alike."""
-    counts = Counter(source.label for source in sources)
-    return [source.label if counts[source.label] == 1 else source.name for source in sources]

@@ -71,12 +71,8 @@ def read_games(folder: Path, rows: Iterable[Row], told: List[str]) -> Iterator[K
 
 
 def read_kept(folder: Path, rows: Sequence[Row]) -> KeptGame:
-    """Reads the game of a run that has these eight rows.
-
-    Raises:
-        KeptError: A file is broken, or does not belong to the others.
-        OSError: A file cannot be read.
-    """
+    """Reads the game of a run that has these eight rows. Raises KeptError where a file is broken,
+    or does not belong to the others."""
     base = folder / GAMES
     file = base / f"{name_of(rows)}.game"
     try:

@@ -5,14 +5,15 @@ there it sends back events of the lobby, notes, and at the end a `Result`. It ho
 `Lobby` (in turns, with a `TurnServer`), and runs the agents (`agents.py`).
 """
 
+import contextlib
 import os
 import re
 import signal
 import sys
 import threading
 import time
-from contextlib import closing
 from dataclasses import dataclass
+from functools import partial
 from multiprocessing.connection import Connection
 from pathlib import Path
 from typing import Callable, Dict, List, Optional, Tuple
@@ -58,25 +59,17 @@ def outcome_of(reason: End, exited: Exit, was_refused: bool, was_asking: bool) -
         was_asking: Whether it sent lines in the last third of the game. Then it did not hang if its
             link had to be ended: it did not quit, or the machine was too busy to hear it quit.
     """
-    was_killed = _is_foreign(exited)
-    if reason is End.ABSENT:
-        if was_refused:
-            return Outcome.REFUSED
-        if was_killed:
-            return Outcome.KILLED
-        failed = exited.status != 0 and not exited.is_stopped
-        return Outcome.CRASHED if failed else Outcome.ABSENT
-    if reason is End.REFUSED:
+    if reason is End.REFUSED or reason is End.ABSENT and was_refused:
         return Outcome.REFUSED
-    if reason is End.HUNG:
-        return Outcome.PLAYED if was_asking else Outcome.HUNG
-    if reason is End.GONE and exited.is_stopped:
-        return Outcome.HUNG
-    if reason is End.GONE and was_killed:
-        return Outcome.KILLED
-    if reason is End.GONE and exited.status != 0:
-        return Outcome.CRASHED
-    return Outcome.PLAYED  # what its process did after the game changes nothing
+    if reason in (End.ABSENT, End.GONE):
+        if _is_foreign(exited):
+            return Outcome.KILLED
+        if exited.status != 0 and not exited.is_stopped:
+            return Outcome.CRASHED
+        if reason is End.ABSENT:
+            return Outcome.ABSENT
+    is_hung = exited.is_stopped if reason is End.GONE else reason is End.HUNG and not was_asking
+    return Outcome.HUNG if is_hung else Outcome.PLAYED  # however its process ended afterwards
 
 
 def _is_foreign(exited: Exit) -> bool:
@@ -123,11 +116,7 @@ class Match:
         self._events = (job.folder / f"{job.name}.events").open("w", encoding="ascii")
 
     def play(self) -> Result:
-        """Plays the game.
-
-        Raises:
-            OSError: A file cannot be written, or a process not be started.
-        """
+        """Plays the game."""
         job = self._job
         self._game.write_text(job.game, encoding="ascii")
         reading, writing = os.pipe()
@@ -207,10 +196,8 @@ class Match:
 
     def _order(self, line: str) -> None:
         """Tells the lobby that an agent is not waited for."""
-        try:
+        with contextlib.suppress(OSError):  # the lobby has ended
             self._orders.write(f"{line}\n".encode("ascii"))
-        except OSError:
-            pass  # the lobby has ended
 
     def _result(self, status: int, passed: Optional[List[int]]) -> Result:
         """What the game came to, by the lobby's status, and in how many turns each agent was passed
@@ -249,11 +236,8 @@ class Match:
         return f"{self._job.entrants[seat].name} at seat {seat} ({self._job.words[seat]})"
 
     def _was_refused(self, seat: int) -> bool:
-        """Whether a refused first line has the agent's word.
-
-        The lobby knows links and no processes, so a refused line that has nobody's word is told,
-        and blamed on nobody.
-        """
+        """Whether a refused first line has the agent's word; one that has nobody's is told, and
+        blamed on nobody."""
         return any(self._job.keys[seat] in re.findall("[a-z0-9]+", refused.line)
                    for refused in self._refused)
 
@@ -293,22 +277,19 @@ class Match:
             file.write_bytes(f"[{size - MOST_KEPT} bytes left out]\n".encode() + last)
 
 
-def main() -> int:
-    """The body of the process; its one word is the number of the connection's file."""
-    return command("match", _main)
-
-
 def _main() -> int:
-    with closing(Connection(int(sys.argv[1]))) as parent, Children() as children, \
-            closing(Agents(children)) as agents:
+    """The body of the process; its one word is the number of the connection's file."""
+    with contextlib.closing(Connection(int(sys.argv[1]))) as parent, Children() as children, \
+            contextlib.closing(Agents(children)) as agents, contextlib.suppress(EOFError):
         while True:
-            try:
-                job: Job = parent.recv()
-            except EOFError:  # there are no more
-                return 0
+            job: Job = parent.recv()  # at the end of which there are no more
             try:
                 result = Match(job, children, agents, parent.send).play()
             except OSError as fault:
                 where = f"{fault.filename}: " if fault.filename is not None else ""
                 result = Result(fault=where + why(fault))
             parent.send(result)
+    return 0
+
+
+main = partial(command, "match", _main)

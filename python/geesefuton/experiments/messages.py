@@ -17,10 +17,6 @@ from geesefuton.records.games import SEATS
 
 PATIENCE = 30.0  # seconds for the first line of a link, and in turns for each line
 
-# What runs such a process. As a module's main program its types would have other names here and
-# there.
-PROGRAM = "import sys; from geesefuton.experiments.match import main; sys.exit(main())"
-
 
 @dataclass(frozen=True)
 class Job:

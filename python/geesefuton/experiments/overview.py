@@ -1,14 +1,24 @@
 """The figures of the games of a run: the parts of scores, prices over the ticks, how many of the
 units that agents asked for they got, and how far the scores are from the best possible ones. They
-need the extra `study`."""
+need the extra `study`, and are found by as many processes as the machine has processors."""
 
+import os
+import pickle
+import subprocess
+import sys
 from collections import defaultdict
+from itertools import groupby
+from pathlib import Path
 from typing import Any, Dict, Iterable, List, NamedTuple, Optional, Sequence, Tuple
 
 import pandas as pd
 
 from geesefuton.experiments.allocations import Optimum, best_allocation
-from geesefuton.experiments.kept import KeptGame
+from geesefuton.experiments.entrants import PACKAGE
+from geesefuton.experiments.joining import read_source
+from geesefuton.experiments.kept import KeptGame, games_of, read_games
+from geesefuton.experiments.results import Row
+from geesefuton.processes import Children
 from geesefuton.records.accounts import gains_of
 from geesefuton.records.games import FLIGHTS, GOODS, HOTELS, SEATS, TICKETS, TICKS, Game
 from geesefuton.records.logs import Entry
@@ -18,6 +28,8 @@ from geesefuton.records.ticks import boards_by_tick
 
 Frame = Any  # of pandas
 MINUTES = range(0, MINUTE * len(HOTELS), MINUTE)  # the ticks at which prices of rooms are predicted
+FEW = 8  # deals for each process, at least
+PROGRAM = "from geesefuton.experiments.overview import work; work()"
 SIDES = ("flights", "rooms", "tickets to buy", "tickets to sell")
 PREDICTORS = ("the quote", "the mean of other deals", "the quote and its mean rise in other deals")
 PARTS = ["trips", "flights", "rooms", "tickets", "penalties"]  # of a score, which is their sum
@@ -148,3 +160,47 @@ def optimum(game: Game) -> Optimum:
 def table_of(agents: Sequence[str]) -> str:
     """The agents of a game, each with its number of seats, such as `4 planner, 4 trader`."""
     return ", ".join(f"{agents.count(agent)} {agent}" for agent in sorted(set(agents)))
+
+
+def gathered(folder: Path, rows: Sequence[Row]) -> Tuple[Overview, List[str]]:
+    """The figures of the games of a run, and what could not be read, each in a line."""
+    parts = max(1, min(os.cpu_count() or 1, len({row.deal for row in rows}) // FEW))
+    with Children() as children:
+        path = os.pathsep.join(filter(None, [str(PACKAGE), os.environ.get("PYTHONPATH")]))
+        workers = [children.start(
+            [sys.executable, "-c", PROGRAM, str(folder), str(part), str(parts)],
+            stdin=subprocess.DEVNULL, stdout=subprocess.PIPE,
+            env={**os.environ, "PYTHONPATH": path, "OPENBLAS_NUM_THREADS": "1"})
+            for part in range(1, parts)]
+        figures, told = _figures(folder, rows, 0, parts)
+        for worker in workers:
+            assert worker.stdout is not None
+            with worker.stdout:
+                try:
+                    more, lines = pickle.load(worker.stdout)
+                except EOFError:
+                    more, lines = [], [f"{folder}: a process that read its games has failed"]
+            figures, told = figures + more, told + lines
+    return overview_of(figures), told
+
+
+def work() -> None:
+    """What a further process does: it writes its part of the figures to standard output."""
+    folder, part, parts = Path(sys.argv[1]), int(sys.argv[2]), int(sys.argv[3])
+    source, _ = read_source(folder)
+    sys.stdout.buffer.write(pickle.dumps(
+        _figures(folder, source.rows if source else [], part, parts)))
+
+
+def _figures(folder: Path, rows: Sequence[Row], part: int, parts: int
+             ) -> Tuple[List[Figures], List[str]]:
+    """The figures of a part of the deals, and what could not be read."""
+    figures: List[Figures] = []
+    told: List[str] = []
+    deals = [list(games) for _, games in groupby(games_of(rows), lambda game: game[0].deal)]
+    for games in deals[part::parts]:
+        best = None
+        for kept in read_games(folder, [row for game in games for row in game], told):
+            best = best or optimum(kept.game)
+            figures.append(figures_of(kept, best))
+    return figures, told

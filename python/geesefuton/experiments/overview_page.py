@@ -1,8 +1,10 @@
-"""The sections of a run's overview, and the page that shows them: HTML that stands alone, as the
-report of a game."""
+"""The sections of a run's overview, the page that shows them, HTML that stands alone, as the report
+of a game, and its pictures for a paper, as SVG and PDF, each with the CSV behind it."""
 
 import html
-from typing import Any, Iterator, List, NamedTuple, Sequence, Tuple
+from importlib.util import find_spec
+from pathlib import Path
+from typing import Any, Dict, Iterator, List, NamedTuple, Sequence, Tuple
 
 import numpy as np
 import pandas as pd
@@ -13,11 +15,14 @@ from geesefuton.experiments.overview import PARTS, PREDICTORS, SIDES, Overview
 from geesefuton.experiments.results import Row
 from geesefuton.experiments.study import deals_to_detect
 from geesefuton.experiments.summary import Difference, Summary
-from geesefuton.records.games import FLIGHTS, HOTELS, TICKETS, TICKS, name_of
+from geesefuton.processes import why
+from geesefuton.records.games import AUCTIONS, FLIGHTS, HOTELS, TICKETS, TICKS, name_of
 from geesefuton.records.report_page import (Cell, bar, chart, chart_rows, document, half_text,
                                             number, round_up, scale_of, table)
 
 Frame = Any  # of pandas
+HOW = ("pictures need matplotlib: install it by `apt-get install python3-matplotlib`, for "
+       "/usr/bin/python3, or by `pip install matplotlib`")
 SHOWN = range(0, TICKS + 1, 6)  # the ticks of a table of prices
 LOWER, UPPER = ", lower quartile", ", upper quartile"
 
@@ -229,16 +234,52 @@ def _efficiencies(overview: Overview) -> Section:
         told[["mean, in %"]].rename(columns={"mean, in %": "efficiency in %"}), told)
 
 
-def pictures(overview: Overview, summary: Summary) -> "dict[str, Frame]":
+def _pictures(overview: Overview, summary: Summary) -> Dict[str, Frame]:
     """The data of each picture by its name, also of the ranking and the differences."""
-    ranking: Sequence[Any] = [(each.agent, each.score, None, None)
-                              for each in summary.standings[::-1]]
-    pairs = [(f"{each.first} less {each.second}", each.score, each.bonferroni, each.holm)
-             for each in summary.differences[::-1] if each.score]
-    found = {}
-    for name, told in (("ranking", ranking), ("differences", pairs)):
-        found[name] = pd.DataFrame(
-            [(score.mean, score.half, *more) for _, score, *more in told],
-            [who for who, *_ in told], ["mean", "half", "all_pairs_half", "holm_p"], dtype=float)
-    found["ranking"] = found["ranking"][["mean", "half"]]
-    return {**found, **{each.name: each.shown for each in sections(overview)}}
+    standings = summary.standings[::-1]
+    ranking = pd.DataFrame([(each.score.mean, each.score.half) for each in standings],
+                           [each.agent for each in standings], ["mean", "half"], float)
+    pairs = [each for each in summary.differences[::-1] if each.score]
+    differences = pd.DataFrame(
+        [(each.score.mean, each.score.half, each.bonferroni, each.holm) for each in pairs
+         if each.score], [f"{each.first} less {each.second}" for each in pairs],
+        ["mean", "half", "all_pairs_half", "holm_p"], float)
+    return {"ranking": ranking, "differences": differences,
+            **{each.name: each.shown for each in sections(overview)}}
+
+
+def write_figures(folder: Path, overview: Overview, summary: Summary) -> List[str]:
+    """Writes NAME.csv, NAME.svg and NAME.pdf for each picture that has data, and gives what failed.
+    The folder is made if it is not there; its files of these names are replaced."""
+    can_draw = find_spec("matplotlib") is not None
+    try:
+        folder.mkdir(parents=True, exist_ok=True)
+        for name, frame in _pictures(overview, summary).items():
+            if len(frame):
+                index = "tick" if frame.index.name == "tick" else "of"
+                frame.to_csv(folder / f"{name}.csv", index_label=index)
+                if can_draw:
+                    _draw(frame, folder / name)
+    except OSError as fault:
+        return [f"{fault.filename or folder}: {why(fault)}"]
+    return [] if can_draw else [HOW]
+
+
+def _draw(frame: Frame, file: Path) -> None:
+    """Draws a table: lines over ticks, dots with intervals, or bars."""
+    import matplotlib
+    matplotlib.use("Agg")
+    from matplotlib import pyplot
+    matplotlib.rcParams["svg.hashsalt"] = file.name  # so that the same data give the same file
+    figure, axes = pyplot.subplots(figsize=(7.0, 2.0 + 0.3 * min(40, len(frame))))
+    names = [str(name).replace("$", r"\$") for name in frame.index]
+    if frame.index.name == "tick":
+        frame[[name for name in frame if "quartile" not in name]].plot(ax=axes)
+    elif "half" in frame:
+        axes.errorbar(frame["mean"], names, xerr=frame["half"].fillna(0.0), fmt="o", capsize=3)
+    else:
+        frame.set_axis(names, axis=0).plot.barh(ax=axes, stacked=file.name == "parts")
+    axes.set_title(file.name)
+    for suffix, told in ((".svg", {"Date": None}), (".pdf", {"CreationDate": None})):
+        figure.savefig(file.with_suffix(suffix), bbox_inches="tight", metadata=told)
+    pyplot.close(figure)

@@ -30,9 +30,8 @@ class Payoffs:
     """What each strategy had in each profile, by deals.
 
     Attributes:
-        names: The strategies.
         players: How many there are in the game, full or reduced.
-        mixed: How many of the strategies, the first, rivals have.
+        mixed: How many of the strategies, the first, rivals have; 0 is given for all.
         profiles: Those that are needed.
         deals: The deals whose needed profiles were all scored.
         incomplete: Those with only some.
@@ -40,7 +39,6 @@ class Payoffs:
 
     Args:
         rows: Of whole games; those of other strategies are left out.
-        mixed: As the attribute; 0 for all.
     """
 
     def __init__(self, names: Sequence[str], players: int, rows: Iterable[Row],

@@ -14,7 +14,7 @@ from geesefuton.arguments import Parser, seconds, whole
 from geesefuton.experiments.apart import Limits, folder_of, why_not
 from geesefuton.experiments.deals import (SHORT, DealError, Rule, Table, kept_secret, made_deal,
                                           read_rooms)
-from geesefuton.experiments.entrants import Entrant, EntrantError, read_entrants, refuse_twins
+from geesefuton.experiments.entrants import Entrant, read_entrants, refuse_twins
 from geesefuton.experiments.forms import FORMS
 from geesefuton.experiments.messages import PATIENCE
 from geesefuton.experiments.provenance import (Agent, agent_of, digest_of, names_text,
@@ -48,14 +48,12 @@ class Plan:
     form: str  # what agents speak, `words` or `json`
     start: float  # the seconds that a game waits for its agents
     linger: float  # the seconds after the last tick until links are ended
-    summaries: Sequence[Path]  # the files that the summary is written to
     out: Path  # the folder that the run stands in
     seating: Seating  # who sits where, by the numbers of the agents
     is_resumed: bool = False  # whether it goes on with what is there
     # what else decides what can be compared
     settings: Mapping[str, object] = field(default_factory=dict)
     agents: Mapping[str, Agent] = field(default_factory=dict)  # what the agents are, by their names
-    detect: Optional[int] = None  # the difference of which the summary tells how many games tell it
     # the agents of the eight seats in each game of a deal, where these are no seating; each deal
     # moves them on
     lineups: Sequence[Sequence[Entrant]] = ()
@@ -73,9 +71,8 @@ class Plan:
 
     def seconds(self) -> float:
         """The seconds that a game may take, and in turns those until it has its next tick."""
-        if self.turns:
-            return self.start + self.turns * SEATS * self.patience + self.linger + MARGIN
-        return self.start + TICKS * self.pace / 1000 + self.linger + MARGIN
+        asked = self.turns * SEATS * self.patience if self.turns else TICKS * self.pace / 1000
+        return self.start + asked + self.linger + MARGIN
 
 
 def _rooms(text: str) -> Tuple[int, int]:
@@ -93,13 +90,8 @@ def _summary_file(text: str) -> Path:
 
 
 def add_playing(parser: Parser, games: str, default: Optional[int] = None) -> None:
-    """Adds the words that say which games are played, and how.
-
-    Args:
-        parser: The parser of a command.
-        games: What the number of games counts.
-        default: How many there are where none are given.
-    """
+    """Adds the words that say which games are played, and how. `games` is the help on their number,
+    and `default` how many there are where none is given."""
     add = parser.add_argument
     add("--games", type=whole(1), default=default, metavar="N", help=games)
     add("--seed", type=whole(0, MOST_SEED), metavar="N",
@@ -144,7 +136,7 @@ def add_playing(parser: Parser, games: str, default: Optional[int] = None) -> No
         help="count this file or folder as each agent's own, too; may be repeated")
     add("--resume", action="store_true",
         help="play what FOLDER lacks, if its run began with the same words and files")
-    parser.set_defaults(shared=None, against=[], plan=False, summary=[], detect=None, pool=False,
+    parser.set_defaults(shared=None, against=[], plan=False, summary=[], pool=False,
                         partial=False)
 
 
@@ -177,16 +169,13 @@ def make_parser(description: Optional[str]) -> Parser:
     return parser
 
 
-def _default_agents(parser: Parser) -> List[str]:
-    clone = program.top()
-    if clone is None:
-        parser.error("name the agents: each is a Python file, a program, or a command in quotes")
-    return [f"'{clone / 'examples' / 'agents' / name}.py'" for name in AGENTS]
-
-
 def _entrants(parser: Parser, given: argparse.Namespace) -> Tuple[List[Entrant], int]:
     """The agents with those of the pool, and how many of them are in it."""
-    commands = given.agents or _default_agents(parser)
+    commands, clone = given.agents, program.top()
+    if not commands and clone is None:
+        parser.error("name the agents: each is a Python file, a program, or a command in quotes")
+    if not commands:
+        commands = [f"'{clone}/examples/agents/{name}.py'" for name in AGENTS]
     entrants = read_entrants([*commands, *given.against])
     own, pool = entrants[:len(commands)], entrants[len(commands):]
     refuse_twins(own)
@@ -197,23 +186,15 @@ def _entrants(parser: Parser, given: argparse.Namespace) -> Tuple[List[Entrant],
 
 def _rule(given: argparse.Namespace) -> Rule:
     """How deals are made."""
-    if given.seed is not None:
-        secret = str(given.seed).encode()
-    else:
-        folder = given.shared or (given.out if given.resume else None)
-        kept = kept_secret(folder) if folder else None
-        secret = new_secret() if kept is None else kept
+    folder = given.shared or (given.out if given.resume else None)
+    secret = str(given.seed).encode() if given.seed is not None else \
+        (kept_secret(folder) if folder else None) or new_secret()
     return Rule(secret, given.seed, given.game, given.rooms, given.live, given.endow == CLASSIC)
 
 
 def read_plan(parser: Parser, given: argparse.Namespace, are_deals: bool = False) -> Plan:
-    """The plan of a command line. Ends with status 2 where there is none.
-
-    Args:
-        parser: The parser of the command.
-        given: Its words.
-        are_deals: Whether the number of games is one of deals, with one game each.
-    """
+    """The plan of a command line; ends with status 2 where there is none. If the number of games
+    is one of deals, each has one game."""
     _refuse(parser, given)
     try:
         entrants, pool = _entrants(parser, given)
@@ -222,7 +203,7 @@ def read_plan(parser: Parser, given: argparse.Namespace, are_deals: bool = False
         tac = digest_of(Path(program.find()))
         agents = {entrant.name: agent_of(entrant, given.files, given.also, given.summary)
                   for entrant in entrants}
-    except (EntrantError, DealError, program.ProgramError) as fault:
+    except program.CommandError as fault:
         parser.error(str(fault))
     except OSError as fault:
         parser.error(f"{fault.filename}: {why(fault)}")
@@ -238,9 +219,8 @@ def read_plan(parser: Parser, given: argparse.Namespace, are_deals: bool = False
     plan = Plan(entrants, rule, games, rotations, given.at_once, given.pace or PACE, given.turns,
                 PATIENCE if given.patience is None else given.patience,
                 "json" if given.json else "words", given.start,
-                linger if given.after is None else given.after, given.summary,
-                given.out or Path(), seating, given.resume, {}, agents, given.detect,
-                limits=_limits(parser, given, entrants))
+                linger if given.after is None else given.after, given.out or Path(), seating,
+                given.resume, {}, agents, limits=_limits(parser, given, entrants))
     return replace(plan, settings=_settings(plan, pool, first.name, tac))
 
 
@@ -250,21 +230,20 @@ def _limits(parser: Parser, given: argparse.Namespace,
     if given.apart is False:
         return None
     fault = why_not()
-    if not fault:
-        try:
-            folders = Counter(folder_of(entrant, [given.out or Path("run")])
-                              for entrant in entrants)
-        except ValueError as refused:
-            parser.error(f"{refused} (or give --no-apart)")
-        shared = [str(folder) for folder, count in folders.items() if folder and count > 1]
-        if shared:
-            tell(f"agents that stand in one folder, such as {shared[0]}, see each other's files: "
-                 "give each a folder of its own")
-        return Limits(given.memory << 20, given.processes, given.processor)
-    if given.apart:
+    if fault and given.apart:
         parser.error(f"--apart: {fault}")
-    tell(f"agents can read what {getpass.getuser()} can, and end each other's processes: {fault}")
-    return None
+    if fault:
+        tell(f"agents can read what {getpass.getuser()} can, and end each other's processes: "
+             f"{fault}")
+        return None
+    try:
+        folders = Counter(folder_of(entrant, [given.out or Path("run")]) for entrant in entrants)
+    except ValueError as refused:
+        parser.error(f"{refused} (or give --no-apart)")
+    for folder in [folder for folder, count in folders.items() if folder and count > 1][:1]:
+        tell(f"agents that stand in one folder, such as {folder}, see each other's files: give "
+             "each a folder of its own")
+    return Limits(given.memory << 20, given.processes, given.processor)
 
 
 def _settings(plan: Plan, pool: int, first: str, tac: str) -> Dict[str, object]:
@@ -273,17 +252,17 @@ def _settings(plan: Plan, pool: int, first: str, tac: str) -> Dict[str, object]:
     rule = plan.rule
     names = [entrant.name for entrant in plan.entrants]
     pace = {"turns": plan.turns} if plan.turns else {"pace": plan.pace}
-    low, high = rule.rooms or (ROOMS, ROOMS)
-    rooms: Dict[str, object] = {"rooms": f"{low}..{high}", "live": str(rule.live).lower(),
-                                **({"endow": CLASSIC} if rule.is_clumped else {})}
-    game: Dict[str, object] = {"game": first}
-    return {"agents": names_text(names[:len(names) - pool]),
-            **({"against": names_text(names[-pool:])} if pool else {}),
-            "rotations": plan.rotations, **pace, **(game if rule.file else rooms),
-            **({"apart": "{}/{}/{}".format(*plan.limits)} if plan.limits else {}),
+    rooms = {"rooms": "{}..{}".format(*(rule.rooms or (ROOMS, ROOMS))),
+             "live": str(rule.live).lower(), "endow": CLASSIC if rule.is_clumped else ""}
+    told: Dict[str, object] = {
+            "agents": names_text(names[:len(names) - pool]),
+            "against": names_text(names[len(names) - pool:]), "rotations": plan.rotations, **pace,
+            **({"game": first} if rule.file else rooms),
+            "apart": "{}/{}/{}".format(*plan.limits) if plan.limits else "",
             "form": plan.form, "start": f"{plan.start:g}", "after": f"{plan.linger:g}",
             "python": ".".join(platform.python_version_tuple()[:2]),
             "tac": tac[:SHORT], "package": package_digest()[:SHORT]}
+    return {name: value for name, value in told.items() if value != ""}
 
 
 def text_of(plan: Plan) -> str:
@@ -303,14 +282,13 @@ def text_of(plan: Plan) -> str:
 
 def _refuse(parser: Parser, given: argparse.Namespace) -> None:
     """Refuses words that do not go together."""
-    if given.game and (given.rooms or given.live or given.endow):
-        parser.error("--rooms, --live and --endow are for made games, not for a game file")
-    if given.turns and given.pace is not None:
-        parser.error("--pace is for games with a clock, and --turns for games without one")
-    if given.patience is not None and not given.turns:
-        parser.error("--patience needs --turns")
-    for word in ("pool", "partial"):
-        if getattr(given, word):
-            parser.error(f"--{word} needs --join")
-    if not given.out and not given.plan:
-        parser.error("name a new folder for the run with --out")
+    for is_wrong, told in (
+            (given.game and (given.rooms or given.live or given.endow),
+             "--rooms, --live and --endow are for made games, not for a game file"),
+            (given.turns and given.pace is not None,
+             "--pace is for games with a clock, and --turns for games without one"),
+            (given.patience is not None and not given.turns, "--patience needs --turns"),
+            (given.pool, "--pool needs --join"), (given.partial, "--partial needs --join"),
+            (not given.out and not given.plan, "name a new folder for the run with --out")):
+        if is_wrong:
+            parser.error(told)

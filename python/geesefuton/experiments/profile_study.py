@@ -5,25 +5,24 @@ import os
 import re
 from dataclasses import replace
 from pathlib import Path
-from typing import List, Sequence, Set, Tuple
+from typing import List, Sequence, Tuple
 
 import numpy as np
 
 from geesefuton.arguments import Parser
 from geesefuton.experiments.comparisons import Estimate
-from geesefuton.experiments.deals import SECRET, place_of, shared_secret
+from geesefuton.experiments.deals import SECRET, place_of, shared_secret, write_whole
 from geesefuton.experiments.entrants import Entrant
 from geesefuton.experiments.equilibria import NEAR, SymmetricGame, equilibria, find, gains
-from geesefuton.experiments.forms import columns, count_text, number_text, shown
+from geesefuton.experiments.forms import columns, count_text, number_text, printed, shown
 from geesefuton.experiments.joining import Source, read_source, twice
 from geesefuton.experiments.payoffs import FILES, Payoffs
 from geesefuton.experiments.plan import read_plan
-from geesefuton.experiments.reduction import Counts, needed_profiles, text_of_profile
+from geesefuton.experiments.reduction import needed_profiles, text_of_profile
 from geesefuton.experiments.results import Row
-from geesefuton.experiments.runs import (RunError, compare, is_being_written, is_run, read_record,
-                                         write_whole)
+from geesefuton.experiments.runs import RunError, compare, is_being_written, is_run, read_record
 from geesefuton.experiments.tournament import play_in_folder
-from geesefuton.processes import Output, tell, why
+from geesefuton.processes import tell, why
 from geesefuton.records.games import SEATS
 
 PART = re.compile(r"part-([0-9]+)-of-([0-9]+)")
@@ -36,7 +35,6 @@ class Study:
     keeps its number.
 
     Attributes:
-        plan: The plan of all games.
         names: The strategies that the command names.
         players: How many players the game has.
     """
@@ -52,22 +50,19 @@ class Study:
             parser.error("name two or more strategies, each once")
         self.names = [entrant.name for entrant in plan.entrants]
         folders = self._part_folders()
-        known = self._known(folders)
-        universe = [*known, *(name for name in self.names if name not in known)]
-        self._places = [universe.index(name) for name in self.names]
-        self._profiles = needed_profiles(len(universe), self.players)
+        self._universe = list(dict.fromkeys([*self._known(folders), *self.names]))
+        self._profiles = needed_profiles(len(self._universe), self.players)
         by_name = {entrant.name: entrant for entrant in plan.entrants}
         lineups: List[List[Entrant]] = [
-            [by_name[name] for name, count in zip(universe, profile) for _ in range(count)
+            [by_name[name] for name, count in zip(self._universe, profile) for _ in range(count)
              if name in by_name] for profile in self._profiles]
         settings = {name: value for name, value in plan.settings.items()
                     if name not in ("agents", "rotations")}
         self.plan = replace(plan, games=plan.games * len(lineups), rotations=len(lineups),
                             settings={**settings, "players": self.players}, lineups=lineups)
         sources = self._sources(folders)
-        doubled = twice(sources)
-        if doubled:
-            parser.error(f"--out {self._folder}: {'; '.join(doubled)}")
+        if twice(sources):
+            parser.error(f"--out {self._folder}: {'; '.join(twice(sources))}")
         self._others = [row for source in sources for row in source.rows]
         if plan.rule.seed is None:
             secret = shared_secret(self._folder / SECRET, plan.rule.secret)
@@ -86,10 +81,7 @@ class Study:
         """The strategies that the folders have, in the order in which they came."""
         known: List[str] = []
         for folder in folders:
-            try:
-                names = [str(agent["name"]) for agent in read_record(folder)["agents"]]
-            except RunError as fault:
-                self._parser.error(f"--out {folder}: {fault}")
+            names = [str(agent["name"]) for agent in read_record(folder)["agents"]]
             shared = min(len(names), len(known))
             if names[:shared] != known[:shared]:
                 self._parser.error(f"--out {folder}: its strategies came in another order than "
@@ -119,20 +111,12 @@ class Study:
         return sources
 
     def play(self, names: Sequence[str], mixed: int) -> Tuple[int, List[Row]]:
-        """Plays what is missing of the profiles in which rivals have the first strategies.
-
-        Args:
-            names: All strategies, those that rivals have first.
-            mixed: How many rivals have.
-
-        Returns:
-            The exit status, and the rows of all games that were played so far.
-        """
-        places = [self._places[self.names.index(name)] for name in names]
-        due: Set[Counts] = set()
-        for profile in needed_profiles(len(names), self.players, mixed):
-            counts = dict(zip(places, profile))
-            due.add(tuple(counts.get(place, 0) for place in range(len(self._profiles[0]))))
+        """Plays what is missing of the profiles in which rivals have the first `mixed` of these
+        strategies. Gives the exit status, and the rows of all games that were played so far."""
+        places = [self._universe.index(name) for name in names]
+        due = {tuple(dict(zip(places, profile)).get(place, 0)
+                     for place in range(len(self._universe)))
+               for profile in needed_profiles(len(names), self.players, mixed)}
         plan = self.plan
         elsewhere = {row.place for row in self._others} | {
             place_of(plan.rule, number, plan.rotations)
@@ -250,7 +234,10 @@ def _searched(study: Study) -> Tuple[int, Payoffs]:
 def run(parser: Parser, given: argparse.Namespace) -> int:
     """Plays what is missing, writes and prints; the exit status."""
     folder: Path = given.out
-    study = Study(parser, given)
+    try:
+        study = Study(parser, given)
+    except RunError as fault:
+        parser.error(f"--out {folder}: {fault}")
     if given.search:
         status, payoffs = _searched(study)
     else:
@@ -264,10 +251,4 @@ def run(parser: Parser, given: argparse.Namespace) -> int:
     failed = [f"{count_text(len(payoffs.incomplete), 'deal')} left out: not every profile was "
               "scored"] if payoffs.incomplete else []
     failed += _write(folder, payoffs) if payoffs.deals else []
-    out = Output(1)
-    out.write(_text_of(payoffs))
-    if out.fault:
-        failed.append(f"the results were not written to {out.name}: {out.fault}")
-    for text in failed:
-        tell(f"profiles: {text}")
-    return status or (1 if failed else 0)
+    return max(status, printed("profiles", _text_of(payoffs), failed))

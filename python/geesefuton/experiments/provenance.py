@@ -5,7 +5,6 @@ what each agent is are the same. So each row has its settings as a text, and the
 SHA-256 of its agent's files.
 """
 
-import ast
 import fnmatch
 import hashlib
 import os
@@ -17,9 +16,10 @@ from functools import lru_cache
 from importlib import metadata
 from itertools import groupby
 from pathlib import Path
-from typing import Any, Dict, Iterable, Iterator, List, Mapping, Sequence, Set, Tuple
+from typing import Any, Dict, Iterable, Iterator, List, Mapping, Sequence, Tuple
 from urllib.parse import quote
 
+from geesefuton.experiments.agent_host import imports_of
 from geesefuton.experiments.entrants import PACKAGE, Entrant, EntrantError
 
 MOST_FILES, MOST_BYTES = 2000, 1 << 30  # of an agent
@@ -28,11 +28,7 @@ NOT_OURS = ("run.json", "secret", "payoffs.json", "pyvenv.cfg", "schema.json")
 
 
 def digest_of(file: Path) -> str:
-    """The SHA-256 of a file, in hexadecimal digits.
-
-    Raises:
-        OSError: It cannot be read.
-    """
+    """The SHA-256 of a file, in hexadecimal digits."""
     return hashlib.sha256(file.read_bytes()).hexdigest()
 
 
@@ -79,15 +75,11 @@ def agent_of(entrant: Entrant, patterns: Sequence[str] = (), also: Sequence[Path
     what is in it.
 
     Args:
-        entrant: The agent.
         patterns: If there are any, the files of its folder are those whose names match one.
         also: Further files and folders.
         without: Files that are written, which are not an agent's.
 
-    Raises:
-        EntrantError: They are too many for an agent, or something is not there.
-        OSError: A file cannot be read.
-    """
+    Raises EntrantError where they are too many for an agent, or something is not there."""
     words = [word for word in entrant.words if word != sys.executable]
     named = {word: Path(word.rpartition("=")[2]) for word in words if word.rpartition("=")[2]}
     named = {word: path for word, path in named.items() if path.exists()}
@@ -131,18 +123,8 @@ def _within(folder: Path) -> Iterator[Path]:
 
 def _libraries(files: Iterable[Path]) -> Dict[str, str]:
     """The versions of the installed libraries that Python files import."""
-    names: Set[str] = set()
-    for file in files:
-        if file.suffix == ".py":
-            try:
-                tree = ast.parse(file.read_bytes())
-            except (SyntaxError, ValueError):
-                continue  # which its agent will tell
-            for node in ast.walk(tree):
-                if isinstance(node, ast.Import):
-                    names.update(alias.name.split(".")[0] for alias in node.names)
-                elif isinstance(node, ast.ImportFrom) and not node.level and node.module:
-                    names.add(node.module.split(".")[0])
+    names = {name.split(".")[0] for file in files if file.suffix == ".py"
+             for name in imports_of(file)}
     return dict(sorted(version for name in names for version in _installed().get(name, ())))
 
 
@@ -186,13 +168,12 @@ def commit() -> str:
     """The commit of the clone that the package stands in, with `-dirty` if its files are others by
     now; "" if there is none."""
     try:
-        done = subprocess.run(
+        return subprocess.check_output(
             ["git", "-C", str(PACKAGE), "describe", "--always", "--dirty", "--abbrev=40",
-             "--exclude=*"], stdin=subprocess.DEVNULL, stdout=subprocess.PIPE,
-            stderr=subprocess.DEVNULL, timeout=20, check=False)
+             "--exclude=*"], stdin=subprocess.DEVNULL, stderr=subprocess.DEVNULL, timeout=20,
+            text=True, errors="replace").strip()
     except (OSError, subprocess.SubprocessError):
         return ""
-    return done.stdout.decode("utf-8", "replace").strip() if done.returncode == 0 else ""
 
 
 def machine() -> Dict[str, Any]:

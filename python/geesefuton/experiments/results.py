@@ -90,13 +90,7 @@ def text_of(rows: Iterable[Row]) -> str:
 
 
 def _read_row(words: Sequence[str]) -> Row:
-    """Reads the cells of a row.
-
-    Raises:
-        ValueError: They are no row.
-    """
-    if len(words) != len(HEAD):
-        raise ValueError
+    """Reads the cells of a row. Raises ValueError where they are no row."""
     (deal, rotation, seat, agent, score, end, luck, kind, nights, first_price, run, settings, files,
      missed, number) = words
     return Row(deal, int(rotation), int(seat), agent, int(score), Outcome(end), int(luck),
@@ -105,11 +99,8 @@ def _read_row(words: Sequence[str]) -> Row:
 
 
 def read_rows(text: str) -> Found:
-    """Reads the text of a scores.csv, which may lack its end.
-
-    Raises:
-        ResultsError: It begins otherwise.
-    """
+    """Reads the text of a scores.csv, which may lack its end. Raises ResultsError where it begins
+    otherwise."""
     whole, _, half = text.rpartition("\n")
     if not whole and csv_of([HEAD]).startswith(half):
         return Found()

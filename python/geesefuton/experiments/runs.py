@@ -1,11 +1,10 @@
 """The folder of a run that can be stopped at any time and resumed.
 
 FOLDER/run.json has the settings, how the deals are drawn, the SHA-256 of the program, the package
-and each agent's files, and for each run its words, machine, load and times. FOLDER/scores.csv has
-the rows of each game, appended as it ends, and sorted at the end; FOLDER/games has the games'
-files, and FOLDER/secret what the deals are drawn from, until all games are scored. A resumed run
-plays the games that scores.csv lacks. A row that was half written, as on a full disk, is reported
-and removed with its game, and the game is played again.
+and each agent's files, and for each run its words, machine, load and times; FOLDER/scores.csv the
+rows of the games; FOLDER/games the games' files; and FOLDER/secret what the deals are drawn from,
+until all games are scored. A resumed run plays the games that scores.csv lacks. A row that was half
+written, as on a full disk, is reported and removed with its game, and the game is played again.
 """
 
 import contextlib
@@ -18,15 +17,14 @@ import time
 from dataclasses import asdict
 from datetime import datetime, timezone
 from pathlib import Path
-from typing import Any, Dict, List, Mapping, Sequence, Set, Tuple
+from typing import Any, Dict, Sequence, Set, Tuple
 
-from geesefuton.experiments.deals import RUN, SECRET, DealError, kept_secret
+from geesefuton.experiments.deals import RUN, SECRET, DealError, kept_secret, write_whole
 from geesefuton.experiments.plan import Plan
-from geesefuton.experiments.provenance import (Agent, commit, digest_of, machine, package_digest,
-                                               unlike)
+from geesefuton.experiments.provenance import commit, digest_of, machine, package_digest, unlike
 from geesefuton.experiments.results import HEAD, Found, ResultsError, read_rows, text_of
 from geesefuton.processes import Output, why
-from geesefuton.program import find
+from geesefuton.program import CommandError, find
 from geesefuton.records.secret_deals import commitment, read_secret
 from geesefuton.records.tables import csv_of
 
@@ -36,7 +34,7 @@ SCORES, GAMES, LOCK = "scores.csv", "games", ".lock"
 FILE = re.compile(r"(.+)\.(?:game|log|events|script|journal|out\.[a-z0-9]+)")
 
 
-class RunError(Exception):
+class RunError(CommandError):
     """A folder that is no run's, or cannot be gone on with."""
 
 
@@ -60,55 +58,36 @@ def is_being_written(folder: Path) -> bool:
 
 
 def read_scores(folder: Path) -> Found:
-    """Reads the rows of whole games from the scores.csv of a folder.
-
-    Raises:
-        RunError: It cannot be read, or is none.
-    """
+    """Reads the rows of whole games from the scores.csv of a folder. Raises RunError where it
+    cannot be read, or is none."""
     try:
-        with open(folder / SCORES, encoding="utf-8", errors="replace", newline="") as file:
-            return read_rows(file.read())
+        return read_rows((folder / SCORES).read_bytes().decode("utf-8", "replace"))
     except FileNotFoundError:
         return Found()
-    except ResultsError as fault:
-        raise RunError(f"{folder / SCORES}: {fault}") from None
-    except OSError as fault:
+    except (ResultsError, OSError) as fault:
         raise RunError(f"{folder / SCORES}: {why(fault)}") from None
 
 
 def read_record(folder: Path) -> Dict[str, Any]:
-    """What the run.json of a folder says.
-
-    Raises:
-        RunError: It is none, or that of another version.
-        OSError: It cannot be read.
-    """
+    """What the run.json of a folder says. Raises RunError where it is none, or that of another
+    version."""
     try:
         value = dict(json.loads((folder / RUN).read_bytes()))
-        runs = value["runs"]
-        for key, kind in (("settings", dict), ("deals", dict), ("agents", list), ("runs", list)):
-            if not isinstance(value[key], kind):
-                raise ValueError
-        if value["tournament"] != FORM or not all(isinstance(run, dict) for run in runs):
-            raise ValueError
-        if not all(isinstance(agent["files"], dict) and agent["name"] + agent["digest"]
-                   for agent in value["agents"]):
-            raise ValueError
+        kinds = {"settings": dict, "deals": dict, "agents": list, "runs": list}
+        if value["tournament"] == FORM and all(
+                isinstance(value[key], kind) for key, kind in kinds.items()) and all(
+                isinstance(run, dict) for run in value["runs"]) and all(
+                isinstance(agent["files"], dict) and agent["name"] + agent["digest"]
+                for agent in value["agents"]):
+            return value
     except (ValueError, LookupError, TypeError):
-        raise RunError(f"{folder / RUN} is not of a tournament of this version") from None
-    return value
+        pass
+    raise RunError(f"{folder / RUN} is not of a tournament of this version")
 
 
 def compare(folder: Path, plan: Plan) -> Dict[str, Any]:
-    """Refuses a plan that does not belong to what was played in a folder.
-
-    Returns:
-        What its run.json says.
-
-    Raises:
-        RunError: It says nothing, or something else than the plan.
-        OSError: It cannot be read.
-    """
+    """What the run.json of a folder says. Raises RunError where that is nothing, or something else
+    than a plan says."""
     value = read_record(folder)
     differences = unlike(value["settings"], plan.settings)
     drawn = {name: each for name, each in value["deals"].items() if name != SECRET}
@@ -139,10 +118,7 @@ class RunFolder:
         out: Where rows are appended.
         lock: The number of the open file that holds the lock, which games are to hold, too.
 
-    Raises:
-        RunError: The folder is another's, was begun otherwise, or is being written.
-        OSError: A file cannot be read or written.
-    """
+    Raises RunError where the folder is another's, was begun otherwise, or is being written."""
 
     def __init__(self, plan: Plan, arguments: Sequence[str]) -> None:
         self._folder, self._plan = plan.out, plan
@@ -151,11 +127,13 @@ class RunFolder:
         self._has_file = False
         self.lock = self._locked()
         try:  # another may have begun it meanwhile
-            is_begun = self._is_begun(plan.is_resumed)
-            self._value = compare(self._folder, plan) if is_begun else _record(plan)
+            self._value = compare(self._folder, plan) if self._is_begun(plan.is_resumed) else {
+                "tournament": FORM, "settings": dict(plan.settings), "deals": plan.rule.drawn,
+                "tac": digest_of(Path(find())), "package": package_digest(), "agents": [],
+                "runs": []}
             known = {agent["name"] for agent in self._value["agents"]}
-            self._value["agents"] += [agent for agent in _agents(plan.agents)
-                                      if agent["name"] not in known]
+            self._value["agents"] += [{**asdict(agent), "digest": agent.digest} for name, agent
+                                      in plan.agents.items() if name not in known]
             self._begin(arguments)
         except BaseException:
             self._unlock()
@@ -192,22 +170,13 @@ class RunFolder:
         return SECRET in self._value["deals"]
 
     def plan_games(self, planned: int) -> None:
-        """Writes how many games the folder is to have.
-
-        Raises:
-            OSError: It cannot be written.
-        """
+        """Writes how many games the folder is to have."""
         self._value["planned"] = planned
         self._write_record()
 
     def end(self, status: int, scored: int, lost: Sequence[str]) -> None:
         """Writes how this run ended, and sorts the rows. Once all games are scored, the secret is
-        told.
-
-        Raises:
-            OSError: It cannot be written.
-            RunError: The rows cannot be read.
-        """
+        told. Raises RunError where the rows cannot be read."""
         self._value["runs"][-1].update(ended=_now(), status=status, games=scored, lost=list(lost),
                                        load_at_end=machine()["load"])
         try:
@@ -220,8 +189,7 @@ class RunFolder:
                 self._value["deals"][SECRET] = self._plan.rule.secret.hex()
             self._write_record()
             if SECRET in self._value["deals"]:
-                with contextlib.suppress(FileNotFoundError):
-                    (self._folder / SECRET).unlink()
+                (self._folder / SECRET).unlink(missing_ok=True)
         finally:
             os.close(self._scores)
             self._unlock()
@@ -272,7 +240,8 @@ class RunFolder:
             text = os.open(file, os.O_CREAT | os.O_EXCL | os.O_WRONLY)
         except FileExistsError:
             host, _, process = file.read_text(encoding="utf-8", errors="replace").partition(" ")
-            if host == socket.gethostname() and process.isdigit() and not _is_running(int(process)):
+            if host == socket.gethostname() and process.isdigit() \
+                    and not os.path.exists(f"/proc/{process}"):
                 file.unlink()
                 self._make_lock()
                 return
@@ -302,30 +271,9 @@ class RunFolder:
         write_whole(self._folder / name, text, mode)
 
 
-def write_whole(file: Path, text: str, mode: int = 0o666) -> None:
-    """Writes a file so that it is there whole, or as it was.
-
-    Raises:
-        OSError: It cannot be written.
-    """
-    new = file.with_name(f".{file.name}.new")
-    with contextlib.suppress(FileNotFoundError):
-        new.unlink()
-    with open(new, "w", encoding="utf-8",
-              opener=lambda path, how: os.open(path, how | os.O_EXCL, mode)) as out:
-        out.write(text)
-        out.flush()
-        os.fsync(out.fileno())
-    os.replace(new, file)
-
-
 def secret_of(folder: Path) -> bytes:
-    """The secret of a run that is over.
-
-    Raises:
-        RunError: It has none, it is not over, or the secret is not the one of its commitment.
-        OSError: Its run.json cannot be read.
-    """
+    """The secret of a run that is over. Raises RunError where it has none, it is not over, or the
+    secret is not the one of its commitment."""
     deals = read_record(folder)["deals"]
     if "commitment" not in deals:
         raise RunError(f"{folder}: its deals are of the seed {deals.get('seed')}")
@@ -338,26 +286,6 @@ def secret_of(folder: Path) -> bytes:
     if commitment(secret) != deals["commitment"]:
         raise RunError(f"{folder / RUN}: its secret is not the one of its commitment")
     return secret
-
-
-def _is_running(process: int) -> bool:
-    try:
-        os.kill(process, 0)
-    except ProcessLookupError:
-        return False
-    except PermissionError:
-        pass
-    return True
-
-
-def _record(plan: Plan) -> Dict[str, Any]:
-    """What run.json says of a plan."""
-    return {"tournament": FORM, "settings": dict(plan.settings), "deals": plan.rule.drawn,
-            "tac": digest_of(Path(find())), "package": package_digest(), "agents": [], "runs": []}
-
-
-def _agents(agents: Mapping[str, Agent]) -> List[Dict[str, Any]]:
-    return [{**asdict(agent), "digest": agent.digest} for agent in agents.values()]
 
 
 def _now() -> str:

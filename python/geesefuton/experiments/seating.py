@@ -4,10 +4,10 @@ Agents are numbers. With up to eight of them a deal has one game for each, and e
 seat once; with more it has as many games as it takes until everybody has played. Games are made
 from base games by adding the same number, modulo the number of agents, to all of its agents. Over a
 round, which has each such sum once, each agent has each seat equally often, and two agents meet or
-follow one another as often as their difference stands in the base games. These are searched so
-that each difference stands there equally often, up to one where that is found. (With as many agents
-as seats this is Williams' design.) Who follows whom matters: agents take turns in the order of
-seats. For 64 agents the games are the lines of the affine plane of order 8: two meet once a round.
+follow one another (they take turns in the order of seats) as often as their difference stands in
+the base games. These are searched so that each difference stands there equally often, up to one
+where that is found. (With as many agents as seats this is Williams' design.) For 64 agents the
+games are the lines of the affine plane of order 8: two meet once a round.
 
 Against a pool each entrant plays alone with the same agents of the pool, in each deal at the same
 seat, over eight deals at each.
@@ -15,6 +15,7 @@ seat, over eight deals at each.
 
 import math
 from collections import Counter
+from itertools import permutations
 from random import Random
 from typing import Callable, Dict, Hashable, Iterable, Iterator, List, Tuple
 
@@ -27,15 +28,12 @@ SALT = 7  # with which searches find what they should for twenty and thirty agen
 SAME = 1000  # what it costs that an agent meets or follows itself
 
 Game = List[int]  # the agent at each seat
-Search = Callable[[List[Game], List[int], Random], None]
+Move = Tuple[Game, int, int]  # a seat of a game, and the agent that it gets
 
 
 class Seating:
-    """The seats of all games of a tournament.
-
-    Args:
-        entrants: How many agents there are, 1 to `MOST`.
-        pool: How many agents more are in a pool, numbered after these; 0 if there is none.
+    """The seats of all games of a tournament, by how many agents there are, 1 to `MOST`, and how
+    many agents more are in a pool, numbered after these.
 
     Attributes:
         games: How many games a deal has.
@@ -129,9 +127,36 @@ def _bases(agents: int) -> Iterator[List[Game]]:
     while True:
         base = [everybody[number::games] for number in range(games)]
         if games > 1:
-            base = _searched(base, met, _mix, drawn)
-        base = _searched(base, followed, _order, drawn)
+            base = _best(base, met, _of_met, _exchange, drawn)
+        base = _best(base, followed, _of_followed, _swap, drawn)
         yield base
+
+
+def _of_met(game: Game) -> List[int]:
+    return [one - other for one, other in permutations(game, 2)]
+
+
+def _of_followed(game: Game) -> List[int]:
+    return [agent - game[seat - 1] for seat, agent in enumerate(game)]
+
+
+def _exchange(games: List[Game], drawn: Random) -> List[Move]:
+    """Exchanges agents of different games, or who has two seats in all."""
+    one, other = (games[int(drawn.random() * len(games))] for _ in range(2))
+    seat, place = (int(drawn.random() * SEATS) for _ in range(2))
+    old, new = one[seat], other[place]
+    olds, news = (sum(game.count(agent) for game in games) for agent in (old, new))
+    is_exchange = olds == 1 or news > 1
+    if old == new or is_exchange and one is other:
+        return []
+    return [(one, seat, new)] + ([(other, place, old)] if is_exchange else [])
+
+
+def _swap(games: List[Game], drawn: Random) -> List[Move]:
+    """Exchanges two seats of a game."""
+    game = games[int(drawn.random() * len(games))]
+    one, other = (int(drawn.random() * SEATS) for _ in range(2))
+    return [(game, one, game[other]), (game, other, game[one])]
 
 
 def _unlike(counts: List[int]) -> int:
@@ -139,13 +164,38 @@ def _unlike(counts: List[int]) -> int:
     return max(counts[1:], default=0) - min(counts[1:], default=0) + SAME * counts[0]
 
 
-def _searched(base: List[Game], counts: List[int], search: Search, drawn: Random) -> List[Game]:
-    """The games of the best of some searches, which begin with these; counts are replaced by those
-    with its games."""
+def _best(base: List[Game], counts: List[int], differences: Callable[[Game], List[int]],
+          move: Callable[[List[Game], Random], List[Move]], drawn: Random) -> List[Game]:
+    """The games of the best of some searches, which begin with these; `counts`, of how often each
+    difference occurred before, gains theirs."""
     found = []
     for number in range(TRIES):
         games, tried = [list(game) for game in base], list(counts)
-        search(games, tried, drawn)
+
+        def count(changed: Iterable[Game], sign: int, tried: List[int] = tried) -> int:
+            """Counts games, or no more; gives what that costs."""
+            cost = 0
+            for game in changed:
+                for difference in differences(game):
+                    cost += 2 * sign * tried[difference] + 1 if difference else sign * SAME
+                    tried[difference] += sign
+            return cost
+
+        count(games, 1)
+        for step in range(STEPS):
+            if _unlike(tried) <= 1:
+                break
+            moves = move(games, drawn)
+            if moves:
+                changed = [game for game in games if any(game is each for each, _, _ in moves)]
+                before = [(game, seat, game[seat]) for game, seat, _ in moves]
+                cost = count(changed, -1)
+                _put(moves)
+                cost += count(changed, 1)
+                if cost > HEAT * (1 - step / STEPS) * drawn.random():
+                    count(changed, -1)
+                    _put(before)
+                    count(changed, 1)
         found.append((_unlike(tried), number, games, tried))
         if len(counts) == 1 or _unlike(tried) <= 1:
             break
@@ -153,78 +203,6 @@ def _searched(base: List[Game], counts: List[int], search: Search, drawn: Random
     return games
 
 
-def _mix(base: List[Game], met: List[int], drawn: Random) -> None:
-    """Exchanges agents of different games, and who has two seats in all, until all differences of
-    agents that meet occur equally often.
-
-    Args:
-        base: The games.
-        met: How often each difference occurred so far; gains those of the games.
-        drawn: What is tried.
-    """
-    def put(game: Game, seat: int, agent: int, sign: int) -> int:
-        """Puts an agent to a seat, or takes it away; gives what that costs."""
-        cost = 0
-        for place, other in enumerate(game):
-            if place != seat:
-                for difference in (agent - other, other - agent):
-                    cost += 2 * sign * met[difference] + 1 if difference else sign * SAME
-                    met[difference] += sign
-        return cost
-
-    for game in base:
-        for at, agent in enumerate(game):
-            for there in game[:at]:
-                met[agent - there] += 1
-                met[there - agent] += 1
-    seats = Counter(agent for game in base for agent in game)
-    for step in range(STEPS):
-        if _unlike(met) <= 1:
-            break
-        one, other = [base[int(drawn.random() * len(base))] for _ in range(2)]
-        seat, place = [int(drawn.random() * SEATS) for _ in range(2)]
-        old, new = one[seat], other[place]
-        is_exchange = seats[old] == 1 or seats[new] > 1
-        if old == new or is_exchange and one is other:
-            continue
-        moves: List[Tuple[Game, int, int, int]] = [(one, seat, old, new)]
-        moves += [(other, place, new, old)] if is_exchange else []
-        cost = 0
-        for game, at, gone, come in moves:
-            cost += put(game, at, gone, -1) + put(game, at, come, 1)
-            game[at] = come
-        if cost > HEAT * (1 - step / STEPS) * drawn.random():
-            for game, at, gone, come in moves[::-1]:
-                put(game, at, come, -1)
-                put(game, at, gone, 1)
-                game[at] = gone
-        elif not is_exchange:
-            seats[old], seats[new] = 1, 2
-
-
-def _order(base: List[Game], followed: List[int], drawn: Random) -> None:
-    """Exchanges seats within games until all differences of agents that follow one another occur
-    equally often. `followed` has how often each occurred so far, and gains those of the games."""
-    def count(game: Game, sign: int) -> int:
-        """Counts a game, or no more; gives what that costs."""
-        cost, before = 0, game[-1]
-        for agent in game:
-            difference = agent - before
-            cost += 2 * sign * followed[difference] + 1 if difference else sign * SAME
-            followed[difference] += sign
-            before = agent
-        return cost
-
-    for game in base:
-        count(game, 1)
-    for step in range(STEPS):
-        if _unlike(followed) <= 1:
-            break
-        game = base[int(drawn.random() * len(base))]
-        one, other = (int(drawn.random() * SEATS) for _ in range(2))
-        cost = count(game, -1)
-        game[one], game[other] = game[other], game[one]
-        if cost + count(game, 1) > HEAT * (1 - step / STEPS) * drawn.random():
-            count(game, -1)
-            game[one], game[other] = game[other], game[one]
-            count(game, 1)
+def _put(moves: List[Move]) -> None:
+    for game, seat, agent in moves:
+        game[seat] = agent

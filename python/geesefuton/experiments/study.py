@@ -1,9 +1,6 @@
-"""The libraries that figures for research need (the extra `study`): numpy, scipy and pandas; and
-adjusted means, and how many deals a study needs.
-
-Playing and grading do without them. A command that needs them asks first, so that a machine without
-them is told how to get them in one line.
-"""
+"""The libraries that figures for research need (the extra `study`), and adjusted means, and how
+many deals a study needs. Playing and grading do without the libraries, and a command that needs
+them asks first, so that a machine without them is told how to get them in one line."""
 
 import math
 from importlib.util import find_spec
@@ -26,19 +23,10 @@ def missing(what: str) -> str:
 
 def adjusted(values: Sequence[float], covariates: Sequence[Sequence[float]],
              at: Sequence[float]) -> Optional[Estimate]:
-    """What the mean would be if covariates were as given, by a plane of least squares.
-
-    A covariate that is the same in all units, or a sum of multiples of those before it, is left
-    out, and so are the last ones where there are fewer than four units for each.
-
-    Args:
-        values: One value for each unit, such as a deal.
-        covariates: The covariates, each with its value of each unit, the most telling first.
-        at: The value of each covariate for which the mean is told.
-
-    Returns:
-        The estimate; None for fewer than three values, or where no covariate is left.
-    """
+    """What the mean of the values of units, such as deals, would be if covariates, the most telling
+    first, were as given, by a plane of least squares; None for fewer than three values, or where no
+    covariate is left. One that is the same in all units, or a sum of multiples of those before it,
+    is left out, and so are the last ones where there are fewer than four units for each."""
     import numpy as np
     count = len(values)
     if count < 3:
@@ -71,18 +59,9 @@ def power(deals: int, errors: float) -> float:
 
 
 def deals_to_detect(value: Estimate, difference: float) -> Optional[int]:
-    """How many values it takes to tell a difference from 0 in 80 % of experiments.
-
-    The spread of few values may by chance be far too small. So it is taken as large as it may be:
-    at the upper limit that is above the true variance for 80 % of pilots.
-
-    Args:
-        value: What `estimate` gives.
-        difference: The true difference, above 0.
-
-    Returns:
-        The number; None where there is no interval.
-    """
+    """How many values it takes to tell a true difference, above 0, in 80 % of experiments; None
+    where the estimate has no interval. The spread of few values may by chance be far too small, so
+    it is taken at the upper limit that is above the true variance for 80 % of pilots."""
     if value.half is None:
         return None
     from scipy import stats

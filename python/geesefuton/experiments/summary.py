@@ -113,20 +113,24 @@ def summarize(rows: Sequence[Row], lost: Sequence[str] = (), detect: Optional[fl
     by_agent: Dict[str, List[Row]] = defaultdict(list)
     for row in rows:
         by_agent[row.agent].append(row)
-    draws = _Draws(rows)
-    standings = [_standing(agent, own, draws) for agent, own in by_agent.items()]
+    missing = study.missing("figures that are adjusted for the draw")
+    centre = [] if missing or not rows else _centre(rows)
+    standings = [_standing(agent, own, centre) for agent, own in by_agent.items()]
     standings.sort(key=lambda standing: (standing.untaken == standing.seats, -standing.score.mean))
     names = [standing.agent for standing in standings]
     cells = {agent: _cells_of(own) for agent, own in by_agent.items()}
-    differences = _together([_difference(first, second, cells[first], cells[second], draws, detect)
-                             for first, second in combinations(names, 2)])
+    differences = [_difference(first, second, cells[first], cells[second], centre, detect)
+                   for first, second in combinations(names, 2)]
+    differences = [replace(each, holm=chance, bonferroni=half) for each, chance, half in zip(
+        differences, holm([each.student for each in differences]),
+        bonferroni_halves([each.score for each in differences]))]
     apart = {frozenset((names.index(pair.first), names.index(pair.second)))
              for pair in differences if pair.is_shown}
     kinds = Counter({row.game: row.kind for row in rows}.values())
     return Summary(standings, differences,
                    [[names[place] for place in group] for group in groups_of(len(names), apart)],
                    sum(kinds.values()), len({row.deal for row in rows}), _partial(rows),
-                   dict(kinds), list(lost), detect, draws.missing, planned, is_stopped)
+                   dict(kinds), list(lost), detect, missing, planned, is_stopped)
 
 
 def _partial(rows: Sequence[Row]) -> int:
@@ -153,60 +157,37 @@ def _by_deal(rows: Sequence[Row], value: Value) -> List[float]:
     return [mean_of(values) for values in deals.values()]
 
 
-class _Draws:
-    """The adjustment of figures to the draws of all made games, or for other games to the draws of
-    all their seats, where the libraries for it are there."""
-
-    def __init__(self, rows: Sequence[Row]) -> None:
-        self.missing = study.missing("figures that are adjusted for the draw")
-        self._centre = [0.0] * len(COVARIATES)
-        if all("rooms" in read_settings(text) for text in {row.settings for row in rows}):
-            self._centre = [MEAN_LUCK, MEAN_NIGHTS, MEAN_FIRST_PRICE]
-        elif rows:
-            self._centre = [mean_of([value(row) for row in rows]) for value in COVARIATES]
-
-    def mean(self, scores: Sequence[float], drawn: Sequence[Sequence[float]]
-             ) -> Optional[Estimate]:
-        """A mean, by the covariates of an agent's deals."""
-        return self._adjusted(scores, drawn, self._centre)
-
-    def difference(self, scores: Sequence[float], sides: Sequence[Tuple[Seats, Seats]]
-                   ) -> Optional[Estimate]:
-        """A difference, by the two sides of each deal that are compared."""
-        luck, nights, first_price = (
-            [[_mean_of_seats(side, value) for side in both] for both in sides]
-            for value in COVARIATES)
-        drawn = [[ours - theirs for ours, theirs in luck],
-                 [ours - theirs for ours, theirs in nights],
-                 *[[(ours + theirs) / 2.0 for ours, theirs in value]
-                   for value in (first_price, nights, luck)]]
-        return self._adjusted(scores, drawn, [0.0, 0.0, *self._centre[::-1]])
-
-    def needed(self, score: Estimate, detect: Optional[float]) -> Optional[int]:
-        """How many deals tell a difference; None if that was not asked, or cannot be told."""
-        if not detect or self.missing:
-            return None
-        return study.deals_to_detect(score, detect)
-
-    def _adjusted(self, values: Sequence[float], drawn: Sequence[Sequence[float]],
-                  at: Sequence[float]) -> Optional[Estimate]:
-        if self.missing:
-            return None
-        return study.adjusted(values, drawn, at)
+def _centre(rows: Sequence[Row]) -> List[float]:
+    """The draws to which figures are adjusted: those of all made games, or for other games those
+    of all their seats."""
+    if all("rooms" in read_settings(text) for text in {row.settings for row in rows}):
+        return [MEAN_LUCK, MEAN_NIGHTS, MEAN_FIRST_PRICE]
+    return [mean_of([value(row) for row in rows]) for value in COVARIATES]
 
 
-def _standing(agent: str, rows: Sequence[Row], draws: _Draws) -> Standing:
+def _adjusted(scores: Sequence[float], sides: Sequence[Tuple[Seats, Seats]],
+              centre: Sequence[float]) -> Optional[Estimate]:
+    """A difference that is adjusted, by the two sides of each deal that are compared."""
+    luck, nights, first_price = ([[_mean_of_seats(side, value) for side in both] for both in sides]
+                                 for value in COVARIATES)
+    drawn = [*([ours - theirs for ours, theirs in value] for value in (luck, nights)),
+             *([(ours + theirs) / 2.0 for ours, theirs in value]
+               for value in (first_price, nights, luck))]
+    return study.adjusted(scores, drawn, [0.0, 0.0, *centre[::-1]])
+
+
+def _standing(agent: str, rows: Sequence[Row], centre: Sequence[float]) -> Standing:
     ends = dict(Counter(row.end for row in rows))
     scores = _by_deal(rows, SCORE)
     drawn = [_by_deal(rows, value) for value in COVARIATES]
     played = _by_deal([row for row in rows if row.end is Outcome.PLAYED], SCORE)
     missed = [row.missed for row in rows if row.missed is not None]
     return Standing(agent, len(rows), ends, estimate(scores), estimate(played) if played else None,
-                    mean_of(drawn[0]), draws.mean(scores, drawn),
+                    mean_of(drawn[0]), study.adjusted(scores, drawn, centre) if centre else None,
                     mean_of(missed) if missed else None)
 
 
-def _difference(first: str, second: str, ours: Cells, theirs: Cells, draws: _Draws,
+def _difference(first: str, second: str, ours: Cells, theirs: Cells, centre: Sequence[float],
                 detect: Optional[float]) -> Difference:
     """The difference of two agents. Those that had the same clients in most deals that both had, as
     with swapped seats, are compared by such clients alone: others may be worth more or less."""
@@ -224,19 +205,12 @@ def _difference(first: str, second: str, ours: Cells, theirs: Cells, draws: _Dra
         return Difference(first, second, False, left_out, None)
     scores = [_mean_of_seats(our, SCORE) - _mean_of_seats(their, SCORE) for our, their in sides]
     score = estimate(scores)
-    return Difference(first, second, by_clients, left_out, score, draws.difference(scores, sides),
+    return Difference(first, second, by_clients, left_out, score,
+                      _adjusted(scores, sides, centre) if centre else None,
                       student_p(score), signed_rank_p(scores) if score.half is not None else None,
-                      needed=draws.needed(score, detect))
+                      needed=study.deals_to_detect(score, detect) if detect and centre else None)
 
 
 def _mean_of_seats(seats: Seats, value: Value) -> float:
     """The mean over seats of the mean over each one's rows."""
     return mean_of([mean_of([value(row) for row in rows]) for rows in seats.values()])
-
-
-def _together(differences: Sequence[Difference]) -> List[Difference]:
-    """With what allows for all pairs."""
-    chances = holm([difference.student for difference in differences])
-    halves = bonferroni_halves([difference.score for difference in differences])
-    return [replace(difference, holm=chance, bonferroni=half)
-            for difference, chance, half in zip(differences, chances, halves)]

@@ -1,13 +1,11 @@
 """A game in turns: unchanged agents over the same protocol get their requests answered in turn.
 
 There is no clock, and no server at a port. In each turn every agent gets one request answered, seat
-after seat, and each turn begins one seat later (`records.order`); the number of turns between two
-ticks is fixed. One process of `tac step` answers all requests. Slow agents are waited for: only an
-agent that sends nothing for a long time, `patience`, is passed over, and then in each turn until it
-sends a line again.
-
-So agents whose requests depend only on what they received play the same game on any machine, busy
-or not, as long as no agent is passed over.
+after seat, in the order of `records.order`; the number of turns between two ticks is fixed. One
+process of `tac step` answers all requests. Slow agents are waited for: only an agent that sends
+nothing for a long time, `patience`, is passed over, and then in each turn until it sends a line
+again. So agents whose requests depend only on what they received play the same game on any machine,
+as long as no agent is passed over.
 """
 
 from __future__ import annotations
@@ -32,21 +30,15 @@ MOST_READ = 4096  # bytes; a line that the relay passes on has fewer
 
 
 class Turner:
-    """Who takes turns: the server's end of the link that the relay keeps for a seat.
-
-    Attributes:
-        asked: How many lines were asked in its turns.
-        passed: In how many turns it was passed over.
-        is_silent: Whether it was so in its last one.
-        is_over: Whether it asks nothing more.
-        heard: When it was last answered, or welcomed, by `time.monotonic`.
-    """
+    """Who takes turns: the server's end of the link that the relay keeps for a seat."""
 
     def __init__(self, seat: int, link: socket.socket) -> None:
         self.seat, self.socket = seat, link
-        self.asked = self.passed = 0
-        self.is_silent = self.is_over = False
-        self.heard = time.monotonic()
+        self.asked = 0  # how many lines were asked in its turns
+        self.passed = 0  # in how many turns it was passed over
+        self.is_silent = False  # whether it was so in its last one
+        self.is_over = False  # whether it asks nothing more
+        self.heard = time.monotonic()  # when it was last answered, or welcomed
         self._held = b""
         link.setblocking(False)
 
@@ -82,14 +74,11 @@ class TurnServer:
         turns: How many turns each agent has between two ticks, 1 to `MOST_TURNS`, and before the
             first. After the last it has `LAST_TURNS`.
         patience: The seconds without a word after which an agent is passed over.
-
-    Attributes:
-        script: What was asked so far, and the ticks: pieces of a game script (docs/FORMATS.md).
     """
 
     def __init__(self, turns: int, patience: float) -> None:
         self._turns, self._patience = turns, patience
-        self.script: List[bytes] = []
+        self.script: List[bytes] = []  # what was asked so far, and the ticks (docs/FORMATS.md)
         self._turners: List[Turner] = []
         self._first = 0  # the seat that is asked first
 
@@ -100,11 +89,8 @@ class TurnServer:
         return [turner.passed for turner in self._turners]
 
     def play(self, game: HostedGame) -> int:
-        """Plays the game, and gives the exit status of its process, or `STOPPED`.
-
-        Raises:
-            program.ProgramError: The program ends before the game is over.
-        """
+        """Plays the game, and gives the exit status of its process, or `STOPPED`. Raises
+        program.ProgramError where the program ends before the game is over."""
         with contextlib.ExitStack() as stack:
             table = stack.enter_context(Stepped(game.text.encode("ascii")))
             sessions = []

@@ -75,11 +75,8 @@ class Environment(Parallel):
             which is called in each step.
         render_mode: `ansi`, or None.
 
-    Raises:
-        OSError: The game file cannot be read.
-        GameError: It is no game file.
-        ValueError: Another argument is out of its range.
-    """
+    Raises GameError where it is no game file, and ValueError where another argument is out of its
+    range."""
 
     metadata = {"name": "geesefuton_v4", "render_modes": ["ansi"], "is_parallelizable": True}
 
@@ -144,20 +141,14 @@ class Environment(Parallel):
         return self._space("state", lambda spaces: spaces.state_space(len(self._numbers())))
 
     def observation_space(self, agent: str) -> Any:
-        """The space of an agent's observations, the same at each call.
-
-        Raises:
-            ModuleNotFoundError: `gymnasium` is not installed.
-        """
+        """The space of an agent's observations, the same at each call. Raises ModuleNotFoundError
+        where `gymnasium` is not installed."""
         return self._space(f"observation {self._seats[agent]}",
                            lambda spaces: spaces.observation_space(self._rounds))
 
     def action_space(self, agent: str) -> Any:
         """The space of an agent's actions (`geesefuton.learning.spaces`), the same at each call.
-
-        Raises:
-            ModuleNotFoundError: `gymnasium` is not installed.
-        """
+        Raises ModuleNotFoundError where `gymnasium` is not installed."""
         return self._space(f"action {self._seats[agent]}", lambda spaces: spaces.action_space())
 
     def _space(self, key: str, make: Callable[[Any], Any]) -> Any:
@@ -175,11 +166,8 @@ class Environment(Parallel):
                 game of a file is the same for each, but what its rivals draw is not.
             options: What is given is ignored.
 
-        Raises:
-            ValueError: The seed is none. Nothing has changed.
-            ProgramError: There is no program, or it ended with an error.
-            OSError: There is no room for pipes.
-        """
+        Raises ValueError where the seed is none, and ProgramError where there is no program, or it
+        ended with an error."""
         source = self._seeds
         if seed is None:
             seed = (source or random.SystemRandom()).randrange(MOST_SEED + 1)
@@ -218,11 +206,8 @@ class Environment(Parallel):
                 ends. One of more than 512 bytes is answered `no toolong`, as over a link, and
                 `quit` is not asked, but answered `no syntax`.
 
-        Raises:
-            ActionError: There is no game, or an action cannot be asked. Nothing has changed.
-            ProgramError: The program ended with an error. The game is lost.
-            OSError: There is no room for the pipes of `hindsight`. The game is lost.
-        """
+        Raises ActionError where there is no game, or an action cannot be asked; nothing has changed
+        then. Raises ProgramError where the program ended with an error; the game is lost then."""
         asked = self._asked(actions)
         assert self._market is not None
         try:
@@ -239,11 +224,7 @@ class Environment(Parallel):
             raise
 
     def _asked(self, actions: Actions) -> Dict[int, List[str]]:
-        """The requests of each seat.
-
-        Raises:
-            ActionError: An action cannot be asked.
-        """
+        """The requests of each seat. Raises ActionError where an action cannot be asked."""
         if self._market is None:
             raise ActionError("no game has begun: call reset first")
         if not isinstance(actions, (dict, abc.Mapping)):
@@ -326,12 +307,8 @@ class Environment(Parallel):
     def clone(self) -> "Environment":
         """The same environment in the same game, which goes on by itself, in a process of its own.
 
-        `copy.copy` and `copy.deepcopy` give the same.
-
-        Raises:
-            ProgramError: There is no program, or it ended with an error.
-            OSError: There is no room for pipes.
-        """
+        `copy.copy` and `copy.deepcopy` give the same. Raises ProgramError where there is no
+        program, or it ended with an error."""
         return copy.deepcopy(self)
 
     __copy__ = clone
@@ -347,11 +324,8 @@ class Environment(Parallel):
     def state(self) -> Any:
         """What the environment knows of the whole game, as an array of whole numbers: the tick and
         the round; of each good its bid, its ask and whether it is closed; and of each of the eight
-        seats its holdings, its cash, and six numbers for each client.
-
-        Raises:
-            ModuleNotFoundError: `numpy` is not installed.
-        """
+        seats its holdings, its cash, and six numbers for each client. Raises ModuleNotFoundError
+        where `numpy` is not installed."""
         numpy = import_module("numpy")
         return numpy.array(self._numbers(), dtype=numpy.int64)
 
@@ -377,11 +351,8 @@ class Environment(Parallel):
 
 
 def _rivals_by_seat(rivals: Rivals, words: Sequence[str]) -> Dict[int, Maker]:
-    """What makes the rival of each seat that has one.
-
-    Raises:
-        ValueError: There is no such seat, no such agent is shipped, or no seat is left.
-    """
+    """What makes the rival of each seat that has one. Raises ValueError where there is no such
+    seat, no such agent is shipped, or no seat is left."""
     for word in rivals:
         if word not in words:
             raise ValueError(f"there is no seat {word!r:.60}")
@@ -391,11 +362,8 @@ def _rivals_by_seat(rivals: Rivals, words: Sequence[str]) -> Dict[int, Maker]:
 
 
 def _seed(seed: Any) -> int:
-    """A seed as a number, also where it is one of another library.
-
-    Raises:
-        ValueError: It is none.
-    """
+    """A seed as a number, also where it is one of another library. Raises ValueError where it is
+    none."""
     try:
         number = index(seed)
     except TypeError:
@@ -412,11 +380,7 @@ def _are_rooms(rooms: Any) -> bool:
 
 
 def _check(agent: str, request: Any) -> None:
-    """Sees that a request is a line.
-
-    Raises:
-        ActionError: It is none.
-    """
+    """Sees that a request is a line. Raises ActionError where it is none."""
     if not isinstance(request, str):
         raise ActionError(f"expected a request of {agent} as a text, not {request!r:.60}")
     try:

@@ -35,10 +35,7 @@ class Market:
         changes: How many bids and withdrawals were answered by an auction.
         scores: The score of each seat in dollars, once the game is over; before, there are none.
 
-    Raises:
-        ProgramError: There is no program.
-        OSError: There is no room for pipes.
-    """
+    Raises ProgramError where there is no program."""
 
     def __init__(self, game: Game, text: str = "") -> None:
         self.game, self.books = game, Books(game)
@@ -67,11 +64,8 @@ class Market:
     def ask(self, requests: Requests) -> List[str]:
         """Asks requests, and gives their replies. What cannot be asked of a game is answered here:
         a line of more than 512 bytes by `no toolong`, as over a link, and `quit` by `no syntax`.
-
-        Raises:
-            LimitError: These are more lines of a seat, or bytes of a script, than a game takes.
-            ProgramError: The program has ended. The game is lost.
-        """
+        Raises LimitError where these are more lines of a seat, or bytes of a script, than a game
+        takes, and ProgramError where the program has ended. The game is lost."""
         sent = [request for request in requests if not _unasked(request[1])]
         if not sent:
             return [_unasked(line) for _, line in requests]
@@ -87,11 +81,8 @@ class Market:
         return [_unasked(line) or next(left) for _, line in requests]
 
     def check(self, requests: Requests) -> None:
-        """Sees that there is room for requests.
-
-        Raises:
-            LimitError: These are more lines of a seat, or bytes of a script, than a game takes.
-        """
+        """Sees that there is room for requests. Raises LimitError where these are more lines of a
+        seat, or bytes of a script, than a game takes."""
         self._counted(requests)
 
     def _counted(self, requests: Requests) -> Tuple[List[int], int]:
@@ -129,11 +120,8 @@ class Market:
         return self._process.exchange(waiting + text, due)
 
     def finish(self) -> bytes:
-        """The log of the game.
-
-        Raises:
-            ProgramError: The program has ended otherwise, or the log has other cash than the books.
-        """
+        """The log of the game. Raises ProgramError where the program has ended otherwise, or the
+        log has other cash than the books."""
         self._exchange(b"", 0)
         log = self._process.finish()
         rows = read_scores(log)
@@ -175,11 +163,8 @@ class Scorer:
         self._known: Dict[Tuple[int, Tuple[int, ...]], int] = {}
 
     def scores(self, books: Books) -> List[int]:
-        """The score of each seat in dollars, if nobody asks anything more.
-
-        Raises:
-            ProgramError: There is no program, or it ended with an error.
-        """
+        """The score of each seat in dollars, if nobody asks anything more. Raises ProgramError
+        where there is no program, or it ended with an error."""
         end = books.at_the_end()
         owed = [sum(-units for units in held if units < 0) for held in end.holdings]
         return [self._best(seat, tuple(held)) + cash - PENALTY * short

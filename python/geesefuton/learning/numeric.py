@@ -90,11 +90,7 @@ class View:
         return max(0, self._trips.wanted[good] - max(0, int(self._seen["holdings"][good])))
 
     def requests(self, action: Sequence[int]) -> List[str]:
-        """The requests that an action stands for.
-
-        Raises:
-            ValueError: It is no action.
-        """
+        """The requests that an action stands for. Raises ValueError where it is no action."""
         levels = [int(level) for level in action]
         if len(levels) != len(GOODS) or not all(0 <= level < LEVELS for level in levels):
             raise ValueError(f"expected {len(GOODS)} levels from 0 to {LEVELS - 1}")
@@ -161,12 +157,9 @@ class Seats(Environment):
         return self._arrays(), infos
 
     def step(self, actions: Mapping[str, Any]) -> Step:
-        """Plays a step, as `Environment.step`. An agent without an action asks nothing.
-
-        Raises:
-            ValueError: There is no game or no such agent, or an action is none. Nothing has
-                changed.
-        """
+        """Plays a step, as `Environment.step`. An agent without an action asks nothing. Raises
+        ValueError where there is no game or no such agent, or an action is none. Nothing has
+        changed."""
         asked = {agent: self._views[agent].requests(action) if agent in self._views else []
                  for agent, action in actions.items()}
         seen, scores, ends, breaks, infos = super().step(asked)
@@ -186,9 +179,7 @@ class Seat(Env):  # type: ignore[misc]
         agent: The name of the seat. The others are rivals', or nobody's.
         settings: Those of `Environment`, such as `rivals` and `rooms`.
 
-    Raises:
-        ValueError: No such seat is free, or as `Environment`.
-    """
+    Raises ValueError where no such seat is free, or as `Environment`."""
 
     metadata = {"render_modes": ["ansi"]}
 
@@ -220,11 +211,8 @@ class Seat(Env):  # type: ignore[misc]
 
     def step(self, action: Any) -> Tuple[Any, float, bool, bool, Dict[str, Any]]:
         """Plays a step. Gives the observation, the reward, whether the game is over, whether it
-        broke off (never), and infos, which have the `score` in the end.
-
-        Raises:
-            ValueError: There is no game, or the action is none. Nothing has changed.
-        """
+        broke off (never), and infos, which have the `score` in the end. Raises ValueError where
+        there is no game, or the action is none. Nothing has changed."""
         before = self._view
         if before is None:
             raise ValueError("no game has begun: call reset first")

@@ -59,11 +59,8 @@ class SeatLink:
         return self._market.books.holdings[self.agent][good]
 
     def holding(self, good: int) -> Own:
-        """What the agent holds, and its standing points.
-
-        Raises:
-            ReplyError: The agent has no call left in this auction.
-        """
+        """What the agent holds, and its standing points. Raises ReplyError where the agent has no
+        call left in this auction."""
         reply = read_words(self.ask(f"own {good}"))
         if not isinstance(reply, Own):
             raise ReplyError(f"own {good} was refused")
@@ -86,11 +83,8 @@ Rivals = Dict[str, Union[str, Maker]]  # by the names of their seats
 
 
 def maker_of(rival: Union[str, Maker]) -> Maker:
-    """What makes a rival: the class of an agent, or what makes the shipped one of a name.
-
-    Raises:
-        ValueError: No agent of this name is shipped, or there is no folder of examples.
-    """
+    """What makes a rival: the class of an agent, or what makes the shipped one of a name. Raises
+    ValueError where no agent of this name is shipped, or there is no folder of examples."""
     if not isinstance(rival, str):
         return rival
     if rival not in SHIPPED:
@@ -137,10 +131,7 @@ def played(game: Game, makers: Mapping[int, Maker], seed: int) -> Iterator[Marke
     Yields:
         The market, after each tick. After the last one it has the scores.
 
-    Raises:
-        ProgramError: There is no program, or it ended with an error.
-        OSError: There is no room for pipes.
-    """
+    Raises ProgramError where there is no program, or it ended with an error."""
     market = Market(game)
     try:
         players = Players(market, makers, seed)

@@ -31,10 +31,7 @@ class Stepped:
     Args:
         game: The game file, or the text of one as bytes.
 
-    Raises:
-        ProgramError: There is no program, or it cannot be run.
-        OSError: There is no room for pipes or for the text.
-    """
+    Raises ProgramError where there is no program, or it cannot be run."""
 
     def __init__(self, game: Union[Word, bytes]) -> None:
         self._process: Optional["subprocess.Popen[bytes]"] = None
@@ -66,20 +63,15 @@ class Stepped:
         Returns:
             The reply lines, one for each line but `tick`, such as `0 @0 taken 2 0`.
 
-        Raises:
-            ProgramError: The process has ended, since the game file or a line was refused or for
-                another reason; its `line` is what the process wrote last.
-        """
+        Raises ProgramError where the process has ended, since the game file or a line was refused
+        or for another reason; its `line` is what the process wrote last."""
         text = "".join(line + "\n" for line in lines).encode("latin-1", "replace")
         due = sum(line != "tick" for line in lines)
         return self.exchange(text, due).decode("latin-1").split("\n")[:-1]
 
     def exchange(self, text: bytes, due: int) -> bytes:
-        """Plays a text of lines that `due` reply lines answer, and gives these as a text.
-
-        Raises:
-            ProgramError: As `ask`.
-        """
+        """Plays a text of lines that `due` reply lines answer, and gives these as a text. Raises
+        ProgramError as `ask` does."""
         self._need_script()
         try:
             rest = text[os.write(self._script, text):]
@@ -102,11 +94,8 @@ class Stepped:
         return got
 
     def finish(self) -> bytes:
-        """Ends the script, lets the ticks that are left come, and gives the log.
-
-        Raises:
-            ProgramError: As `ask`.
-        """
+        """Ends the script, lets the ticks that are left come, and gives the log. Raises
+        ProgramError as `ask` does."""
         self._need_script()
         log, status = self._rest()
         if status != OK:
@@ -125,11 +114,7 @@ class Stepped:
                 self._process.wait()
 
     def _need_script(self) -> None:
-        """Sees that the script can go on.
-
-        Raises:
-            ProgramError: It cannot.
-        """
+        """Sees that the script can go on. Raises ProgramError where it cannot."""
         if self._script < 0 and self._owner != os.getpid():
             raise ProgramError("the game belongs to the process that began it")
         if self._script < 0:

@@ -58,12 +58,8 @@ def schema_text() -> str:
 
 
 def read_data(folder: Union[str, Path]) -> Dict[str, List[Dict[str, Any]]]:
-    """Reads all tables of a folder: for each its rows, by the names of their columns.
-
-    Raises:
-        DataError: The folder has no tables of this version, or one of them is broken.
-        OSError: A file cannot be read.
-    """
+    """Reads all tables of a folder: for each its rows, by the names of their columns. Raises
+    DataError where the folder has no tables of this version, or one of them is broken."""
     folder = Path(folder)
     try:
         version = json.loads((folder / SCHEMA).read_bytes())["geesefuton data"]

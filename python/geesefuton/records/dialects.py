@@ -70,11 +70,7 @@ def said_in(reply: bytes, form: str) -> bytes:
 
 
 def reply_of(line: str, form: str) -> str:
-    """A reply in words.
-
-    Raises:
-        ReplyError: It is no reply of the form.
-    """
+    """A reply in words. Raises ReplyError where it is no reply of the form."""
     return words_of(read_json(line) if form == "json" else read_words(line))
 
 

@@ -268,11 +268,8 @@ def is_seat_word(word: str) -> bool:
 
 
 def read_game(text: str) -> Game:
-    """Reads the text of a game file, of version 1 or 2, in the form that `tac` accepts.
-
-    Raises:
-        GameError: The text is no game file; the error names its first bad line.
-    """
+    """Reads the text of a game file, of version 1 or 2, in the form that `tac` accepts. Raises
+    GameError where the text is no game file; the error names its first bad line."""
     if len(text) > MOST_BYTES:
         raise GameError(1, f"more than {MOST_BYTES:,} bytes: this is not a game file")
     lines = _Lines(text)

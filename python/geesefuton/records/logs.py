@@ -170,11 +170,8 @@ class _Lines:
 
 
 def read_scores(text: Union[str, bytes]) -> Tuple[Score, ...]:
-    """Reads the sheet of a log alone, which takes a hundredth of the time of the whole.
-
-    Raises:
-        LogError: The text has no line `sheet`, or no sheet after it.
-    """
+    """Reads the sheet of a log alone, which takes a hundredth of the time of the whole. Raises
+    LogError where the text has no line `sheet`, or no sheet after it."""
     lines = _Lines(text)
     lines.find("sheet")
     try:
@@ -184,11 +181,7 @@ def read_scores(text: Union[str, bytes]) -> Tuple[Score, ...]:
 
 
 def read_log(text: Union[str, bytes]) -> Log:
-    """Reads a log.
-
-    Raises:
-        LogError: The text is no log; the error names the first bad line.
-    """
+    """Reads a log. Raises LogError where the text is no log; the error names the first bad line."""
     lines = _Lines(text)
     try:
         return _read_log(lines)

@@ -142,9 +142,7 @@ def read_entry_reply(text: str, at: Optional[int] = None) -> Reply:
         text: The text, such as `taken 1 0`.
         at: The position that the value gets.
 
-    Raises:
-        ReplyError: The text is no such reply.
-    """
+    Raises ReplyError where the text is no such reply."""
     found = _FORMS.fullmatch(text)
     if found is None:
         raise ReplyError(f"{text[:60]!r} is not a reply")
@@ -169,11 +167,8 @@ def read_entry_reply(text: str, at: Optional[int] = None) -> Reply:
 
 
 def read_words(line: str) -> Reply:
-    """Reads a reply line of words, without its line end.
-
-    Raises:
-        ReplyError: The line is no reply.
-    """
+    """Reads a reply line of words, without its line end. Raises ReplyError where the line is no
+    reply."""
     placed = _PLACED.fullmatch(line)
     if placed is not None:
         return read_entry_reply(placed[2], int(placed[1]))
@@ -223,11 +218,7 @@ _STATES = {"true": "open", "false": "closed"}
 
 
 def read_json(line: str) -> Reply:
-    """Reads a reply in JSON.
-
-    Raises:
-        ReplyError: The line is no reply.
-    """
+    """Reads a reply in JSON. Raises ReplyError where the line is no reply."""
     try:
         value = json.loads(line)
         told = dict(value)

@@ -13,38 +13,19 @@ from geesefuton.records.hindsight import Moment, Story
 from geesefuton.records.logs import Log, Score, trades_of
 from geesefuton.records.prices import MarketEvent
 
-# The style and the script of all pages, and the style of reports.
-STYLE = "<style>{}{}</style><script>{}</script>".format(*(
-    files(f"geesefuton.{room}").joinpath(name).read_text(encoding="ascii")
-    for room, name in (("network", "style.css"), ("records", "report.css"),
-                       ("network", "page.js"))))
+# The style and the script of all pages, and the style and the script of reports.
+_COLOURS, _OWN, _SHARED, _SCRIPT = (
+    files(f"geesefuton.{room}").joinpath(name).read_text(encoding="ascii") for room, name in (
+        ("network", "style.css"), ("records", "report.css"), ("network", "page.js"),
+        ("records", "report.js")))
+STYLE = f"<style>{_COLOURS}{_OWN}</style><script>{_SHARED}</script>"
+SCRIPT = f"<script>\n{_SCRIPT}</script>"
 Cell = Union[str, int]
 KINDS: Tuple[Tuple[str, range], ...] = (("flights", FLIGHTS), ("Shanties", range(8, 12)),
                                         ("Towers", range(12, 16)), ("tickets", TICKETS))
 Sums = Dict[Tuple[int, int, bool], Tuple[int, int]]  # agent, good, whether sold: units and dollars
 ENDS = {"quit": "played to the end", "end": "left without quit", "readfault": "lost its link",
         "writefault": "lost its link", "budget": "used up its lines"}
-
-
-SCRIPT = """<script>
-for (const team of document.querySelectorAll(".story")) {
-  const moments = JSON.parse(team.querySelector("script").textContent);
-  const slider = team.querySelector("input"), said = team.querySelector("output");
-  const body = team.querySelector("tbody");
-  const show = () => {
-    const { worth, cash, goods } = moments[slider.value];
-    said.textContent = `Tick ${slider.value}: best plan worth ${number(worth)}, ${money(cash)}`;
-    body.replaceChildren(...goods.map(cells => {
-      const row = document.createElement("tr");
-      for (const text of cells) row.insertCell().textContent = text;
-      row.cells[0].className = "t";
-      return row;
-    }));
-  };
-  slider.addEventListener("input", show);
-  show();
-}
-</script>"""
 
 
 @dataclass(frozen=True)

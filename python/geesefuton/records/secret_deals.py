@@ -24,11 +24,8 @@ def new_secret() -> bytes:
 
 
 def read_secret(text: str) -> bytes:
-    """A secret from its 64 hexadecimal digits.
-
-    Raises:
-        ValueError: The text is something else.
-    """
+    """A secret from its 64 hexadecimal digits. Raises ValueError where the text is something
+    else."""
     secret = bytes.fromhex(text)
     if len(secret) != BYTES or secret.hex() != text:
         raise ValueError(f"expected {2 * BYTES} lower-case hexadecimal digits")

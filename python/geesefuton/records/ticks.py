@@ -76,11 +76,8 @@ def ticks_of_cash(log: Log, ticks: Sequence[Sequence[int]],
 
 def ticks_by_requests(game: Game, log: Log, requests: Iterable[Timed]) -> Ticks:
     """The ticks of a log's entries, by the requests of all agents, those of each one in order. A
-    request that was refused before an auction was asked has no entry.
-
-    Raises:
-        TicksError: A request of the log is not among them.
-    """
+    request that was refused before an auction was asked has no entry. Raises TicksError where a
+    request of the log is not among them."""
     asked: Dict[Tuple[int, Optional[int], str], Deque[Tuple[int, Request]]] = defaultdict(deque)
     for tick, agent, request in requests:
         if request is not None:
