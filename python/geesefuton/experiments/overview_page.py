@@ -4,7 +4,7 @@ of a game, and its pictures for a paper, as SVG and PDF, each with the CSV behin
 import html
 from importlib.util import find_spec
 from pathlib import Path
-from typing import Any, Dict, Iterator, List, NamedTuple, Sequence, Tuple
+from typing import Any, Dict, Iterator, List, NamedTuple, Tuple
 
 import numpy as np
 import pandas as pd
@@ -16,7 +16,7 @@ from geesefuton.experiments.results import Row
 from geesefuton.experiments.study import deals_to_detect
 from geesefuton.experiments.summary import Difference, Summary
 from geesefuton.processes import why
-from geesefuton.records.games import AUCTIONS, FLIGHTS, HOTELS, TICKETS, TICKS, name_of
+from geesefuton.records.games import FLIGHTS, HOTELS, TICKETS, TICKS, name_of
 from geesefuton.records.report_page import (Cell, bar, chart, chart_rows, document, half_text,
                                             number, round_up, scale_of, table)
 
