@@ -31,7 +31,7 @@ from pathlib import Path
 from typing import Dict, Iterable, Iterator, List, Set, Tuple
 
 DOCS = Path(__file__).absolute().parent
-sys.path.insert(0, str(DOCS.parent / "checks"))
+sys.path.insert(0, str(DOCS))  # also where this file is a link to another folder's
 
 from definitions import Definitions, Module, Target, clauses_of, head_of  # noqa: E402
 

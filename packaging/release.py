@@ -46,8 +46,8 @@ TREE = ("README.md", "LICENSE", "CHANGELOG.md", "CITATION.cff", "quickstart", "t
         "docs", "python/geesefuton", "python/README.md", "python/pyproject.toml",
         "packaging/Containerfile")
 # Only in a clone can one make a release, or read the definitions by the script of the pages.
-NOT_TAKEN = ("tools/release", "docs/reading.py", "docs/chapters.tsv", "docs/left_out.tsv",
-             "docs/rules.tsv")
+NOT_TAKEN = ("tools/release", "docs/reading.py", "docs/definitions.py", "docs/chapters.tsv",
+             "docs/left_out.tsv", "docs/rules.tsv")
 PACKAGE = Path("python/geesefuton")
 
 

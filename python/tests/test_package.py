@@ -56,7 +56,7 @@ class Package(unittest.TestCase):
         self.assertIn(f'requires-python = ">={OLDEST[0]}.{OLDEST[1]}"',
                       (PACKAGE / "pyproject.toml").read_text())
         bad: List[str] = []
-        files = [*PACKAGE.rglob("*.py"), *(TOP / "checks").glob("*.py"), *(TOP / "docs").glob("*.py"),
+        files = [*PACKAGE.rglob("*.py"), *(TOP / "tests").rglob("*.py"), *(TOP / "docs").glob("*.py"),
                  *(TOP / "examples").rglob("*.py"), *(TOP / "bench").glob("*.py")]
         self.assertGreater(len(files), 60)
         for file in files:

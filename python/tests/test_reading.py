@@ -16,7 +16,7 @@ class PlantedFaults(unittest.TestCase):
         folder = tempfile.TemporaryDirectory()
         self.addCleanup(folder.cleanup)
         self.root = Path(folder.name)
-        for name in ("checks", "crates", "docs"):
+        for name in ("crates", "docs"):
             (self.root / name).symlink_to(TOP / name)
 
     def change(self, name: str, old: str, new: str) -> None:

@@ -10,7 +10,7 @@ from unittest import mock
 
 from tests.helpers import TOP
 
-with mock.patch.object(sys, "path", [str(TOP / "checks"), *sys.path]):
+with mock.patch.object(sys, "path", [str(TOP / "tests" / "lint"), *sys.path]):
     rooms = importlib.import_module("rooms")
 
 BASE = "class Base:\n    def _own(self): self._count = 1\n    def told(self): return 1\n"

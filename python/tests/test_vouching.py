@@ -25,7 +25,7 @@ from geesefuton.records.logs import read_log
 from geesefuton.records.replies import read_request, request_json
 from tests.helpers import TOP, needs_program
 
-with mock.patch.object(sys, "path", [str(TOP / "checks"), *sys.path]):
+with mock.patch.object(sys, "path", [str(TOP / "tests" / "support"), *sys.path]):
     reading = importlib.import_module("vouching")
     records = importlib.import_module("made_records")
 
@@ -40,6 +40,7 @@ LINES = ["own 16", "quote 10", "bid 0 ((1 500))", "cash", "bid 10 ((2 90))", "bi
          "quote 10", "buy 5", "bid 16 ((2 60))", "x" * 513, "own 0", "bid 3 ((0 1))", "withdraw 5",
          "cash", "quote 16", "bid 10 ((1 50))", "own 4", "quit"]
 ASKED_GOODS = (0, 4, 8, 15, 20)  # of agents in a served game
+CAUSES = ("quit", "end", "readfault", "writefault")  # besides `budget`
 SELLING = "5 bid 16 ((-1 50) (-1 40))"
 
 
@@ -133,14 +134,14 @@ class OneAgent(Record):
 
     def test_a_record_that_ends(self) -> None:
         for count in range(self.count):
-            due = (f"vouched 2 whole {count}" if self.left_by(self.count - 1) is None
-                   or count + 1 > self.count - 1 else self.lowest_from(count + 1))
+            due = "unvouched cause" if count + 1 == self.count else self.lowest_from(count + 1)
             self.assertEqual(self.judge(self.asked[:HELLO + count], self.said[:WELCOME + count]),
                              due)
 
     def test_half_lines_are_not_compared(self) -> None:
-        boards = reading.Boards(read_game(self.played.game), read_log(self.played.log))
-        for count in (self.count - 1, self.count):
+        for count, cause in ((self.count - 1, "end"), (self.count, "quit")):
+            log = self.played.log.replace("end 2 quit\n", f"end 2 {cause}\n")
+            boards = reading.Boards(read_game(self.played.game), read_log(log))
             for asked, said in ((b"", b""), (b"own 0", b""), (b"", b"@9"), (b"quit", b"\xff")):
                 due = f"cut {count} 0" if said else f"whole {count}"
                 self.assertEqual(reading.vouching(boards,
@@ -192,7 +193,7 @@ class OneAgent(Record):
         unquit, unsaid = self.asked[:-1], self.said[:-1]
         whole, cut = f"vouched 2 whole {self.count - 1}", f"vouched 2 cut {self.count - 1} 0"
         for cause, answered, unanswered, unasked in (
-                ("quit", f"vouched 2 whole {self.count}", cut, whole),
+                ("quit", f"vouched 2 whole {self.count}", cut, "unvouched cause"),
                 ("end", "unvouched cause", cut, whole),
                 ("readfault", "unvouched cause", cut, whole),
                 ("writefault", "unvouched cause", cut, "unvouched cause"),
@@ -207,6 +208,9 @@ class OneAgent(Record):
         many = unquit + ["own 3"] * (65_536 - len(unquit))
         self.assertEqual(self.judge(many, unsaid, log), "unvouched cause")
         self.assertEqual(self.judge([*many, "own 3"], unsaid, log), cut)
+        # Any of the lines without a reply may be `quit`.
+        self.assertEqual(self.judge([*unquit, "own 3", "quit"], unsaid), cut)
+        self.assertEqual(self.judge([*unquit, "own 3", "quit "], unsaid), "unvouched cause")
 
     def test_another_greeting_or_welcome(self) -> None:
         for first in ("hello seat9", "hello", " hello seat2", "hello seat2 ", "hello  seat2",
@@ -347,6 +351,13 @@ class Limits(Record):
             self.assertEqual(self.judge(proved=False), "unvouched line 1001")
             self.assertEqual(self.judge(said=self.said[:WELCOME + 990], proved=False),
                              "unvouched entry 9 1000")
+        # Then its lines or its bytes are used up, and no other cause is right.
+        with mock.patch.object(reading, "MOST_LINES", self.count):
+            for cause, due in (("budget", f"vouched 4 cut {self.count} 0"),
+                               *((cause, "unvouched cause") for cause in CAUSES)):
+                log = self.played.log.replace("end 4 end\n", f"end 4 {cause}\n")
+                asked = [*self.asked, "quit"]
+                self.assertEqual(self.judge(asked, log=log, proved=False), due, cause)
 
 
 @needs_program

@@ -27,7 +27,7 @@ from geesefuton.records.logs import Log, read_log
 from geesefuton.records.replies import entry_words
 from tests.helpers import TOP, needs_program
 
-with mock.patch.object(sys, "path", [str(TOP / "checks"), *sys.path]):
+with mock.patch.object(sys, "path", [str(TOP / "tests" / "support"), *sys.path]):
     reading = importlib.import_module("vouching")
 
 WORDS = ["red7k", "orange3x", "yellow9m", "green4", "blue77", "violet5", "brown8q", "grey0"]

@@ -1,0 +1,1 @@
+"""Tests of the program from outside, as a shell, an agent or a student has it."""

@@ -1,0 +1,135 @@
+"""Games of agents that are written over the Java layer of examples/java.
+
+Each has to end with status 0 or 6, its log has to be sound, no Java agent may print a fault, the
+cash that each prints has to be that of its score, and the bytes that each agent keeps of its link
+have to be those of the log, by the plain reading.
+"""
+
+import os
+import re
+import shutil
+import subprocess
+import sys
+import unittest
+from pathlib import Path
+from typing import ClassVar, Dict, Iterator, List, Sequence
+
+from geesefuton import program
+from geesefuton.processes import Children, free_port
+from geesefuton.records.games import read_game
+from geesefuton.records.logs import read_log
+from tests.support.trying import MOST, TOP, needs_program
+from tests.support.vouching import Boards, vouching
+
+LAYER, TESTS = TOP / "examples" / "java", TOP / "tests" / "program" / "java"
+PACE = 250  # milliseconds
+SLOW_PACE = 750  # of the layer's test, which asks much before the first auctions close
+NO_FILE = "-XX:-UsePerfData"  # otherwise a JVM leaves a file in the folder of temporary ones
+JVM = ["-Xmx64m", "-XX:+UseSerialGC", "-XX:TieredStopAtLevel=1", NO_FILE]  # eight on one machine
+PYTHON = ("planner", "trader", "planner", "trader")  # at the odd seats
+PURPOSE = "thrown on purpose"  # of an exception by which the test tries the layer
+
+
+class Game:
+    """A served game, whose files are in a folder of its own."""
+
+    def __init__(self, children: Children, classes: Path, game: Path, pace: int) -> None:
+        self.children, self.classes, self.game = children, classes, game
+        self.place = children.folder("game")
+        self.log, self.links = self.place / "log", self.place / "links"
+        self.port = free_port()
+        self.agents: Dict[str, "subprocess.Popen[bytes]"] = {}
+        with self.log.open("wb") as log:
+            self.server = children.start(program.served_words(game, self.port, pace), stdout=log)
+
+    def start(self, seat: int, words: List[str]) -> None:
+        """Starts an agent, which prints into a file that has the name of its seat word."""
+        with (self.place / f"seat{seat}").open("wb") as out:
+            self.agents[f"seat{seat}"] = self.children.start(
+                words, stdout=out, stderr=subprocess.STDOUT,
+                env={**os.environ, "AGENT_RECORD": str(self.links)})
+
+    def start_java(self, seat: int, name: str) -> None:
+        self.start(seat, ["java", *JVM, "-cp", str(self.classes), "se.sics.tac.aw.TACAgent",
+                          "-agentimpl", name, "-host", "localhost", "-port", str(self.port),
+                          "-agent", f"seat{seat}"])
+
+    def start_python(self, seat: int, name: str) -> None:
+        self.start(seat, [sys.executable, str(TOP / f"examples/agents/{name}.py"), "localhost",
+                          str(self.port), f"seat{seat}", "--pause", "0.1"])
+
+    def faults(self, java: Sequence[int]) -> Iterator[str]:
+        """Waits until the game and its agents have ended, and yields what is wrong.
+
+        Args:
+            java: The seats of the Java agents.
+        """
+        status = self.server.wait(MOST)
+        if status not in (program.OK, program.CLOCK):
+            yield f"the server ended with {status}"
+            return
+        for word, agent in self.agents.items():
+            if agent.wait(MOST):
+                yield f"{word} ended with {agent.returncode}"
+        audit = program.audit(self.game, self.log)
+        if audit != "sound":
+            yield f"the log is {audit}"
+        log = read_log(self.log.read_bytes())
+        boards = Boards(read_game(self.game.read_text()), log)
+        for word in self.agents:
+            asked, said = ((self.links / f"{word}.{side}").read_bytes()
+                           for side in ("asked", "said"))
+            found = vouching(boards, asked, said)
+            if not found.startswith(f"vouched {word[4:]} whole "):
+                yield f"what {word} has kept is {found}"
+        scores = re.findall(r"^score (\d) \d+ (-?\d+) ", self.log.read_text(), re.MULTILINE)
+        cash = {int(agent): dollars for agent, dollars in scores}
+        for seat in java:
+            printed = (self.place / f"seat{seat}").read_text(errors="replace")
+            told = re.search(r"^seat\d holds.*, cash (-?\d+),", printed, re.MULTILINE)
+            if not told or told[1] != cash[seat]:
+                yield f"seat{seat} tells {told and told[1]} dollars of {cash[seat]}"
+            yield from (f"seat{seat}: {line}" for line in printed.splitlines()
+                        if "Exception" in line and PURPOSE not in line
+                        or line.startswith("fault: "))
+
+
+@needs_program
+@unittest.skipUnless(shutil.which("javac") and shutil.which("java"), "there is no JDK")
+class Java(unittest.TestCase):
+    children: ClassVar[Children]
+    classes: ClassVar[Path]
+    made: ClassVar[Path]
+
+    @classmethod
+    def setUpClass(cls) -> None:
+        cls.children = Children()
+        cls.addClassCleanup(cls.children.close)
+        cls.classes, cls.made = cls.children.folder("classes"), cls.children.folder() / "made.game"
+        cls.made.write_text(program.make(42))
+        sources = [LAYER / "TripAgent.java", *sorted(TESTS.glob("*.java"))]
+        subprocess.run(["javac", f"-J{NO_FILE}", "-d", cls.classes, "-sourcepath", LAYER, *sources],
+                       stdin=subprocess.DEVNULL, check=True)
+
+    def game(self, file: Path, pace: int = PACE) -> Game:
+        return Game(self.children, self.classes, file, pace)
+
+    def test_eight_java_agents(self) -> None:
+        game = self.game(self.made)
+        for seat in range(8):
+            game.start_java(seat, "TripAgent")
+        self.assertEqual(list(game.faults(range(8))), [])
+
+    def test_java_and_python_agents_also_with_few_rooms_and_live_quotes(self) -> None:
+        for file in (self.made, TOP / "examples" / "few_rooms.game"):
+            game = self.game(file)
+            for seat in range(0, 8, 2):
+                game.start_java(seat, "TripAgent")
+                game.start_python(seat + 1, PYTHON[seat // 2])
+            self.assertEqual(list(game.faults(range(0, 8, 2))), [])
+
+    def test_an_agent_that_tests_the_layer_from_within(self) -> None:
+        game = self.game(self.made, SLOW_PACE)
+        game.start_java(0, "LayerTest")
+        self.assertEqual(list(game.faults([0])), [])
+        self.assertRegex((game.place / "seat0").read_text(), r"(?m)^\d+ tests, \d+ faults$")

@@ -1,0 +1,168 @@
+"""A game of eight seats by hand: headless Chromium joins eight times at the page of `tools/lobby`,
+and only what a person sees there is tapped.
+
+    python3 -m tests.soak.by_hand SEED
+
+Each seat buys what its board of trips lacks, offers a ticket and takes it back, and is refused
+once. In the end each page has to show the seat's rank, the log has to be sound, with bids of all
+eight agents that were admitted, and `tac vouch` has to find in it the whole of each seat's link,
+whose bytes the journal has. It takes some four minutes.
+"""
+
+import subprocess
+import sys
+import time
+from pathlib import Path
+from typing import Dict, Iterator, List
+
+from geesefuton import program
+from geesefuton.hosting.server_links import server_links
+from geesefuton.processes import Children, command, free_port
+from geesefuton.records.games import SEATS, TICKS
+from geesefuton.records.logs import Log, read_log
+from geesefuton.records.replies import Taken
+from tests.support import soaking
+from tests.support.browser import Browser, BrowserError, Tab, is_seen
+from tests.support.trying import TOP
+
+PACE = 3000  # milliseconds from tick to tick
+LIMIT = 600.0  # seconds that all of it may take besides its ticks, on a busy machine
+SOON = 10.0  # seconds that an answer may take, on a busy machine
+DUE = ("a ticket is offered", "an offer is taken back", "a refusal says why",
+       "the rank is shown")  # what each seat has to see
+
+
+class ByHandError(Exception):
+    """The game could not be played by hand."""
+
+
+def bid(tab: Tab, tile: str, button: str, sell: bool = False, kind: str = "button.tile") -> bool:
+    """Bids by two taps, or three to sell; whether the panel could be used so."""
+    if not tab.tap(kind, tile):
+        return False
+    if sell:
+        tab.tap("label", "Sell")
+    has_tapped = tab.tap("dialog button", button)
+    is_seen(lambda: not tab.value("document.querySelector('dialog').open")
+            or tab.value("document.getElementById('refused').textContent"), SOON)
+    return has_tapped
+
+
+class Player:
+    """Plays a seat by what its page shows.
+
+    Args:
+        tab: The page.
+        number: Of the seat, 0 to 7.
+    """
+
+    def __init__(self, tab: Tab, number: int) -> None:
+        self.tab, self._number, self._step = tab, number, 0
+        self.seen: Dict[str, bool] = {}  # what was tried, and whether it was seen
+
+    def play(self) -> None:
+        """Does the next thing."""
+        step, self._step = self._step, self._step + 1
+        first, other = 1 + self._number % 4, 1 + (self._number + 1) % 4
+        if step == 0:
+            self._note("a ticket is offered", bid(self.tab, f"Museum, night {first}", "sell", True))
+        elif step == 1:
+            self.tab.tap("button.tile", f"Museum, night {first}")
+            self._note("an offer is taken back", self.tab.tap("dialog button", "Withdraw"))
+        elif step in (2, 3, 4):
+            bid(self.tab, f"(Shanties|Towers), night {other}", "Bid to buy")
+        elif step == 5:
+            self._refused(other)
+        else:
+            bid(self.tab, "Client .*to be had", "uy", kind="button.part")
+
+    def _refused(self, night: int) -> None:
+        """A bid for 17 units, which is more than the buttons allow."""
+        self.tab.tap("button.tile", f"Towers, night {night}")
+        self.tab.tap("dialog input", "^$")
+        self.tab.call("Input.insertText", text="17")
+        self.tab.tap("dialog button.main", "uy")
+        self._note("a refusal says why", is_seen(lambda: self.tab.sees("at most 16 units"), SOON))
+        self.tab.tap("dialog button", "^Close$")
+
+    def _note(self, what: str, is_seen: bool) -> None:
+        self.seen[what] = is_seen
+
+
+def joined(browser: Browser, port: int, number: int) -> Tab:
+    """The page of a seat, which is joined by its word."""
+    tab, until = Tab(browser, "about:blank"), time.monotonic() + LIMIT
+    while not tab.sees("Join the game"):
+        if time.monotonic() > until:
+            raise ByHandError("there is no page on which to join")
+        tab.call("Page.navigate", url=f"http://127.0.0.1:{port}/join")
+        time.sleep(0.3)
+    tab.tap("input", "")
+    tab.call("Input.insertText", text=f"seat{number}")
+    tab.tap("button", "Play in this browser")
+    return tab
+
+
+def play(children: Children, folder: Path, seed: int) -> List[Player]:
+    """Plays a game in a folder: `by_hand.game` gives `by_hand.log`."""
+    game, port, page = folder / "by_hand.game", free_port(), free_port()
+    game.write_text(program.make(seed))
+    with (folder / "by_hand.log").open("wb") as log:
+        lobby = children.start([sys.executable, str(TOP / "tools" / "lobby"), str(game), str(port),
+                                str(PACE), "--journal", str(folder / "by_hand.journal"),
+                                "--page", str(page)],
+                               stdin=subprocess.DEVNULL, stdout=log, stderr=subprocess.DEVNULL)
+    browser = Browser(children)
+    players = [Player(joined(browser, page, number), number) for number in range(SEATS)]
+    until, is_over = time.monotonic() + LIMIT + TICKS * PACE / 1000, False
+    while not is_over and time.monotonic() < until:
+        is_over = lobby.poll() is not None  # the pages are looked at once more then
+        for player in players:
+            if player.tab.sees("[0-9] of 54"):
+                player.play()
+            elif player.tab.sees("Game over"):
+                player.seen["the rank is shown"] = player.tab.sees("agent [0-7]: [1-8][a-z]+ of 8")
+        time.sleep(0.1)
+    if not is_over:
+        raise ByHandError("the game did not end")
+    return players
+
+
+def faults_of(players: List[Player], log: Log) -> Iterator[str]:
+    """What is missing."""
+    for number, player in enumerate(players):
+        yield from (f"seat{number}: not seen: {what}" for what in DUE if not player.seen.get(what))
+        taken = sum(entry.caller == number and isinstance(entry.reply, Taken)
+                    for history in log.histories for entry in history)
+        if taken < 5:
+            yield f"seat{number}: only {taken} bids were admitted"
+
+
+def link_faults(folder: Path) -> Iterator[str]:
+    """What `tac vouch` says of the seats' links if it does not vouch for the whole of them."""
+    for number, link in enumerate(server_links(folder / "by_hand.journal")):
+        game, log, asked, said = (folder / name for name in (
+            "by_hand.game", "by_hand.log", "asked", "said"))
+        asked.write_bytes(link.asked)
+        said.write_bytes(link.said)
+        verdict = program.vouch(game, log, asked, said)
+        if not verdict.startswith(f"vouched {number} whole "):
+            yield f"seat{number}: {verdict}"
+
+
+def soak(seed: int, folder: Path, children: Children) -> Iterator[str]:
+    """Plays a game, and looks at its log."""
+    try:
+        players = play(children, folder, seed)
+    except (BrowserError, ByHandError) as fault:
+        yield str(fault)
+        return
+    text = (folder / "by_hand.log").read_bytes()
+    verdict = program.audit(folder / "by_hand.game", text)
+    yield from [] if verdict == "sound" else [verdict]
+    yield from faults_of(players, read_log(text))
+    yield from link_faults(folder)
+
+
+if __name__ == "__main__":
+    sys.exit(command("by_hand", lambda: soaking.run("by_hand", __doc__, soak)))

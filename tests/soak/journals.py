@@ -1,0 +1,248 @@
+"""Games through the lobby, which are recovered from their journals.
+
+    python3 -m tests.soak.journals SEED
+
+A served game, whose agents crash, hang, flood and come back, must be recovered with the histories
+and the sheet of the served log, byte for byte. In another one lobby and server are killed at a
+random moment: the recovered log must be sound, and hold every entry whose reply an agent has. And
+the journal of the served game is cut at random places, with the last replies of some agents taken
+away: what is recovered must be sound. It takes some 30 seconds.
+"""
+
+import json
+import os
+import random
+import re
+import shutil
+import signal
+import subprocess
+import sys
+import time
+from collections import defaultdict
+from pathlib import Path
+from typing import Dict, Iterator, List, Optional, Sequence, Tuple
+
+from geesefuton import program
+from geesefuton.processes import Children, command, free_port
+from geesefuton.records.dialects import asked_by, reply_of
+from tests.support import soaking
+from tests.support.trying import TOP
+
+LOBBY, RECOVER = TOP / "tools/lobby", TOP / "tools/recover"
+AGENTS = TOP / "examples/agents"
+PACE = 80  # milliseconds from tick to tick
+MOST = 300.0  # seconds that a served game may take
+CUTS = 4  # of a journal
+SERVED = ["calm", "pipe", "crash", "vanish", "hang", "flood", "deaf", "back", "back", "garbage"]
+KILLED = ["calm", "pipe", "pipe", "flood", "flood", "deaf", "back"]
+
+
+class Game:
+    """A game of a seed: every third speaks JSON, every second is of version 2, of these every
+    second has live quotes."""
+
+    def __init__(self, seed: int, folder: Path) -> None:
+        self.seed, self.folder = seed, folder
+        folder.mkdir()
+        self.form = "json" if seed % 3 == 0 else "words"
+        self.dice = random.Random(seed)
+        self.file = folder / "my.game"
+        self.file.write_text(program.make(seed))
+        if seed % 2:
+            rooms = " ".join(str(self.dice.randint(1, 8)) for _ in range(8))
+            lines = program.upgrade(self.file).split("\n")
+            lines[11] = f"rooms {rooms}"
+            lines[12] = "quotes live" if seed % 4 == 1 else "quotes minute"
+            self.file.write_text("\n".join(lines))
+
+    def start(self, children: Children, kinds: Sequence[Optional[str]],
+              goods: Sequence[int]) -> "subprocess.Popen[bytes]":
+        """Starts the lobby, and an agent of each kind."""
+        port = free_port()
+        words = [str(self.file), str(port), str(PACE)]
+        words += ["json"] if self.form == "json" else []
+        with (self.folder / "log").open("wb") as log, (self.folder / "told").open("wb") as told:
+            lobby = children.start(
+                [sys.executable, str(LOBBY), *words, "--start", "4", "--after", "1.5", "--silence",
+                 "0.7", "--journal", str(self.folder / "journal")],
+                stdin=subprocess.DEVNULL, stdout=log, stderr=told)
+        for seat, kind in enumerate(kinds):
+            if kind is not None:
+                with (self.folder / f"out{seat}").open("wb") as out:
+                    children.start(self.words_of(seat, kind, port, goods), stdout=out, cwd=TOP,
+                                   stderr=subprocess.STDOUT, stdin=subprocess.DEVNULL)
+        return lobby
+
+    def words_of(self, seat: int, kind: str, port: int, goods: Sequence[int]) -> List[str]:
+        """The command of an agent."""
+        where = ["localhost", str(port), f"seat{seat}", "--pause", str(PACE / 1000)]
+        if kind == "asker":
+            return ["node", str(AGENTS / "asker.mjs"), *where]
+        if kind in ("planner", "trader", "watcher"):
+            return [sys.executable, str(AGENTS / f"{kind}.py"), *where]
+        return [sys.executable, "-m", "tests.support.wild_agent", *where, "--mode", kind, "--form",
+                self.form, "--out", str(self.folder / f"said{seat}"), "--seed",
+                str(self.seed * 8 + seat), "--goods", ",".join(map(str, goods))]
+
+    def tame(self, count: int) -> List[str]:
+        """So many agents that play in earnest."""
+        kinds = ["planner", "trader", "planner", "watcher"]
+        if self.form == "json":
+            kinds = ["asker"] if shutil.which("node") else ["calm"]
+        return [kinds[number % len(kinds)] for number in range(count)]
+
+    def recover(self, journal: Path, to: str) -> "subprocess.CompletedProcess[str]":
+        """Recovers a journal into a file."""
+        with (self.folder / to).open("wb") as log:
+            return subprocess.run([sys.executable, RECOVER, journal], stdout=log,
+                                  stderr=subprocess.PIPE, text=True, check=False)
+
+    def faults(self, done: "subprocess.CompletedProcess[str]", log: str) -> Iterator[str]:
+        """What is wrong with a recovery and its log, and what agents noted as wrong."""
+        try:
+            verdict = program.audit(self.file, self.folder / log)
+        except program.ProgramError as fault:
+            verdict = str(fault)
+        if done.returncode or verdict != "sound":
+            yield f"recovered with {done.returncode}, {verdict}: {done.stderr[-300:]}"
+        for said in self.folder.glob("said*"):
+            yield from (line for line in said.read_text().splitlines() if line.startswith("wrong"))
+
+
+def parts_of(text: str) -> Dict[str, str]:
+    """The parts of a log that a recovery gives again."""
+    cash = text.index("\ncash ") + 1
+    sheet = text.index("\nsheet\n")
+    posts = sorted(line for line in text[cash:sheet].split("\n") if " post " in line)
+    return {"histories": text[text.index("auction 0 "):cash], "sheet": text[sheet:],
+            "posts": "\n".join(posts)}
+
+
+def histories(text: str) -> Dict[int, List[str]]:
+    """The entries of each auction of a log."""
+    found: Dict[int, List[str]] = defaultdict(list)
+    good = 0
+    for line in text[text.index("auction 0 "):text.index("\ncash ")].split("\n"):
+        if line.startswith("auction "):
+            good = int(line.split(" ")[1])
+        elif not line.startswith("trade "):
+            found[good].append(line)
+    return found
+
+
+def serve(game: Game) -> Iterator[str]:
+    """Serves a game, which is to be recovered as it was."""
+    kinds: List[Optional[str]] = [*game.tame(4), *game.dice.sample(SERVED, 4)]
+    game.dice.shuffle(kinds)
+    if game.seed % 5 == 0:
+        kinds[3] = None
+    with Children() as children:
+        status = game.start(children, kinds, range(28)).wait(MOST)
+    done = game.recover(game.folder / "journal", "recovered")
+    yield from game.faults(done, "recovered")
+    here, there = ((game.folder / name).read_text() for name in ("log", "recovered"))
+    print(f"served in {game.form} to {' '.join(map(str, kinds))}: {here.count(' = ')} entries, "
+          f"{here.count('trade ')} trades", flush=True)
+    if status not in (program.OK, program.CLOCK) or done.returncode:
+        yield f"the lobby ended with {status}"
+        return
+    ours, theirs = parts_of(here), parts_of(there)
+    yield from (f"{name} differ" for name in ours if ours[name] != theirs[name])
+
+
+def server_of(lobby: int) -> Optional[int]:
+    """The process of the server that a lobby started."""
+    for place in Path("/proc").glob("[0-9]*"):
+        try:
+            parent = (place / "stat").read_text().rsplit(")", 1)[1].split()[1]
+            if int(parent) == lobby and b"serve" in (place / "cmdline").read_bytes().split(b"\0"):
+                return int(place.name)
+        except OSError:
+            pass  # it has ended
+    return None
+
+
+def kill(game: Game) -> Iterator[str]:
+    """Kills a game. What agents were told has to be in the recovered log."""
+    tame = game.tame(2)
+    kinds = [game.dice.choice(KILLED + tame) for _ in range(8)]
+    goods = range(28) if game.seed % 2 else game.dice.sample(range(28), 3)
+    with Children() as children:
+        lobby = game.start(children, kinds, goods)
+        while "begins" not in (game.folder / "told").read_text():
+            if lobby.poll() is not None:
+                yield f"the lobby ended with {lobby.returncode}"
+                return
+            time.sleep(0.01)
+        time.sleep(game.dice.random() * 0.9 * 54 * PACE / 1000)
+        numbers = [lobby.pid, server_of(lobby.pid)]
+        for number in numbers if game.seed % 2 else reversed(numbers):
+            if number is not None:
+                os.kill(number, signal.SIGKILL)
+        time.sleep(0.3)
+    done = game.recover(game.folder / "journal", "recovered")
+    yield from game.faults(done, "recovered")
+    noted, missing = check_notes(game) if not done.returncode else (0, 0)
+    told = done.stderr.split("\n")
+    print(f"killed in {game.form} with {' '.join(kinds)}: {noted} entries noted, "
+          f"{sum('in the log' in line for line in told)} made and "
+          f"{sum('left out: ' in line for line in told)} left out without a reply", flush=True)
+    if missing:
+        yield f"{missing} of {noted} entries that agents noted are missing"
+
+
+def check_notes(game: Game) -> Tuple[int, int]:
+    """How many entries agents noted, and how many of these are not in the recovered log."""
+    entries = histories((game.folder / "recovered").read_text())
+    noted = missing = 0
+    for said in game.folder.glob("said*"):
+        for line in said.read_text().splitlines():
+            try:
+                agent, asked, reply = json.loads(line)
+            except ValueError:
+                continue  # the agent was killed while it wrote
+            told = reply_of(reply, game.form)
+            call = asked_by(asked, game.form) if told.startswith("@") else None
+            if call is None or call.keyword in ("quote", "cash"):
+                continue
+            at, rest = told[1:].split(" ", 1)
+            words = call.text.replace(f" {call.good}", "", 1)
+            noted += 1
+            if entries[call.good][int(at):int(at) + 1] != [f"{agent} {words} = {rest}"]:
+                missing += 1
+    return noted, missing
+
+
+def cut(game: Game) -> Iterator[str]:
+    """Cuts a journal at random places, and recovers each."""
+    lines = (game.folder / "journal").read_text().split("\n")[:-1]
+    first = next((place for place, line in enumerate(lines) if '"r":' in line), None)
+    made = 0
+    for number in range(CUTS if first is not None else 0):
+        part = lines[:game.dice.randint((first or 0) + 20, len(lines) - 1)]
+        for agent in game.dice.sample(range(8), game.dice.randint(1, 8)):
+            last = next((place for place in range(len(part) - 1, -1, -1)
+                         if part[place].startswith(f'{{"a":{agent},"r":')), None)
+            if last is not None:  # what the agent sent after that was not passed on yet
+                part = part[:last] + [line for line in part[last + 1:]
+                                      if not line.startswith(f'{{"a":{agent},')]
+        journal = game.folder / f"cut{number}"
+        journal.write_text("\n".join(part) + "\n")
+        done = game.recover(journal, "cut.recovered")
+        yield from (f"cut {number}: {fault}" for fault in game.faults(done, "cut.recovered"))
+        made += bool(re.search("without a reply, in the log", done.stderr))
+    print(f"in {made} of {CUTS} cut journals a request without a reply had been made", flush=True)
+
+
+def soak(seed: int, folder: Path, _: Children) -> Iterator[str]:
+    """Serves and kills a game, and cuts the journal of the served one."""
+    if not shutil.which("node"):
+        print("left out: agents in JavaScript: there is no Node")
+    game = Game(seed, folder / "served")
+    yield from serve(game)
+    yield from cut(game)
+    yield from kill(Game(seed, folder / "killed"))
+
+
+if __name__ == "__main__":
+    sys.exit(command("journals", lambda: soaking.run("journals", __doc__, soak)))

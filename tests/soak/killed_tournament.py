@@ -1,0 +1,116 @@
+"""A tournament that is killed by SIGKILL at random moments, and resumed each time.
+
+    python3 -m tests.soak.killed_tournament SEED
+
+No finished game may be lost or played twice, and a killed run must not leave a process. At the end
+each game has to be there once, with a sound log whose scores are those of its rows. It takes about
+a minute.
+"""
+
+import os
+import random
+import signal
+import subprocess
+import sys
+import time
+from pathlib import Path
+from typing import Dict, Iterator, List, Tuple
+
+from geesefuton import program
+from geesefuton.experiments.runs import read_scores
+from geesefuton.processes import Children, command
+from geesefuton.records.logs import read_scores as read_log_scores
+from tests.support import soaking
+from tests.support.trying import MARK, TOP, what_is_left
+
+GAMES, KILLS = 24, 8
+AGENTS = ("planner.py", "watcher.py")
+MOST = 600.0  # seconds that the last run may take, and a tenth of it a game
+Games = Dict[str, Tuple[int, int]]  # by name: the number of the run, and when the log was written
+
+
+class Killed:
+    """A tournament that is killed and gone on with."""
+
+    def __init__(self, place: Path) -> None:
+        self.out, self.temporary, self.mark = place / "run", place / "temporary", place.name
+        self.temporary.mkdir()
+        self.words = [sys.executable, str(TOP / "tools" / "tournament"), "--turns", "4",
+                      "--games", str(GAMES), "--at-once", "2", "--out", str(self.out), "--resume",
+                      *(str(TOP / "examples" / "agents" / name) for name in AGENTS)]
+        self.variables = {**os.environ, MARK: self.mark, "TMPDIR": str(self.temporary),
+                          "TAC": program.find()}
+        self.faults: List[str] = []
+
+    def start(self) -> "subprocess.Popen[bytes]":
+        """Begins a run, or goes on with it."""
+        return subprocess.Popen(self.words, env=self.variables, stdin=subprocess.DEVNULL,
+                                stdout=subprocess.DEVNULL, stderr=subprocess.PIPE)
+
+    def finished(self) -> Games:
+        """The games that have all their rows."""
+        rows = read_scores(self.out).rows if self.out.exists() else []
+        return {f"{row.number}.{row.rotation}": (row.run, self.log(f"{row.number}.{row.rotation}")
+                                               .stat().st_mtime_ns) for row in rows}
+
+    def log(self, game: str) -> Path:
+        """The file of a game's log."""
+        return self.out / "games" / f"{game}.log"
+
+    def kill(self, more: int, after: float) -> int:
+        """Kills a run some seconds after it finished so many games more, and gives how many games
+        there are then."""
+        before, process = self.finished(), self.start()
+        deadline = time.monotonic() + MOST / 10.0
+        while (len(self.finished()) < len(before) + more and process.poll() is None
+               and time.monotonic() < deadline):
+            time.sleep(0.05)
+        time.sleep(after)
+        process.send_signal(signal.SIGKILL)
+        told = process.communicate()[1].decode(errors="replace")
+        for left in what_is_left(self.mark, self.temporary):
+            self.faults.append(f"a killed run left {left}")
+        now = self.finished()
+        if process.returncode != -signal.SIGKILL:
+            self.faults.append(f"a run ended by itself: {told[-300:]}")
+        self.faults += [f"game {name} was lost or played again" for name, game in before.items()
+                        if now.get(name) != game]
+        return len(now)
+
+    def end(self) -> None:
+        """Plays what is missing, and looks at every game."""
+        before, process = self.finished(), self.start()
+        told = process.communicate(timeout=MOST)[1].decode(errors="replace")
+        if process.returncode:
+            self.faults.append(f"the last run ended with {process.returncode}: {told[-300:]}")
+        found, now = read_scores(self.out), self.finished()
+        due = {f"{deal}.{rotation}" for deal in range(1, GAMES // 2 + 1) for rotation in (0, 1)}
+        if set(now) != due or len(found.rows) != 8 * GAMES or found.told:
+            self.faults.append(f"{len(now)} of {GAMES} games, {len(found.rows)} rows: {found.told}")
+        self.faults += [f"game {name} was lost or played again at last" for name, game in
+                        before.items() if now.get(name) != game]
+        scores: Dict[str, List[int]] = {}
+        for row in sorted(found.rows, key=lambda row: row.seat):
+            scores.setdefault(f"{row.number}.{row.rotation}", []).append(row.score)
+        for name, rows in scores.items():
+            log = self.log(name)
+            if program.audit(log.with_suffix(".game"), log) != "sound":
+                self.faults.append(f"the log of game {name} is not sound")
+            if [each.score for each in read_log_scores(log.read_bytes())] != rows:
+                self.faults.append(f"the rows of game {name} are not its log's scores")
+
+
+def soak(seed: int, folder: Path, _: Children) -> Iterator[str]:
+    """Kills a tournament again and again, and then lets it end."""
+    source, killed = random.Random(seed), Killed(folder)
+    for number in range(KILLS):
+        more, after = source.choice((0, 1, 1, 2)), source.uniform(0.0, 3.0)
+        print(f"kill {number + 1}, {after:.1f} s after {more} games more: "
+              f"{killed.kill(more, after)} games", flush=True)
+    killed.end()
+    yield from killed.faults
+
+
+if __name__ == "__main__":
+    sys.exit(command("killed_tournament",
+                     lambda: soaking.run("killed_tournament", __doc__, soak)))

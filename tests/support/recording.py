@@ -1,0 +1,147 @@
+"""A relay between agents and a server that keeps the bytes of each link at the server's side, and
+passes on what comes as it comes: also half-closed links and resets."""
+
+import asyncio
+import contextlib
+import socket
+import struct
+from typing import List, NamedTuple, Optional, Set
+
+PIECE = 1 << 16  # bytes that are read at once
+TRIES, BETWEEN = 2000, 0.005  # tries to reach a server that does not listen yet, and seconds
+LINGER = struct.pack("ii", 1, 0)
+
+
+class Streams(NamedTuple):
+    """Both directions of a connection."""
+
+    reader: asyncio.StreamReader
+    writer: asyncio.StreamWriter
+
+    async def line(self) -> bytes:
+        """The next line with its end; less if the connection ended first."""
+        return await self.reader.readline()
+
+    def end(self) -> None:
+        """Sends nothing more."""
+        with contextlib.suppress(OSError, RuntimeError):
+            self.writer.write_eof()
+
+    def reset(self) -> None:
+        """Ends the connection by a reset."""
+        own = self.writer.get_extra_info("socket")
+        with contextlib.suppress(OSError):
+            own.setsockopt(socket.SOL_SOCKET, socket.SO_LINGER, LINGER)
+        self.writer.transport.abort()
+
+
+class KeptLink:
+    """A link and its bytes at the server's side.
+
+    Attributes:
+        asked: What was given to the server.
+        said: What the server sent.
+        server: The connection to the server, once there is one.
+        has_ended: Whether the server has ended its side.
+    """
+
+    def __init__(self) -> None:
+        self.asked, self.said = bytearray(), bytearray()
+        self.server: Optional[Streams] = None
+        self.has_ended = False
+
+    def is_welcome(self) -> bool:
+        """Whether it has its seat, and was sent all ten lines."""
+        return self.said.startswith(b"welcome ") and self.said.count(b"\n") >= 10
+
+
+class Relay:
+    """Passes links on to a server.
+
+    Args:
+        port: The port of the server.
+
+    Attributes:
+        links: The links in the order in which they came.
+        began: Is set once a link was sent its welcome.
+    """
+
+    def __init__(self, port: int) -> None:
+        self.port, self._tasks = port, set["asyncio.Task[None]"]()
+        self.links: List[KeptLink] = []
+        self.began = asyncio.Event()
+        self._listener: Optional[asyncio.AbstractServer] = None
+
+    async def open(self) -> int:
+        """Takes links from now on; gives the port for agents."""
+        self._listener = await asyncio.start_server(self._take, "127.0.0.1", 0)
+        port: int = self._listener.sockets[0].getsockname()[1]
+        return port
+
+    async def close(self) -> None:
+        """Ends all that is left."""
+        assert self._listener is not None
+        self._listener.close()
+        for task in list(self._tasks):
+            task.cancel()
+        await asyncio.gather(*self._tasks, return_exceptions=True)
+
+    def left(self) -> List[KeptLink]:
+        """The links whose server has not ended them."""
+        return [link for link in self.links if link.server and not link.has_ended]
+
+    async def pass_on(self, link: KeptLink, agent: Streams, server: Streams) -> None:
+        """Passes on what comes on a link, in both directions, until both have ended."""
+        await asyncio.gather(self.pump(agent, server, link.asked), self.hear(link, agent, server))
+
+    async def hear(self, link: KeptLink, agent: Streams, server: Streams) -> None:
+        """Passes on what the server sends."""
+        await self.pump(server, agent, link.said)
+        link.has_ended = True
+
+    async def pump(self, source: Streams, target: Streams, kept: bytearray) -> None:
+        """Passes on one direction, and keeps its bytes before they are sent."""
+        try:
+            while True:
+                data = await source.reader.read(PIECE)
+                if not data:
+                    return target.end()
+                kept += data
+                if kept.startswith(b"welcome "):
+                    self.began.set()
+                target.writer.write(data)
+                await target.writer.drain()
+        except OSError:
+            target.reset()
+        except RuntimeError:
+            pass  # its side was ended, so nothing more is sent
+
+    async def reach(self) -> Streams:
+        """A connection to the server.
+
+        Raises:
+            OSError: It does not listen.
+        """
+        for _ in range(TRIES):
+            with contextlib.suppress(ConnectionRefusedError):
+                return Streams(*await asyncio.open_connection("127.0.0.1", self.port))
+            await asyncio.sleep(BETWEEN)
+        raise ConnectionRefusedError
+
+    def _take(self, reader: asyncio.StreamReader, writer: asyncio.StreamWriter) -> None:
+        task = asyncio.ensure_future(self._serve(Streams(reader, writer)))
+        self._tasks.add(task)
+        task.add_done_callback(self._tasks.discard)
+
+    async def _serve(self, agent: Streams) -> None:
+        link = KeptLink()
+        self.links.append(link)
+        try:
+            link.server = await self.reach()
+            await self.pass_on(link, agent, link.server)
+        except OSError:
+            pass  # the server has ended
+        finally:
+            agent.writer.close()
+            if link.server:
+                link.server.writer.close()
