@@ -251,8 +251,8 @@ def _settings(plan: Plan, pool: int, first: str, tac: str) -> Dict[str, object]:
     agents some are in the pool."""
     rule = plan.rule
     names = [entrant.name for entrant in plan.entrants]
-    pace = {"turns": plan.turns} if plan.turns else {"pace": plan.pace}
-    rooms = {"rooms": "{}..{}".format(*(rule.rooms or (ROOMS, ROOMS))),
+    pace: Dict[str, object] = {"turns": plan.turns} if plan.turns else {"pace": plan.pace}
+    rooms: Dict[str, object] = {"rooms": "{}..{}".format(*(rule.rooms or (ROOMS, ROOMS))),
              "live": str(rule.live).lower(), "endow": CLASSIC if rule.is_clumped else ""}
     told: Dict[str, object] = {
             "agents": names_text(names[:len(names) - pool]),

@@ -89,7 +89,7 @@ def qr_picture(text: str) -> str:
         return ""
     code = subprocess.run([coder, "-t", "SVG", text], stdout=subprocess.PIPE,
                           stdin=subprocess.DEVNULL, check=False).stdout
-    return code and f"data:image/svg+xml;base64,{base64.b64encode(code).decode()}"
+    return f"data:image/svg+xml;base64,{base64.b64encode(code).decode()}" if code else ""
 
 
 def new_token() -> str:
