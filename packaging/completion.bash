@@ -2,7 +2,7 @@
 _geesefuton() {
     local word=${COMP_WORDS[COMP_CWORD]}
     local programs commands
-    programs="benchmark data deals doctor live lobby profiles quickstart recover report room seat"
+    programs="benchmark data deals doctor live lobby profiles quickstart recover report room"
     programs+=" tac tournament version vouch"
     commands="audit hotel make play serve show solve step table trial upgrade vouch worth"
     if [ "$COMP_CWORD" -eq 1 ]; then

@@ -1,4 +1,5 @@
-"""What a game's page answers its screens: the page, and the states as they come."""
+"""What a game's page answers its screens: the page, the newest state, and the states as they come.
+"""
 
 from __future__ import annotations
 
@@ -38,6 +39,8 @@ class Viewers:
             return NOT_FOUND
         if path == "/":
             return Response("200 OK", "text/html; charset=utf-8", self.page)
+        if path == "/state":
+            return Response("200 OK", "application/json", self._state)
         if path == "/events":
             return Response("200 OK", "text/event-stream", pieces=self._events())
         given = self.handouts and self.handouts.answer(path, request.fields.get("host", ""))
