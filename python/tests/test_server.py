@@ -86,7 +86,8 @@ class Strangers(Case):
         with socket.create_server(("127.0.0.1", 0)) as other:
             def welcomes() -> None:
                 for seat in range(8):
-                    other.accept()[0].sendall(b"welcome %d\nendow" % seat)
+                    with other.accept()[0] as link:
+                        link.sendall(b"welcome %d\nendow" % seat)
 
             threading.Thread(target=welcomes, daemon=True).start()
             ports = iter([other.getsockname()[1]])

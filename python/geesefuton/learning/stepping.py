@@ -112,6 +112,8 @@ class Stepped:
             if self._owner == os.getpid():
                 self._process.kill()
                 self._process.wait()
+            else:
+                self._process.returncode = OK  # it is the owner's to wait for
 
     def _need_script(self) -> None:
         """Sees that the script can go on. Raises ProgramError where it cannot."""
