@@ -55,7 +55,7 @@ class Board:
             self._shown["is_over"] = True
             self._write()
             self._process.wait(SHOWING, is_stopped)
-        self._process.end()
+        self._process.close()
 
     def _write(self) -> None:
         """Lets the page show what is to be shown, and starts its process if it does not run. A
