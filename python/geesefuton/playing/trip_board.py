@@ -2,8 +2,8 @@
 the moment, with each flight and night that is held, bid for, still to be had, or impossible.
 
 A plan counts each room once, in whichever hotel it is, and uses those that are bid for: so what the
-seat holds or bids for beyond the plan is of no use to any client. The board also keeps what each decision of the seat cost: by
-how much less its plans were worth after it.
+seat holds or bids for beyond the plan is of no use to any client. The board also keeps what each
+decision of the seat cost: by how much less its plans were worth after it.
 """
 
 from __future__ import annotations

@@ -57,15 +57,8 @@ class Screens(Viewers):
 
 
 class RoomPage:
-    """What the screens of a room are sent.
-
-    Args:
-        file: What the room shows.
-        screens: The screens.
-        player: By which the scores of a game so far are made.
-        late: By how many ticks what agents cannot ask is shown later.
-        faults: Is told what fails.
-    """
+    """What the screens of a room are sent: what its file says, or a game, of which is shown some
+    ticks late what agents cannot ask."""
 
     def __init__(self, file: Path, screens: Screens, player: Player, late: int,
                  faults: Faults) -> None:
