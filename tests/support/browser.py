@@ -49,14 +49,16 @@ class Browser:
     """Headless Chromium, told by the DevTools protocol what to do, over two pipes."""
 
     def __init__(self, children: Children) -> None:
-        here, theirs = os.pipe(), os.pipe()
+        here, theirs, place = os.pipe(), os.pipe(), str(children.folder("browser"))
         file = shutil.which("chromium")
         assert file is not None
         # The protocol is spoken over the descriptors 3 and 4.
         words = ["sh", "-c", 'exec "$0" "$@" 3<&%d 4>&%d' % (here[0], theirs[1]), file,
                  "--headless", "--no-sandbox", "--disable-gpu", "--remote-debugging-pipe",
-                 f"--user-data-dir={children.folder('browser')}", "about:blank"]
+                 f"--user-data-dir={place}", "about:blank"]
+        # It leaves temporary files if it is killed.
         self._process = children.start(words, pass_fds=(here[0], theirs[1]),
+                                       env={**os.environ, "TMPDIR": place},
                                        stdin=subprocess.DEVNULL, stdout=subprocess.DEVNULL,
                                        stderr=subprocess.DEVNULL)
         os.close(here[0])
