@@ -120,6 +120,13 @@ class Links(Case):
         table.close()
         self.come(3)
 
+    def test_a_team_whose_part_in_its_game_is_over_waits_for_the_next(self) -> None:
+        table = self.handed()
+        self.come(3)
+        self.door.seat(["team3"], table)
+        table.over.add("team3")
+        self.come(3)
+
     def test_a_house_agent_comes_to_its_table(self) -> None:
         self.house["hidden"] = table = self.handed()
         self.link(b"hello hidden\n")

@@ -12,7 +12,7 @@ from unittest import main, mock
 from geesefuton import program
 from geesefuton.hosting import events, teller
 from geesefuton.hosting.control import STOPPED, Phase
-from geesefuton.hosting.events import Event
+from geesefuton.hosting.events import End, Event
 from geesefuton.hosting.lobby import LobbyError
 from geesefuton.network.addresses import network_of
 from geesefuton.practice import door, room, table
@@ -55,6 +55,7 @@ class Tables(Case):
             for seat in seats:
                 take(events.Arrived(50.0, seat, f"seat{seat}", "10.0.0.7"))
             take(events.Began(60.0, tuple(seats)))
+            made.take = take
             self.games.put(made)
             made.ends.wait(MOST)
             for link in links:
@@ -130,6 +131,17 @@ class Tables(Case):
         self.thread.join(MOST)
         self.assertEqual(sorted(game.number for game in self.kept.finished), [1, 2, 3])
         self.assertEqual({game.seed - game.number for game in self.kept.finished}, {6})
+
+    def test_a_team_whose_part_in_its_game_is_over_waits_for_the_next(self) -> None:
+        self.start(2)
+        self.come(3)
+        game = self.next_game()
+        self.addCleanup(game.ends.set)
+        game.take(events.Ended(70.0, game.settings.keys["w3"], "team3", End.LEFT, 9))
+        self.come(3)
+        other = self.next_game()
+        self.addCleanup(other.ends.set)
+        self.assertEqual((self.teams(other), game.over.is_set()), (["w3"], False))
 
     def test_a_word_is_no_part_of_what_the_page_shows(self) -> None:
         self.start(2)

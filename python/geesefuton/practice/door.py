@@ -16,7 +16,7 @@ import time
 from collections import deque
 from dataclasses import dataclass
 from functools import partial
-from typing import Any, Callable, Deque, Dict, List, Mapping, Optional, Sequence, Tuple
+from typing import Any, Callable, Deque, Dict, List, Mapping, Optional, Sequence, Set, Tuple
 
 from geesefuton.hosting.links import tune
 from geesefuton.hosting.seats import GREETING
@@ -40,6 +40,7 @@ class Handed(socket.socket):
         reading, self._writing = socket.socketpair()
         super().__init__(fileno=reading.detach())
         self._port, self._links = port, deque()  # type: int, Deque[Tuple[socket.socket, Any]]
+        self.over: Set[str] = set()  # the teams whose part in its game is over, by their keys
 
     def put(self, link: socket.socket, where: Any) -> None:
         """Hands a link in, with the address that it comes from."""
@@ -168,9 +169,8 @@ class Door:
         if has_ended or not said:
             self._drop(visitor)
         elif visitor.visit.standing is Standing.STRANGER and (
-                b"\n" in said or len(said) > MOST_LINE):
-            if visitor.visit.whole() is None:
-                self._drop(visitor)
+                b"\n" in said or len(said) > MOST_LINE) and visitor.visit.whole() is None:
+            self._drop(visitor)
 
     @staticmethod
     def _said(visitor: Visitor) -> bytes:
@@ -204,9 +204,9 @@ class Door:
         return None
 
     def _table(self, key: str) -> Optional[Handed]:
-        """Where a team plays; None if it does not."""
+        """Where a team plays; None if it does not, or not any more."""
         table = self._tables.get(key)
-        return table if table is not None and table.fileno() >= 0 else None
+        return None if table is None or table.fileno() < 0 or key in table.over else table
 
     def _tell(self, visitor: Visitor, line: str) -> None:
         """Tells a link its last line. Its first one is taken, so that it gets this."""

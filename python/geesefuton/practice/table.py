@@ -180,6 +180,8 @@ class Table:
 
         def take(event: Event) -> None:
             teller.tell(event)
+            if isinstance(event, events.Ended) and self.deal.listener:
+                self.deal.listener.over.add(self.deal.words[event.seat])
             if self.guests.take(event):
                 if self.guests.began is not None:
                     with contextlib.suppress(OSError):  # a disk that is full is told at the end
