@@ -252,16 +252,16 @@ def _settings(plan: Plan, pool: int, first: str, tac: str) -> Dict[str, object]:
     rule = plan.rule
     names = [entrant.name for entrant in plan.entrants]
     pace: Dict[str, object] = {"turns": plan.turns} if plan.turns else {"pace": plan.pace}
-    rooms: Dict[str, object] = {"rooms": "{}..{}".format(*(rule.rooms or (ROOMS, ROOMS))),
-             "live": str(rule.live).lower(), "endow": CLASSIC if rule.is_clumped else ""}
+    dealt: Dict[str, object] = {"game": first} if rule.file else {
+        "rooms": "{}..{}".format(*(rule.rooms or (ROOMS, ROOMS))), "live": str(rule.live).lower(),
+        "endow": CLASSIC if rule.is_clumped else ""}
     told: Dict[str, object] = {
-            "agents": names_text(names[:len(names) - pool]),
-            "against": names_text(names[len(names) - pool:]), "rotations": plan.rotations, **pace,
-            **({"game": first} if rule.file else rooms),
-            "apart": "{}/{}/{}".format(*plan.limits) if plan.limits else "",
-            "form": plan.form, "start": f"{plan.start:g}", "after": f"{plan.linger:g}",
-            "python": ".".join(platform.python_version_tuple()[:2]),
-            "tac": tac[:SHORT], "package": package_digest()[:SHORT]}
+        "agents": names_text(names[:len(names) - pool]),
+        "against": names_text(names[len(names) - pool:]), "rotations": plan.rotations, **pace,
+        **dealt, "apart": "{}/{}/{}".format(*plan.limits) if plan.limits else "",
+        "form": plan.form, "start": f"{plan.start:g}", "after": f"{plan.linger:g}",
+        "python": ".".join(platform.python_version_tuple()[:2]),
+        "tac": tac[:SHORT], "package": package_digest()[:SHORT]}
     return {name: value for name, value in told.items() if value != ""}
 
 
