@@ -13,8 +13,8 @@ from pathlib import Path
 from typing import Any, Dict, List, Optional, Tuple
 from unittest import mock
 
-from geesefuton.experiments.agent_host import namespaces
-from geesefuton.experiments.agents import HOST, AgentProcess, Agents
+from geesefuton.experiments.agent_host import PORT
+from geesefuton.experiments.agents import AgentProcess, Agents
 from geesefuton.experiments.apart import Limits, folder_of, sandbox, why_not
 from geesefuton.experiments.entrants import Entrant, environment, read_entrants
 from geesefuton.experiments.messages import Job
@@ -24,7 +24,7 @@ TAC = "/bin/true"
 WHY_NOT = why_not()
 # Prints what it can see and do, as JSON.
 SPY = """
-import json, os, socket, sys
+import ctypes, json, os, socket, sys
 def tried(what):
     try:
         return what()
@@ -36,6 +36,9 @@ def connected(port):
     with socket.create_connection(("127.0.0.1", port), 5) as link:
         link.sendall(b"hello\\n")
         return link.recv(10).decode()
+def marked():
+    places = {line.split()[4] for line in open("/proc/self/mountinfo")} | {"/etc", "/proc/sys"}
+    return sorted(each for each in places if tried(lambda: os.utime(each, (1, 1))) is None)
 def others():
     own = {"1", str(os.getpid()), str(os.getppid())}
     return len([name for name in listed("/proc") if name.isdigit() and name not in own])
@@ -47,12 +50,13 @@ print(json.dumps({
     "own": tried(lambda: open(__file__).read(3)),
     "beside": tried(lambda: open(given["beside"]).read()),
     "written": tried(lambda: open(__file__, "a").close()),
-    "temporary": tried(lambda: [name for name in listed("/tmp") if name.startswith("spy-")]),
+    "temporary": tried(lambda: listed("/tmp") + listed("/dev/shm")),
     "left": tried(lambda: open("/tmp/spy-left", "w").write("x")),
     "memory": tried(lambda: len(bytearray(2 << 30)) if given["port"] != 1 else 0),
     "outside": tried(lambda: connected(given["port"])),
-    "host": tried(lambda: open(f"/proc/{os.getppid()}/mem", "rb").read(1)),
-    "others": tried(others),
+    "others": tried(others), "marked": tried(marked),
+    "shared": [ctypes.CDLL(None).shmget(77, 4096, 0o600 | flag) >= 0 for flag in (0, 0o1000)],
+    "set": tried(lambda: open("/proc/sys/kernel/panic", "a").close()), "process": os.getpid(),
     "link": tried(lambda: connected(int(sys.argv[2]))),
 }))
 os.fork() or os.execvp("sleep", ["sleep", "600"])
@@ -94,16 +98,17 @@ class Places(unittest.TestCase):
                  "beside": str(self.own / "data.txt")}
         return {**environment(TAC, Path("/tmp")), "SPY": json.dumps(where), **more}
 
-    def play(self, process: AgentProcess, listener: socket.socket, port: int,
-             outside: int = 1) -> Tuple[int, Dict[str, Any]]:
-        """Runs the spy in a game at a listener. Its status, and what it has seen."""
+    def play(self, process: AgentProcess, listener: Optional[socket.socket] = None,
+             port: int = PORT, outside: int = 1) -> Tuple[int, Dict[str, Any]]:
+        """Runs the spy in a game at a listener, or in a sandbox. Its status, and what it saw."""
         with tempfile.TemporaryFile() as out:
-            limits = {"FSIZE": 1 << 20, **(Limits().by_name() if process.listener else {})}
+            limits = {"FSIZE": 1 << 20, **({} if listener else Limits().by_name())}
             process.begin(["localhost", str(port), "red"], self.variables(outside, AGENT_SEED="5"),
                           limits, out)
+            listener = listener or process.listener()
             listener.settimeout(60)
             link, _ = listener.accept()
-            with link:
+            with link, listener:
                 self.assertEqual(link.recv(10), b"hello\n")
                 link.sendall(b"hi")
                 status = waited(process)
@@ -176,30 +181,57 @@ class Shared(Places):
 class Apart(Places):
     """Agents that are kept apart."""
 
-    def test_a_host_that_is_in_no_sandbox_ends_before_it_does_anything(self) -> None:
-        own = namespaces()
-        for outside in (" ".join(own), next(iter(own))):
-            ended = subprocess.run([sys.executable, HOST, "0", "", outside], check=False,
-                                   stdin=subprocess.DEVNULL, stderr=subprocess.PIPE)
-            self.assertEqual((ended.returncode, ended.stderr), (1, b"this is no sandbox\n"))
-
     def test_an_agent_sees_its_folder_and_its_link_and_nothing_else(self) -> None:
         process, = self.seated(self.spy, limits=Limits())
-        assert process.listener is not None
         with socket.create_server(("127.0.0.1", 0)) as outside:
             for _ in range(2):  # nothing is left of the first game in the second
-                status, seen = self.play(process, process.listener, process.port,
-                                         outside.getsockname()[1])
+                status, seen = self.play(process, outside=outside.getsockname()[1])
                 self.assertEqual(status, 3)
                 self.assertEqual(
                     {name: seen[name] for name in ("run", "own", "beside", "written",
-                                                   "temporary", "memory", "outside", "host",
-                                                   "others", "link")},
+                                                   "temporary", "memory", "outside", "process",
+                                                   "others", "link", "marked", "shared", "set")},
                     {"run": "FileNotFoundError", "own": SPY[:3], "beside": "data",
                      "written": "OSError", "temporary": [],
                      "memory": "MemoryError", "outside": "ConnectionRefusedError",
-                     "host": "PermissionError", "others": 0, "link": "hi"})
+                     "process": 2, "others": 0, "link": "hi", "marked": ["/dev/shm", "/tmp"],
+                     "shared": [False, True], "set": "OSError"})
                 self.assertNotIn(".bashrc", seen["home"])
+
+    def test_an_agent_that_ends_all_that_it_can_has_only_crashed(self) -> None:
+        (self.own / "spy.py").write_text("import os\nos.fork()\nfor one in (1, -1, os.getpid()):\n"
+                                         "    os.kill(one, 9)\n")
+        process, = self.seated(self.spy, limits=Limits())
+        for _ in range(2):
+            with tempfile.TemporaryFile() as out:
+                process.begin([], self.variables(1), {}, out)
+                process.listener().close()
+                self.assertEqual(waited(process), 128 + signal.SIGKILL)
+
+    def test_an_agent_in_a_folder_for_temporary_files_sees_its_own(self) -> None:
+        with tempfile.TemporaryDirectory(dir="/tmp") as place:
+            file = Path(place, "my team", "agent.py")
+            file.parent.mkdir()
+            file.write_text("import os, sys\nsys.exit(len(os.listdir('/tmp')) + 10 * len("
+                            "os.listdir(os.path.dirname(__file__))))\n")
+            process, = self.seated(*read_entrants([str(file)]), limits=Limits())
+            with tempfile.TemporaryFile() as out:
+                process.begin([], self.variables(1), {}, out)
+                process.listener().close()
+                self.assertEqual(waited(process), 11)
+
+    def test_an_agent_that_does_not_end_is_killed(self) -> None:
+        (self.own / "spy.py").write_text("import os, time\nprint(os.fork(), flush=True)\n"
+                                         "os.setsid()\ntime.sleep(600)\n")
+        process, = self.seated(self.spy, limits=Limits())
+        reading, writing = os.pipe()
+        with open(reading, "rb") as printed:
+            with open(writing, "wb") as out:
+                process.begin([], self.variables(1), {}, out)
+            process.listener().close()
+            printed.readline()
+            self.assertEqual(process.end(), 128 + signal.SIGKILL)
+            printed.read()  # until no process has the other end
 
     def test_agents_do_not_see_one_another(self) -> None:
         one, two = self.seated(self.spy, self.spy, limits=Limits())
@@ -209,8 +241,8 @@ class Apart(Places):
             one.begin([], self.variables(1), {}, out)
             self.assertEqual(printed.readline(), b"1\n")
             (self.own / "spy.py").write_text(SPY)
-            assert two.listener is not None
-            status, seen = self.play(two, two.listener, two.port)
+            one.listener().close()
+            status, seen = self.play(two)
             self.assertEqual((status, seen["others"]), (3, 0))
             self.assertIsNone(one.poll())
             one.end()

@@ -32,6 +32,18 @@ class Entrants(unittest.TestCase):
         self.assertEqual((entrant.words[2:], entrant.name, entrant.root),
                          (("--seed", "5"), "mine", "mine"))
 
+    def test_a_file_in_a_folder_of_any_name_is_an_agent(self) -> None:
+        files = [self.file("my team/agent.py"), self.file("o'brien/agent.py")]
+        entrants = read_entrants(files)
+        self.assertEqual([entrant.words for entrant in entrants],
+                         [(sys.executable, file) for file in files])
+        self.assertEqual([entrant.name for entrant in entrants], files)
+
+    def test_a_name_that_a_table_would_take_for_a_formula_is_refused(self) -> None:
+        for name in ("=1+2", "+a", "-b", "@c"):
+            with self.assertRaisesRegex(EntrantError, "called .* reads as a formula in a table"):
+                read_entrants([self.file(f"{name}.py")])
+
     def test_a_command_keeps_its_words(self) -> None:
         program = self.file("run", 0o755)
         entrant = read_entrant(f"{program} -x 'two words' their.jar")

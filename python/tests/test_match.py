@@ -14,6 +14,7 @@ from unittest import mock
 
 from geesefuton.experiments import match
 from geesefuton.experiments.agents import Agents
+from geesefuton.experiments.apart import Limits, why_not
 from geesefuton.experiments.entrants import Entrant
 from geesefuton.experiments.match import Exit, Match, outcome_of
 from geesefuton.experiments.messages import Job, Message, Note, Result
@@ -25,6 +26,7 @@ from geesefuton.processes import Children
 from tests.helpers import SERVED_GAME, SERVED_LOG, fake_program
 
 KEYS = tuple(f"key{seat}" for seat in range(8))
+WHY_NOT = why_not()
 QUIT, FAILED, KILLED, STOPPED = Exit(0), Exit(1), Exit(-9), Exit(-9, is_stopped=True)
 
 
@@ -203,10 +205,11 @@ class Matches(unittest.TestCase):
 
     def test_agents_get_their_words_and_variables(self) -> None:
         self.play('echo "$@" $PYTHONPATH', "echo oops >&2", "cat; echo $AGENT_SEED.$TAC; pwd",
-                  'echo > "$TMPDIR/x"; ls "$TMPDIR"')
+                  'echo > "$TMPDIR/x"; ls "$TMPDIR"', "readlink /proc/self/fd/1")
         self.assertEqual((self.place / "7.0.out.red2").read_text().split(),
                          ["." + os.environ["TAC"], os.getcwd()])
         self.assertEqual((self.place / "7.0.out.red3").read_text(), "x\n")
+        self.assertNotRegex((self.place / "7.0.out.red4").read_text(), r"7\.0")  # which game it is
         printed = (self.place / "7.0.out.red0").read_text().split()
         self.assertEqual(printed[:4], ["4321", "key0", "--pause", "0.02"])
         self.assertIn(str(Path(match.__file__).parents[2]), printed[4].split(":"))
@@ -221,6 +224,18 @@ class Matches(unittest.TestCase):
         self.assertEqual(len(self.events_of("ended")), 8)
         for name in names:
             self.assertEqual((self.place / f"7.0.out.{name}").read_text(), f"printed by {name}\n")
+
+    @unittest.skipIf(WHY_NOT, WHY_NOT)
+    def test_a_game_that_does_not_begin_ends_the_agents_that_are_kept_apart(self) -> None:
+        def refuse(settings: Any, _: Any) -> None:
+            for listener in settings.listeners:
+                listener.close()
+            raise LobbyError("taken")
+
+        self.patch("geesefuton.experiments.match.Lobby", refuse)
+        self.assertEqual(self.play("echo here; sleep 600", limits=Limits()).fault, "taken")
+        self.assertEqual(sorted(file.name for file in self.place.glob("7.0.out.*")),
+                         [f"7.0.out.red{seat}" for seat in range(8)])
 
     def test_agents_read_nothing_of_what_the_tournament_is_given(self) -> None:
         (self.place / "typed").write_text("typed\n")
@@ -270,7 +285,7 @@ class Matches(unittest.TestCase):
                            End.REFUSED, End.LEFT]
         self.patch("geesefuton.experiments.match.LEAVE", 3.0)
         result = self.play("echo a; echo last; exit 3", "sleep 99", "exit 0", "kill -9 $$",
-                           "exit 4", "exit 0", "exit 0")
+                           "exit 137", "exit 0", "exit 0")
         self.assertEqual([outcome.value for outcome in result.outcomes],
                          ["crashed", "hung", "absent", "killed", "played", "played", "refused",
                           "played"])
@@ -282,7 +297,7 @@ class Matches(unittest.TestCase):
             "agent2 at seat 2 (red2) counts as absent: ended without taking its seat",
             "agent3 at seat 3 (red3) counts as killed: was ended by signal 9, which its game had "
             "not sent",
-            "agent4 at seat 4 (red4) ended with status 4",
+            "agent4 at seat 4 (red4) was ended by signal 9",
             "agent5 at seat 5 (red5) left before the last tick, without `quit`",
             "agent6 at seat 6 (red6) counts as refused"][:len(told)])
         self.assertEqual(len(told), 7)

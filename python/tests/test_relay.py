@@ -491,6 +491,22 @@ class Strangers(Case):
         self.turns()
         self.assertEqual((len(self.relay.links), self.of(events.Warned)), (2, []))
 
+    def test_idle_links_at_one_of_several_listeners_take_no_place_of_another(self) -> None:
+        listeners = [socket.create_server(("127.0.0.1", 0)) for _ in range(2)]
+        relay = self.relay = Relay(WORDS, listeners, self.told.append, self.journal, MOST, MOST)
+        self.addCleanup(relay.close)
+        links = []
+        for listener, count in zip(listeners, (1, MOST_EACH + 9)):
+            self.addCleanup(listener.close)
+            for _ in range(count):
+                links.append(socket.create_connection(listener.getsockname()))
+                self.addCleanup(links[-1].close)
+        while len(self.of(events.Lost)) < 9:
+            self.relay.turn(MOST)
+        self.assertEqual(len(relay.links), 1 + MOST_EACH)
+        links[0].sendall(b"hello seat3\n")
+        self.assertEqual(self.turn_until_told(events.Arrived, 3)[-1].seat, 3)
+
     def test_a_word_that_is_taken(self) -> None:
         self.agents[1].close()
         self.turn_until_told(events.Departed)
@@ -623,7 +639,7 @@ class Strangers(Case):
         self.ask(0, b"own 1\n", b"@0 own 0 ()\n")
 
     def test_one_that_goes_before_it_is_taken_holds_nobody(self) -> None:
-        self.relay._accept(self.listener)  # as if a link had been there a moment before
+        self.relay._accept(self.listener, "")  # as if a link had been there a moment before
         self.ask(0, b"own 1\n", b"@0 own 0 ()\n")
 
     def test_a_word_that_is_changed_is_not_the_heirs(self) -> None:

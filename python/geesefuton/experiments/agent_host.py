@@ -1,13 +1,14 @@
 """Runs an agent's process in each game, in a process that has imported what the agent needs.
 
-    agent_host.py CONNECTION GROUPS OUTSIDE
+    agent_host.py CONNECTION GROUPS
 
 It is started once for an agent and a run, inside its sandbox if it has one, and told over a
 connection what to run. For each game it forks. If the agent is a Python file, the child runs it,
 and so pays neither for the start of Python nor for its imports; otherwise it executes its words. No
 code of the agent runs in the host itself, and nothing is left of a game: what the agent has started
-is killed, and in a sandbox its temporary files are removed. As that is right in a sandbox alone,
-the host ends at once if it has one of the namespaces OUTSIDE, of who starts it.
+is killed. In a sandbox, where there are no GROUPS, each game has its own processes, network and
+temporary files (`seclude`), and does not see the host. Without words, the host only tries whether
+games can have these here.
 
 It uses the standard library alone, and no module of the package, so that it starts quickly.
 """
@@ -15,27 +16,34 @@ It uses the standard library alone, and no module of the package, so that it sta
 import ast
 import contextlib
 import ctypes
+import fcntl
 import gc
 import importlib
 import io
 import json
 import os
+import re
 import resource
 import runpy
 import select
-import shutil
 import signal
 import socket
+import struct
 import sys
-import time
+from os import _exit as end_at_once
 from pathlib import Path
-from typing import Any, Dict, Iterator, List, Optional, Sequence, Set
+from typing import Any, Dict, Iterator, List, Optional, Sequence
 
 MOST_MESSAGE = 1 << 20  # bytes
 PORT = 7000  # at which an agent in a sandbox finds its game
-NOT_DUMPABLE, DUMPABLE = 0, 1
-SET_DUMPABLE = 4  # of prctl
-TEMPORARY = ("/tmp", "/dev/shm")  # of a sandbox
+TEMPORARY = ("/tmp", "/dev/shm")  # where an agent in a sandbox can write,
+ROOM = b"size=64m,nr_inodes=16k"  # and how much
+# Of Linux: all kinds of namespaces but for that of time; the flags of mounts for temporary files,
+# for /proc, and for what is seen at a second place; and what else `seclude` asks for.
+NAMESPACES, FILES, PROC, AGAIN = 0x7E020000, 0x6, 0xF, 0x5000
+MOUNT_SETATTR, HERE, ALL_BELOW, READ_ONLY = 442, -100, 0x8000, 1
+KEYCTL, NEW_SESSION = {"x86_64": 250}.get(os.uname().machine, 219), 1
+CAPABILITIES, SET_FLAGS, UP = 0x20080522, 0x8914, 0x41
 
 
 class Messages:
@@ -77,12 +85,11 @@ class Host:
     """The host of an agent's processes, by its messages with whoever runs the games.
 
     Args:
-        groups: The folder in which the numbers of running process groups stand; "" for none.
-        is_isolated: Whether this is a sandbox, with processes and temporary files of its own.
+        groups: The folder in which the numbers of running process groups stand; "" in a sandbox.
     """
 
-    def __init__(self, messages: Messages, groups: str, is_isolated: bool) -> None:
-        self._messages, self._groups, self._is_isolated = messages, groups, is_isolated
+    def __init__(self, messages: Messages, groups: str) -> None:
+        self._messages, self._groups = messages, groups
         self._child = 0
         self._woken, wakes = os.pipe()
         os.set_blocking(wakes, False)
@@ -105,21 +112,14 @@ class Host:
                 if "load" in message:
                     load(Path(message["load"]))
                     gc.freeze()
-                    self._be_ready()
+                    self._messages.say({})
                 elif "run" in message:
                     if self._run(message):
                         return message
-                elif self._child:
+                elif self._child and self._groups:
                     os.killpg(self._child, signal.SIGKILL)
-
-    def _be_ready(self) -> None:
-        """Tells that games may begin. A sandbox hands out a listener in its own network: only who
-        is in it can come there."""
-        if not self._is_isolated:
-            self._messages.say({"port": 0})
-            return
-        with socket.create_server(("127.0.0.1", PORT)) as listener:
-            self._messages.say({"port": PORT}, [listener.fileno()])
+                elif self._child:
+                    os.kill(self._child, signal.SIGTERM)
 
     def _run(self, message: Dict[str, Any]) -> bool:
         """Forks. Whether this is the child."""
@@ -131,15 +131,21 @@ class Host:
             return False
         signal.set_wakeup_fd(-1)
         signal.signal(signal.SIGCHLD, signal.SIG_DFL)
-        os.setsid()
         if self._groups:
+            os.setsid()
             (Path(self._groups) / str(os.getpid())).touch()
+        else:
+            seclude()
+            with socket.create_server(("127.0.0.1", PORT)) as listener:  # in this network alone
+                self._messages.say({}, [listener.fileno()])
         nothing = os.open(os.devnull, os.O_RDONLY)
         for number, source in enumerate((nothing, out, out)):
             os.dup2(source, number)
         os.closerange(3, max(out, nothing, self._woken, connection.fileno()) + 2)
         connection.detach()
-        dumpable(True)
+        if not self._groups:
+            _follow_child()  # the first process of a sandbox is no agent's
+            os.setsid()
         return True
 
     def _reap(self) -> None:
@@ -156,30 +162,71 @@ class Host:
 
     def _end(self) -> None:
         """Ends what is left of a game."""
-        if not self._child:
-            return
-        with contextlib.suppress(ProcessLookupError):
-            os.killpg(self._child, signal.SIGKILL)
-        if self._groups:
+        if self._child and self._groups:
+            with contextlib.suppress(ProcessLookupError):
+                os.killpg(self._child, signal.SIGKILL)
             with contextlib.suppress(FileNotFoundError):
                 os.remove(os.path.join(self._groups, str(self._child)))
         self._child = 0
-        if self._is_isolated:
-            with contextlib.suppress(ProcessLookupError):  # until there is none
-                while True:
-                    os.kill(-1, signal.SIGKILL)  # all but this process and the sandbox's first one
-                    time.sleep(0.001)
-            for folder in TEMPORARY:
-                for left in os.scandir(folder):
-                    if left.is_dir(follow_symlinks=False):
-                        shutil.rmtree(left.path, ignore_errors=True)
-                    else:
-                        os.remove(left.path)
 
 
-def dumpable(may_be: bool) -> None:
-    """Lets other processes of the same user look into this one, or not."""
-    ctypes.CDLL(None).prctl(SET_DUMPABLE, DUMPABLE if may_be else NOT_DUMPABLE, 0, 0, 0)
+def seclude() -> None:
+    """Goes on in a process that sees no other one and no network, without rights beyond its user's.
+    It can write temporary files, and they are gone with it, as is all else that it leaves, such as
+    shared memory or keys. SIGTERM to this process, which waits for it, kills all of them.
+
+    Raises:
+        OSError: The system does not allow it.
+    """
+    system = ctypes.CDLL(None, use_errno=True)
+
+    def do(result: int) -> None:
+        if result < 0:
+            raise OSError(ctypes.get_errno(), os.strerror(ctypes.get_errno()))
+
+    own = f"{os.getuid()} {os.getuid()} 1", f"{os.getgid()} {os.getgid()} 1"
+    do(system.unshare(NAMESPACES))
+    for name, text in zip(("self/setgroups", "self/uid_map", "self/gid_map",
+                           "sys/user/max_user_namespaces"), ("deny", *own, "0")):
+        Path("/proc", name).write_text(text, encoding="ascii")
+    _follow_child()
+    do(system.mount(b"proc", b"/proc", b"proc", PROC, None))
+    do(system.syscall(MOUNT_SETATTR, HERE, b"/", ALL_BELOW, struct.pack("4Q", READ_ONLY, 0, 0, 0),
+                      ctypes.c_size_t(32)))
+    with open("/proc/self/mountinfo", encoding="utf-8", errors="surrogateescape") as told:
+        places = [re.sub(r"\\(\d{3})", lambda code: chr(int(code[1], 8)), line.split()[4])
+                  for line in told]
+    for folder in TEMPORARY:
+        below = {place: os.open(place, os.O_PATH) for place in places
+                 if place.startswith(f"{folder}/")}
+        do(system.mount(b"tmpfs", folder.encode(), b"tmpfs", FILES, ROOM))
+        for place, number in below.items():  # such as the agent's own folder
+            same = Path(f"/proc/self/fd/{number}")
+            if not os.path.exists(place):  # it does if it stands in one of them
+                os.makedirs(place if same.is_dir() else os.path.dirname(place), exist_ok=True)
+                Path(place).touch()
+                do(system.mount(bytes(same), os.fsencode(place), None, AGAIN, None))
+            os.close(number)
+    os.chdir(os.getcwd())  # it may be one of these
+    with socket.socket() as link:
+        fcntl.ioctl(link, SET_FLAGS, struct.pack("16sH22x", b"lo", UP))
+    system.syscall(KEYCTL, NEW_SESSION, None)  # fails where there are no keys at all
+    do(system.capset(struct.pack("II", CAPABILITIES, 0), bytes(24)))
+
+
+def _follow_child() -> None:
+    """Goes on in a child. This process ends once that has, with its status, where as in a shell 128
+    more than a number is that signal. SIGTERM kills the child."""
+    signal.pthread_sigmask(signal.SIG_BLOCK, {signal.SIGTERM})
+    child = os.fork()
+    if child:
+        signal.signal(signal.SIGTERM, lambda *_: os.kill(child, signal.SIGKILL))
+    signal.pthread_sigmask(signal.SIG_UNBLOCK, {signal.SIGTERM})
+    while child:
+        ended, status = os.wait()
+        if ended == child:
+            code = os.waitstatus_to_exitcode(status)
+            end_at_once(code if code >= 0 else 128 - code)
 
 
 def imports_of(file: Path) -> Iterator[str]:
@@ -225,20 +272,13 @@ def run(words: List[str], variables: Dict[str, str], limits: Dict[str, int]) -> 
     return 0
 
 
-def namespaces() -> Set[str]:
-    """The namespaces of this process that a sandbox has to have for itself."""
-    return {os.readlink(f"/proc/self/ns/{kind}") for kind in ("mnt", "net", "pid")}
-
-
 def main() -> int:
     """Serves, and in a child runs the agent. Returns the exit status."""
-    number, groups, outside = sys.argv[1:]
-    if outside and namespaces() & set(outside.split()):
-        print("this is no sandbox", file=sys.stderr)
-        return 1
-    dumpable(False)
-    host = Host(Messages(socket.socket(fileno=int(number))), groups, outside != "")
-    given = host.serve()
+    if not sys.argv[1:]:
+        seclude()
+        return 0
+    number, groups = sys.argv[1:]
+    given = Host(Messages(socket.socket(fileno=int(number))), groups).serve()
     return 0 if given is None else run(given["run"], given["variables"], given["limits"])
 
 

@@ -8,33 +8,25 @@ import subprocess
 import sys
 from collections import Counter
 from pathlib import Path
-from typing import Any, BinaryIO, Dict, List, Optional, Sequence, Tuple
+from typing import IO, Any, Dict, List, NoReturn, Optional, Sequence, Tuple
 
 from geesefuton import program
-from geesefuton.experiments.agent_host import Messages, namespaces
-from geesefuton.experiments.apart import sandbox
+from geesefuton.experiments.agent_host import Messages
+from geesefuton.experiments.apart import HOST, sandbox
 from geesefuton.experiments.entrants import Entrant, environment
 from geesefuton.experiments.messages import Job
 from geesefuton.processes import Children
 
-HOST = str(Path(__file__).with_name("agent_host.py"))
 KILLED = 10.0  # seconds until an agent has to have ended that was killed
 
 
 class AgentProcess:
     """An agent's process, in one game after another, by a host that is started with these
-    variables, and with the words of its sandbox before, if it has one.
-
-    Attributes:
-        listener: A listener in the agent's own network; None if it has none.
-        port: The listener's port there.
-    """
+    variables, and with the words of its sandbox before, if it has one."""
 
     def __init__(self, children: Children, entrant: Entrant, variables: Dict[str, str],
                  before: Sequence[str] = ()) -> None:
         self._children, self._entrant = children, entrant
-        self.listener: Optional[socket.socket] = None
-        self.port = 0
         self._is_ready = False
         self._status: Optional[int] = None
         ours, theirs = socket.socketpair()
@@ -42,8 +34,7 @@ class AgentProcess:
         with theirs:
             self._host = children.start(
                 [*before, sys.executable, HOST, str(theirs.fileno()),
-                 "" if before else str(children.groups),
-                 " ".join(namespaces()) if before else ""],
+                 "" if before else str(children.groups)],
                 pass_fds=[theirs.fileno()], stdin=subprocess.DEVNULL, stdout=subprocess.DEVNULL,
                 stderr=subprocess.PIPE, env=variables)
         first, second, *_ = [*entrant.words, ""]
@@ -51,17 +42,22 @@ class AgentProcess:
 
     def wait(self) -> None:
         """Waits until its host is ready, if it is not."""
-        if self._is_ready:
-            return
-        message = self._messages.hear()
-        if message is None:
-            assert self._host.stderr is not None
-            with self._host.stderr as printed:
-                said = printed.read().decode("utf-8", "replace").strip().split("\n")[-1]
-            raise OSError(0, f"the process of {self._entrant.name} did not start: {said}")
-        self._is_ready, self.port = True, int(message["port"])
-        for file in self._messages.files:
-            self.listener = socket.socket(fileno=file)
+        if not self._is_ready:
+            self._is_ready = self._messages.hear() is not None or self._fail()
+
+    def listener(self) -> socket.socket:
+        """The listener of this game in the sandbox's own network."""
+        self._messages.hear()
+        files = self._messages.files
+        return socket.socket(fileno=files.pop() if files else self._fail())
+
+    def _fail(self) -> NoReturn:
+        """Raises what its host or the sandbox printed last."""
+        self._children.end(self._host)
+        assert self._host.stderr is not None
+        with self._host.stderr as printed:
+            said = printed.read().decode("utf-8", "replace").strip().split("\n")[-1]
+        raise OSError(0, f"the process of {self._entrant.name} did not start: {said}")
 
     def _say(self, message: Dict[str, Any], files: Sequence[int] = ()) -> None:
         with contextlib.suppress(OSError):  # it has ended, which is seen when it is heard
@@ -73,7 +69,7 @@ class AgentProcess:
         return self._host.pid
 
     def begin(self, words: Sequence[str], variables: Dict[str, str], limits: Dict[str, int],
-              out: BinaryIO) -> None:
+              out: IO[bytes]) -> None:
         """Begins a game: the words after the agent's own, and where its output goes."""
         self._status = None
         self._say({"run": [*self._entrant.words, *words], "variables": variables,
@@ -81,7 +77,8 @@ class AgentProcess:
 
     def poll(self) -> Optional[int]:
         """The exit status of the agent in this game, negative for a signal; None if it runs. A
-        host that has ended was ended by the agent, and so counts as killed."""
+        host that has ended was killed. What signal ended an agent in a sandbox is told by 128 more
+        than its number: nobody else can have sent it."""
         if self._status is None:
             message = self._messages.hear(0)
             if message is not None:
@@ -109,8 +106,6 @@ class AgentProcess:
     def close(self) -> None:
         """Ends its host."""
         self._messages.connection.close()
-        if self.listener is not None:
-            self.listener.close()
         self._children.end(self._host)
         if self._host.stderr is not None:
             self._host.stderr.close()

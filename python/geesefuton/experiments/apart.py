@@ -1,9 +1,9 @@
 """Keeps agents apart, by Debian's `bubblewrap`: what an agent sees of this machine.
 
-An agent has processes, a network and temporary files of its own. It sees the system's programs,
-Python, this package and the file of `tac`, and its own folder, all of which it cannot change. It
-does not see the folder of the run, other agents' folders or processes, the home folder, or a
-network.
+An agent sees the system's programs, Python, this package and the file of `tac`, and its own folder,
+all of which it cannot change. It does not see the folder of the run, other agents' folders, the
+home folder, or a network. In each game it has processes, a network and temporary files of its own,
+which its host makes in this sandbox (`agent_host.py`).
 """
 
 import os
@@ -15,6 +15,7 @@ from typing import List, NamedTuple, Optional, Sequence
 
 from geesefuton.experiments.entrants import PACKAGE, Entrant
 
+HOST = str(Path(__file__).with_name("agent_host.py"))
 HOW = "install Debian's `bubblewrap`"
 SYSTEM = ("/usr", "/bin", "/sbin", "/lib", "/lib32", "/lib64", "/libx32")
 SETTINGS = ("/etc/alternatives", "/etc/hosts", "/etc/ld.so.cache", "/etc/localtime",
@@ -41,13 +42,14 @@ def why_not() -> str:
     if program is None:
         return f"there is no `bwrap`: {HOW}"
     try:
-        tried = subprocess.run([program, *_namespaces(), "--ro-bind", "/", "/", "true"],
+        tried = subprocess.run([program, *_namespaces(), "--dev-bind", "/", "/", sys.executable,
+                                HOST],
                                stdin=subprocess.DEVNULL, stdout=subprocess.DEVNULL,
                                stderr=subprocess.PIPE, timeout=START, check=False)
     except (OSError, subprocess.TimeoutExpired) as fault:
         return f"`bwrap` cannot be run: {fault}"
     said = tried.stderr.decode("utf-8", "replace").strip().split("\n")[-1]
-    return said and f"`bwrap` says `{said}`" if tried.returncode else ""
+    return f"a sandbox says `{said}`" if tried.returncode else ""
 
 
 def _namespaces() -> List[str]:
@@ -83,7 +85,7 @@ def sandbox(entrant: Entrant, tac: str, secret: Sequence[Path]) -> List[str]:
     sees nothing of the secret folders, such as that of the run. Raises ValueError where its folder
     holds one of these."""
     own, folder = own_files(entrant), folder_of(entrant, secret)
-    words = ["bwrap", *_namespaces(), "--proc", "/proc", "--dev", "/dev", "--tmpfs", "/tmp"]
+    words = ["bwrap", *_namespaces(), "--bind", "/proc", "/proc", "--dev", "/dev", "--dir", "/tmp"]
     for place in SYSTEM:
         if os.path.islink(place):
             words += ["--symlink", os.readlink(place), place]

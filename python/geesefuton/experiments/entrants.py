@@ -36,7 +36,7 @@ def read_entrant(command: str) -> Entrant:
     """Reads an agent's command. Raises EntrantError where it is no command, or its program is not
     there."""
     try:
-        words = shlex.split(command)
+        words = _words(command)
     except ValueError as fault:
         raise EntrantError(f"{command}: {str(fault).lower()}") from None
     if not words:
@@ -62,16 +62,21 @@ def read_entrant(command: str) -> Entrant:
     return Entrant(command, tuple(run + words[1:]), stem, root)
 
 
+def _words(command: str) -> List[str]:
+    """The words of a command. The name of a file is one, even with a space in it."""
+    return [command] if os.path.isfile(command) else shlex.split(command)
+
+
 def _variant(entrant: Entrant) -> str:
     """The name of a Python file's agent with the words after the file; else its command."""
-    first, *words = shlex.split(entrant.command)
+    first, *words = _words(entrant.command)
     return " ".join([entrant.name, *words]) if first.endswith(".py") else entrant.command
 
 
 def read_entrants(commands: Sequence[str]) -> List[Entrant]:
     """Reads the agents' commands. Different agents of one name get the words after their file added
     to it, and their commands as names where these are the same. Raises EntrantError where one of
-    them cannot be run, or its name would read as a missing value."""
+    them cannot be run, or a table would not read its name as a name."""
     entrants = [read_entrant(command) for command in commands]
     different = {entrant.command: entrant for entrant in entrants}  # one may be given twice
     names = Counter(entrant.name for entrant in different.values())
@@ -87,8 +92,9 @@ def read_entrants(commands: Sequence[str]) -> List[Entrant]:
         if names[name] > 1:
             name = _variant(entrant)
             name = entrant.command if variants[name] > 1 else name
-        if name in MISSING:
-            raise EntrantError(f"an agent called {name} reads as missing in a table: rename it")
+        if name in MISSING or name[:1] in "=+-@":
+            how = "missing" if name in MISSING else "a formula"
+            raise EntrantError(f"an agent called {name} reads as {how} in a table: rename it")
         apart.append(replace(entrant, name=name, root=root))
     return apart
 

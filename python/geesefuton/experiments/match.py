@@ -10,15 +10,17 @@ import os
 import re
 import signal
 import sys
+import tempfile
 import threading
 import time
 from dataclasses import dataclass
 from functools import partial
 from multiprocessing.connection import Connection
 from pathlib import Path
-from typing import Callable, Dict, List, Optional, Tuple
+from typing import IO, Callable, Dict, List, Optional, Tuple
 
 from geesefuton import program
+from geesefuton.experiments.agent_host import PORT
 from geesefuton.experiments.agents import AgentProcess, Agents
 from geesefuton.experiments.entrants import environment
 from geesefuton.experiments.messages import PATIENCE, Job, Message, Note, Result
@@ -83,9 +85,10 @@ def _how(exited: Exit, reason: Optional[End]) -> str:
         return "did not quit in time, and its link was closed"
     if exited.is_stopped:
         return f"was still running {LEAVE:g} seconds after its game, and was stopped"
-    if exited.status < 0:
+    number = -exited.status if exited.status < 0 else exited.status - 128
+    if 0 < number < signal.NSIG:
         sender = ", which its game had not sent" if _is_foreign(exited) else ""
-        return f"was ended by signal {-exited.status}{sender}"
+        return f"was ended by signal {number}{sender}"
     if exited.status:
         return f"ended with status {exited.status}"
     if reason is End.GONE:
@@ -107,6 +110,7 @@ class Match:
                  send: Callable[[Message], None]) -> None:
         self._job, self._children, self._agents, self._send = job, children, agents, send
         self._running: Dict[int, AgentProcess] = {}
+        self._printed: Dict[int, IO[bytes]] = {}  # what agents print
         self._exits: Dict[int, Exit] = {}
         self._ends: Dict[int, End] = {}
         self._refused: List[events.Refused] = []
@@ -125,15 +129,18 @@ class Match:
             try:
                 journal = job.folder / f"{job.name}.journal"
                 seated = self._agents.seated(job)
+                if job.limits:
+                    self._start_agents(seated, PORT)
                 settings = LobbySettings(
                     game=self._game, port=0, pace=job.pace, log=self._log, form=job.form,
                     start=job.start, linger=job.linger, patience=max(job.start, PATIENCE),
                     journal=None if job.turns else journal, orders=orders,
                     keys={key: seat for seat, key in enumerate(job.keys)},
-                    listeners=[each.listener.dup() for each in seated if each.listener])
+                    listeners=[each.listener() for each in seated if job.limits])
                 turns = TurnServer(job.turns, job.patience) if job.turns else None
                 lobby = Lobby(settings, turns)
-                self._start_agents(seated, lobby.port)
+                if not job.limits:
+                    self._start_agents(seated, lobby.port)
                 over = threading.Event()
                 watcher = threading.Thread(target=self._watch, args=(over,), daemon=True)
                 watcher.start()
@@ -147,6 +154,11 @@ class Match:
                     (job.folder / f"{job.name}.script").write_bytes(script)
             except (LobbyError, program.ProgramError, ValueError) as fault:
                 return Result(fault=str(fault))
+            finally:
+                for process in self._running.values():  # if there was no game
+                    process.close()
+                for seat, printed in self._printed.items():
+                    self._keep(seat, printed)
         return self._result(status, turns.passed if turns else None)
 
     def _take(self, event: events.Event) -> None:
@@ -168,15 +180,16 @@ class Match:
         variables = environment(program.find(), files, job.limits is not None)
         pause = 0 if job.turns else job.pace / 1000
         for seat, (process, key) in enumerate(zip(seated, job.keys)):
-            words = ["localhost", str(process.port or port), key, "--pause", str(pause)]
+            words = ["localhost", str(port), key, "--pause", str(pause)]
             if job.turns:
                 variables.update(repeated(job.seeds[seat]))
-            with self._printed(seat).open("wb") as out:
-                process.begin(words, variables, {
-                    "FSIZE": MOST_PRINTED, **(job.limits.by_name() if job.limits else {})}, out)
+            # A file without a name does not tell the agent which game this is.
+            out = self._printed[seat] = tempfile.TemporaryFile(dir=job.folder)
+            process.begin(words, variables, {
+                "FSIZE": MOST_PRINTED, **(job.limits.by_name() if job.limits else {})}, out)
             self._running[seat] = process
 
-    def _printed(self, seat: int) -> Path:
+    def _kept(self, seat: int) -> Path:
         return self._job.folder / f"{self._job.name}.out.{self._job.words[seat]}"
 
     def _watch(self, over: threading.Event) -> None:
@@ -222,7 +235,6 @@ class Match:
                                        self._was_asking(seat)))
             self._tell(seat, exited, reason, outcomes[-1])
             missed.append(self._missed(seat))
-            self._shorten(seat)
         if passed is None:
             return Result(scores, tuple(outcomes), missed=tuple(missed))
         for seat, count in enumerate(passed):
@@ -259,22 +271,20 @@ class Match:
 
     def _last_printed(self, seat: int) -> str:
         """The end of what an agent printed."""
-        return self._printed(seat).read_bytes()[-2000:].decode("utf-8", "replace").strip()
+        return self._kept(seat).read_bytes()[-2000:].decode("utf-8", "replace").strip()
 
     def _missed(self, seat: int) -> Optional[int]:
         """In how many ticks an agent could not act in time, by what it printed last."""
         told = re.findall(r"missed ([0-9]{1,2}) of [0-9]+ ticks", self._last_printed(seat))
         return int(told[-1]) if told else None
 
-    def _shorten(self, seat: int) -> None:
-        """Keeps only the last bytes of what an agent printed, if it is much."""
-        file = self._printed(seat)
-        size = file.stat().st_size
-        if size > MOST_KEPT:
-            with file.open("rb") as printed:
-                printed.seek(size - MOST_KEPT)
-                last = printed.read()
-            file.write_bytes(f"[{size - MOST_KEPT} bytes left out]\n".encode() + last)
+    def _keep(self, seat: int, printed: IO[bytes]) -> None:
+        """Keeps what an agent printed, if it is much only the last bytes."""
+        with printed:
+            more = max(0, printed.seek(0, os.SEEK_END) - MOST_KEPT)
+            printed.seek(more)
+            told = f"[{more} bytes left out]\n".encode() if more else b""
+            self._kept(seat).write_bytes(told + printed.read())
 
 
 def _main() -> int:

@@ -53,9 +53,10 @@ class Relay:
         self._numbers = itertools.count()
         self._due: Dict[int, OuterLink] = {}  # those to which something is to be sent
         self.loop = Loop(self._warn)
-        for listener in listeners:
+        for number, listener in enumerate(listeners):
             listener.setblocking(False)
-            self.loop.attend(listener, partial(self._accept, listener))
+            network = f"listener {number}" if len(listeners) > 1 else ""
+            self.loop.attend(listener, partial(self._accept, listener, network))
 
     def turn(self, timeout: float) -> None:
         """Waits until something comes, for some seconds at most, and passes it on."""
@@ -85,13 +86,13 @@ class Relay:
 
     # Links from outside.
 
-    def _accept(self, listener: socket.socket) -> None:
+    def _accept(self, listener: socket.socket, network: str) -> None:
         for _ in range(AT_ONCE):
             try:
                 link, where = listener.accept()
             except (BlockingIOError, ConnectionError):
                 return
-            visit = self.gate.arrive(where[0])
+            visit = self.gate.arrive(where[0], network)
             if visit is None:
                 link.close()
                 continue

@@ -125,9 +125,9 @@ class Gate:
         self._until: Dict[str, float] = {}  # until when the lines of a network are put off
         self._most_networks = MOST_NETWORKS  # at which those are left out that are no longer
 
-    def arrive(self, address: str) -> Optional[Visit]:
-        """A link comes from an address. Returns None if there is no place for it, or its address
-        is banned.
+    def arrive(self, address: str, network: str = "") -> Optional[Visit]:
+        """A link comes from an address, or a network of its own. Returns None if there is no place
+        for it, or its address is banned.
 
         Raises:
             ValueError: It is no address.
@@ -135,7 +135,7 @@ class Gate:
         known = parsed(address)
         if any(known in network for network in self.banned):
             return None
-        network = str(known) if known.version == 4 else str(int(known) >> 64)
+        network = network or str(known if known.version == 4 else int(known) >> 64)
         own, count = self._crowds.get(network, []), sum(map(len, self._crowds.values()))
         taken = sum(self._known.values())
         places = self._most - (taken if known.is_loopback else max(taken, self._kept))
