@@ -359,8 +359,6 @@ class Board:
 
 def soak(seed: int, folder: Path, children: Children) -> Iterator[str]:
     """Looks at all pages."""
-    browser = Browser(children)
-
     def looked() -> Iterator[Iterator[str]]:
         yield look_at_seats(children, browser, folder)
         yield look_at_a_lost_screen(children, browser)
@@ -368,11 +366,12 @@ def soak(seed: int, folder: Path, children: Children) -> Iterator[str]:
         yield look_at_starters(children, browser, board.port)
         yield board.play()
 
-    for part in looked():
-        try:
-            yield from part
-        except BrowserError as fault:
-            yield str(fault)
+    with contextlib.closing(Browser(children)) as browser:
+        for part in looked():
+            try:
+                yield from part
+            except BrowserError as fault:
+                yield str(fault)
 
 
 if __name__ == "__main__":

@@ -1,6 +1,7 @@
 """Headless Chromium for tests that look at pages: what a person sees there, taps and types."""
 
 import base64
+import contextlib
 import json
 import os
 import re
@@ -16,6 +17,7 @@ from geesefuton.processes import Children
 KEYS = {"Tab": (9, ""), "Enter": (13, "\r"), "Escape": (27, ""), "Space": (32, " "),
         "ArrowLeft": (37, ""), "ArrowUp": (38, ""), "ArrowRight": (39, ""), "ArrowDown": (40, "")}
 SHIFT = 8  # as the protocol has it
+ENDING = 30.0  # seconds that Chromium may take to end, on a busy machine
 # The middle of the first element of some kind that is seen and has a text; null if there is none.
 FIND = """(() => {
   const says = each => each.getAttribute("aria-label") || each.innerText;
@@ -49,21 +51,27 @@ class Browser:
     """Headless Chromium, told by the DevTools protocol what to do, over two pipes."""
 
     def __init__(self, children: Children) -> None:
-        here, theirs, place = os.pipe(), os.pipe(), str(children.folder("browser"))
+        here, theirs = os.pipe(), os.pipe()
         file = shutil.which("chromium")
         assert file is not None
         # The protocol is spoken over the descriptors 3 and 4.
         words = ["sh", "-c", 'exec "$0" "$@" 3<&%d 4>&%d' % (here[0], theirs[1]), file,
                  "--headless", "--no-sandbox", "--disable-gpu", "--remote-debugging-pipe",
-                 f"--user-data-dir={place}", "about:blank"]
-        # It leaves temporary files if it is killed.
+                 f"--user-data-dir={children.folder('browser')}", "about:blank"]
         self._process = children.start(words, pass_fds=(here[0], theirs[1]),
-                                       env={**os.environ, "TMPDIR": place},
                                        stdin=subprocess.DEVNULL, stdout=subprocess.DEVNULL,
                                        stderr=subprocess.DEVNULL)
         os.close(here[0])
         os.close(theirs[1])
         self._to, self._from, self._rest, self._number = here[1], theirs[0], b"", 0
+
+    def close(self) -> None:
+        """Ends it. If it is killed, it leaves temporary files."""
+        with contextlib.suppress(BrowserError, OSError, subprocess.TimeoutExpired):
+            self.call("Browser.close")
+            self._process.wait(ENDING)
+        os.close(self._to)
+        os.close(self._from)
 
     def call(self, method: str, session: Optional[str] = None, **words: Any) -> Dict[str, Any]:
         """Calls a method, and gives its result. Events in between are skipped."""
