@@ -19,7 +19,7 @@ import time
 from collections import defaultdict
 from fractions import Fraction
 from pathlib import Path
-from typing import Any, Dict, Iterator, List, Sequence
+from typing import Any, Dict, Iterator, Sequence
 
 from geesefuton import program
 from geesefuton.practice.folder import Folder
