@@ -102,7 +102,7 @@ def scripts(hanger: str, browser: str, record: str) -> Iterator[Script]:
         browser: The file of the browser.
         record: The stem of an agent's record of its link.
     """
-    data = TOP / "python" / "tests" / "data"
+    data = TOP / "tests" / "package" / "data"
     journal = str(data / "lobby.journal")
     game = str(TOP / "examples" / "first.game")
     planner = "examples/agents/planner.py"

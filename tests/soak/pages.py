@@ -24,18 +24,16 @@ from geesefuton.hosting.page_process import PageProcess
 from geesefuton.hosting.settings import LobbySettings
 from geesefuton.processes import Children, command, free_port
 from geesefuton.records.games import TICKS
+from tests.package.seat_server import SeatServer
 from tests.support import soaking
 from tests.support.browser import Browser, BrowserError, Tab, is_seen
 from tests.support.trying import TOP
-
-sys.path.insert(0, str(TOP / "python" / "tests"))
-from seat_server import SeatServer  # noqa: E402
 
 PACE = 2000  # milliseconds from tick to tick
 MOST = 120.0  # seconds that a page may take to show something, on a busy machine
 USED = ("button", "spinbutton", "checkbox", "radio", "link", "textbox", "dialog")
 AGENTS = ("planner", "trader", "baseline", "planner", "trader", "baseline", "planner", "watcher")
-JOURNAL = TOP / "python" / "tests" / "data" / "lobby.journal"
+JOURNAL = TOP / "tests" / "package" / "data" / "lobby.journal"
 SETTLED = 1.0  # seconds after which the rows of the standings are in their places
 LEAST, LARGE = 18.0, 24.0  # px of 720: of all texts, and of those that matter
 MATTERS = "#tick, .left div, .row .name, .row .score, .event p:first-child, .join p"

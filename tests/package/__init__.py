@@ -1,0 +1,3 @@
+"""Tests of the package."""
+
+from tests.support import signals  # noqa: F401

@@ -1,0 +1,58 @@
+"""The journal of a game that is kept as data, and journals that tests make of their own lines."""
+
+import json
+from typing import Any, Dict, List, Sequence
+
+from geesefuton.hosting.journal import JournalReader
+from geesefuton.hosting.nights import Night, Nights
+from geesefuton.records.games import Game, read_game
+from tests.package.helpers import DATA
+
+TEXT = (DATA / "lobby.journal").read_text()
+LINES = TEXT.split("\n")[:-1]
+HEAD: Dict[str, Any] = json.loads(LINES[0])  # its pace is 100 milliseconds
+GAME: Game = read_game(HEAD["game"])
+BEGIN = '{"begin":[0,1,2,3,4,5,6,7]}'
+
+
+def place_of(tick: int) -> int:
+    """Which line of the kept journal has a tick."""
+    return next(place for place, line in enumerate(LINES) if f'{{"tick":{tick},' in line)
+
+
+def of_text(lines: Sequence[str]) -> JournalReader:
+    """What these lines say."""
+    reader = JournalReader()
+    reader.read("\n".join(lines))
+    return reader
+
+
+def asks(agent: int, line: str) -> str:
+    """The line of a request."""
+    return json.dumps({"a": agent, "q": line})
+
+
+def told(agent: int, line: str, time: int = 0) -> str:
+    """The line of a reply."""
+    return json.dumps({"a": agent, "r": line, "t": time})
+
+
+def nights_of(reader: JournalReader) -> List[Night]:
+    """The hotel nights of a journal, worked through at once."""
+    nights = Nights(reader)
+    nights.follow(reader)
+    return nights.now()
+
+
+def begun(*lines: Dict[str, Any], tick: int = 0, game: Game = GAME) -> JournalReader:
+    """A journal of a game that has begun: with these lines, and then the tick."""
+    reader = JournalReader()
+    reader.read("\n".join(map(json.dumps, [
+        {**HEAD, "game": game.text()}, {"begin": [0, 1, 2, 3, 4, 5, 6, 7]}, {"tick": 0, "t": 0},
+        *lines, *([{"tick": tick, "t": 100 * tick}] if tick else [])])))
+    return reader
+
+
+def asked(agent: int, line: str, reply: str, time: int) -> List[Dict[str, Any]]:
+    """The lines of a request and its reply."""
+    return [{"a": agent, "q": line}, {"a": agent, "r": reply, "t": time}]

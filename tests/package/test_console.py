@@ -1,0 +1,194 @@
+"""The host's commands, before a relay whose agents have begun to play."""
+
+import socket
+import time
+import unittest
+from unittest import mock
+
+from geesefuton.hosting import events
+from geesefuton.hosting.console import Console, NotDone
+from geesefuton.hosting.control import Control, Phase
+from geesefuton.hosting.seats import State
+from tests.package import test_relay
+
+
+def has_ipv6() -> bool:
+    """Whether the machine has IPv6, and listeners for it and IPv4."""
+    try:
+        socket.create_server(("::1", 0), family=socket.AF_INET6).close()
+    except OSError:
+        return False
+    return socket.has_dualstack_ipv6()
+
+
+class Commands(test_relay.Case):
+    def setUp(self) -> None:
+        super().setUp()
+        self.control = Control()
+        self.console = Console(self.relay, self.control)
+
+    def who(self, number: int) -> str:
+        return self.console.obey("who").split("\n")[number]
+
+    def test_help_lists_each_command(self) -> None:
+        lines = self.console.obey("help").split("\n")
+        names = [line.split(":")[0].split()[0] for line in lines]
+        self.assertEqual(names, ["who", "begin", "without", "end", "ban", "allow", "word", "finish",
+                                 "stop", "help"])
+
+    def test_who_is_here_and_who_is_silent(self) -> None:
+        self.assertEqual((self.who(0), self.who(2)),
+                         ("seat0 is here from 127.0.0.1", "seat2 is missing"))
+        now = time.monotonic()
+        with mock.patch("time.monotonic", lambda: now + 25.5):
+            self.assertRegex(self.who(0), "silent for 2[56] s$")
+
+    def test_an_agent_is_silent_after_ten_seconds_in_the_game(self) -> None:
+        seat = self.relay.seats.seats[0]
+        for heard, is_playing, due in ((109.0, True, ""), (110.0, True, ", silent for 10 s"),
+                                       (900.0, False, "")):
+            seat.heard, seat.playing = 100.0, is_playing
+            with mock.patch("time.monotonic", lambda: heard):
+                self.assertEqual(self.who(0), f"seat0 is here from 127.0.0.1{due}")
+
+    def test_who_else_asks_for_a_seat_and_which_are_over(self) -> None:
+        self.connect(b"hello seat1\n")
+        self.turns()
+        self.assertEqual(self.who(1),
+                         "seat1 is here from 127.0.0.1, and another link waits for its seat")
+        self.console.obey("without seat5")
+        self.assertEqual((self.who(4), self.who(5)), ("seat4 is missing", "seat5 has finished"))
+
+    def test_who_came_from_another_address(self) -> None:
+        link = self.relay.links[0]
+        link.source = "10.0.0.9"
+        self.assertIn("from 10.0.0.9, but first came from 127.0.0.1", self.who(0))
+
+    def test_a_link_that_is_ended_may_reconnect(self) -> None:
+        self.assertEqual(self.console.obey("end seat1"), "closed the link of seat1")
+        self.assertTrue(self.has_ended(self.agents[1]))
+        self.connect(b"hello seat1\n")
+        self.turn_until_told(events.Rejoined)
+
+    def test_an_address_that_is_banned(self) -> None:
+        self.assertEqual(self.console.obey("ban 127.0.0.1"),
+                         "banned 127.0.0.1; links closed: 2")
+        self.assertTrue(self.has_ended(self.connect(b"hello seat1\n")))
+        self.assertEqual(self.of(events.Rejoined), [])
+        with self.assertRaisesRegex(NotDone, "banned addresses: 10.0.0.1 127.0.0.1$"):
+            self.console.obey("ban 10.0.0.1")
+            self.console.obey("allow 10.0.0.2")
+        self.assertEqual(self.console.obey("allow 127.0.0.1"),
+                         "127.0.0.1 is no longer banned")
+        self.connect(b"hello seat1\n")
+        self.turn_until_told(events.Rejoined)
+
+    @unittest.skipUnless(has_ipv6(), "the machine has no IPv6")
+    def test_addresses_of_both_kinds_are_banned_each_by_itself(self) -> None:
+        for banned, other in (("127.0.0.1", "::1"), ("::1", "127.0.0.1")):
+            before = self.connect(b"", banned)
+            self.turns()
+            self.console.obey(f"ban {banned}")
+            kept = self.connect(b"", other)
+            self.assertEqual([self.has_ended(link) for link in
+                              (before, self.connect(b"", banned), kept)], [True, True, False])
+            self.console.obey(f"allow {banned}")
+
+    def test_an_address_is_the_same_however_it_is_written(self) -> None:
+        for link, written, plain in ((0, "2001:DB8:0::7", "2001:db8::7"),
+                                     (1, "::FFFF:10.0.0.9", "10.0.0.9")):
+            self.relay.links[link].source = plain
+            self.assertEqual(self.console.obey(f"ban {written}"),
+                             f"banned {plain}; links closed: 1")
+            self.assertTrue(self.has_ended(self.agents[link]))
+            self.assertEqual(self.console.obey(f"allow {written}"),
+                             f"{plain} is no longer banned")
+
+    def test_a_network_is_banned(self) -> None:
+        for number, source in enumerate(("2001:db8::7", "2001:db8:0:1::7")):
+            self.relay.links[number].source = source
+        self.assertEqual(self.console.obey("ban 2001:db8::1/64"),
+                         "banned 2001:db8::/64; links closed: 1")
+        self.assertEqual(self.console.obey("allow 2001:db8::/64"),
+                         "2001:db8::/64 is no longer banned")
+
+    def test_a_ban_of_another_address_ends_nobody(self) -> None:
+        self.relay.links[1].source = "10.0.0.9"
+        self.connect(b"hel")  # a link that has no seat yet
+        self.turns()
+        self.assertEqual(self.console.obey("ban 10.0.0.9"), "banned 10.0.0.9; links closed: 1")
+        self.assertFalse(self.has_ended(self.agents[0]))
+        self.assertTrue(self.has_ended(self.agents[1]))
+        self.assertEqual(len(self.relay.links), 2)
+
+    def test_a_new_word(self) -> None:
+        self.console.obey("word 1 red7k")
+        self.console.obey("end seat1")
+        old, _ = self.connect(b"hello seat1\n"), self.turns()
+        self.assertEqual(self.turn_until_told(events.Refused)[0].answer, "wrongword")
+        self.turn_until(old, b"refused wrongword\n")
+        self.connect(b"hello red7k\n")
+        self.turn_until_told(events.Rejoined)
+
+    def test_a_new_word_is_not_that_of_a_link_that_waits_with_the_old_one(self) -> None:
+        thief = self.connect(b"hello seat1\n")
+        self.turns()
+        self.console.obey("word 1 red7k")
+        self.console.obey("end seat1")
+        self.turn_until(thief, b"refused taken\n")
+        self.assertEqual(self.of(events.Rejoined), [])
+
+    def test_a_seat_may_keep_its_word_and_have_that_of_nobody(self) -> None:
+        for word in ("seat1", "red7k", "seat1"):
+            self.assertEqual(self.console.obey(f"word seat1 {word}"),
+                             "seat seat1 is now taken by its new word")
+        with self.assertRaisesRegex(NotDone, "another seat's word"):
+            self.console.obey("word seat2 seat1")
+
+    def test_what_cannot_be_done(self) -> None:
+        for line, told in (("dance", "unknown command 'dance'; type `help` for the list"),
+                           ("end", "expected `end SEAT`"),
+                           ("end 9", "there is no seat 9: give a seat's word, or its number 0 to "
+                            "7"),
+                           ("end seat4", "seat seat4 has no link"),
+                           ("word seat1 seat2", "seat2 is another seat's word: choose a different "
+                            "one"),
+                           ("word 1 R", "R is not a seat word: use 1 to 16 letters a to z and "
+                            "digits"),
+                           ("allow 10.0.0.1", "10.0.0.1 is not banned; banned addresses: none"),
+                           ("ban seat1", "seat1 is not an address; `who` shows the agents' "
+                            "addresses"),
+                           ("allow 10.0.0", "10.0.0 is not an address; `who` shows the agents' "
+                            "addresses")):
+            with self.assertRaisesRegex(NotDone, "^" + told.replace("|", ".") + "$"):
+                self.console.obey(line)
+
+    def test_begin_and_stop(self) -> None:
+        self.assertEqual(self.console.obey("without 5"), "")
+        self.assertIs(self.relay.seats.seats[5].state, State.OVER)
+        for line in ("", "begin"):
+            self.control.is_begin_asked = False
+            self.console.obey(line)
+            self.assertTrue(self.control.is_begin_asked)
+        self.control.is_begin_asked, self.control.phase = False, Phase.PLAYING
+        for line in ("", "begin", "finish"):
+            self.console.obey(line)
+        self.assertFalse(self.control.is_begin_asked or self.control.is_end_asked)
+        self.control.phase = Phase.ENDING
+        self.console.obey("")
+        self.assertTrue(self.control.is_end_asked)
+        self.console.obey("stop")
+        self.assertTrue(self.control.is_stopped)
+
+
+class OwnAgents(test_relay.Case):
+    def test_a_word_of_the_host_alone(self) -> None:
+        self.relay.seats.own["k3x9"] = 4
+        self.connect(b"hello k3x9\n")
+        self.assertEqual(self.turn_until_told(events.Arrived, 3)[2].source, "the house")
+        self.connect(b"hello seat5\n")
+        self.assertEqual(self.turn_until_told(events.Arrived, 4)[3].source, "127.0.0.1")
+
+
+if __name__ == "__main__":
+    unittest.main()

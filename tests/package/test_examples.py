@@ -1,0 +1,79 @@
+import importlib.util
+import re
+import subprocess
+import sys
+import unittest
+from typing import List
+from unittest import mock
+
+from tests.package.helpers import TOP, needs_program, python, variables
+from tests.package.test_link import WELCOME, Server
+
+
+def ran(name: str, *words: str) -> List[str]:
+    """The lines that an example prints."""
+    done = subprocess.run([sys.executable, str(TOP / "examples" / name), *words], text=True,
+                          stdin=subprocess.DEVNULL, stdout=subprocess.PIPE, timeout=300,
+                          env=variables(), check=True)
+    return done.stdout.splitlines()
+
+
+class Agents(unittest.TestCase):
+    def run_agent(self, name: str, port: int) -> "subprocess.CompletedProcess[str]":
+        words = [sys.executable, str(TOP / "examples" / "agents" / f"{name}.py"), "127.0.0.1",
+                 str(port), "red", "--pause", "0"]
+        return subprocess.run(words, stdin=subprocess.DEVNULL, capture_output=True, text=True,
+                              timeout=60, env=variables(), check=False)
+
+    def test_a_lost_link_ends_each_with_a_line(self) -> None:
+        for name in ("watcher", "planner", "trader", "baseline", "equilibrium", "scenarios"):
+            with self.subTest(name=name):
+                server = Server([WELCOME])
+                done = self.run_agent(name, server.port)
+                server.join()
+                self.assertEqual((done.returncode, done.stdout, done.stderr),
+                                 (1, "", "red: the link was closed\n"))
+
+    def test_who_plans_buys_only_the_seats_that_are_lacking(self) -> None:
+        with mock.patch.object(sys, "path", [str(TOP / "examples" / "agents"), *sys.path]):
+            planner = importlib.import_module("planner")
+        link = mock.Mock(own={0: 0, 1: 3, 5: 1, 6: 2}.__getitem__)
+        planner.buy_seats(link, {0: 2, 1: 2, 5: 3, 6: 2, 8: 4})
+        self.assertEqual(link.bid.mock_calls, [mock.call(0, (2, 600)), mock.call(5, (2, 600))])
+
+
+@needs_program
+class Examples(unittest.TestCase):
+    def test_the_small_game_ends_with_the_score_that_was_told(self) -> None:
+        scores = [re.findall("^its score is (-?[0-9]+)", line) for line in ran("step.py")]
+        found = [score[0] for score in scores if score]
+        self.assertGreater(len(found), 2)
+        self.assertEqual(found[-1], found[-2])
+
+    def test_the_learner_draws_from_its_seed_alone(self) -> None:
+        words = ["--rounds", "1", "--rules", "3", "--games", "1", "--unseen", "2", "--seed"]
+        first, again, other = (ran("learner.py", *words, seed) for seed in ("5", "5", "6"))
+        self.assertEqual(first, again)
+        self.assertNotEqual(first[0], other[0])
+        self.assertRegex(first[-1], "^2 unseen games: -?[0-9]+ dollars a game more")
+
+
+class WithoutNumpy(unittest.TestCase):
+    def test_the_learner_in_numbers_tells_in_a_line_that_it_needs_it(self) -> None:
+        # An entry of None in sys.modules stands for a module that is not there.
+        code = ("import runpy, sys; sys.modules['numpy'] = None; sys.path.insert(0, sys.argv[1]); "
+                "runpy.run_path(sys.argv[1] + '/learn_numeric.py', run_name='__main__')")
+        done = subprocess.run(python(code, TOP / "examples"), stdin=subprocess.DEVNULL, text=True,
+                              capture_output=True, timeout=60, env=variables(), check=False)
+        self.assertEqual((done.returncode, done.stdout, done.stderr.count("\n")), (1, "", 1))
+        self.assertTrue(done.stderr.startswith("learn_numeric.py: it needs numpy"), done.stderr)
+
+
+@unittest.skipUnless(importlib.util.find_spec("numpy"), "numpy is not installed")
+@needs_program
+class InNumbers(unittest.TestCase):
+    def test_the_learner_in_numbers_draws_from_its_seed_alone(self) -> None:
+        words = ["--games", "1", "--unseen", "2", "--seed"]
+        first, again = (ran("learn_numeric.py", *words, "5") for _ in range(2))
+        self.assertEqual(first, again)
+        self.assertRegex(first[-1], "^2 unseen games: -?[0-9]+ dollars a game, the")

@@ -1,0 +1,255 @@
+"""The process of a game's pages, as the lobby starts it."""
+
+import functools
+import json
+import os
+import re
+import socket
+import subprocess
+import tempfile
+import time
+import unittest
+import urllib.request
+from pathlib import Path
+from typing import Any, Dict, List
+from unittest import mock
+
+from geesefuton.hosting.page_process import AGAIN, LONGEST, STEADY, PageProcess, SideProcess
+from geesefuton.hosting.settings import LobbySettings
+from geesefuton.processes import Children, free_port, python_words
+from tests.package.helpers import DATA, TOP
+from tests.package.journals import LINES, place_of
+from tests.package.seat_server import SeatServer, ask
+
+GAME = TOP / "examples" / "first.game"
+TICK_9 = place_of(9)
+MOST = 60.0  # seconds that anything may take, on a machine that is busy with other work
+WORDS = ["red", "blue"]
+
+
+def is_listening(port: int) -> bool:
+    """Whether somebody listens there."""
+    with socket.socket() as link:
+        return link.connect_ex(("127.0.0.1", port)) == 0
+
+
+class Serving(unittest.TestCase):
+    """The process, before a stand-in of the lobby."""
+
+    def setUp(self) -> None:
+        place = tempfile.TemporaryDirectory()
+        self.addCleanup(place.cleanup)
+        self.folder = Path(place.name)
+        self.server = SeatServer()
+        self.addCleanup(self.server.close)
+        told = self.enter(open(self.folder / "told", "w", encoding="utf-8"))
+        self.enter(mock.patch.dict(os.environ, {"TAC": str(DATA.parent / "fake_tac.py")}))
+        self.children = self.enter(Children())
+        self.enter(mock.patch.object(self.children, "start", functools.partial(
+            self.children.start, stderr=told)))
+        self.port = free_port()
+        self.journal = self.folder / "journal"
+        self.journal.write_text("\n".join(LINES[:TICK_9 + 1]) + '\n{"a":1,"q')
+        self.pages = PageProcess(self.children, LobbySettings(
+            GAME, self.server.port, 500, None, page=self.port, advice=False), WORDS,
+            self.server.port, self.journal)
+        self.addCleanup(self.pages.end)
+        self.seats = [f"http://127.0.0.1:{self.port}/{token}/" for _, token in self.pages.seats]
+
+    def enter(self, context: Any) -> Any:
+        """What a context gives, which ends with the test."""
+        self.addCleanup(lambda: context.__exit__(None, None, None))
+        return context.__enter__()
+
+    def begin(self) -> None:
+        """Starts the process, if there is none, and waits until it serves its pages."""
+        self.assertEqual(self.pages.look(), "")
+        self.wait(lambda: is_listening(self.port))
+
+    def wait(self, holds: Any) -> None:
+        """Waits until something holds."""
+        until = time.monotonic() + MOST
+        while not holds():
+            self.assertLess(time.monotonic(), until)
+            time.sleep(0.02)
+
+    def phase(self, seat: str, page: str) -> str:
+        """How far a seat is."""
+        told: str = ask(seat + "state", page=page)["phase"]
+        return told
+
+    def test_its_end_is_the_lobbys_word_alone(self) -> None:
+        self.begin()
+        self.server.refusals["hello red"] = "refused taken"
+        self.server.refusals["hello blue"] = "refused wrongword"
+        failed = ask(self.seats[1] + "open")["page"]
+        self.wait(lambda: self.phase(self.seats[1], failed) == "failed")
+        page = ask(self.seats[0] + "open")["page"]  # the others are served as before
+        self.wait(lambda: self.phase(self.seats[0], page) != "waiting")
+        self.assertTrue(self.pages.is_running())
+        with urllib.request.urlopen(f"http://127.0.0.1:{self.port}/", timeout=MOST) as board:
+            self.assertIn(b"<title>TAC Classic</title>", board.read())
+        self.pages.close()
+        self.pages.wait(MOST, lambda: False)
+        assert self.pages._process is not None
+        self.assertEqual(self.pages._process.wait(MOST), 0)
+
+    def test_screens_and_players_get_the_last_state(self) -> None:
+        self.begin()
+        page = ask(self.seats[0] + "open")["page"]
+        self.wait(lambda: self.phase(self.seats[0], page) == "running")
+        with socket.create_connection(("127.0.0.1", self.port)) as link, \
+                link.makefile("rb") as screen:
+            link.settimeout(MOST)
+            link.sendall(b"GET /events HTTP/1.1\r\n\r\n")
+            while not screen.readline().startswith(b"data: {"):
+                pass
+            self.server.closed = list(range(28))
+            self.wait(lambda: self.server.heard[-1] == "quit")
+            self.pages.close()  # the journal has no end, as on a full disk
+            self.wait(lambda: self.phase(self.seats[0], page) == "over")
+            text = screen.read()
+        state = json.loads(re.findall(rb"data: (\{.*\})", text)[-1])
+        self.assertEqual((state["phase"], state["status"], state["tick"]), ("over", None, 9))
+        self.pages.wait(MOST, lambda: False)
+        assert self.pages._process is not None
+        self.assertEqual(self.pages._process.wait(MOST), 0)
+
+    def test_one_that_is_killed_serves_the_same_addresses_again(self) -> None:
+        self.begin()
+        page = ask(self.seats[0] + "open")["page"]
+        self.wait(lambda: self.phase(self.seats[0], page) == "running")
+        self.pages._began -= STEADY
+        process = self.pages._process
+        assert process is not None
+        process.kill()
+        process.wait()
+        self.assertEqual(self.pages.look(),
+                         "the page ended with exit status -9, and was restarted")
+        self.begin()
+        page = ask(self.seats[0] + "open")["page"]
+        self.wait(lambda: self.phase(self.seats[0], page) == "running")
+        with urllib.request.urlopen(f"http://127.0.0.1:{self.port}/play", b"red") as token:
+            self.assertIn(f"/{token.read().decode()}/", self.seats[0])
+
+    def test_nobody_reads_seat_words_or_lends_it_code(self) -> None:
+        before = os.getcwd()
+        os.chdir(self.folder)
+        self.addCleanup(os.chdir, before)
+        for name in ("argparse.py", "json.py", "geesefuton.py"):
+            Path(name).write_text("open('taken', 'w')\nraise SystemExit(9)\n")
+        with mock.patch.dict(os.environ, {"PYTHONPATH": str(self.folder)}):
+            self.begin()
+        assert self.pages._process is not None
+        words = Path(f"/proc/{self.pages._process.pid}/cmdline").read_bytes()
+        self.assertIn(b"game_pages", words)
+        for secret in (*WORDS, *(token for _, token in self.pages.seats)):
+            self.assertNotIn(secret.encode(), words)
+        self.assertFalse(Path("taken").exists())
+
+
+class Started(unittest.TestCase):
+    """How a process beside the game is started, by a clock of the test."""
+
+    def setUp(self) -> None:
+        self.now, self.children = 100.0, mock.Mock()
+        change = mock.patch("geesefuton.hosting.page_process.time.monotonic", lambda: self.now)
+        change.start()
+        self.addCleanup(change.stop)
+        self.side = SideProcess(self.children, "the page", "geesefuton.hosting.live",
+                                lambda: b"what it is told\n")
+        self.children.start.side_effect = lambda *_, **__: mock.Mock(
+            poll=mock.Mock(return_value=None))
+
+    def end(self, status: int) -> None:
+        """The process ends."""
+        process: Any = self.side._process
+        process.poll.return_value = process.returncode = status
+
+    def looks(self, *seconds: float) -> List[str]:
+        """What the host is told after so many seconds each."""
+        told = []
+        for each in seconds:
+            self.now += each
+            told.append(self.side.look())
+        return told
+
+    def test_it_is_told_what_to_do_by_its_standard_input(self) -> None:
+        self.assertEqual(self.looks(0), [""])
+        words, how = self.children.start.call_args
+        self.assertEqual(words[0], python_words("geesefuton.hosting.live"))
+        self.assertEqual((how["stdin"], how["stdout"]), (subprocess.PIPE, subprocess.DEVNULL))
+        assert self.side._process is not None and self.side._process.stdin is not None
+        self.side._process.stdin.write.assert_called_once_with(  # type: ignore
+            b"what it is told\n")
+
+    def test_one_that_cannot_be_started_is_a_warning_and_is_tried_again(self) -> None:
+        start = self.children.start.side_effect
+        self.children.start.side_effect = OSError(24, "Too many open files")
+        line = "the page cannot be started: Too many open files; the game goes on, and it is " \
+               "tried again in {} s"
+        self.assertEqual(self.looks(0, 1, AGAIN, 1), [line.format(5), "", line.format(10), ""])
+        for _ in range(9):
+            self.looks(LONGEST)
+        self.assertEqual(self.looks(LONGEST), [line.format(60)])
+        self.children.start.side_effect = start
+        self.assertEqual(self.looks(LONGEST), [""])
+        self.assertTrue(self.side.is_running())
+
+    def test_one_that_ends_in_the_game_cannot_end_it_whatever_the_system_says(self) -> None:
+        self.looks(0)
+        start, self.children.start.side_effect = self.children.start.side_effect, BlockingIOError(
+            11, "Resource temporarily unavailable")
+        self.end(-9)
+        self.assertEqual(self.looks(STEADY), [
+            "the page cannot be started: Resource temporarily unavailable; the game goes on, and "
+            "it is tried again in 5 s"])
+        self.children.start.side_effect = start
+        self.assertEqual(self.looks(AGAIN), [""])
+
+    def test_one_that_ran_for_a_while_is_started_again_at_once(self) -> None:
+        self.looks(0)
+        for _ in range(3):
+            self.end(1)
+            self.assertEqual(self.looks(STEADY),
+                             ["the page ended with exit status 1, and was restarted"])
+        self.end(1)
+        self.assertEqual(self.looks(STEADY - 1, 0, 4, 1), [
+            "the page ended with exit status 1; the game goes on, and it is tried again in 5 s", "",
+            "", ""])
+        self.assertTrue(self.side.is_running())
+
+    def test_one_that_reads_nothing_hurts_nobody(self) -> None:
+        process = mock.Mock(poll=mock.Mock(return_value=None))
+        process.stdin.write.side_effect = process.stdin.close.side_effect = BrokenPipeError
+        self.children.start.side_effect = lambda *_, **__: process
+        self.assertEqual(self.looks(0), [""])
+        self.side.end()
+        self.children.end.assert_called_once_with(process)
+        self.side.end()
+        self.side.close()
+
+
+class Told(unittest.TestCase):
+    def told(self, passed: float, **settings: Any) -> Dict[str, Any]:
+        """What a process is told some seconds after the lobby began."""
+        with mock.patch("geesefuton.hosting.page_process.time.monotonic") as clock:
+            clock.return_value = 50.0
+            pages = PageProcess(mock.Mock(), LobbySettings(GAME, 7000, 500, None, **settings),
+                                WORDS, 7000, Path("my.journal"))
+            clock.return_value += passed
+            told: Dict[str, Any] = json.loads(pages._told())
+        return told
+
+    def test_what_it_is_told(self) -> None:
+        told = self.told(1.0, page=7080, start=20.0, late=3, names=True, form="json")
+        self.assertEqual(told, {
+            "port": 7000, "form": "json", "pace": 500, "page": 7080, "journal": "my.journal",
+            "late": 3, "names": True, "advice": True, "seats": told["seats"], "begins": 19.0})
+        self.assertEqual([word for word, _ in told["seats"]], WORDS)
+        told = self.told(25.0, page=7080, start=20.0, advice=False)
+        self.assertEqual((told["begins"], told["advice"]), (0.0, False))
+
+
+if __name__ == "__main__":
+    unittest.main()

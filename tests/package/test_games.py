@@ -1,0 +1,227 @@
+import unittest
+from typing import List
+
+from geesefuton.records import games
+from geesefuton.records.games import Client, Flight, Game, GameError, Package, read_game
+from tests.package.helpers import TOP
+
+
+def text_of(name: str) -> str:
+    return (TOP / "examples" / name).read_text()
+
+
+def canonical(text: str) -> str:
+    return "".join(line + "\n" for line in text.splitlines() if line and line[0] != "#")
+
+
+class Texts(unittest.TestCase):
+    def test_a_game_of_each_version_is_read_and_written(self) -> None:
+        for name, version in (("first.game", 1), ("few_rooms.game", 2)):
+            game = read_game(text_of(name))
+            self.assertEqual(game.version, version)
+            self.assertEqual(game.text(), canonical(text_of(name)))
+            self.assertEqual(read_game(game.text()), game)
+
+    def test_the_parts_of_a_game(self) -> None:
+        game = read_game(text_of("few_rooms.game"))
+        self.assertEqual(game.words, tuple(f"seat{seat}" for seat in range(8)))
+        self.assertEqual(game.rooms, (6, 4, 4, 6, 4, 3, 3, 4))
+        self.assertTrue(game.live)
+        lines = [line.split() for line in canonical(text_of("few_rooms.game")).splitlines()]
+        flight = next(line for line in lines if line[:2] == ["flight", "5"])
+        self.assertEqual([game.flights[5].first, game.flights[5].bound, *game.flights[5].draws],
+                         list(map(int, flight[2:])))
+        endow = next(line for line in lines if line[:2] == ["endow", "6"])
+        self.assertEqual(list(game.endow[6]), list(map(int, endow[2:])))
+        client = next(line for line in lines if line[:3] == ["client", "3", "7"])
+        wants = game.clients[3][7]
+        self.assertEqual([wants.arrive, wants.depart, wants.premium, *wants.values],
+                         list(map(int, client[3:])))
+        close = next(line for line in lines if line[0] == "close")
+        self.assertEqual(game.closing, tuple(map(int, close[1:])))
+
+    def test_hotels_close_every_six_ticks_in_the_order_of_the_file(self) -> None:
+        game = read_game(text_of("few_rooms.game"))
+        for place, good in enumerate(game.closing, 1):
+            self.assertEqual(game.hotels[good - 8].closes, 6 * place)
+        self.assertEqual([hotel.rooms for hotel in game.hotels], list(game.rooms))
+
+    def test_version_one_has_sixteen_rooms_and_quotes_by_the_minute(self) -> None:
+        game = read_game(text_of("first.game"))
+        self.assertEqual((game.rooms, game.live), ((16,) * 8, False))
+
+    def test_quotes_by_the_minute_in_version_two(self) -> None:
+        game = read_game(text_of("first.game")).with_rooms([3] * 8, live=False)
+        self.assertIn("\nrooms 3 3 3 3 3 3 3 3\nquotes minute\n", game.text())
+        self.assertTrue(game.text().startswith("tac 2\n"))
+        self.assertEqual(read_game(game.text()), game)
+
+    def test_a_game_that_says_nothing_of_rooms_and_quotes(self) -> None:
+        game = read_game(text_of("first.game"))
+        self.assertEqual(Game(game.words, game.flights, game.closing, game.endow, game.clients),
+                         game)
+
+    def test_the_greatest_game_file(self) -> None:
+        text = text_of("first.game")
+        text += "#" * ((1 << 20) - len(text) - 1) + "\n"
+        self.assertEqual(read_game(text), read_game(text_of("first.game")))
+        with self.assertRaises(GameError):
+            read_game(text + "\n")
+
+    def test_names_and_rooms_can_be_changed(self) -> None:
+        game = read_game(text_of("first.game"))
+        words = list("abcdefgh")
+        other = game.named(words).with_rooms([1, 2, 3, 4, 5, 6, 7, 8], live=True)
+        self.assertEqual(read_game(other.text()), other)
+        self.assertIn("\nwords a b c d e f g h\n", other.text())
+        self.assertIn("\nrooms 1 2 3 4 5 6 7 8\nquotes live\n", other.text())
+        self.assertEqual(other.hotels[3].rooms, 4)
+        self.assertEqual((other.clients, other.endow, other.flights, other.closing),
+                         (game.clients, game.endow, game.flights, game.closing))
+
+
+class Faults(unittest.TestCase):
+    """Each error names the line that `tac show` names."""
+
+    def refuse(self, text: str, line: int, why: str) -> None:
+        with self.assertRaises(GameError) as caught:
+            read_game(text)
+        self.assertEqual(caught.exception.line, line)
+        self.assertIn(why, str(caught.exception))
+        self.assertTrue(str(caught.exception).startswith(f"line {line}: "))
+
+    def changed(self, line: int, text: str) -> str:
+        lines: List[str] = canonical(text_of("few_rooms.game")).splitlines()
+        lines[line - 1] = text
+        return "\n".join(lines) + "\n"
+
+    def test_first_line(self) -> None:
+        for text in ("tac 3", "tac 2\r", "tac x"):
+            self.refuse(self.changed(1, text), 1, "neither 1 nor 2")
+        self.refuse(self.changed(1, "tac"), 1, "expected 1 words after `tac`, not 0")
+        self.refuse(self.changed(1, "game"), 1, "expected a line `tac`")
+
+    def test_words(self) -> None:
+        for bad in ("Seat", "s" * 17, "a-b", ""):
+            self.refuse(self.changed(2, f"words {bad} b c d e f g h"), 2, "is not a seat word")
+            self.refuse(self.changed(2, f"words a b c d e f g {bad}"), 2, "is not a seat word")
+        self.refuse(self.changed(2, "words a b c d e f g a"), 2, "equal")
+        self.refuse(self.changed(2, "words a b c d e f g"), 2, "8 words after `words`, not 7")
+        longest = self.changed(2, f"words {'s' * 16} b c d e f g h")
+        self.assertEqual(read_game(longest).words[:2], ("s" * 16, "b"))
+
+    def test_flights(self) -> None:
+        draws = " 0" * 53
+        self.refuse(self.changed(3, "flight 1 300 0" + draws), 3, "1 is not from 0 to 0")
+        self.refuse(self.changed(3, "flight 0 249 0" + draws), 3, "from 250 to 400")
+        self.refuse(self.changed(3, "flight 0 401 0" + draws), 3, "from 250 to 400")
+        self.refuse(self.changed(3, "flight 0 300 -11" + draws), 3, "from -10 to 30")
+        self.refuse(self.changed(3, "flight 0 300 31" + draws), 3, "from -10 to 30")
+        self.refuse(self.changed(3, "flight 0 300 0" + " 0" * 52), 3, "56 words")
+        self.refuse(self.changed(3, "flight 0 300 0" + " 0" * 52 + " 4294967296"), 3, "4294967295")
+        self.refuse(self.changed(3, "flight 0 300 0" + " 0" * 52 + " -1"), 3, "canonical form")
+        for first, bound, draw in ((250, -10, 4294967295), (400, 30, 0)):
+            text = self.changed(3, f"flight 0 {first} {bound}" + f" {draw}" * 53)
+            self.assertEqual(read_game(text).flights[0], Flight(first, bound, (draw,) * 53))
+
+    def test_spelling_of_numbers(self) -> None:
+        for bad in ("01", "+1", "-0", "1.0", "", "x", "99999999999", "٣"):
+            self.refuse(self.changed(12, f"rooms {bad} 4 4 6 4 3 3 4"), 12, "canonical form")
+        self.refuse(self.changed(3, "flight 0 300 -0" + " 0" * 53), 3, "canonical form")
+        self.refuse(self.changed(12, "rooms -1 4 4 6 4 3 3 4"), 12, "canonical form")
+
+    def test_hotels(self) -> None:
+        self.refuse(self.changed(11, "close 8 9 10 11 12 13 14 14"), 11, "equal")
+        self.refuse(self.changed(11, "close 8 9 10 11 12 13 14 16"), 11, "from 8 to 15")
+        self.refuse(self.changed(12, "rooms 0 4 4 6 4 3 3 4"), 12, "from 1 to 64")
+        self.refuse(self.changed(12, "rooms 65 4 4 6 4 3 3 4"), 12, "from 1 to 64")
+        self.refuse(self.changed(13, "quotes hour"), 13, "`minute` or `live`")
+
+    def test_seats(self) -> None:
+        self.refuse(self.changed(14, "endow 0 17" + " 0" * 11), 14, "from 0 to 16")
+        self.refuse(self.changed(15, "endow 0" + " 0" * 12), 15, "0 is not from 1 to 1")
+        self.refuse(self.changed(14, "endow 0 -1" + " 0" * 11), 14, "canonical form")
+        self.refuse(self.changed(22, "client 0 0 5 5 50 0 0 0"), 22, "from 1 to 4")
+        self.refuse(self.changed(22, "client 0 0 1 2 49 0 0 0"), 22, "from 50 to 150")
+        self.refuse(self.changed(23, "client 1 1 1 2 50 0 0 0"), 23, "1 is not from 0 to 0")
+        for text in ("client 0 0 1 5 50 0 0 0", "client 0 0 4 5 150 200 200 200"):
+            self.assertEqual(read_game(self.changed(22, text)).text().split("\n")[21], text)
+        self.refuse(self.changed(22, "client 0 0 2 2 50 0 0 0"), 22, "not after the arrival")
+        self.refuse(self.changed(22, "client 0 0 0 2 50 0 0 0"), 22, "from 1 to 4")
+        self.refuse(self.changed(22, "client 0 0 1 6 50 0 0 0"), 22, "from 2 to 5")
+        self.refuse(self.changed(22, "client 0 0 1 2 151 0 0 0"), 22, "from 50 to 150")
+        self.refuse(self.changed(22, "client 0 0 1 2 50 0 0 201"), 22, "from 0 to 200")
+        self.refuse(self.changed(23, "client 0 0 1 2 50 0 0 0"), 23, "0 is not from 1 to 1")
+
+    def test_ends(self) -> None:
+        whole = canonical(text_of("first.game"))
+        self.refuse(whole + "end\n", 85, "follows `end`")
+        self.refuse(whole[:-1], 84, "expected a line `end`, but the text ends")
+        self.refuse(whole + "#", 85, "no line end")
+        self.refuse(whole.replace("end\n", ""), 84, "the text ends")
+        self.refuse("", 1, "the text ends")
+        self.refuse("#" * (1 << 20) + "\n", 1, "1,048,576")
+
+    def test_comments_count_in_line_numbers(self) -> None:
+        lines = canonical(text_of("first.game")).splitlines()
+        text = "\n".join(["# one", "", *lines[:1], "# two", "words", *lines[2:]]) + "\n"
+        self.refuse(text, 5, "8 words")
+
+
+class Rules(unittest.TestCase):
+    def test_goods_have_numbers_and_names(self) -> None:
+        self.assertEqual([games.inbound(1), games.inbound(4), games.outbound(2), games.outbound(5)],
+                         [0, 3, 4, 7])
+        self.assertEqual([games.room(0, 1), games.room(1, 4), games.ticket(0, 1),
+                          games.ticket(2, 4)], [8, 15, 16, 27])
+        self.assertEqual([auction.number for auction in games.AUCTIONS], list(range(28)))
+        self.assertEqual([games.name_of(good) for good in (0, 4, 11, 12, 16, 23, 27)],
+                         ["in, day 1", "out, day 2", "Shanties, night 4", "Towers, night 1",
+                          "alligators, night 1", "park, night 4", "museum, night 4"])
+
+    def test_auctions_have_groups_and_days(self) -> None:
+        groups = ["Flights in", "Flights out", "Shoreline Shanties", "Tampa Towers",
+                  "Alligator wrestling", "Amusement park", "Museum"]
+        self.assertEqual([(auction.group, auction.day) for auction in games.AUCTIONS],
+                         [(group, day) for group in groups
+                          for day in (range(2, 6) if group == "Flights out" else range(1, 5))])
+
+    def test_kinds_of_goods_are_ranges_of_their_numbers(self) -> None:
+        self.assertEqual([*games.INBOUND, *games.OUTBOUND], list(range(8)))
+        self.assertEqual((list(games.INBOUND), list(games.FLIGHTS)), ([0, 1, 2, 3], list(range(8))))
+        self.assertEqual([*games.FLIGHTS, *games.HOTELS, *games.TICKETS], list(range(28)))
+        self.assertEqual((list(games.HOTELS), list(games.GOODS)),
+                         (list(range(8, 16)), list(range(28))))
+        self.assertEqual((games.TICKS, games.SEATS, games.CLIENTS, games.HOUSE, games.CLOCK),
+                         (54, 8, 8, 8, 8))
+
+    def test_there_are_392_trips(self) -> None:
+        self.assertEqual(len(games.PACKAGES), 392)
+        self.assertEqual(len(set(games.PACKAGES)), 392)
+        self.assertEqual(sum(package.hotel == 1 for package in games.PACKAGES), 196)
+        for package in games.PACKAGES:
+            nights = [night for night in package.nights if night]
+            self.assertEqual(len(nights), len(set(nights)))
+            self.assertTrue(all(package.arrive <= night < package.depart for night in nights))
+
+    def test_what_a_trip_uses(self) -> None:
+        package = Package(1, 2, 4, (0, 3, 2))
+        self.assertEqual(sorted(package.goods()), [1, 6, 13, 14, 22, 25])
+
+    def test_what_a_trip_is_worth(self) -> None:
+        client = Client(1, 3, 100, (0, 0, 200))
+        self.assertEqual(client.worth(Package(1, 2, 3, (0, 0, 2))), 1200)
+        self.assertEqual(client.worth(Package(0, 1, 3, (0, 0, 0))), 1000)
+        self.assertEqual(client.worth(None), 0)
+        early = Client(2, 4, 70, (10, 20, 40))
+        for package, worth in (((1, 5), 800), ((3, 5), 800), ((1, 2), 700), ((2, 3), 900),
+                               ((4, 5), 700), ((2, 4), 1000), ((2, 5), 900), ((1, 4), 900)):
+            self.assertEqual(early.worth(Package(0, *package, (0, 0, 0))), worth, package)
+            self.assertEqual(early.worth(Package(1, *package, (0, 0, 0))), worth + 70, package)
+        for nights, more in (((2, 0, 0), 10), ((0, 3, 0), 20), ((0, 0, 2), 40), ((3, 0, 2), 50)):
+            self.assertEqual(early.worth(Package(0, 2, 4, nights)), 1000 + more)
+        self.assertEqual(list(client.nights()), [1, 2])
+
+
+if __name__ == "__main__":
+    unittest.main()

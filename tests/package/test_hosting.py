@@ -1,0 +1,368 @@
+"""What the lobby's command makes of its words, of signals, and of where it stands."""
+
+import contextlib
+import os
+import re
+import signal
+import socket
+import subprocess
+import sys
+import tempfile
+import unittest
+from argparse import Namespace
+from pathlib import Path
+from typing import Any, Iterator, Optional
+from unittest import mock
+
+from geesefuton.hosting import events, lobby, lobby_command
+from geesefuton.hosting.control import STOPPED, Phase
+from geesefuton.hosting.lobby import Lobby, LobbyError
+from geesefuton.hosting.settings import LobbySettings
+from geesefuton.processes import command, free_port
+from geesefuton.records.logs import read_log
+from tests.package.helpers import DATA, TOP, python, variables
+
+GAME = TOP / "examples" / "first.game"
+
+
+class Case(unittest.TestCase):
+    def setUp(self) -> None:
+        place = tempfile.TemporaryDirectory()
+        self.addCleanup(place.cleanup)
+        self.folder = Path(place.name).resolve()
+
+    def patch(self, name: str, *what: Any, **how: Any) -> Any:
+        change = mock.patch(f"geesefuton.hosting.lobby_command.{name}", *what, **how)
+        self.addCleanup(change.stop)
+        return change.start()
+
+
+class Words(Case):
+    def given(self, *words: str) -> Namespace:
+        with mock.patch("sys.argv", ["lobby", *words]):
+            return lobby_command._arguments()
+
+    def test_what_holds_if_nothing_is_said(self) -> None:
+        self.assertEqual(vars(self.given("my.game", "7000", "500")), {
+            "game": Path("my.game"), "port": 7000, "pace": 500, "form": None, "start": None,
+            "after": 30.0, "patience": 30.0, "silence": 10.0, "journal": None, "page": None,
+            "late": 6, "names": False, "no_advice": False})
+
+    def test_all_that_may_be_said(self) -> None:
+        self.assertEqual(vars(self.given(
+            "g", "65535", "60000", "--start", "0", "--after", "1.5", "--patience", "2",
+            "--silence", "3", "--journal", "j", "--page", "1", "--late", "54", "--names",
+            "--no-advice", "json"
+        )), {"game": Path("g"), "port": 65535, "pace": 60000, "form": "json", "start": 0.0,
+             "after": 1.5, "patience": 2.0, "silence": 3.0, "journal": Path("j"), "page": 1,
+             "late": 54, "names": True, "no_advice": True})
+        self.assertEqual(self.given("g", "1", "1", "--late", "0").late, 0)
+
+    def test_what_is_refused(self) -> None:
+        for words in (["g", "0", "1"], ["g", "65536", "1"], ["g", "7", "0"], ["g", "7", "60001"],
+                      ["g", "7"], ["g", "7", "1", "xml"], ["g", "7", "1", "--late", "55"],
+                      ["g", "7", "1", "--page", "65536"], ["g", "7", "1", "--start", "-1"],
+                      ["g", "7", "1", "--after", "x"], ["g", "7", "1", "--silence", "nan"],
+                      ["g", "7", "1", "--patience", "-2"], ["g", "7", "1", "--name"]):
+            with mock.patch("geesefuton.arguments.tell") as told, \
+                    self.assertRaises(SystemExit) as caught:
+                self.given(*words)
+            self.assertEqual((caught.exception.code, told.call_count), (2, 1), words)
+
+
+class Main(Case):
+    """The command, with a lobby that plays nothing."""
+
+    def setUp(self) -> None:
+        super().setUp()
+        self.made = self.patch("Lobby")
+        self.made.return_value = mock.Mock(port=7000, words=["red", "blue"])
+        self.teller = self.patch("Teller").return_value
+        self.signals = self.patch("_Signals").return_value
+        self.patch("_open_standard_files", return_value=True)
+        self.patch("_default_journal", return_value=Path("default.journal"))
+
+    def run_it(self, status: int, number: int = 0, *words: str) -> int:
+        self.made.return_value.run.return_value = status
+        self.signals.number = number
+        with mock.patch("sys.argv", ["lobby", "my.game", "7000", "500", *words]):
+            return lobby_command._main()
+
+    def settings(self) -> LobbySettings:
+        settings: LobbySettings = self.made.call_args[0][0]
+        return settings
+
+    def test_the_lobby_is_told_all(self) -> None:
+        self.run_it(0, 0, "json", "--start", "1", "--after", "2", "--patience", "3", "--silence",
+                    "4", "--journal", "j", "--page", "8", "--late", "9", "--names",
+                    "--no-advice")
+        self.assertEqual(self.settings(), LobbySettings(
+            game=Path("my.game"), port=7000, pace=500, log=sys.stdout.buffer, form="json",
+            start=1.0, linger=2.0, patience=3.0, silence=4.0, journal=Path("j"), page=8, late=9,
+            names=True, advice=False, orders=sys.stdin, vouches=True))
+        self.made.return_value.words = list("abcdefgh")
+        said, page = (call[0][0] for call in self.teller.say.call_args_list)
+        self.assertIn("port 7000", said)
+        self.assertIn("red blue", said)
+        self.assertIn("the journal is j", said)
+        self.assertRegex(page, "^the page is http://localhost:8; players join at http://.*:8/join$")
+        tell, = self.made.return_value.run.call_args[0]
+        self.teller.say.reset_mock()
+        tell(events.Finished(0.0, 0, str(DATA / "lobby.log")))
+        ranks = [call[0][0] for call in self.teller.say.call_args_list]
+        scores = sorted((score.score for score in read_log(
+            (DATA / "lobby.log").read_text()).scores), reverse=True)
+        self.assertEqual([line.split()[-1] for line in ranks[:8]], [f"{each:,}" for each in scores])
+        self.assertRegex(ranks[8], "^more: .*report my.game .*lobby.log > my.html$")
+        self.teller.tell.assert_called_once()
+        self.teller.close.assert_called_once_with()
+
+    def test_what_holds_if_nothing_is_said(self) -> None:
+        self.run_it(0)
+        self.assertEqual(self.settings(), LobbySettings(
+            game=Path("my.game"), port=7000, pace=500, log=sys.stdout.buffer, form="words",
+            start=None, linger=30.0, patience=30.0, silence=10.0, journal=Path("default.journal"),
+            page=None, late=6, names=False, orders=sys.stdin, vouches=True))
+
+    def test_without_an_output_and_without_a_journal(self) -> None:
+        self.patch("_open_standard_files", return_value=False)
+        self.patch("_default_journal", return_value=None)
+        self.run_it(0)
+        self.assertIsNone(self.settings().log)
+        self.assertIn("there is no journal", self.teller.say.call_args[0][0])
+
+    def test_settings_that_are_not_given(self) -> None:
+        self.assertEqual(LobbySettings(Path("g"), 7, 5, None), LobbySettings(
+            game=Path("g"), port=7, pace=5, log=None, form="words", start=None, linger=30.0,
+            patience=30.0, silence=10.0, journal=None, page=None, late=6, names=False, orders=None))
+
+    def test_exit_statuses(self) -> None:
+        for status, number, due in ((0, 0, 0), (6, 0, 6), (4, 2, 4), (137, 0, 137),
+                                    (STOPPED, signal.SIGINT, 130), (STOPPED, signal.SIGTERM, 143),
+                                    (STOPPED, signal.SIGHUP, 129), (STOPPED, 0, 130)):
+            self.assertEqual(self.run_it(status, number), due)
+
+    def test_errors(self) -> None:
+        self.made.return_value.run.side_effect = LobbyError("the journal is there already")
+        with mock.patch("geesefuton.processes.tell") as told, \
+                mock.patch("geesefuton.processes.stop_on_signals"):
+            self.assertEqual(command("lobby", lambda: self.run_it(0)), 1)
+        told.assert_called_once_with("lobby: the journal is there already")
+        self.teller.close.assert_called_once_with()
+
+
+class Signals(Case):
+    def setUp(self) -> None:
+        super().setUp()
+        self.handlers = {}
+        self.patch("signal.signal", self.handlers.__setitem__)
+        self.clock = self.patch("time.monotonic", return_value=0.5)
+        self.lobby, self.teller = mock.Mock(), mock.Mock()
+        self.lobby.control.phase = Phase.PLAYING
+
+    def take(self, number: int, at: float) -> bool:
+        """Whether the game is ended by a signal."""
+        self.clock.return_value = at
+        self.lobby.control.stop.reset_mock()
+        self.handlers[number](number, None)
+        return bool(self.lobby.control.stop.called)
+
+    def test_in_the_game(self) -> None:
+        taken = lobby_command._Signals(self.lobby, self.teller)
+        self.assertEqual(set(self.handlers),
+                         {signal.SIGINT, signal.SIGTERM, signal.SIGHUP, signal.SIGTSTP})
+        self.assertFalse(self.take(signal.SIGHUP, 0.5) or self.teller.say.called)
+        self.assertIs(self.lobby.settings.stays, False)
+        self.assertFalse(self.take(signal.SIGINT, 1.0))
+        self.assertIn("the game goes on", self.teller.say.call_args[0][0])
+        self.assertFalse(self.take(signal.SIGINT, 6.5))  # not within five seconds
+        self.assertEqual((self.teller.say.call_count, taken.number), (2, 0))
+        self.assertTrue(self.take(signal.SIGINT, 11.0))
+        self.assertEqual(taken.number, signal.SIGINT)
+        self.assertTrue(self.take(signal.SIGTERM, 20.0))
+        self.assertEqual(taken.number, signal.SIGTERM)
+        self.lobby.control.end.assert_not_called()
+
+    def test_before_the_game(self) -> None:
+        for phase in (Phase.GATHERING, Phase.STARTING):
+            self.lobby.control.phase = phase
+            for number in (signal.SIGINT, signal.SIGHUP, signal.SIGTERM):
+                taken = lobby_command._Signals(self.lobby, self.teller)
+                self.assertTrue(self.take(number, 1.0))
+                self.assertEqual(taken.number, number)
+
+    def test_after_the_last_tick_ctrl_c_says_what_is_waited_for_and_a_second_one_ends_it(
+            self) -> None:
+        self.lobby.control.phase = Phase.ENDING
+        self.lobby.waits_for.return_value = (29.7, ["seat0", "seat4"])
+        lobby_command._Signals(self.lobby, self.teller)
+        self.assertFalse(self.take(signal.SIGHUP, 1.0) or self.teller.say.called)
+        self.assertFalse(self.take(signal.SIGINT, 1.0))
+        self.assertIn("waiting 30 s for seat0 seat4; press Enter", self.teller.say.call_args[0][0])
+        self.lobby.control.end.assert_not_called()
+        self.assertFalse(self.take(signal.SIGINT, 2.0))
+        self.lobby.control.end.assert_called_once_with()
+        self.assertTrue(self.take(signal.SIGINT, 3.0))  # the server does not end
+
+    def test_after_the_last_tick_a_request_to_stop_leaves_the_log(self) -> None:
+        self.lobby.control.phase = Phase.ENDING
+        lobby_command._Signals(self.lobby, self.teller)
+        self.assertFalse(self.take(signal.SIGTERM, 1.0))
+        self.lobby.control.end.assert_called_once_with()
+        self.assertTrue(self.take(signal.SIGTERM, 2.0))
+
+    def test_once_the_log_is_written_the_page_is_ended(self) -> None:
+        self.lobby.control.phase = Phase.SHOWING
+        for number in (signal.SIGINT, signal.SIGHUP, signal.SIGTERM):
+            lobby_command._Signals(self.lobby, self.teller)
+            self.assertTrue(self.take(number, 1.0))
+
+    def test_what_is_ignored_stays_so(self) -> None:
+        self.patch("signal.getsignal", lambda number: (
+            signal.SIG_IGN if number == signal.SIGHUP else signal.SIG_DFL))
+        lobby_command._Signals(self.lobby, self.teller)
+        self.assertEqual(set(self.handlers), {signal.SIGINT, signal.SIGTERM, signal.SIGTSTP})
+
+    def test_ctrl_z_stops_the_lobby_but_not_in_a_game(self) -> None:
+        kill = self.patch("os.kill")
+        lobby_command._Signals(self.lobby, self.teller)
+        for phase in (Phase.STARTING, Phase.PLAYING, Phase.ENDING):
+            self.lobby.control.phase = phase
+            self.assertFalse(self.take(signal.SIGTSTP, 1.0) or kill.called)
+            self.assertIn("the game goes on", self.teller.say.call_args[0][0])
+        for phase in (Phase.GATHERING, Phase.SHOWING):
+            self.lobby.control.phase = phase
+            self.take(signal.SIGTSTP, 1.0)
+            kill.assert_called_once_with(os.getpid(), signal.SIGSTOP)
+            kill.reset_mock()
+
+
+class Journals(Case):
+    def test_the_default_is_beside_the_log_with_the_game_and_the_date(self) -> None:
+        teller = mock.Mock()
+        self.patch("_output_folder", return_value=self.folder)
+        file = lobby_command._default_journal(Path("some/my.game"), teller)
+        assert file is not None
+        self.assertEqual((file.parent, file.exists()), (self.folder, False))
+        self.assertRegex(file.name, r"^my-20\d{6}-\d{6}\.journal$")
+        with mock.patch("time.strftime", return_value="DATE"):
+            (self.folder / "my-DATE.journal").touch()
+            self.assertEqual(lobby_command._default_journal(Path("my.game"), teller),
+                             self.folder / "my-DATE-2.journal")
+        teller.say.assert_not_called()
+
+    def test_if_none_can_be_made_there_it_is_in_this_folder(self) -> None:
+        teller = mock.Mock()
+        self.patch("_output_folder", return_value=self.folder / "none")
+        before = os.getcwd()
+        os.chdir(self.folder)
+        self.addCleanup(os.chdir, before)
+        file = lobby_command._default_journal(Path("my.game"), teller)
+        assert file is not None
+        self.assertEqual(file.resolve().parent, self.folder)
+        self.assertIn("cannot create the journal", teller.say.call_args[0][0])
+        with mock.patch("os.open", side_effect=OSError(30, "Read-only file system")):
+            self.assertIsNone(lobby_command._default_journal(Path("my.game"), teller))
+
+    @contextlib.contextmanager
+    def output(self, number: int) -> Iterator[None]:
+        """Standard output is another file for a while."""
+        kept = os.dup(1)
+        try:
+            os.dup2(number, 1)
+            yield
+        finally:
+            os.dup2(kept, 1)
+            os.close(kept)
+
+    def test_standard_files_that_are_closed(self) -> None:
+        code = ("import os; from geesefuton.hosting.lobby_command import _open_standard_files; "
+                "has_output = _open_standard_files(); "
+                "[os.fstat(number) for number in range(3)]; os._exit(10 + has_output)")
+        for close, due in (("", 11), ("<&-", 11), ("2>&-", 11), (">&-", 10), ("<&- >&- 2>&-", 10)):
+            done = subprocess.run(["sh", "-c", f'exec "$@" {close}', "sh", *python(code)],
+                                  env=variables(), check=False, timeout=200)
+            self.assertEqual(done.returncode, due, close)
+
+    @unittest.skipUnless(Path("/proc/self").exists(), "the system does not tell")
+    def test_the_folder_of_the_output(self) -> None:
+        with open(self.folder / "my.log", "wb") as file, self.output(file.fileno()):
+            self.assertEqual(lobby_command._output_folder(), self.folder)
+        with open(os.devnull, "wb") as file, self.output(file.fileno()):
+            self.assertEqual(lobby_command._output_folder(), Path())
+
+    def test_how_a_log_is_made_of_one(self) -> None:
+        tool = os.path.relpath(TOP / "tools" / "recover")
+        self.assertEqual(lobby.recovery_line(Path("a/my-1.journal")),
+                         f"{tool} a/my-1.journal > my-1.recovered.log")
+        change = mock.patch("geesefuton.program.top", return_value=None)
+        self.addCleanup(change.stop)
+        change.start()
+        self.assertEqual(lobby.recovery_line(Path("my.journal")),
+                         "tac-recover my.journal > my.recovered.log")
+
+
+class Pages(Case):
+    """The page that the lobby starts."""
+
+    def setUp(self) -> None:
+        super().setUp()
+        change = mock.patch.dict(os.environ, {"TAC": str(Path(__file__).with_name("fake_tac.py"))})
+        change.start()
+        self.addCleanup(change.stop)
+
+    def lobby(self, page: Optional[int], **more: Any) -> Lobby:
+        made = Lobby(LobbySettings(GAME, 0, 5, None, page=page, **more))
+        self.addCleanup(made._listeners[0].close)
+        return made
+
+    def test_links_come_in_at_every_address(self) -> None:
+        made = self.lobby(None)
+        self.assertIn(made._listeners[0].getsockname()[0], ("::", "0.0.0.0"))
+        self.assertEqual(made.words, [f"seat{number}" for number in range(8)])
+        for host in ("127.0.0.1", *["::1"] * socket.has_dualstack_ipv6()):
+            socket.create_connection((host, made.port)).close()
+
+    def test_what_is_told_of_a_game_that_is_stopped(self) -> None:
+        for started, given, due in ((1.0, "my.journal", True), (1.0, None, False),
+                                    (None, "my.journal", False)):
+            made, told = self.lobby(None, journal=given and Path(given)), mock.Mock()
+            told.relay.started = started
+            self.assertEqual(made._stop(told), 130)
+            self.assertIn("stopped, without a log", told.warn.call_args[0][0])
+            self.assertEqual("my.journal > " in told.warn.call_args[0][0], due)
+            finished = told.emit.call_args[0][0]
+            self.assertEqual((finished.status, finished.log), (130, None))
+
+    def test_the_page_needs_a_port_of_its_own(self) -> None:
+        port = free_port()
+        with self.assertRaisesRegex(LobbyError, f"port {port} is for the game: choose another"):
+            Lobby(LobbySettings(GAME, port, 5, None, page=port))
+
+    def test_its_port_has_to_be_free(self) -> None:
+        with socket.create_server(("", 0)) as other, \
+                self.assertRaisesRegex(LobbyError, "port .*in use"):
+            self.lobby(other.getsockname()[1])
+
+    def test_without_a_journal_of_the_hosts_it_has_one_that_goes_away(self) -> None:
+        for page, given, due in ((None, None, None), (None, "my.journal", "my.journal"),
+                                 (8000, None, "journal"), (8000, "other", "other")):
+            made = self.lobby(None, journal=given and self.folder / given)
+            made.settings.page = page
+            journal = made._open_journal(self.folder, self.fail)
+            self.assertEqual(journal.file and journal.file.name, due)
+            if journal.file:
+                journal.close()
+                first = re.match(r'\{"journal":1,"at":\d+,"pace":5,"form":"words","game":"',
+                                 journal.file.read_text())
+                self.assertTrue(first)
+                self.assertEqual(journal.file.stat().st_mode & 0o777, 0o600)  # it has the words
+
+    def test_a_journal_that_cannot_be_made(self) -> None:
+        made = self.lobby(None, journal=self.folder / "none" / "my.journal")
+        with self.assertRaisesRegex(LobbyError, "cannot create the journal .*No such file"):
+            made._open_journal(self.folder, self.fail)
+
+
+if __name__ == "__main__":
+    unittest.main()

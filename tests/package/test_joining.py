@@ -1,0 +1,225 @@
+import json
+import os
+import tempfile
+import unittest
+from dataclasses import replace
+from pathlib import Path
+from typing import Any, Dict, List, Optional
+from unittest import mock
+
+from geesefuton.experiments.joining import (Source, differences, joined, missing, pooled,
+                                            read_source, twice, whole_deals)
+from geesefuton.experiments.results import HEAD, Kind, Outcome, Row, text_of
+from geesefuton.experiments.summary import summarize
+from geesefuton.processes import Output
+from geesefuton.records.tables import csv_of
+from tests.package.helpers import TOP, refusal
+
+SETTINGS = "agents=mine+planner rotations=1 turns=40 rooms=16..16"
+
+
+def source(name: str, *deals: int, seats: int = 4, **more: Any) -> Source:
+    """Deals that were played once by two agents, the first of which has so many seats."""
+    rows = [Row(str(deal), 0, seat, "mine" if seat < seats else "planner", 100 * deal + seat,
+                Outcome.PLAYED, 5, Kind.TURNS, 2.5, 300.0, 1, SETTINGS,
+                "aaaa" if seat < seats else "bbbb", number=deal)
+            for deal in deals for seat in range(8)]
+    return Source(name, [replace(row, **more) for row in rows])
+
+
+class Differences(unittest.TestCase):
+    def told(self, text: str, other: Source, first: Source = source("a.csv", 1, 2)) -> None:
+        self.assertEqual(differences(first, other), [f"b.csv does not belong to a.csv: {text}"])
+        self.assertEqual(len(joined([first, other])[1]), 1)
+
+    def test_what_belongs_together(self) -> None:
+        first, other = source("a.csv", 1, 2), source("b.csv", 3)
+        self.assertEqual(joined([first, other]), ([*first.rows, *other.rows], []))
+        broken = source("b.csv", 3, kind=Kind.UNREPEATABLE)
+        self.assertEqual(joined([first, broken])[1], [])
+
+    def test_kinds(self) -> None:
+        self.told("its games are by the clock, not in turns",
+                  source("b.csv", 3, kind=Kind.SERVED))
+
+    def test_settings(self) -> None:
+        self.told("turns is 20, not 40",
+                  source("b.csv", 3, settings=SETTINGS.replace("turns=40", "turns=20")))
+        self.told("agents is mine+planner*7, not mine+planner",
+                  source("b.csv", 3, settings=SETTINGS.replace("planner", "planner*7")))
+        lines = differences(source("a.csv", 1), source("b.csv", 2, settings=SETTINGS.replace(
+            "turns=40 rooms=16..16", "turns=20 rooms=3..6")))
+        self.assertEqual([line.rpartition(": ")[2] for line in lines],
+                         ["turns is 20, not 40", "rooms is 3..6, not 16..16"])
+
+    def test_files_of_agents(self) -> None:
+        other = source("b.csv", 3)
+        changed = [replace(row, files="cccc") if row.agent == "mine" else row for row in other.rows]
+        self.told("the files, libraries or words of mine differ", Source("b.csv", changed))
+
+    def test_games_that_are_there_twice(self) -> None:
+        first = source("a.csv", 1, 2, 3)
+        self.assertEqual(joined([first, source("b.csv", 3, 4)])[1],
+                         ["b.csv and a.csv both have game 3.0"])
+        self.assertEqual(joined([first, source("b.csv", 2, 3)])[1],
+                         ["b.csv and a.csv both have game 2.0 and 1 more"])
+        self.assertEqual(joined([first, first])[1], ["a.csv has twice game 1.0 and 2 more"])
+        self.assertEqual(twice([Source("a.csv", [*first.rows, first.rows[8]])]),
+                         ["a.csv has twice game 2.0"])
+        self.assertEqual(joined([first, source("b.csv", 1, 2, rotation=1)])[1], [])
+
+
+class Pools(unittest.TestCase):
+    def test_each_pool_has_its_name_and_common_deals_are_compared(self) -> None:
+        mixed = SETTINGS.replace("agents=mine+", "agents=mine*7+")
+        first, other = source("p/one", 1, 2), source("p/seven", 1, 2, seats=7,
+                                                         settings=mixed)
+        rows, refused = pooled([first, source("p/more", 3), other])
+        self.assertEqual(refused, [])
+        summary = summarize(rows)
+        self.assertEqual({standing.agent for standing in summary.standings},
+                         {"mine in one", "planner in one", "mine in seven", "planner in seven"})
+        by_name = {standing.agent: standing for standing in summary.standings}
+        self.assertEqual((by_name["mine in one"].seats, by_name["mine in seven"].seats), (12, 14))
+        counts = {pair.score.count if pair.score else 0 for pair in summary.differences}
+        self.assertEqual(counts, {2, 3})
+
+    def test_games_are_counted_in_each_pool(self) -> None:
+        """The same deals and rotations in two pools are twice as many games."""
+        other = SETTINGS.replace("agents=mine+", "agents=mine*7+")
+        rows, _ = pooled([source("p/one", *range(1, 41)),
+                          source("p/seven", *range(1, 41), seats=7, settings=other)])
+        summary = summarize(rows)
+        self.assertEqual((summary.games, summary.deals), (80, 40))
+        self.assertEqual(len({row.game for row in rows}), 80)
+
+    def test_names_that_are_alike_are_told_whole(self) -> None:
+        other = SETTINGS.replace("turns=40", "turns=20")
+        rows, _ = pooled([source("x/scores", 1), source("y/scores", 1, settings=other)])
+        self.assertEqual({row.agent for row in rows if row.seat == 0},
+                         {"mine in x/scores", "mine in y/scores"})
+
+    def test_a_pool_has_no_game_twice(self) -> None:
+        self.assertEqual(pooled([source("a.csv", 1), source("b.csv", 1)])[1],
+                         ["b.csv and a.csv both have game 1.0"])
+
+
+class Reading(unittest.TestCase):
+    def setUp(self) -> None:
+        folder = tempfile.TemporaryDirectory()
+        self.addCleanup(folder.cleanup)
+        self.place = Path(folder.name)
+        patch = mock.patch("geesefuton.experiments.tournament.Output", lambda target: Output(
+            os.devnull if target == 1 else target))
+        patch.start()
+        self.addCleanup(patch.stop)
+
+    def folder(self, name: str, *deals: int, planned: Optional[int] = None,
+               run: Optional[Dict[str, Any]] = None, **more: Any) -> Path:
+        """The folder of a run with these deals, which was to have so many games."""
+        folder = self.place / name
+        folder.mkdir()
+        rows = source(name, *deals, **more).rows
+        (folder / "scores.csv").write_text(csv_of([HEAD]) + text_of(rows))
+        games = len({row.place for row in rows})
+        (folder / "run.json").write_text(json.dumps({
+            "tournament": 2, "settings": {}, "deals": {"seed": 1}, "agents": [],
+            "runs": [run or {"ended": "now", "status": 0, "lost": []}],
+            "planned": games if planned is None else planned}))
+        return folder
+
+    def joined(self, *words: object) -> List[str]:
+        """What is told on standard error."""
+        status, text = refusal("experiments.tournament", "--summary", self.place / "s.txt",
+                               "--join", *words)
+        return [str(status), *text.splitlines()]
+
+    def test_folders(self) -> None:
+        read, told = read_source(self.folder("run", 2))
+        assert read is not None
+        self.assertEqual((read.rows, told, missing(read)),
+                         (source("", 2).rows, [], ""))
+
+    def test_what_cannot_be_read_is_named(self) -> None:
+        old = self.folder("old", 1)
+        (old / "run.json").write_text('{"tournament": 1}')
+        for path, text in ((self.place / "none", "not the folder of a tournament's run"),
+                           (TOP / "README.md", "not the folder of a tournament's run"),
+                           (self.folder("empty"), "empty: it has no games"),
+                           (old, "run.json is not of a tournament of this version"),
+                           (self.place, "not the folder of a tournament's run, but contains")):
+            read, told = read_source(path)
+            self.assertIsNone(read)
+            self.assertEqual(len(told), 1)
+            self.assertIn(text, told[0])
+
+    def test_runs_within_a_folder_are_named(self) -> None:
+        self.folder("part-1-of-2", 1)
+        self.folder("part-2-of-2", 2)
+        self.assertEqual(read_source(self.place), (None, [
+            f"{self.place}: it is not the folder of a tournament's run, but contains part-1-of-2, "
+            "part-2-of-2"]))
+
+    def test_a_half_written_row_is_left_out_with_its_game(self) -> None:
+        folder = self.folder("run", 1, 2)
+        file = folder / "scores.csv"
+        file.write_text(file.read_text()[:-9])
+        read, told = read_source(folder)
+        assert read is not None
+        self.assertEqual({row.deal for row in read.rows}, {"1"})
+        self.assertEqual(len(told), 2)
+        self.assertIn("game 2.0 has 7 rows, not 8; its game is left out", told[1])
+
+    def test_runs_that_lack_games_are_refused(self) -> None:
+        whole = self.folder("a", 3, 4)
+        stopped = self.folder("b", 1, planned=40, run={"ended": "now", "status": 143, "lost": []})
+        killed = self.folder("c", 5, planned=40, run={"ended": None})
+        lost = self.folder("d", 6, planned=2, run={"ended": "now", "status": 1, "lost": ["game"]})
+        for folder, told in ((stopped, "1 of 40 games were played (it was stopped)"),
+                             (killed, "1 of 40 games were played (it was stopped)"),
+                             (lost, "1 of 2 games were played (1 were lost)")):
+            self.assertEqual(self.joined(whole, folder),
+                             ["1", f"tournament: {folder}: {told}"])
+            self.assertFalse((self.place / "s.txt").exists())
+
+    def test_whole_deals_are_enough_if_that_is_said(self) -> None:
+        settings = SETTINGS.replace("rotations=1", "rotations=2")
+        rows = [*source("", 1, 2, settings=settings).rows,
+                *source("", 1, settings=settings, rotation=1).rows]
+        folder = self.folder("a", planned=40)
+        (folder / "scores.csv").write_text(csv_of([HEAD]) + text_of(rows))
+        told = self.joined(folder, "--partial")
+        self.assertEqual(told, [
+            "1", f"tournament: {folder}: 1 deals were played whole; 1 are left out",
+            f"tournament: {folder}: 3 of 40 games were played (0 were lost)"])
+        self.assertIn("2 games of 1 deal", (self.place / "s.txt").read_text())
+
+    def test_whole_deals_of_a_file(self) -> None:
+        settings = "agents=mine+planner rotations=2 turns=40 game=0123"
+        rows = [replace(row, rotation=rotation) for rotation in range(3)
+                for row in source("", 1, settings=settings).rows]
+        whole, parts = whole_deals(Source("a", rows))
+        self.assertEqual(({row.rotation for row in whole.rows}, parts), ({0, 1}, 1))
+
+    def test_the_others_go_on_and_the_status_is_1(self) -> None:
+        told = self.joined("--partial", self.folder("a", 1), self.folder("bad"),
+                           self.folder("run", 2, 3))
+        self.assertEqual(told[0], "1")
+        self.assertIn("bad: it has no games", told[1])
+        self.assertIn("3 games of 3 deals", (self.place / "s.txt").read_text())
+
+    def test_what_does_not_belong_together_is_refused_and_pooled(self) -> None:
+        folders = [self.folder("a", 1, 2), self.folder("b", 2, kind=Kind.SERVED)]
+        told = self.joined(*folders)
+        self.assertEqual((told[0], len(told)), ("1", 3))
+        self.assertTrue(told[1].endswith(f"b and {folders[0]} both have game 2.0"))
+        self.assertIn("its games are by the clock, not in turns", told[2])
+        self.assertFalse((self.place / "s.txt").exists())
+        status, text = refusal("experiments.tournament", "--pool", "--summary",
+                               self.place / "s.txt", "--join", *folders)
+        self.assertEqual((status, text), (0, ""))
+        self.assertIn("mine in b", (self.place / "s.txt").read_text())
+
+
+if __name__ == "__main__":
+    unittest.main()

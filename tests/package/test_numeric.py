@@ -1,0 +1,121 @@
+"""Games in steps in numbers, with stand-ins for `gymnasium` and `numpy` where these are missing."""
+
+import unittest
+from importlib import import_module
+from typing import Any, Dict, List
+from unittest import mock
+
+from tests.package import fake_gymnasium
+from tests.package.helpers import needs_program
+
+CLIENTS = ((2, 4, 60, 10, 20, 90),) * 8
+
+
+def seen(**more: Any) -> Dict[str, Any]:
+    """What an agent sees before the first tick of a game."""
+    quotes = [(0, 300, False)] * 8 + [(0, 40, False)] * 8 + [(30, 0, False)] * 12
+    return {"tick": 0, "round": 0, "quotes": quotes, "holdings": (0,) * 28, "cash": 0,
+            "clients": CLIENTS, **more}
+
+
+class Case(unittest.TestCase):
+    def setUp(self) -> None:
+        context = fake_gymnasium.installed()
+        context.__enter__()
+        self.addCleanup(context.__exit__, None, None, None)
+        self.numeric: Any = import_module("geesefuton.learning.numeric")
+
+
+class Views(Case):
+    def test_an_observation_is_in_its_space(self) -> None:
+        view = self.numeric.View(seen())
+        observation = view.observation()
+        self.assertEqual(len(observation), self.numeric.SIZE)
+        self.assertIn(observation, self.numeric.observation_space())
+        self.assertEqual(view.promised, 8 * (1000 + 60 - 600 - 80))
+        self.assertEqual(list(observation[1:9]), [300 / 500] * 8)
+
+    def test_numbers_have_bounds(self) -> None:
+        view = self.numeric.View(seen(cash=10 ** 9, holdings=(-10 ** 6,) * 28))
+        self.assertIn(view.observation(), self.numeric.observation_space())
+
+    def asked(self, levels: Dict[int, int], **more: Any) -> List[str]:
+        action = [levels.get(good, 0) for good in range(28)]
+        self.assertIn(action, self.numeric.action_space())
+        asked: List[str] = self.numeric.View(seen(**more)).requests(action)
+        return asked
+
+    def test_levels_are_bids(self) -> None:
+        self.assertEqual(self.asked({}), [])
+        self.assertEqual(self.asked({1: 1, 6: 5, 0: 3}), ["bid 1 ((8 350))", "bid 6 ((8 350))"])
+        self.assertEqual(self.asked({13: 1, 14: 5, 8: 5}), ["bid 13 ((8 41))", "bid 14 ((8 240))"])
+        self.assertEqual(self.asked({16: 3, 27: 4}), ["bid 16 ((1 80))", "bid 27 ((-1 60))"])
+
+    def test_only_what_lacks_is_bought_and_nothing_where_it_is_closed(self) -> None:
+        held = [0] * 28
+        held[1] = 6
+        self.assertEqual(self.asked({1: 1}, holdings=held), ["bid 1 ((2 350))"])
+        quotes = seen()["quotes"]
+        quotes[13] = (0, 40, True)
+        self.assertEqual(self.asked({13: 2}, quotes=quotes), [])
+
+    def test_what_is_no_action_is_told(self) -> None:
+        view = self.numeric.View(seen())
+        for action in ([0] * 27, [6] + [0] * 27, [-1] + [0] * 27):
+            self.assertRaisesRegex(ValueError, "expected 28 levels", view.requests, action)
+
+
+@needs_program
+class Games(Case):
+    def test_the_rewards_of_a_game_are_its_score_less_what_was_promised(self) -> None:
+        seat = self.numeric.Seat("seat3", rivals={"seat0": "planner"})
+        self.addCleanup(seat.close)
+        observation, info = seat.reset(seed=5)
+        promised, total, end, steps = observation[106] * 5000, 0.0, False, 0
+        while not end:
+            action = [1] * 8 + [3 if steps % 6 == 0 else 0] * 8 + [0] * 12
+            observation, reward, end, is_broken, info = seat.step(action)
+            self.assertIn(observation, seat.observation_space)
+            self.assertFalse(is_broken)
+            total, steps = total + reward, steps + 1
+        self.assertEqual(steps, 54)
+        self.assertAlmostEqual(total * 1000, info["score"] - promised, places=3)
+
+    def test_all_seats_learn_at_once(self) -> None:
+        seats = self.numeric.Seats(rounds=2)
+        self.addCleanup(seats.close)
+        observations, _ = seats.reset(7)
+        self.assertEqual(list(observations), seats.possible_agents)
+        steps = 0
+        while seats.agents:
+            actions = {agent: seats.action_space(agent).sample() for agent in seats.agents}
+            observations, rewards, *_ = seats.step(actions)
+            steps += 1
+        self.assertEqual((steps, len(rewards)), (108, 8))
+
+    def test_an_agent_that_is_not_there_is_told(self) -> None:
+        seats = self.numeric.Seats(rivals={"seat1": "watcher"})
+        self.addCleanup(seats.close)
+        seats.reset(7)
+        for agent in ("seat9", "seat1"):
+            with self.assertRaisesRegex(ValueError, f"there is no agent '{agent}'"):
+                seats.step({agent: [0] * 28})
+        self.assertEqual(seats.step({})[0]["seat0"][0], 1 / 54)
+
+    def test_a_seat_makes_no_view_of_another(self) -> None:
+        seat = self.numeric.Seat("seat2")
+        self.addCleanup(seat.close)
+        self.assertRaisesRegex(ValueError, "no game has begun", seat.step, [0] * 28)
+        with mock.patch.object(self.numeric, "chosen", wraps=self.numeric.chosen) as chosen:
+            seat.reset(seed=5)
+            seat.step([0] * 28)
+        self.assertEqual(chosen.call_count, 2)
+
+    def test_gymnasium_makes_a_seat_by_its_name(self) -> None:
+        self.assertEqual(fake_gymnasium.REGISTERED,
+                         {"geesefuton/Seat-v2": "geesefuton.learning.numeric:Seat"})
+
+    def test_a_seat_of_a_rival_is_not_free(self) -> None:
+        self.assertRaisesRegex(ValueError, "'seat1' must be a seat without a rival",
+                               self.numeric.Seat, "seat1",
+                               rivals={"seat1": "planner"})

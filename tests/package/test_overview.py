@@ -1,0 +1,235 @@
+"""What the games of a run have in common, by games that are kept as data."""
+
+import csv
+import importlib.util
+import re
+import unittest
+from collections import defaultdict
+from dataclasses import replace
+from typing import Any, Dict, List, Optional, Tuple
+
+from geesefuton.experiments import study
+from geesefuton.experiments.kept import games_of, read_kept
+from geesefuton.experiments.runs import read_scores
+from geesefuton.experiments.summary import summarize
+from geesefuton.records.best_plans import best_plan
+from geesefuton.records.games import Client, read_game
+from geesefuton.records.logs import Call, Entry, Trade
+from geesefuton.records.replies import read_entry_reply
+from geesefuton.records.report_page import number
+from geesefuton.records.rules import prices_of
+from tests.package.helpers import cells_of, needs_study, refusal, run, served_game
+from tests.package.test_data import NAMES, TEXTS, Case, numbers
+from tests.package.test_summary import row
+
+if not study.missing("these tests"):
+    from geesefuton.experiments.overview import (PARTS, PREDICTORS, SIDES, figures_of, fills_of,
+                                                 optimum, overview_of, table_of)
+    from geesefuton.experiments.overview_page import page, sections
+
+TAKEN, DONE = read_entry_reply("taken 0 0"), read_entry_reply("done")
+
+
+def bid(agent: int, *points: Tuple[int, int], trades: Tuple[Trade, ...] = ()) -> Entry:
+    return Entry(agent, Call("bid", points), TAKEN, trades)
+
+
+@needs_study
+class Fills(unittest.TestCase):
+    def test_a_bid_that_stands_is_asked_once(self) -> None:
+        history = [bid(2, (3, 50)), bid(2, (3, 60)), bid(2, (4, 70)), bid(2, (1, 70)),
+                   Entry(8, Call("close"), DONE, (Trade(2, 8, 1, 40),))]
+        self.assertEqual(fills_of(history), {(2, False): [4, 1]})
+
+    def test_what_has_traded_may_be_asked_again(self) -> None:
+        sold = (Trade(2, 5, 2, 50),)
+        history = [bid(5, (-2, 50), (1, 20)), bid(2, (2, 50), trades=sold), bid(2, (2, 50)),
+                   Entry(2, Call("withdraw"), DONE), bid(2, (1, 50)),
+                   Entry(5, Call("bid", ((-9, 1),)), read_entry_reply("no closed"))]
+        self.assertEqual(fills_of(history), {(5, True): [2, 2], (5, False): [1, 0],
+                                             (2, False): [5, 2]})
+
+
+@needs_study
+class Optima(unittest.TestCase):
+    def test_all_clients_share_what_there_is(self) -> None:
+        # One room a night in each hotel; a seat costs 300 each way.
+        client = Client(1, 2, 100, (0, 0, 0))
+        game = served_game()
+        text = re.sub(r"(?m)^(flight \d) \d+ ", r"\1 300 ", game.text())
+        text = re.sub(r"(?m)^(endow \d).*$", r"\1" + " 0" * 12, text)
+        text = re.sub(r"(?m)^rooms .*$", "rooms" + " 1" * 8, text)
+        text = re.sub(r"(?m)^(client \d \d).*$", r"\1 1 2 100 0 0 0", text)
+        same = read_game(text)
+        self.assertEqual(same.clients[7][7], client)
+        # Each of the four nights has two rooms. For a stay of a night with the wished day in or
+        # out a client gets 1000 or 1000 less 200 for each day later, less the two seats.
+        nights = [1000 - 200 * night - 600 for night in range(4)]
+        due = sum(2 * worth + 100 for worth in nights if worth > 0)
+        due += max(0, nights[2] + 100)  # the third night gains only in the better hotel
+        found = optimum(same)
+        self.assertEqual(found.value, due)
+        self.assertGreaterEqual(found.bound, due)
+
+
+@needs_study
+class Games(Case):
+    figures: List[Any] = []  # found once for all tests
+
+    def setUp(self) -> None:
+        super().setUp()
+        self.rows = read_scores(self.folder).rows
+        if not self.figures:
+            for rows in games_of(self.rows):
+                kept = read_kept(self.folder, rows)
+                self.figures.append(figures_of(kept, optimum(kept.game)))
+        self.overview = overview_of(self.figures)
+        self.by_agent = {agent: seats for agent, seats in self.overview.seats.groupby("agent")}
+
+    def test_the_parts_add_up_to_the_scores_of_the_logs(self) -> None:
+        scores: Dict[str, List[int]] = defaultdict(list)
+        trips: Dict[str, List[int]] = defaultdict(list)
+        for texts in TEXTS.values():
+            for seat, best, *_, score in numbers("score", texts["log"]):
+                scores[NAMES[seat]].append(score)
+                trips[NAMES[seat]].append(best)
+        for agent in NAMES:
+            seats = self.by_agent[agent]
+            self.assertEqual(list(seats[PARTS].sum(axis=1)), scores[agent])
+            self.assertEqual((list(seats.score), list(seats.trips)),
+                             (scores[agent], trips[agent]))
+        means_of_all = [sum(scores[agent]) for agent in self.overview.order]
+        self.assertEqual(means_of_all, sorted(means_of_all, reverse=True))
+
+    def test_the_distance_is_that_to_the_best_plan_at_closing_prices(self) -> None:
+        game, text = served_game(), TEXTS["9"]["log"]
+        prices: List[Optional[int]] = [prices_of(flight)[-1] for flight in game.flights]
+        parts = re.split(r"(?m)^(?:auction|cash) ", text)
+        for part in parts[9:17]:
+            prices += [int(price) for price in re.findall(r"close = sold \d+ (\d+)", part)]
+        for part in parts[17:29]:
+            trades = [(units, price) for *_, units, price in numbers("trade", part)]
+            count = sum(units for units, _ in trades)
+            prices.append(round(sum(units * price for units, price in trades) / count)
+                          if trades else None)
+        for seat, agent in enumerate(NAMES):
+            plan = best_plan(game.clients[seat], [0] * 16 + list(game.endow[seat]), prices)
+            score = numbers("score", text)[seat][-1]
+            self.assertEqual(self.by_agent[agent].distance.iloc[0], plan.value - score)
+
+    def test_nobody_has_more_than_the_bound(self) -> None:
+        games = self.overview.games
+        self.assertEqual((len(games), games.agents.nunique()), (3, 1))
+        self.assertTrue((games[["had", "best"]].max(axis=1) <= games.bound).all())
+        self.assertEqual(table_of(["b", "a", "b"]), "1 a, 2 b")
+
+    def test_the_page_has_a_picture_and_a_table_for_each_figure(self) -> None:
+        text = page(self.overview, "<run>", self.rows[0], summarize(self.rows))
+        self.assertIn("&lt;run&gt;: 3 games of 3 deals, played by the clock.", text)
+        sections = dict(re.findall(r"<h2>(.*?)</h2>(.*?)(?=<h2>|</html>)", text, re.DOTALL))
+        self.assertEqual(list(sections)[:3], ["Ranking", "Differences", "Errors of predicted room "
+                                              "prices"])
+        self.assertEqual(len(sections), 9)
+        for name, section in sections.items():
+            pictures = max(section.count('class="bar"'), section.count("<figure>"))
+            self.assertGreater(pictures, 0 if name != "Differences" else -1, name)
+            self.assertGreaterEqual(section.count("<table>"), 1, name)
+        self.assertEqual(sections["Prices"].count("<figure>"), 16)
+        rows = cells_of(sections["The parts of scores"].split("</table>")[1])[1:]
+        best = self.overview.order[0]
+        means = self.by_agent[best][["score", *PARTS]].mean()
+        self.assertEqual(rows[0], [best, "3", *map(number, means)])
+
+    def test_games_without_trades_have_all_sections(self) -> None:
+        empty = overview_of([{**figures, "trades": [], "fills": []} for figures in self.figures])
+        for each in sections(empty):
+            self.assertTrue(all(kind.kind in "fi" for kind in each.shown.dtypes), each.name)
+        self.assertEqual(page(empty, "run", self.rows[0], summarize(self.rows)).count("<h2>"), 9)
+
+    def test_names_are_escaped(self) -> None:
+        rows = [replace(row, agent=f"<zz{row.agent} & co") for row in self.rows]
+        overview = overview_of([{**figures, "seats": [
+            (deal, f"<zz{agent} & co", *more) for deal, agent, *more in figures["seats"]],
+            "fills": [(f"<zz{agent} & co", *more) for agent, *more in figures["fills"]]}
+            for figures in self.figures])
+        text = page(overview, "<zz & run", rows[0], summarize(rows))
+        self.assertNotIn("<zz", text)
+        self.assertNotIn("& ", re.sub("(?s)<script>.*?</script>", "", text))
+        self.assertIn("&lt;zz &amp; run", text)
+
+    def test_the_first_screen_tells_who_is_separated_and_what_would_separate_neighbours(self
+                                                                                       ) -> None:
+        rows = [row(str(deal), 0, seat, agent, base + (-1) ** (deal + seat) * 40)
+                for deal in range(6) for seat, (agent, base) in enumerate(
+                    (("a", 3000), ("b", 1030), ("c", 1000)))]
+        summary = summarize(rows)
+        text = page(self.overview, "run", rows[0], summary)
+        ranking, differences = (text.split(f"<h2>{name}</h2>")[1].split("<h2>")[0]
+                                for name in ("Ranking", "Differences"))
+        cells = cells_of(ranking)
+        self.assertEqual([(line[0], line[1], line[2], line[4]) for line in cells[1:]],
+                         [("1", "a", "3,000", "A"), ("2", "b", "1,030", "B"),
+                          ("3", "c", "1,000", "B")])
+        self.assertEqual(ranking.count('class="bar"'), 3)
+        lines = cells_of(differences)
+        self.assertEqual([(line[0], line[-1]) for line in lines[1:2]],
+                         [("a less b", "separated")])
+        self.assertEqual((lines[2][0], lines[2][-2]), ("b less c", "6"))
+        self.assertGreater(int(lines[2][-1]), 10)
+        self.assertIn("<summary>All other pairs</summary>", differences)
+
+    def test_pictures_for_a_paper_have_their_data_beside_them(self) -> None:
+        place = self.folder.parent / "pictures"
+        done = run("experiments.report_command", "--over", self.folder, "--figures", place)
+        self.assertEqual((done.returncode, done.stderr), (0, ""))
+        names = {file.stem for file in place.iterdir()}
+        self.assertEqual(names, {"ranking", "differences", "errors", "parts", "flights", "rooms",
+                                 "tickets", "fills", "distances", "efficiencies"})
+        with open(place / "parts.csv", newline="", encoding="utf-8") as text:
+            lines = list(csv.DictReader(text))
+        self.assertEqual([line["of"] for line in lines], self.overview.order)
+        self.assertAlmostEqual(float(lines[0]["trips"]),
+                               self.by_agent[self.overview.order[0]].trips.mean())
+        if importlib.util.find_spec("matplotlib") is not None:
+            self.assertEqual(len(list(place.iterdir())), 30)
+            svg = (place / "ranking.svg").read_bytes()
+            run("experiments.report_command", "--over", self.folder, "--figures", place)
+            self.assertEqual((place / "ranking.svg").read_bytes(), svg)
+        (place / "parts.csv").unlink()
+        (place / "parts.csv").mkdir()
+        done = run("experiments.report_command", "--over", self.folder, "--figures", place)
+        self.assertEqual((done.returncode, done.stderr.count("\n")), (1, 1), done.stderr)
+        self.assertIn("parts.csv: Is a directory", done.stderr)
+
+    def test_the_command(self) -> None:
+        done = run("experiments.report_command", "--over", self.folder / "games")
+        self.assertEqual((done.returncode, done.stdout, done.stderr), (
+            1, "", f"report: {self.folder}/games: it is not the folder of a tournament's run\n"))
+        for words in (("--over", self.folder, "my.game"), ("--over", self.folder, "--csv"), (),
+                      ("a",), ("--figures", "x", "my.game", "my.log")):
+            self.assertEqual(refusal("experiments.report_command", *words)[0], 2)
+        (self.folder / "games" / "9.0.log").unlink()
+        (self.folder / "games" / "10.0.game").write_text("no game\n")
+        done = run("experiments.report_command", "--over", self.folder)
+        self.assertEqual((done.returncode, done.stderr.count("\n")), (1, 2))
+        self.assertIn("10.0.game: line 1: ", done.stderr)
+        self.assertIn("The folder run: 1 game of 1 deal", done.stdout)
+
+
+@needs_study
+class Errors(unittest.TestCase):
+    def test_three_predictions_of_a_night(self) -> None:
+        # Night 8 of three games of two deals closes at tick 48, the others at once.
+        errors = overview_of([{"prices": [(deal, 8, 48, *[start] * 48, *[end] * 7)]} for
+                              deal, start, end in (("1", 10, 50), ("1", 20, 40), ("2", 30, 100))
+                              ]).errors()
+        # The quotes err by 40, 20 and 70. The other deal closes at 100, or at 45 in the mean, and
+        # rises by 70, or by 30.
+        self.assertEqual([errors[way][0] for way in PREDICTORS],
+                         [(40 + 20 + 70) / 3, (50 + 60 + 55) / 3, (30 + 50 + 40) / 3])
+        self.assertEqual(errors.shape, (8, 3))
+        self.assertEqual(len(SIDES), 4)
+
+
+if __name__ == "__main__":
+    unittest.main()

@@ -1,0 +1,102 @@
+import os
+import sys
+import tempfile
+import unittest
+from pathlib import Path
+from unittest import mock
+
+from geesefuton.experiments.plan import make_parser, read_plan, text_of
+from geesefuton.experiments.provenance import digest_of, package_digest
+from tests.package.helpers import SERVED_GAME, TOP, fake_program
+
+
+class Settings(unittest.TestCase):
+    """What a plan says of what can be compared, with a stand-in for the program."""
+
+    def setUp(self) -> None:
+        folder = tempfile.TemporaryDirectory()
+        self.addCleanup(folder.cleanup)
+        self.tac = fake_program(Path(folder.name), f"cat '{SERVED_GAME}'")
+        patch = mock.patch.dict(os.environ, {"TAC": self.tac})
+        patch.start()
+        self.addCleanup(patch.stop)
+
+    def settings(self, *words: object) -> "dict[str, str]":
+        parser = make_parser("")
+        given = parser.parse_args(["--no-apart", "--out", "x", *map(str, words), "sh", "cat"])
+        return {name: str(value) for name, value in read_plan(parser, given).settings.items()}
+
+    def test_games_by_the_clock_and_in_turns(self) -> None:
+        digests = {"tac": digest_of(Path(self.tac))[:12], "package": package_digest()[:12]}
+        digests["python"] = f"{sys.version_info[0]}.{sys.version_info[1]}"
+        shared = {"agents": "sh+cat", "rotations": "2", "rooms": "16..16", "live": "false",
+                  "form": "words", "start": "20"}
+        self.assertEqual(self.settings(), {**shared, "pace": "100", "after": "5", **digests})
+        self.assertEqual(self.settings("--turns", "40"), {
+            **shared, "turns": "40", "after": "30", **digests})
+
+    def test_what_decides_is_in_them(self) -> None:
+        first = self.settings()
+        for words, name, value in (
+                (["--rooms", "3..6"], "rooms", "3..6"),
+                (["--rooms", "4"], "rooms", "4..4"), (["--live"], "live", "true"),
+                (["--endow", "classic"], "endow", "classic"),
+                (["--json"], "form", "json"), (["--start", "3.5"], "start", "3.5"),
+                (["--after", "2"], "after", "2"), (["--pace", "50"], "pace", "50")):
+            self.assertEqual(self.settings(*words), {**first, name: value})
+        in_turns = self.settings("--turns", "40")
+        self.assertEqual(self.settings("--turns", "20"), {**in_turns, "turns": "20"})
+        against = self.settings("--against", "ls", "--against", "sh")
+        self.assertEqual((against["agents"], against["against"]),
+                         ("sh+cat", "ls%20%28pool%29+sh%20%28pool%29"))
+
+    def test_python_decides(self) -> None:
+        first = self.settings()
+        with mock.patch("platform.python_version_tuple", lambda: ("3", "99", "1")):
+            self.assertEqual(self.settings(), {**first, "python": "3.99"})
+
+    def test_what_does_not_decide_is_not(self) -> None:
+        first = self.settings()
+        for words in (["--seed", "9"], ["--games", "8"], ["--at-once", "1"],
+                      ["--summary", "x.txt"], ["--detect", "100"], ["--out", "x"]):
+            self.assertEqual(self.settings(*words), first)
+        self.assertEqual(self.settings("--turns", "40", "--patience", "9"),
+                         self.settings("--turns", "40"))
+
+    def test_a_game_file_counts_by_what_it_says_and_not_by_its_words(self) -> None:
+        first = self.settings("--game", TOP / "examples" / "first.game")
+        self.assertEqual(first.keys() & {"game", "rooms", "live"}, {"game"})
+        text = SERVED_GAME.read_text()
+        copy = Path(self.tac).with_name("copy.game")
+        copy.write_text(text.replace("words twotrips ", "words onetrip "))
+        self.assertEqual(self.settings("--game", copy), self.settings("--game", SERVED_GAME))
+        self.assertNotEqual(self.settings("--game", copy), first)
+
+    def test_a_folder_has_its_games(self) -> None:
+        parser = make_parser("")
+        plan = read_plan(parser, parser.parse_args(["--out", "runs/1", "--resume", "sh", "cat"]))
+        self.assertEqual((plan.out, plan.is_resumed), (Path("runs/1"), True))
+        self.assertEqual(sorted(plan.agents), ["cat", "sh"])
+
+    def test_a_run_draws_from_a_secret_of_its_own(self) -> None:
+        parser = make_parser("")
+        rules = [read_plan(parser, parser.parse_args(["--out", "x", "sh", "cat", *words])).rule
+                 for words in ([], [], ["--seed", "9"], ["--seed", "9"])]
+        self.assertEqual([rule.seed for rule in rules], [None, None, 9, 9])
+        self.assertNotEqual(rules[0].secret, rules[1].secret)
+        self.assertEqual(rules[2], rules[3])
+
+    def test_a_plan_is_printed_with_how_equal_it_is(self) -> None:
+        parser = make_parser("")
+        plan = read_plan(parser, parser.parse_args(["--plan", "--games", "4", "sh", "cat"]))
+        lines = text_of(plan).splitlines()
+        self.assertEqual([line.split()[0] for line in lines[:4]], ["1.0", "1.1", "2.0", "2.1"])
+        for line in lines[:4]:
+            self.assertEqual(sorted(line.split()[1:]), ["cat"] * 4 + ["sh"] * 4)
+        self.assertEqual(lines[4:], [
+            "4 games of 2 deals", "games of an agent: 4", "times at each seat: 2",
+            "games in which two agents meet: 4", "times that one follows another: 16"])
+
+
+if __name__ == "__main__":
+    unittest.main()

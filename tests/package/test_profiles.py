@@ -1,0 +1,326 @@
+import contextlib
+import fcntl
+import functools
+import json
+import os
+import pickle
+import signal
+import subprocess
+import sys
+import tempfile
+import unittest
+from collections import Counter
+from pathlib import Path
+from typing import Dict, List, Set, Tuple
+from unittest import mock
+
+from geesefuton.experiments import profiles, study
+from geesefuton.experiments.kept import games_of
+from geesefuton.experiments.messages import Result
+from geesefuton.experiments.results import Outcome
+from geesefuton.experiments.runs import read_scores
+from geesefuton.processes import Output, Stopped
+from tests.package.helpers import SERVED_GAME, TOP, fake_program, needs_study, refusal, worker
+
+if not study.missing("these tests"):
+    from geesefuton.experiments import equilibria
+
+# A stand-in for the process of a game of two strategies, whose words begin with `dove` and `hawk`:
+# a hawk has 0 for each other hawk and 7 for each dove, a dove 2 for a hawk and 6 for a dove, and
+# each deal another 10 more. It writes which game it plays. It gives its result as bytes: in the one
+# of `played`, `crashed` or `lost` it changes the scores.
+WORKER = worker("""
+with open(os.path.join(os.environ["PLACE"], "begun"), "a") as begun:
+    begun.write(name + "\\n")
+words = job.split(b"\\nwords ", 1)[1].split(b"\\n", 1)[0].split()
+hawks = [word.startswith(b"hawk") for word in words]
+result = "crashed" if name == os.environ.get("CRASH") else "played"
+result = "lost" if name == os.environ.get("LOSE") else result
+text = open(os.path.join(os.environ["PLACE"], result), "rb").read()
+for seat, hawk in enumerate(hawks):
+    others = sum(hawks) - hawk
+    score = 10 * int(name.split(".")[0]) + (7 * (7 - others) if hawk else 42 - 4 * others)
+    text = text.replace(b"I%d\\n" % (9000 + seat), b"I%d\\n" % score)
+give(text)
+""")
+WORDS = ["--games", "3", "--seed", "1", "--files", "*.py", "--out", "study", "--no-apart"]
+
+
+@needs_study
+class Commands(unittest.TestCase):
+    """The command with a stand-in for games and for the program."""
+
+    def setUp(self) -> None:
+        folder = tempfile.TemporaryDirectory()
+        self.addCleanup(folder.cleanup)
+        self.place = Path(folder.name)
+        for name in ("dove.py", "hawk.py", "owl.py"):
+            (self.place / name).write_text("pass\n")
+        for name, end in (("played", Outcome.PLAYED), ("crashed", Outcome.CRASHED)):
+            result = Result(tuple(range(9000, 9008)), (end,) * 8)
+            (self.place / name).write_bytes(pickle.dumps(result, 0))
+        (self.place / "lost").write_bytes(pickle.dumps(Result(fault="why"), 0))
+        price = '$((250 + $(echo "$2" | cut -c1-2)))'  # another one for each deal
+        self.tac = fake_program(
+            self.place, f'sed "s/^flight 0 [0-9]*/flight 0 {price}/" {SERVED_GAME}')
+        self.out = self.place / "study"
+        back = os.getcwd()
+        self.addCleanup(os.chdir, back)
+        os.chdir(self.place)
+
+    def run_profiles(self, *words: str, status: int = 0, out: str = "printed",
+                     agents: Tuple[str, ...] = ("dove.py", "hawk.py"), **more: str
+                     ) -> Tuple[str, str]:
+        """Runs it on three deals; gives what it prints and tells."""
+        told: List[str] = []
+        find = functools.partial(equilibria.find, resamples=20)
+        with contextlib.ExitStack() as stack:
+            patch = stack.enter_context
+            patch(mock.patch("sys.argv", ["profiles", *agents, *WORDS, "--at-once", "3", *words]))
+            patch(mock.patch("geesefuton.processes.stop_on_signals"))
+            patch(mock.patch.dict(os.environ, {"TAC": self.tac, "PLACE": str(self.place), **more}))
+            patch(mock.patch("geesefuton.experiments.tournament.PLAYER",
+                             [sys.executable, "-c", WORKER]))
+            patch(mock.patch("geesefuton.experiments.profile_study.find", find))
+            patch(mock.patch("geesefuton.experiments.forms.Output", lambda target: Output(
+                out if target == 1 else target, "standard output" if target == 1 else "")))
+            for module in ("experiments.profile_study", "experiments.tournament",
+                           "experiments.forms", "processes"):
+                patch(mock.patch(f"geesefuton.{module}.tell",
+                                 lambda text, is_passing=False: told.append(text + "\n")))
+            got = profiles.main()
+        self.assertEqual(got, status, "".join(told))
+        printed = self.place / "printed"
+        text = printed.read_text() if printed.exists() else ""
+        printed.unlink(missing_ok=True)
+        return text, "".join(told)
+
+    def begun(self) -> List[str]:
+        return (self.place / "begun").read_text().split()
+
+    def files(self) -> Dict[Path, bytes]:
+        return {file: file.read_bytes() for file in self.out.rglob("*") if file.is_file()}
+
+    def refused(self, told: str, *words: str, agents: Tuple[str, ...] = ("dove.py", "hawk.py")
+                ) -> None:
+        """It is refused in one line, and no file changes."""
+        before = self.files()
+        with mock.patch.dict(os.environ, {"TAC": self.tac}):
+            status, text = refusal("experiments.profiles", *agents, *WORDS, *words)
+        self.assertEqual((status, text.count("\n")), (2, 1), text)
+        self.assertIn(told, text)
+        self.assertEqual(before, self.files())
+
+    def test_a_study_of_two_strategies(self) -> None:
+        text, told = self.run_profiles("--players", "8")
+        games = {f"{deal}.{profile}" for deal in (1, 2, 3) for profile in range(9)}
+        self.assertEqual((set(self.begun()), len(self.begun())), (games, 27))
+        rows = read_scores(self.out / "part-1-of-1").rows
+        for row in rows:  # profile p has p hawks
+            hawks = sum(other.game == row.game and other.agent == "hawk" for other in rows)
+            self.assertEqual(hawks, row.rotation)
+        # Among hawks with a share of x a dove has 7 (6 - 4 x), a hawk 49 (1 - x): x is 1/3.
+        self.assertIn("3 deals of 9 profiles, the full game", text)
+        self.assertRegex(text, r"\n1\. +0\.667 +0\.333 +20 of 20\n")
+        # Over the deals a payoff is 20 +- 10 more than one deal's, 24.8 by 4.30 times 5.77.
+        self.assertRegex(text, r"\n8\+0 +62 \+- 25 +-\n7\+1 +58 \+- 25 +69 \+- 25\n")
+        self.assertIn("Other deals would most likely give the same equilibria.", text)
+        value = json.loads((self.out / "payoffs.json").read_text())
+        self.assertEqual((value["players"], len(value["profiles"])), ({"all": 8}, 9))
+        self.assertEqual(len((self.out / "payoffs.nfg").read_text().split("\n")), 4 + 256 + 1)
+        self.assertEqual(len((self.out / "payoffs.csv").read_text().split("\n")),
+                         1 + 3 * (2 * 9 - 2) + 1)
+
+    def test_seats_move_on_by_deals_and_profiles_differ_in_few(self) -> None:
+        self.run_profiles("--players", "2")
+        seats: Dict[Tuple[int, int], Set[int]] = {}
+        for row in read_scores(self.out / "part-1-of-1").rows:
+            seats.setdefault(row.place, set())
+            if row.agent == "hawk":
+                seats[row.place].add(row.seat)
+        for deal in (1, 2, 3):  # no hawk, one, all but one, all
+            self.assertTrue(seats[deal, 0] < seats[deal, 1] < seats[deal, 2] < seats[deal, 3])
+        self.assertEqual(len({frozenset(seats[deal, 1]) for deal in (1, 2, 3)}), 3)
+
+    def test_it_goes_on_where_it_was_stopped(self) -> None:
+        text, told = self.run_profiles(status=1, LOSE="2.1")
+        self.assertIn("profiles: 1 deal left out: not every profile was scored",
+                      told)
+        self.assertIn("2 deals of 4 profiles, reduced to 2 players", text)
+        scores = self.out / "part-1-of-1" / "scores.csv"
+        scores.write_text(scores.read_text()[:-5])  # the last row is half written
+        before = self.begun()
+        joined, told = self.run_profiles("--resume")
+        again = sorted(self.begun()[len(before):])
+        self.assertEqual((len(again), "2.1" in again), (2, True))
+        self.assertIn("was half written", told)
+        self.assertIn("its game is played again", told)
+        self.assertIn("3 deals of 4 profiles", joined)
+        self.assertEqual(self.run_profiles("--resume")[0], joined)
+        self.assertEqual(len(self.begun()), len(before) + 2)
+
+    def test_a_signal_stops_it_under_its_own_name(self) -> None:
+        with mock.patch("geesefuton.experiments.tournament.Tournament.play",
+                        side_effect=Stopped(signal.SIGTERM)):
+            text, told = self.run_profiles(status=128 + signal.SIGTERM)
+        self.assertEqual((text, told.splitlines()[-1]), ("", "profiles: stopped"))
+
+    def test_parts_are_joined_by_the_same_command(self) -> None:
+        for part in ("1/5", "2/5", "4/5", "5/5"):  # one of them does not run
+            self.assertEqual(self.run_profiles("--part", part)[0], "")
+        self.assertEqual(len(self.begun()), 10)  # of 12 games not the numbers 2 and 7
+        self.assertFalse((self.out / "payoffs.csv").exists())
+        text, _ = self.run_profiles()
+        self.assertIn("3 deals of 4 profiles", text)
+        self.assertEqual((len(self.begun()), len(set(self.begun()))), (12, 12))
+        for file in [*self.out.glob("part-*/*"), *self.out.glob("part-*/.*")]:
+            if file.is_file():
+                file.unlink()
+        for folder in self.out.glob("part-*"):
+            (folder / "games").rmdir()
+            folder.rmdir()
+        self.assertEqual(self.run_profiles()[0], text)  # in one piece
+
+    def test_parts_draw_from_one_secret(self) -> None:
+        with mock.patch.dict(globals(), WORDS=WORDS[:2] + WORDS[4:]), mock.patch(
+                "geesefuton.experiments.plan.new_secret", return_value=bytes(range(32))):
+            self.run_profiles("--part", "1/2")
+            secret = (self.out / "secret").read_text()
+            self.run_profiles("--part", "2/2")
+            self.assertIn("3 deals of 4 profiles", self.run_profiles()[0])
+        self.assertEqual((self.out / "secret").read_text(), secret)
+        told = {json.loads((self.out / f"part-{part}-of-2" / "run.json").read_text())["deals"][
+            "secret"] for part in (1, 2)}
+        self.assertEqual(told, {secret.strip()})
+
+    def test_seats_that_did_not_play_are_told(self) -> None:
+        text, told = self.run_profiles(CRASH="1.1")
+        self.assertIn("7 seats of dove did not play to the end", text)
+        self.assertIn("1 seat of hawk did not play to the end", text)
+
+    def test_a_single_deal_tells_no_equilibrium(self) -> None:
+        text, told = self.run_profiles("--games", "1")
+        self.assertIn("NOT KNOWN: a single deal cannot be resampled; play more.", text)
+        self.assertIn("+- ?", text)
+
+    def test_what_does_not_belong_together_is_refused(self) -> None:
+        self.run_profiles("--part", "1/2")
+        self.refused("it has a run: continue it with --resume", "--part", "1/2")
+        self.refused("its run began differently: players is 8, not 2", "--players", "8")
+        self.refused("turns is 40, not set", "--turns", "40")
+        self.refused("there is no file owl2.py", agents=("dove.py", "owl2.py"))
+        hawk = self.place / "hawk.py"
+        hawk.write_text("import os\n")
+        self.refused("the files, libraries or words of hawk differ", "--part", "1/2", "--resume")
+        hawk.write_text("pass\n")
+        tac, self.tac = self.tac, fake_program(self.place, f"cat '{SERVED_GAME}' # another")
+        self.refused("began differently: tac is")
+        self.tac = tac
+        (self.out / "part-1-of-2" / "run.json").write_text("{}")
+        self.refused("run.json is not of a tournament of this version")
+
+    def test_a_folder_of_something_else_is_refused(self) -> None:
+        self.out.mkdir()
+        (self.out / "thesis.txt").write_text("mine")
+        self.refused("it is not a folder of profiles: it has thesis.txt")
+
+    def test_a_game_that_two_parts_have_is_refused(self) -> None:
+        self.run_profiles("--part", "1/2")
+        copy = self.out / "part-2-of-3"
+        copy.mkdir()
+        for name in ("run.json", "scores.csv"):
+            (copy / name).write_bytes((self.out / "part-1-of-2" / name).read_bytes())
+        self.refused("both have game")
+
+    def test_a_part_that_is_being_written(self) -> None:
+        self.run_profiles("--part", "1/2")
+        number = os.open(self.out / "part-1-of-2", os.O_RDONLY)
+        try:
+            fcntl.flock(number, fcntl.LOCK_EX)
+            self.refused("it is still being written")
+            self.run_profiles("--part", "2/2")
+        finally:
+            os.close(number)
+
+    def test_another_strategy_plays_its_new_profiles_alone(self) -> None:
+        self.run_profiles("--games", "2")
+        before = self.begun()
+        text, _ = self.run_profiles("--games", "2", "--resume",
+                                    agents=("owl.py", "hawk.py", "dove.py"))
+        self.assertIn("2 deals of 9 profiles", text)
+        new = self.begun()[len(before):]
+        self.assertEqual((len(before), len(new), len(set(before + new))), (8, 10, 18))
+        rows = read_scores(self.out / "part-1-of-1").rows
+        for name in new:
+            self.assertIn("owl", {row.agent for row in rows
+                                  if f"{row.number}.{row.rotation}" == name})
+        # A stand-in plays as a dove unless it is called hawk, so an owl has what a dove has there.
+        # Each has 15 more in the mean of the deals: 42 among doves or owls.
+        self.assertRegex(text, r"\n0\+0\+8 +- +- +57 \+- 64\n")
+        record = json.loads((self.out / "part-1-of-1" / "run.json").read_text())
+        self.assertEqual([agent["name"] for agent in record["agents"]], ["dove", "hawk", "owl"])
+        less, _ = self.run_profiles("--games", "2", "--resume", agents=("dove.py", "owl.py"))
+        self.assertIn("2 deals of 4 profiles", less)
+        self.assertIn("NOT KNOWN: some strategies do exactly as well as others", less)
+        self.assertEqual(len(self.begun()), 18)
+
+    def test_a_search_goes_on_by_best_responses(self) -> None:
+        # A hawk gains beside doves, and then nobody does: the profiles with several owls are left.
+        text, told = self.run_profiles("--search", agents=("dove.py", "owl.py", "hawk.py"))
+        self.assertIn("profiles: hawk gains most", told)
+        self.assertIn("the others have only dove, hawk: equilibria with other strategies were not "
+                      "searched", text)
+        profiles = {tuple(sorted(Counter(row.agent for row in rows).items()))
+                    for rows in games_of(read_scores(self.out / "part-1-of-1").rows)}
+        self.assertEqual(profiles, {tuple(sorted(profile.items())) for profile in (
+            {"dove": 8}, {"dove": 7, "owl": 1}, {"dove": 7, "hawk": 1}, {"hawk": 8},
+            {"hawk": 7, "dove": 1}, {"hawk": 7, "owl": 1})})
+        self.assertEqual(len(self.begun()), 18)
+        value = json.loads((self.out / "payoffs.json").read_text())
+        self.assertEqual(value["strategies"], {"all": ["dove", "hawk"]})
+        again, _ = self.run_profiles("--search", "--resume",
+                                     agents=("dove.py", "owl.py", "hawk.py"))
+        self.assertEqual((again, len(self.begun())), (text, 18))
+        self.refused("leave --part out", "--search", "--part", "1/2")
+
+    def test_a_study_without_a_whole_deal_knows_nothing(self) -> None:
+        text, told = self.run_profiles("--games", "1", status=1, LOSE="1.1")
+        self.assertIn("NOT KNOWN: no deal has all of its profiles scored.", text)
+        self.assertFalse((self.out / "payoffs.csv").exists())
+
+    def test_without_the_libraries_it_tells_how_to_get_them(self) -> None:
+        with mock.patch("geesefuton.experiments.study.find_spec", return_value=None):
+            self.refused("payoffs and equilibria need numpy and scipy and pandas: install them by")
+
+    def test_words_that_are_refused(self) -> None:
+        for told, words in (("expected a part I/N", ["--part", "3/2"]),
+                            ("expected a part", ["--part", "x"]),
+                            ("invalid choice", ["--players", "3"])):
+            self.refused(told, *words)
+        self.refused("name two or more strategies, each once", agents=("dove.py",))
+        self.refused("dove.py and ./dove.py are the same agent",
+                     agents=("dove.py", "hawk.py", "./dove.py"))
+
+    def test_a_tournament_does_not_sum_it_up(self) -> None:
+        self.run_profiles()
+        status, text = refusal("experiments.tournament", "--join", self.out / "part-1-of-1")
+        self.assertEqual(status, 1)
+        self.assertIn("it has the games of profiles", text)
+
+    def test_what_cannot_be_written_is_told(self) -> None:
+        self.run_profiles()
+        (self.out / "payoffs.csv").unlink()
+        (self.out / "payoffs.csv").mkdir()
+        text, told = self.run_profiles("--resume", status=1)
+        self.assertIn("payoffs.csv was not written: ", told)
+        text, told = self.run_profiles("--resume", status=1, out="/dev/full")
+        self.assertIn("standard output: No space left on device", told)
+
+    def test_it_runs_from_a_clone(self) -> None:
+        done = subprocess.run([str(TOP / "tools" / "profiles"), "--help"], check=False,
+                              stdout=subprocess.PIPE, timeout=200)
+        self.assertEqual(done.returncode, 0)
+
+
+if __name__ == "__main__":
+    unittest.main()

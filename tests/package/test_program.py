@@ -1,0 +1,261 @@
+import os
+import signal
+import subprocess
+import tempfile
+import threading
+import time
+import unittest
+from pathlib import Path
+from typing import Any, Callable, Dict, List, Tuple
+from unittest import mock
+
+from geesefuton import program
+from geesefuton.program import ProgramError
+from tests.package.helpers import (SERVED_GAME, SERVED_LOG, fake_program, needs_program, python,
+                           served_game, variables)
+
+MOST = 60.0  # seconds that anything may take, on a machine that is busy with other work
+
+
+class Interrupted(BaseException):
+    """What a signal raises."""
+
+
+class Commands(unittest.TestCase):
+    def setUp(self) -> None:
+        folder = tempfile.TemporaryDirectory()
+        self.addCleanup(folder.cleanup)
+        self.place = Path(folder.name)
+
+    def use(self, body: str) -> None:
+        """Lets a shell script stand in for the program."""
+        self.set({"TAC": fake_program(self.place, body)})
+
+    def set(self, values: Dict[str, str]) -> None:
+        patch = mock.patch.dict(os.environ, values)
+        patch.start()
+        self.addCleanup(patch.stop)
+
+    def interruptible(self) -> Callable[[int, object], None]:
+        """Lets SIGINT raise, and gives its handler."""
+        def interrupt(number: int, _: object) -> None:
+            raise Interrupted
+
+        self.addCleanup(signal.signal, signal.SIGINT, signal.signal(signal.SIGINT, interrupt))
+        return interrupt
+
+    def refused(self, *words: object) -> ProgramError:
+        with self.assertRaises(ProgramError) as caught:
+            program.run(str(words[0]), *map(str, words[1:]))
+        return caught.exception
+
+    def test_calls_give_their_words_and_get_the_output(self) -> None:
+        self.use('echo "$@"')
+        game, log = Path("a game"), Path("log")
+        for text, words in ((program.make(42), "make 42"), (program.show(game), "show a game"),
+                            (program.upgrade(game), "upgrade a game"),
+                            (program.play(game, "s"), "play a game s"),
+                            (program.table([(game, log), (game, log)]),
+                             "table a game log a game log"),
+                            (program.solve("a"), "solve a"), (program.worth("a"), "worth a")):
+            self.assertEqual(text, words + "\n")
+        self.assertEqual(program.audit(game, log), "audit a game log")
+
+    def test_bytes_are_given_as_a_file(self) -> None:
+        self.use('echo "$@"; cat /dev/stdin')
+        self.assertEqual(program.audit("game", b"a log"), "audit game /dev/stdin\na log")
+        self.assertEqual(program.solve(b"an account"), "solve /dev/stdin\nan account")
+        self.assertEqual(program.run("show", program.INPUT, given=b"x"), "show /dev/stdin\nx")
+        self.assertEqual(program.run("show", program.INPUT), "show /dev/stdin\n")
+
+    def test_a_refusal_has_its_status_and_first_line(self) -> None:
+        self.use("echo game 3 4; echo more; exit 2")
+        fault = self.refused("show", "x")
+        self.assertEqual((fault.status, fault.line), (2, "game 3 4"))
+        self.assertEqual(str(fault), "tac show ended with exit status 2 (the game file is refused: "
+                                     "game 3 4)")
+
+    def test_a_status_that_is_allowed_is_no_error(self) -> None:
+        self.use("echo some; exit 6")
+        self.assertEqual(program.run("make", 1, allowed=(program.OK, program.CLOCK)), "some\n")
+        self.assertEqual(self.refused("make", 1).status, program.CLOCK)
+
+    def test_what_the_statuses_mean(self) -> None:
+        for status, meaning in ((1, "no command"), (2, "game file"), (3, "missing"),
+                                (4, "output"), (5, "port"), (6, "lapsed"), (7, "memory"),
+                                (8, "refused"), (9, "not sound")):
+            fault = program.ended("play", status, "a line")
+            self.assertIn(meaning, str(fault))
+            self.assertTrue(str(fault).startswith(f"tac play ended with exit status {status} ("))
+            self.assertEqual((fault.status, fault.line), (status, "a line"))
+        self.assertEqual(str(program.ended("play", 77, "a line")),
+                         "tac play ended with exit status 77 (a line)")
+
+    def test_a_library_that_is_too_old_for_the_program(self) -> None:
+        self.use("echo some\n# GLIBC_2.34\0")
+        due = " needs glibc 2.34 or later, and this system has 2.31: use a newer system, or build "
+        with mock.patch("platform.libc_ver", lambda: ("glibc", "2.31")):
+            self.assertIn(due, str(self.refused("make", 1)))
+            with self.assertRaises(ProgramError):
+                program.served_words("game", 7000, 500)
+            self.use("echo some\n# GLIBC_2.31\0")  # one that was built there
+            self.assertEqual(program.make(1), "some\n")
+        self.use("echo some\n# GLIBC_2.34\0")
+        for name, number in (("glibc", "2.34"), ("glibc", "2.41"), ("", "")):
+            with mock.patch("platform.libc_ver", lambda told=(name, number): told):
+                self.assertEqual(program.make(1), "some\n")
+
+    def test_bytes_that_are_no_text_are_no_error(self) -> None:
+        self.use(r"printf 'a\377b\n'")
+        self.assertEqual(program.show("x"), "a\ufffdb\n")
+
+    def test_a_long_output_is_read_whole_and_no_file_stays_open(self) -> None:
+        self.use("yes 0123456 | head -n 20000; cat /dev/stdin")
+        before = sorted(os.listdir("/dev/fd"))
+        self.assertEqual(program.run("make", 1, given=b"given\n"), "0123456\n" * 20000 + "given\n")
+        self.set({"TAC": str(self.place / "none")})
+        self.refused("make", 1)
+        self.assertEqual(sorted(os.listdir("/dev/fd")), before)
+
+    def test_an_end_without_output(self) -> None:
+        self.use("kill -9 $$")
+        fault = self.refused("make", 1)
+        self.assertEqual((fault.status, fault.line), (-9, ""))
+        self.assertEqual(str(fault), "tac make ended with exit status -9")
+
+    def test_an_unsound_log_is_an_answer_and_a_refused_one_is_not(self) -> None:
+        self.use("echo unsound score 3; exit 9")
+        self.assertEqual(program.audit("g", "l"), "unsound score 3")
+        with self.assertRaises(ProgramError):
+            program.table([("g", "l")])
+        self.use("echo text 5 1; exit 8")
+        with self.assertRaisesRegex(ProgramError, "text 5 1"):
+            program.audit("g", "l")
+
+    def test_a_program_that_takes_too_long(self) -> None:
+        self.use("exec sleep 20")
+        with self.assertRaisesRegex(ProgramError, "tac make took longer than 0.1 seconds"):
+            program.run("make", 1, timeout=0.1)
+        with self.assertRaisesRegex(ProgramError, "tac audit took longer than 0.1 seconds"):
+            program.audit("g", "l", 0.1)
+
+    def test_a_program_that_is_not_there(self) -> None:
+        self.set({"TAC": str(self.place / "none")})
+        fault = self.refused("make", 1)
+        self.assertIsNone(fault.status)
+        self.assertIn(f"there is no program {self.place / 'none'}", str(fault))
+
+    def test_a_file_that_is_no_program(self) -> None:
+        (self.place / "text").write_text("x")
+        self.set({"TAC": str(self.place / "text")})
+        self.assertIn("is not executable: chmod +x it", str(self.refused("make", 1)))
+
+    def test_a_program_that_cannot_be_run(self) -> None:
+        file = self.place / "bad"
+        file.write_bytes(b"\x00\x01\x02")
+        file.chmod(0o755)
+        self.set({"TAC": str(file)})
+        self.assertIn("bad is not a program for this system: tac needs x86-64 Linux",
+                      str(self.refused("make", 1)))
+
+    def test_a_signal_while_the_process_is_made_leaves_none_behind(self) -> None:
+        interrupt = self.interruptible()
+        made: List[int] = []
+        make, end = os.posix_spawn, os.waitpid
+        ends: List[Tuple[int, int]] = []
+
+        def slow(*words: Any, **how: Any) -> int:
+            made.append(make(*words, **how))
+            signal.raise_signal(signal.SIGINT)  # comes before the caller has the process
+            return made[0]
+
+        def ended(*words: Any) -> Tuple[int, int]:
+            ends.append(end(*words))
+            return ends[-1]
+
+        self.use("exec sleep 60")
+        with mock.patch("os.posix_spawn", slow), mock.patch("os.waitpid", ended), \
+                self.assertRaises(Interrupted):
+            program.make(1)
+        self.assertIs(signal.getsignal(signal.SIGINT), interrupt)
+        self.assertEqual(ends[-1], (made[0], signal.SIGKILL))
+
+    def test_a_signal_that_does_not_interrupt_the_wait_is_taken_all_the_same(self) -> None:
+        """One that comes just before the wait does not, nor one that another thread gets."""
+        waiting, wait = threading.Event(), os.waitpid
+
+        def begun(*words: int) -> Tuple[int, int]:
+            waiting.set()
+            return wait(*words)
+
+        def send() -> None:
+            waiting.wait()  # and until the main thread lets others go on
+            signal.pthread_kill(threading.get_ident(), signal.SIGINT)
+
+        self.interruptible()
+        self.use(f"exec sleep {MOST}")
+        began = time.monotonic()
+        threading.Thread(target=send, daemon=True).start()
+        with mock.patch("os.waitpid", begun), self.assertRaises(Interrupted):
+            program.make(1)
+        self.assertLess(time.monotonic() - began, MOST / 2)
+
+    def test_the_file_is_that_of_the_variable_and_holds_in_any_folder(self) -> None:
+        file = fake_program(self.place, "exit")
+        self.set({"TAC": os.path.relpath(file)})
+        self.assertEqual(program.find(), file)
+        self.assertEqual(program.served_words("g", 7000, 500), [file, "serve", "g", "7000", "500"])
+        self.assertEqual(program.served_words(Path("g"), 7000, 500, "json"),
+                         [file, "serve", "g", "7000", "500", "json"])
+        self.set({"TAC": "tac", "PATH": str(self.place)})
+        self.assertEqual(program.find(), file)  # a name without a slash is looked for
+
+    def test_without_the_variable_it_is_that_of_the_clone(self) -> None:
+        self.set({"TAC": ""})
+        with mock.patch("geesefuton.program.top", return_value=self.place):
+            self.assertIn("tacd/out/tacd", str(self.refused("make", 1)))
+            built = self.place / "crates" / "tacd" / "out"
+            built.mkdir(parents=True)
+            Path(fake_program(built, "echo built")).rename(built / "tacd")
+            self.assertEqual(program.make(1), "built\n")
+        with mock.patch("geesefuton.program.top", return_value=None):
+            self.assertIn("set the variable TAC", str(self.refused("make", 1)))
+
+    def test_what_a_thread_has_started_ends_with_its_script(self) -> None:
+        self.use(f"echo $$ > {self.place}/new; mv {self.place}/new {self.place}/number; "
+                 f"exec sleep {MOST}")
+        code = ("import os, sys, threading, time; from geesefuton import program; "
+                "threading.Thread(target=program.make, args=(1,), daemon=True).start()\n"
+                "while not os.path.exists(sys.argv[1]): time.sleep(0.01)")
+        subprocess.run(python(code, self.place / "number"), env=variables(), check=True,
+                       timeout=MOST)
+        number, deadline = int((self.place / "number").read_text()), time.monotonic() + MOST / 2
+        while True:
+            try:
+                os.kill(number, 0)
+            except ProcessLookupError:
+                break
+            self.assertLess(time.monotonic(), deadline, "it still runs")
+            time.sleep(0.01)
+
+    def test_the_clone_is_found(self) -> None:
+        top = program.top()
+        assert top is not None
+        self.assertTrue((top / "crates" / "tacd").is_dir())
+
+    def test_a_package_that_is_installed_stands_in_no_clone(self) -> None:
+        with mock.patch("geesefuton.program.__file__", str(self.place / "a" / "b" / "program.py")):
+            self.assertIsNone(program.top())
+
+
+@needs_program
+class Real(unittest.TestCase):
+    def test_it_makes_shows_and_audits(self) -> None:
+        self.assertTrue(program.make(42).startswith("tac 1\nwords seat0"))
+        self.assertEqual(program.show(SERVED_GAME), SERVED_GAME.read_text())
+        self.assertEqual(program.show(SERVED_GAME), served_game().text())
+        self.assertEqual(program.audit(SERVED_GAME, SERVED_LOG), "sound")
+
+
+if __name__ == "__main__":
+    unittest.main()

@@ -1,0 +1,358 @@
+import errno
+import json
+import os
+import pickle
+import random
+import signal
+import socket
+import sys
+import tempfile
+import time
+import unittest
+from dataclasses import replace
+from multiprocessing import get_context
+from multiprocessing.process import BaseProcess
+from pathlib import Path
+from typing import Any, Dict, List, Set, Tuple
+from unittest import mock
+
+from geesefuton.experiments import tournament
+from geesefuton.experiments.deals import Rule
+from geesefuton.experiments.messages import Result
+from geesefuton.experiments.plan import Plan
+from geesefuton.experiments.provenance import Agent
+from geesefuton.experiments.results import (HEAD, Outcome, ResultsError, Row, read_rows,
+                                            text_of)
+from geesefuton.experiments.runs import (RunError, RunFolder, is_being_written, is_run,
+                                         read_scores)
+from geesefuton.experiments.seating import Seating
+from geesefuton.records.tables import csv_of
+from tests.package.helpers import SERVED_GAME, fake_program, refusal, worker
+
+MINE = Agent("mine", "mine.py", ["mine.py"], {"mine.py": "00"})
+
+
+def rows_of(*games: Tuple[int, int]) -> List[Row]:
+    return [Row("0a1b", rotation, seat, "mine", 100 + seat, Outcome.PLAYED, 5, settings="x=1",
+                files="0123", number=number) for number, rotation in games for seat in range(8)]
+
+
+class Folders(unittest.TestCase):
+    def setUp(self) -> None:
+        folder = tempfile.TemporaryDirectory()
+        self.addCleanup(folder.cleanup)
+        self.place = Path(folder.name)
+        self.out = self.place / "runs" / "1"
+        patch = mock.patch.dict(os.environ, {"TAC": fake_program(self.place, "exit 1")})
+        patch.start()
+        self.addCleanup(patch.stop)
+        self.patch("MOST_WAIT", 0.1)
+
+    def patch(self, name: str, value: object) -> None:
+        patch = mock.patch(f"geesefuton.experiments.runs.{name}", value)
+        patch.start()
+        self.addCleanup(patch.stop)
+
+    def plan(self, **more: Any) -> Plan:
+        plan = Plan([], Rule(seed=1), 4, 1, 1, 7, 0, 0.1, "words", 1.5, 2.5, self.out,
+                    Seating(1), settings={"turns": 40, "rooms": "16..16"}, agents={"mine": MINE})
+        return replace(plan, **more)
+
+    def begin(self, **more: Any) -> RunFolder:
+        return RunFolder(self.plan(**more), ["--games", "4"])
+
+    def value(self) -> Dict[str, Any]:
+        value: Dict[str, Any] = json.loads((self.out / "run.json").read_text())
+        return value
+
+    def refused(self, told: str, **more: Any) -> None:
+        before = {file: file.read_bytes() for file in self.place.rglob("*") if file.is_file()}
+        with self.assertRaises(RunError) as caught:
+            self.begin(**more)
+        self.assertIn(told, str(caught.exception))
+        self.assertEqual(before, {file: file.read_bytes() for file in self.place.rglob("*")
+                                  if file.is_file()})
+
+    def test_a_new_run(self) -> None:
+        run = self.begin()
+        self.assertEqual((run.number, run.rows, run.told, run.finished), (1, [], [], set()))
+        self.assertEqual(read_scores(self.out).rows, [])
+        run.out.write(text_of(rows_of((1, 0))))
+        value = self.value()
+        self.assertEqual((value["tournament"], value["settings"]),
+                         (2, {"turns": 40, "rooms": "16..16"}))
+        self.assertEqual((len(value["tac"]), len(value["package"])), (64, 64))
+        self.assertEqual(value["agents"], [{"name": "mine", "command": "mine.py", "words":
+                         ["mine.py"], "files": {"mine.py": "00"}, "libraries": {},
+                          "digest": MINE.digest}])
+        begun = value["runs"][0]
+        self.assertEqual((begun["run"], begun["arguments"], begun["ended"]),
+                         (1, ["--games", "4"], None))
+        self.assertTrue({"host", "python", "load", "commit", "began"} <= set(begun))
+        run.end(1, 1, ["game 2.0 is lost: why"])
+        ended = self.value()["runs"][0]
+        self.assertEqual((ended["status"], ended["games"], ended["lost"]),
+                         (1, 1, ["game 2.0 is lost: why"]))
+        self.assertIsNotNone(ended["ended"])
+        self.assertEqual(read_scores(self.out).rows, rows_of((1, 0)))
+        self.assertTrue(is_run(self.out))
+        self.assertFalse(is_run(self.place))
+
+    def test_a_run_goes_on(self) -> None:
+        first = self.begin()
+        first.out.write(text_of(rows_of((1, 0), (2, 0))))
+        first.end(143, 2, [])
+        second = self.begin(is_resumed=True)
+        self.assertEqual((second.number, second.finished, second.told),
+                         (2, {(1, 0), (2, 0)}, []))
+        second.out.write(text_of(rows_of((3, 0))))
+        second.end(0, 1, [])
+        self.assertEqual(read_scores(self.out).rows, rows_of((1, 0), (2, 0), (3, 0)))
+        runs = self.value()["runs"]
+        self.assertEqual([(run["run"], run["status"], run["games"]) for run in runs],
+                         [(1, 143, 2), (2, 0, 1)])
+        self.assertNotIn(None, [run["ended"] for run in runs])
+
+    def test_what_is_half_written_is_told_and_taken_out(self) -> None:
+        self.begin().end(0, 0, [])
+        whole = csv_of([HEAD]) + text_of(rows_of((1, 0), (2, 0)))
+        cases: List[Tuple[str, List[str], List[Tuple[int, int]]]] = [
+                (whole[:-5], ["was half written", "game 2.0 has 7 rows"], [(1, 0)]),
+                (whole + "3,0,0,mi", ["was half written"], [(1, 0), (2, 0)]),
+                (whole.replace("mine,103", "mine,?", 2).replace("mine,?", "mine,103", 1),
+                 ["is not a row", "2.0 has 7 rows"], [(1, 0)]),
+                (whole + text_of(rows_of((2, 0))), ["2.0 has 16 rows"], [(1, 0)]),
+                ("deal,rota", [], []), ("", [], [])]
+        for text, told, left in cases:
+            (self.out / "scores.csv").write_text(text)
+            run = self.begin(is_resumed=True)
+            self.assertEqual(run.rows, rows_of(*left))
+            self.assertEqual(len(run.told), len(told), run.told)
+            for line, part in zip(run.told, told):
+                self.assertIn(part, line)
+            self.assertEqual((self.out / "scores.csv").read_text(),
+                             csv_of([HEAD]) + text_of(rows_of(*left)))
+            run.end(0, 0, [])
+
+    def test_files_of_games_that_were_not_finished_are_removed(self) -> None:
+        run = self.begin()
+        run.out.write(text_of(rows_of((1, 0), (12, 1))))
+        run.end(0, 2, [])
+        kept = ["1.0.game", "1.0.out.red", "12.1.log", "notes.txt"]
+        for name in [*kept, "1.1.game", "2.0.log", "2.0.out.game", "12.0.events"]:
+            (self.out / "games" / name).write_text("x")
+        self.begin(is_resumed=True).end(0, 0, [])
+        self.assertEqual(sorted(os.listdir(self.out / "games")), kept)
+
+    def test_a_run_is_gone_on_with_only_if_that_is_said(self) -> None:
+        self.begin().end(0, 0, [])
+        self.refused("it has a run: continue it with --resume")
+
+    def test_another_run_is_refused_with_its_difference(self) -> None:
+        self.begin(is_resumed=True).end(0, 0, [])  # there is nothing yet to go on with
+        self.refused("its run began differently: turns is 20, not 40", is_resumed=True,
+                     settings={"turns": 20, "rooms": "16..16"})
+        other = replace(MINE, files={"mine.py": "01"})
+        self.refused("began differently: the files, libraries or words of mine differ (mine.py)",
+                     is_resumed=True, agents={"mine": other})
+        self.refused("its deals are of the seed 1, not of the seed 1001", is_resumed=True,
+                     rule=Rule(seed=1001))
+        self.refused("its deals are of the seed 1, not of the commitment 6", is_resumed=True,
+                     rule=Rule(bytes(range(32))))
+        self.refused("the files, libraries or words of mine differ", is_resumed=True,
+                     agents={"mine": replace(MINE, libraries={"numpy": "2.0"})})
+        self.refused("turns is 41, not 40; the files, libraries or words of mine differ",
+                     is_resumed=True, agents={"mine": replace(MINE, words=["mine.py", "-x"])},
+                     settings={"turns": 41, "rooms": "16..16"})
+
+    def test_folders_that_are_not_ours(self) -> None:
+        self.out.mkdir(parents=True)
+        (self.out / "thesis.txt").write_text("mine")
+        for is_resumed in (False, True):
+            self.refused("it is not the folder of a tournament: it has thesis.txt",
+                         is_resumed=is_resumed)
+        (self.out / "run.json").write_text("{}")
+        self.refused("run.json is not of a tournament of this version", is_resumed=True)
+        (self.out / "run.json").write_text("no JSON")
+        self.refused("run.json is not of a tournament of this version", is_resumed=True)
+        for file in self.out.iterdir():
+            file.unlink()
+        self.begin().end(0, 0, [])
+        (self.out / "scores.csv").write_text("a,b\n1,2\n")
+        self.refused("line 1 is not the head", is_resumed=True)
+
+    def test_a_run_that_was_killed_when_it_had_only_its_secret(self) -> None:
+        rule = Rule(bytes(range(32)))
+        self.out.mkdir(parents=True)
+        (self.out / "secret").write_text("mine\n")
+        self.refused("it has secret, but no run.json", is_resumed=True, rule=rule)
+        (self.out / "secret").write_text(rule.secret.hex() + "\n")
+        self.refused("it has secret, but no run.json", is_resumed=True, rule=Rule(bytes(32)))
+        run = self.begin(is_resumed=True, rule=rule)
+        run.plan_games(1)
+        run.end(143, 0, [])
+        self.assertEqual(self.value()["deals"], rule.drawn)
+        self.refused(f"its deals are of the commitment {rule.drawn['commitment']}, not of the "
+                     f"commitment {Rule(bytes(32)).drawn['commitment']}", is_resumed=True,
+                     rule=Rule(bytes(32)))
+
+    def test_two_at_once_are_refused(self) -> None:
+        run = self.begin()
+        self.refused("another tournament is writing to it", is_resumed=True)
+        run.end(0, 0, [])
+        self.begin(is_resumed=True).end(0, 0, [])
+
+    def test_where_a_file_system_has_no_locks_a_file_stands_for_one(self) -> None:
+        with mock.patch("fcntl.flock", side_effect=OSError(errno.ENOLCK, "No locks available")):
+            run = self.begin()
+            run.out.write(text_of(rows_of((1, 0))))
+            (self.out / "games" / "2.0.log").write_text("being played")
+            self.assertTrue(is_being_written(self.out))
+            self.refused(f"writing to it, process {os.getpid()} of {socket.gethostname()}",
+                         is_resumed=True)
+            run.end(0, 1, [])
+            self.assertFalse(is_being_written(self.out))
+            ended = get_context("fork").Process(target=int)
+            ended.start()
+            ended.join()
+            (self.out / ".lock").write_text(f"{socket.gethostname()} {ended.pid}")
+            self.begin(is_resumed=True).end(0, 0, [])
+            (self.out / ".lock").write_text("elsewhere 1")
+            self.refused("process 1 of elsewhere; if that has ended, remove", is_resumed=True)
+
+    def test_rows_are_sorted_at_the_end(self) -> None:
+        run = self.begin()
+        run.out.write(text_of(rows_of((10, 0), (2, 1), (2, 0))))
+        run.end(0, 3, [])
+        self.assertEqual(read_scores(self.out).rows, rows_of((2, 0), (2, 1), (10, 0)))
+
+    def test_names_with_separators_of_lines_are_read_back(self) -> None:
+        for name in ("a,b", "x\u2028y", "x\x0by", "x\x85y", 'a "b"'):
+            rows = [replace(row, agent=name) for row in rows_of((1, 0))]
+            self.assertEqual(read_rows(csv_of([HEAD]) + text_of(rows)).rows, rows)
+
+    def test_files_of_another_version_are_refused_with_a_line(self) -> None:
+        for head in ("deal,rotation,seat,agent,score,end,luck,kind",
+                     "deal,rotation,seat,agent,score,end,luck,kind,nights,first_price,run,settings,"
+                     "files"):
+            with self.assertRaisesRegex(ResultsError, "of this version"):
+                read_rows(head + "\n")
+
+    def test_a_folder_that_cannot_be_made(self) -> None:
+        self.out = SERVED_GAME / "x"
+        with self.assertRaises(OSError):
+            self.begin()
+
+
+# A stand-in for the process of a game: it writes that it has begun, and scores soon.
+WORKER = worker("""
+with open(os.environ["BEGUN"], "a") as begun:
+    begun.write(name + "\\n")
+time.sleep(float(os.environ["LONGEST"]) * os.urandom(1)[0] / 255)
+give(open(os.environ["RESULT"], "rb").read())
+""")
+
+
+class Killed(unittest.TestCase):
+    """Runs of the command that are killed, with a stand-in for games and for the program."""
+
+    KILLS, GAMES = 20, 120
+
+    def setUp(self) -> None:
+        folder = tempfile.TemporaryDirectory()
+        self.addCleanup(folder.cleanup)
+        self.place = Path(folder.name)
+        result = Result(tuple(range(8)), (Outcome.PLAYED,) * 8)
+        (self.place / "result").write_bytes(pickle.dumps(result))
+        self.begun, self.out = self.place / "begun", self.place / "run"
+        self.begun.touch()
+        self.tac = fake_program(self.place, f"cat '{SERVED_GAME}'")
+
+    def start(self, longest: float) -> BaseProcess:
+        """The command, in a copy of this process, which has loaded what it needs.
+
+        Args:
+            longest: The seconds that a game may last.
+        """
+        process = get_context("fork").Process(target=self.command, args=(longest,))
+        process.start()
+        self.addCleanup(process.close)
+        return process
+
+    def command(self, longest: float) -> None:
+        """Runs the command in a process of its own, with all that it prints in a file."""
+        printed = os.open(self.place / "printed", os.O_WRONLY | os.O_CREAT | os.O_TRUNC)
+        for number in (1, 2):
+            os.dup2(printed, number)
+        os.chdir(self.place)
+        os.environ.update({"TAC": self.tac, "BEGUN": str(self.begun), "LONGEST": str(longest),
+                           "RESULT": str(self.place / "result")})
+        sys.argv = ["tournament", "--games", str(self.GAMES), "--at-once", "3", "--out",
+                    str(self.out), "--resume", "sh", "cat"]
+        tournament.PLAYER = [sys.executable, "-c", WORKER]
+        sys.exit(tournament.main())
+
+    def printed(self) -> str:
+        return (self.place / "printed").read_text()
+
+    def finished(self) -> Set[str]:
+        return {f"{row.number}.{row.rotation}" for row in read_scores(self.out).rows}
+
+    def scores(self) -> str:
+        file = self.out / "scores.csv"
+        return file.read_text() if file.exists() else ""
+
+    def begun_games(self) -> List[str]:
+        return self.begun.read_text().split()
+
+    def test_kills_lose_no_finished_game_and_none_is_played_twice(self) -> None:
+        source = random.Random(6)
+        texts: List[str] = []
+        for kill in range(self.KILLS):
+            finished, begun = self.finished(), len(self.begun_games())
+            process = self.start(0.3)
+            deadline = time.monotonic() + 60
+            # Three play at once, so that one has ended where five have begun, on any machine.
+            awaited = begun + source.randint(1, 5) if kill % 4 else 0
+            while (len(self.begun_games()) < awaited and process.is_alive()
+                   and time.monotonic() < deadline):
+                time.sleep(0.01)
+            time.sleep(source.random() * 0.2)
+            process.kill()
+            process.join()
+            self.assertEqual(process.exitcode, -signal.SIGKILL, self.printed())
+            self.assertFalse(finished & set(self.begun_games()[begun:]), self.printed())
+            self.assertTrue(finished <= self.finished(), self.printed())
+            texts.append(self.scores())
+        self.assertTrue(all(later.startswith(former)
+                            for former, later in zip(texts, texts[1:])))
+        finished, begun = self.finished(), len(self.begun_games())
+        self.assertTrue(0 < len(finished) < self.GAMES, finished)
+        process = self.start(0.0)
+        process.join()
+        self.assertEqual(process.exitcode, 0, self.printed())
+        self.assertIn(f"{len(finished)} games were finished by earlier runs", self.printed())
+        self.assertFalse(finished & set(self.begun_games()[begun:]))
+        rows = read_scores(self.out)
+        self.assertEqual(rows.told, [])
+        self.assertEqual([(row.number, row.rotation, row.seat) for row in rows.rows],
+                         [(deal, rotation, seat) for deal in range(1, self.GAMES // 2 + 1)
+                          for rotation in range(2) for seat in range(8)])
+        runs = json.loads((self.out / "run.json").read_text())["runs"]
+        self.assertEqual([run["status"] for run in runs if run["ended"]], [0])
+        self.assertEqual(len({row.run for row in rows.rows} - {run["run"] for run in runs}), 0)
+        texts = sorted(file.name for file in (self.out / "games").iterdir())
+        self.assertEqual(texts, [])  # the stand-in writes none
+
+    def test_words_that_do_not_go_together(self) -> None:
+        with mock.patch.dict(os.environ, {"TAC": self.tac}):
+            for told, words in (("name a new folder for the run with --out", ["--resume"]),
+                                ("--partial needs --join", ["--partial"]),
+                                ("--pool needs --join", ["--pool"])):
+                status, text = refusal("experiments.tournament", *words, "sh")
+                self.assertEqual((status, text.count("\n")), (2, 1))
+                self.assertIn(told, text)
+
+
+if __name__ == "__main__":
+    unittest.main()

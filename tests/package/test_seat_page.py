@@ -1,0 +1,307 @@
+import asyncio
+import http.client
+import json
+import re
+import threading
+import unittest
+from typing import Any, Dict, List, Optional, Tuple
+from unittest import mock
+
+from geesefuton.network.addresses import listen
+from geesefuton.network.gate import Gate, Visit
+from geesefuton.network.pages import Faults, PageServer, Request, page_gate
+from geesefuton.playing.seat_page import Host, Pages, Site, Table
+from geesefuton.playing.trip_board import HELD, TripBoard
+from tests.package.test_seat import MOST, Case
+
+TOKEN = "abcdefgh23"
+
+
+class OpenPages(unittest.TestCase):
+    def setUp(self) -> None:
+        patch = mock.patch("geesefuton.playing.seat_page.time.monotonic", lambda: self.time)
+        patch.start()
+        self.addCleanup(patch.stop)
+        self.time, self.pages = 100.0, Pages()
+
+    def test_the_first_page_plays_and_a_later_one_may_take_over(self) -> None:
+        first, later = self.pages.open(""), self.pages.open("")
+        self.assertEqual([self.pages.plays(first), self.pages.plays(later)], [True, False])
+        self.pages.take(later)
+        self.assertEqual([self.pages.plays(first), self.pages.plays(later)], [False, True])
+
+    def test_a_reloaded_page_goes_on_playing_and_its_old_number_is_stale(self) -> None:
+        first = self.pages.open("")
+        again = self.pages.open(first)
+        self.assertEqual([self.pages.plays(again), self.pages.hear(first)], [True, False])
+
+    def test_a_page_that_is_gone_gives_way(self) -> None:
+        self.pages.open("")
+        self.time += 8.9
+        self.assertFalse(self.pages.plays(self.pages.open("")))
+        self.time += 0.2
+        self.assertTrue(self.pages.plays(self.pages.open("")))
+
+    def test_whether_one_is_open(self) -> None:
+        self.assertFalse(self.pages.is_open())
+        self.pages.open("")
+        self.time += 5
+        later = self.pages.open("")
+        self.time += 8
+        self.assertTrue(self.pages.is_open())
+        self.pages.hear(later)
+        self.time += 9.1
+        self.assertFalse(self.pages.is_open())
+
+    def test_the_pages_that_are_known_are_few(self) -> None:
+        first, eldest = self.pages.open(""), self.pages.open("")
+        for _ in range(60):
+            self.time += 1
+            self.pages.hear(first)
+            self.pages.open("")
+        self.assertTrue(self.pages.plays(first))
+        self.assertTrue(self.pages.hear(first))
+        self.assertFalse(self.pages.hear(eldest))
+
+
+class Served(Case):
+    """The page of a seat, asked as a browser does."""
+
+    def setUp(self) -> None:
+        super().setUp()
+        ready = threading.Event()
+
+        async def serve() -> None:
+            self.loop, self.ended = asyncio.get_running_loop(), asyncio.Event()
+            host = Host("127.0.0.1", self.server.port, 60000, names={"red7k": "red"})
+            self.table = Table(self.seat, Pages(), TripBoard(True), TOKEN, "red7k", host)
+            site = Site(host)
+            site.tables.append(self.table)
+            server = PageServer(site.answer, page_gate(), Faults(self.fail))
+            with listen(0) as listener:
+                self.port = listener.getsockname()[1]
+                serving = asyncio.ensure_future(server.serve(listener))
+                ready.set()
+                await self.ended.wait()
+                serving.cancel()
+                await asyncio.wait([serving])
+
+        thread = threading.Thread(target=lambda: asyncio.run(serve()), daemon=True)
+        thread.start()
+        self.addCleanup(thread.join)
+        ready.wait(MOST)
+        self.addCleanup(lambda: self.loop.call_soon_threadsafe(self.ended.set))
+
+    def wait(self, holds: Any) -> Dict[str, Any]:
+        """The first state that is so; the table is told of each."""
+        until = threading.Event()
+        for _ in range(int(MOST / 0.02)):
+            state = self.seat.state()
+            if holds(state):
+                return state
+            until.wait(0.02)
+        raise AssertionError(f"no such state: {state}")
+
+    def fetch(self, method: str, path: str, body: Any = None,
+              kind: str = "application/json") -> Tuple[int, str]:
+        """The status and the text of an answer."""
+        link = http.client.HTTPConnection("127.0.0.1", self.port, timeout=MOST)
+        try:
+            text = body if isinstance(body, (bytes, type(None))) else json.dumps(body).encode()
+            link.request(method, path, text, {"Content-Type": kind})
+            answer = link.getresponse()
+            return answer.status, answer.read().decode()
+        finally:
+            link.close()
+
+    def ask(self, what: str, token: Optional[str] = None, **given: Any) -> Tuple[int, Any]:
+        """The status and the object of an answer."""
+        status, text = self.fetch("POST", f"/{token or TOKEN}/{what}", given)
+        return status, json.loads(text)
+
+    def open(self) -> str:
+        """A new page."""
+        page: str = self.ask("open")[1]["page"]
+        self.wait(lambda state: state["phase"] == "running")
+        return page
+
+    def state(self, page: str) -> Dict[str, Any]:
+        """What the page shows."""
+        state: Dict[str, Any] = self.ask("state", page=page, after=-1)[1]
+        return state
+
+    def test_the_page_is_at_its_address_alone(self) -> None:
+        status, text = self.fetch("GET", f"/{TOKEN}/")
+        self.assertEqual(status, 200)
+        self.assertEqual(re.findall(r"(?:src|href)=\"(?!data:)|https?://(?!www.w3.org)", text), [])
+        link = http.client.HTTPConnection("127.0.0.1", self.port, timeout=MOST)
+        self.addCleanup(link.close)
+        link.request("GET", f"/{TOKEN}")
+        moved = link.getresponse()
+        self.assertEqual((moved.status, moved.getheader("Location")), (308, f"/{TOKEN}/"))
+        for path, due in (("/", 404), ("/wrong/", 403), (f"/{TOKEN}x/", 403), ("/%c3%a9/", 403),
+                          (f"/{TOKEN}/more", 404)):
+            self.assertEqual(self.fetch("GET", path)[0], due, path)
+        self.assertEqual(self.server.heard, [])
+
+    def test_a_page_that_is_opened_takes_the_seat_and_bids(self) -> None:
+        page = self.open()
+        state = self.state(page)
+        self.assertEqual((state["plays"], state["again"], len(state["clients"])), (True, True, 8))
+        status, answer = self.ask("bid", page=page, good=9, points=[[2, 70]])
+        self.assertEqual((status, answer["done"]), (200, True))
+        self.assertIn("bid 9 ((2 70))", self.server.heard)
+        self.server.refusals["bid 9"] = "@4 no belowquote 3 101 2"
+        answer = self.ask("bid", page=page, good=9, points=[[2, 80]])[1]
+        self.assertEqual((answer["done"], answer["fix"]), (False, [3, 101]))
+        self.assertTrue(self.ask("withdraw", page=page, good=20)[1]["done"])
+
+    def test_a_forged_token_and_a_stale_page_ask_nothing(self) -> None:
+        page = self.open()
+        rows = [("bid", "guessed", page, 403), ("state", "guessed", page, 403),
+                ("bid", None, "", 409), ("bid", None, "0123456789abcdef", 409),
+                ("state", None, "stale", 409), ("nothing", None, page, 404)]
+        for what, token, number, due in rows:
+            status, answer = self.ask(what, token, page=number, good=9, points=[[1, 70]])
+            self.assertEqual((status, answer["done"]), (due, False))
+            self.assertEqual(len(answer["text"].splitlines()), 1)
+        self.assertFalse(any("bid" in line for line in self.server.heard))
+
+    def test_two_browsers_at_a_seat(self) -> None:
+        first, later = self.open(), self.open()
+        self.assertEqual([self.state(first)["plays"], self.state(later)["plays"]], [True, False])
+        status, answer = self.ask("bid", page=later, good=9, points=[[1, 70]])
+        self.assertEqual((status, answer["text"]),
+                         (409, "Another browser plays this seat: take it over first."))
+        self.ask("take", page=later)
+        self.assertEqual([self.state(first)["plays"], self.state(later)["plays"]], [False, True])
+        self.assertEqual(self.ask("bid", page=first, good=9, points=[[1, 70]])[0], 409)
+        self.assertTrue(self.ask("bid", page=later, good=9, points=[[1, 70]])[1]["done"])
+
+    def test_requests_that_are_none(self) -> None:
+        page, path = self.open(), f"/{TOKEN}/bid"
+        for given in ({"good": 28}, {"good": True}, {"good": "9"}, {"good": 9, "points": [[1]]},
+                      {"good": 9, "points": [[1.5, 70]]}, {"good": 9, "points": ["1"]}):
+            status, answer = self.ask("bid", page=page, **given)
+            self.assertEqual((status, answer["done"]), (400, False), given)
+        self.assertIn("at least 1 unit", self.ask("bid", page=page, good=9, points=[])[1]["text"])
+        self.assertEqual(self.fetch("POST", path, b"[]")[0], 400)
+        self.assertEqual(self.fetch("POST", path, b"{")[0], 400)
+        self.assertEqual(self.fetch("POST", path, b"[" * 4000)[0], 400)
+        self.assertEqual(self.fetch("POST", path, b"{}", "text/plain")[0], 415)
+        self.assertEqual(self.fetch("POST", path, b"{}", "application/json; charset=utf-8")[0], 409)
+
+    def test_news_is_waited_for_by_the_version_that_the_page_has(self) -> None:
+        page = self.open()
+        with mock.patch("geesefuton.playing.seat_page.WAIT", MOST):
+            version = -1
+            for given in (None, "7", 7.5):  # none of these is a version
+                version = self.ask("state", page=page, after=given)[1]["version"]
+            self.assertGreater(self.ask("state", page=page, after=version)[1]["version"], version)
+        self.end()
+        version = self.state(page)["version"]
+        with mock.patch("geesefuton.playing.seat_page.WAIT", 0.01):  # and not longer than so
+            self.assertEqual(self.ask("state", page=page, after=version)[1]["version"], version)
+
+    def test_a_state_has_the_board_of_trips_and_the_name(self) -> None:
+        page = self.open()
+        state = self.state(page)
+        self.assertEqual((len(state["board"]["trips"]), state["me"], state["name"]),
+                         (8, 3, "red"))
+        self.server.units[0] = 2
+        self.ask("bid", page=page, good=0, points=[[2, 300]])
+        self.assertEqual([part for trip in self.state(page)["board"]["trips"]
+                          for part in trip["parts"] if part[0] == 0],
+                         [[0, HELD, None]] * 2)
+
+    def test_two_pages_are_shown_the_same_board(self) -> None:
+        first, later = self.open(), self.open()
+        threads = [threading.Thread(target=lambda: boards.append(self.state(page)["board"]))
+                   for page in (first, later) * 4]
+        boards: List[Any] = []
+        for thread in threads:
+            thread.start()
+        for thread in threads:
+            thread.join(MOST)
+        self.assertEqual(boards, [boards[0]] * 8)
+
+    def test_after_the_game_the_result_is_told_once_the_host_knows_it(self) -> None:
+        page = self.open()
+        self.table._host.has_results = True
+        self.end()
+        self.assertEqual((self.state(page)["phase"], self.state(page)["results"]), ("over", []))
+        self.assertFalse(self.table.is_told)
+        self.table.end([(f"agent {agent}", 100 * agent) for agent in range(8)])
+        self.assertEqual(self.state(page)["results"][3], ["agent 3", 300])
+        self.assertTrue(self.table.is_told)
+        page = self.ask("open", page=page)[1]["page"]
+        self.assertEqual(self.seat.phase, "over")
+        self.assertFalse(self.ask("bid", page=page, good=9, points=[[1, 70]])[1]["done"])
+
+    def test_a_page_alone_knows_its_own_score(self) -> None:
+        page = self.open()
+        self.server.cash = -7
+        self.end()
+        state = self.state(page)
+        self.assertEqual((state["results"], state["board"]["worth"]), ([], -7))
+        self.assertTrue(self.table.is_told)
+
+    def test_the_next_game_has_no_result_yet(self) -> None:
+        page = self.open()
+        self.end()
+        self.table.end([("agent 0", 1)] * 8)
+        self.server.closed = []
+        self.ask("again", page=page)
+        self.wait(lambda state: state["phase"] == "running")
+        self.assertEqual(self.state(page)["results"], [])
+
+
+class Sites(unittest.TestCase):
+    def site(self, *seats: Tuple[str, str]) -> Site:
+        host = Host("localhost", 7000, 500, "json", names={"red7k": "red", "blue4": "blue"})
+        return Site(host, seats)
+
+    def join(self, site: Site, word: str, visit: Visit) -> Tuple[str, str]:
+        """The status and the text of the answer to somebody who has a word."""
+        answer = asyncio.run(site.join(Request("POST", "/play", {}, word.encode(), visit)))
+        return answer.status[:3], answer.body.decode()
+
+    def visit(self) -> Visit:
+        visit = Gate(lambda: 0.0, 9, 9, 0, 1.0).arrive("10.0.0.7")
+        assert visit is not None
+        return visit
+
+    def test_each_seat_has_a_table_at_its_token(self) -> None:
+        site = self.site(("red7k", "a"), ("blue4", "b"))
+        self.assertEqual([(table.token, table.name) for table in site.tables],
+                         [("a", "red"), ("b", "blue")])
+        with mock.patch("geesefuton.playing.seat.Link.greet") as greet:
+            site.tables[1].seat._greet()
+        greet.assert_called_once_with("localhost", 7000, "blue4", "json")
+        self.assertEqual(site.tables[1].seat._pace, 0.5)
+
+    def test_who_has_the_word_of_a_seat_is_told_where_its_page_is(self) -> None:
+        site = self.site(("red7k", "a"))
+        self.assertEqual(self.join(site, "red7k", self.visit()), ("200", "a"))
+        made = self.join(site, "blue4", self.visit())
+        self.assertEqual(made, ("200", site.tables[1].token))
+        self.assertEqual((len(made[1]), site.tables[1].name), (10, "blue"))
+        self.assertEqual(self.join(site, "blue4", self.visit()), made)
+        self.assertEqual(len(site.tables), 2)
+
+    def test_a_wrong_word_makes_no_table_and_puts_off_the_next_one(self) -> None:
+        site, visit = self.site(), self.visit()
+        for word in ("", "red", "red7kk", "RED7K", "\u2713"):
+            self.assertEqual(self.join(site, word, visit)[0], "403")
+        self.assertEqual(site.tables, [])
+        self.assertGreater(visit._gate.put_off(visit.network, 0.0), 10.0)
+
+    def test_too_many_words_of_a_network_are_refused(self) -> None:
+        site, visit = self.site(), self.visit()
+        with mock.patch.object(visit, "whole", return_value=None):
+            self.assertEqual(self.join(site, "red7k", visit)[0], "429")
+        self.assertEqual(site.tables, [])
+
+
+if __name__ == "__main__":
+    unittest.main()

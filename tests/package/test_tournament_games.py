@@ -1,0 +1,141 @@
+"""Tournaments by the program, with agents that fail in every way."""
+
+import json
+import re
+import subprocess
+import tempfile
+import unittest
+from pathlib import Path
+
+from geesefuton.experiments.results import Outcome
+from geesefuton.experiments.runs import read_scores
+from tests.package.helpers import PACKAGE, TOP, needs_program, needs_step, run
+
+# An agent that buys the trip of its first client, and one that fails in another of four ways each
+# time that it is started.
+BUYER = """
+import sys, time
+from geesefuton.link import Link, inbound, outbound, room
+link = Link.greet(sys.argv[1], int(sys.argv[2]), sys.argv[3])
+client = link.clients[0]
+link.bid(inbound(client.arrive), (1, 600))
+link.bid(outbound(client.depart), (1, 600))
+for night in client.nights():
+    link.bid(room(0, night), (1, 200))
+while not link.quote(0).closed:
+    time.sleep(0.05)
+link.quit()
+"""
+FAILING = """
+import os, socket, sys, time
+from geesefuton.link import Link
+def made(folder):
+    try:
+        os.mkdir(folder)
+    except FileExistsError:
+        return False
+    return True
+word, count = sys.argv[3], 0
+while not made(f"{sys.argv[0]}.{count}"):
+    count += 1
+if count % 4 == 0:
+    sys.exit(0)
+if count % 4 == 1:
+    raise ValueError("before the game")
+if count % 4 == 2:
+    link = socket.create_connection((sys.argv[1], int(sys.argv[2])))
+    link.sendall(b"HELLO %s\\n" % word.encode())
+    time.sleep(60)
+link = Link.greet(sys.argv[1], int(sys.argv[2]), word)
+link.bid(0, (1, 600))
+os.abort()
+"""
+# An agent that buys a seat at once, and one that does the same but fails where the seat was dear.
+# In four games 32 of them start, so they load no more than they need.
+SEAT_BUYER = """
+import socket, sys
+lines = socket.create_connection((sys.argv[1], int(sys.argv[2]))).makefile("rw")
+def ask(line):
+    lines.write(line + "\\n")
+    lines.flush()
+    return lines.readline()
+ask("hello " + sys.argv[3])
+client = [lines.readline() for _ in range(9)][1].split()
+ask(f"bid {int(client[3]) - 1} ((1 600))")
+if sys.argv[0].endswith("quits.py") and int(ask("cash").split()[2]) < -{dear}:
+    sys.exit(1)
+while not ask("quote 0").endswith("closed\\n"):
+    pass
+ask("quit")
+"""
+
+
+@needs_step
+class InTurns(unittest.TestCase):
+    def test_an_agent_gains_nothing_by_failing_where_it_does_badly(self) -> None:
+        with tempfile.TemporaryDirectory() as folder:
+            names = ("agents/plays.py", "agents/quits.py")
+            (Path(folder) / "agents").mkdir()
+            for name in names:
+                (Path(folder) / name).write_text(SEAT_BUYER.replace("{dear}", "325"))
+            done = run("experiments.tournament", *names, "--games", "4", "--turns", "2", "--seed",
+                       "1", "--out", "run", "--summary", "s.json", cwd=folder)
+            self.assertEqual(done.returncode, 0, done.stderr)
+            value = json.loads((Path(folder) / "s.json").read_text())
+        by_name = {agent["agent"]: agent for agent in value["agents"]}
+        self.assertGreater(by_name["quits"]["ends"]["crashed"], 0)
+        self.assertGreater(by_name["quits"]["ends"]["played"], 0)
+        self.assertEqual(by_name["quits"]["score"], by_name["plays"]["score"])
+        self.assertGreater(by_name["quits"]["played"]["mean"], by_name["plays"]["played"]["mean"])
+        self.assertEqual(value["differences"][0]["score"], {"mean": 0.0, "half": 0.0, "count": 2})
+
+
+@needs_program
+class Real(unittest.TestCase):
+    def test_a_game_with_agents_that_fail(self) -> None:
+        with tempfile.TemporaryDirectory() as folder:
+            place = Path(folder)
+            (place / "buyer.py").write_text(BUYER)
+            (place / "failing.py").write_text(FAILING)
+            # Each of two has four seats. Not kept apart, the failing ones count themselves.
+            done = run("experiments.tournament", "failing.py", "buyer.py", "--no-apart", "--games",
+                       "2", "--pace", "25", "--start", "4", "--after", "0.5", "--out", "run",
+                       "--summary", "s.json", cwd=folder)
+            self.assertEqual(done.returncode, 0, done.stderr)
+            rows = read_scores(place / "run").rows
+            ends = sorted(row.end.value for row in rows if row.agent == "failing")
+            self.assertEqual(ends, sorted(2 * ["absent", "crashed", "crashed", "refused"]),
+                             done.stderr)
+            for row in rows:
+                if row.agent == "buyer":
+                    self.assertIs(row.end, Outcome.PLAYED)
+                    self.assertNotEqual(row.score, 0)
+            value = json.loads((place / "s.json").read_text())
+            self.assertEqual(value["agents"][0]["agent"], "buyer")
+            self.assertEqual(value["agents"][1]["ends"], {"absent": 2, "crashed": 4, "refused": 2})
+            log = place / "run" / "games" / "1.0.log"
+            self.assertTrue(log.read_text().startswith("taclog 1\n"))
+            self.assertTrue(re.search("failing at seat [0-7] .failing[b-d]?. counts as crashed: ended "
+                                      "with status 1; its last line: ValueError: before the game",
+                                      done.stderr))
+            made = run("experiments.deals_command", place / "run")
+            self.assertEqual((made.returncode, made.stdout, made.stderr),
+                             (0, "2 of 2 games are those of the secret\n", ""))
+            game = place / "run" / "games" / "1.1.game"
+            text = game.read_text()
+            first = next(line for line in text.split("\n") if line.startswith("endow 3"))
+            game.write_text(text.replace(first, f"endow 3 {'0 ' * 11}1"))
+            made = run("experiments.deals_command", place / "run")
+            self.assertEqual((made.returncode, made.stdout, made.stderr), (
+                1, "1 of 2 games are those of the secret\n",
+                f"deals: {game}: it is not the game of the secret\n"))
+
+    def test_it_runs_from_a_clone(self) -> None:
+        done = subprocess.run([str(TOP / "tools" / "tournament"), "--help"], check=False,
+                              stdout=subprocess.PIPE, timeout=200)
+        self.assertEqual(done.returncode, 0)
+        self.assertTrue(PACKAGE.is_dir())
+
+
+if __name__ == "__main__":
+    unittest.main()
