@@ -1,8 +1,10 @@
 -- What is said of an answer by the lines alone, by how the lines and the replies of a link were walked over.
 use Rattle.std.proofs.Common.{◌≡◌, ℕ, ◌+◌, ◌-◌, ◌≤◌, List, [], ◌∷◌, ◌++◌, Bool, true, false, ◌||◌, length, map, take, drop, Some, refl, sym, ap, ◌∙◌, subst, arith, inl, inr, ◌↔◌, ◌⊎◌, Result, nat_le, slice_get, if◌then◌else◌, count_by, length-append, take_all}
 use Rattle.std.proofs.lemmas.List.{length-map}
-use Rattle.link_audit.specs.{Board, LINE_BYTES, LINK_BYTES, SESSION_LINES, GameFile, all_answers, ended_line, LineGot, Request, RequestFault, LoggedGame, Dialect, verdict_of, AreItems, IsItem, Turn, has_left, is_leaving, item_of, said_of, welcome_lines, free_seats, Subject, AreAllowed, AreBoards, IsAhead, IsOver, IsWide, Remains, behind_turn, start, AreAnswered, AreNext, FinishesLog, HasCourse, IsDifferent, IsFirstLeft, IsLowestLeft, IsStop, behind_course, has_entry, walked, AccountsFor, HasNoLine, LeavesNothing, MayAsk, whole_lines, DiffersBehind, HasNumbers, IsDifferenceOf, IsFirstDifference, HasSeatAndLines, IsWhole, IsYes, IsYesExactlyIf, memory_replies, replies_to, HasHeard, IsAccounted, IsFinished, IsHeard, TakesSeat, lines_at}
+use Rattle.link_audit.specs.{Board, LINE_BYTES, LINK_BYTES, SESSION_LINES, GameFile, all_answers, ended_line, LineGot, Request, RequestFault, LoggedGame, Dialect, verdict_of, AreItems, IsItem, Turn, has_left, is_leaving, item_of, said_of, welcome_lines, free_seats, Subject, AreAllowed, AreBoards, IsAhead, IsOver, IsWide, Remains, behind_turn, start, AreAnswered, AreNext, FinishesLog, HasCourse, IsDifferent, IsFirstLeft, IsLowestLeft, IsStop, behind_course, has_entry, walked, AccountsFor, HasNoLine, LeavesNothing, MayAsk, whole_lines, DiffersBehind, HasNumbers, IsDifferenceOf, IsFirstDifference, HasSeatAndLines, IsWhole, IsYes, IsYesExactlyIf, memory_replies, replies_to, EndsSo, HasHeard, IsAccounted, IsEnding, IsFinished, IsHeard, HasStayed, TakesSeat, TellsMemory, lines_at}
 use Rattle.tac_io.specs.declared.line_got.LineGot.TheVariants as gots
+use Rattle.link_audit.specs.declared.causes.Ending.{Ending}
+use Rattle.link_audit.specs.declared.causes.Ending.TheVariants as endings
 use Rattle.link_audit.specs.declared.places.Places.{Places}
 use Rattle.link_audit.specs.declared.hearing.Heard.TheVariants.{Through, Gone}
 use Rattle.link_audit.specs.declared.vouching.Difference.{Difference}
@@ -147,11 +149,10 @@ left_last from (x ∷ xs) ys all left = by_first (is_leaving x) refl (λ stays. 
 
 module _ (game : GameFile) (dialect : Dialect) (log : LoggedGame) (asked said : List ℕ) where
   pub not_accounted : (difference : Difference) → ((other : ℕ) → AccountsFor game dialect log other asked said → ⊥) → IsFirstDifference game dialect log asked said difference
-      → IsAccounted game dialect log asked said (Not difference) false
+      → IsAccounted game dialect log asked said (Not difference)
   not_accounted difference none first = record {
     yes = λ other. ((λ never. absurd never), none other);
     whole = λ other w. absurd (none other w);
-    leaves = λ other w. absurd (none other w);
     numbers = λ other w. tt;
     difference = first;
   }
@@ -199,10 +200,14 @@ yes_so agent lines after memory false result is other = (subst (IsYes other) is,
 
 pub finished_so : (dialect : Dialect) (s : Subject) (asked : List ℕ) (places : Places) (at lines agent after memory : ℕ) (ended : Bool) (result : Vouching)
     → result ≡ (if ended then Whole agent lines memory else Cut agent lines after memory)
-    → HasNoLine (lines_at asked at) → ((entries : ℕ) → FinishesLog dialect s places (lines_at asked at) [] entries → entries ≡ after) → IsFinished dialect s asked ended memory (Through places at lines) result
-finished_so dialect s asked places at lines agent after memory true result is none numbers = subst (IsFinished dialect s asked true memory (Through places at lines)) (sym is) (refl, none, refl, refl)
+    → HasNoLine (lines_at asked at) → ((entries : ℕ) → FinishesLog dialect s places (lines_at asked at) [] entries → entries ≡ after) → IsFinished dialect s asked ended (Through places at lines) result
+finished_so dialect s asked places at lines agent after memory true result is none numbers = subst (IsFinished dialect s asked true (Through places at lines)) (sym is) (refl, none, refl)
 finished_so dialect s asked places at lines agent after memory false result is none numbers =
-    subst (IsFinished dialect s asked false memory (Through places at lines)) (sym is) (refl, (λ end never. absurd cc), numbers, refl)
+    subst (IsFinished dialect s asked false (Through places at lines)) (sym is) (refl, (λ end never. absurd cc), numbers)
+
+pub told_so : (agent lines after memory : ℕ) (ended : Bool) (result : Vouching) → result ≡ (if ended then Whole agent lines memory else Cut agent lines after memory) → TellsMemory memory result
+told_so agent lines after memory true result is = subst (TellsMemory memory) (sym is) refl
+told_so agent lines after memory false result is = subst (TellsMemory memory) (sym is) refl
 
 abbrev kind_of : TheLine → LineGot
 kind_of line = line.0
@@ -337,12 +342,11 @@ module _ (game : GameFile) (dialect : Dialect) (log : LoggedGame) (asked said : 
         by_kind differences.Cause lowest f = f
 
     pub through_accounted : (v : Vouching) → IsYesExactlyIf agent (IsAhead dialect TheSubject places (lines_at asked at) [] (SESSION_LINES - n)) v
-        → IsFinished dialect TheSubject asked ended memory (Through places at n) v → IsAccounted game dialect log asked said v false
-    through_accounted v is how = record {
+        → IsFinished dialect TheSubject asked ended (Through places at n) v → TellsMemory memory v → IsAccounted game dialect log asked said v
+    through_accounted v is how tells = record {
       yes = yes;
       whole = of_each (λ other w. IsWhole other v ↔ LeavesNothing w) (by_whole v is how);
-      leaves = of_each (λ other w. has_left w.heard ≡ false) stays;
-      numbers = of_each (λ other w. HasNumbers dialect.text v w.heard w.unheard) (by_numbers v how);
+      numbers = of_each (λ other w. HasNumbers dialect.text v w.heard w.unheard) (by_numbers v how tells);
       difference = by_difference v how;
     }
       where
@@ -353,43 +357,54 @@ module _ (game : GameFile) (dialect : Dialect) (log : LoggedGame) (asked said : 
         )
 
         by_whole : (u : Vouching) → IsYesExactlyIf agent (IsAhead dialect TheSubject places (lines_at asked at) [] (SESSION_LINES - n)) u
-            → IsFinished dialect TheSubject asked ended memory (Through places at n) u → (w : Account agent) → IsWhole agent u ↔ LeavesNothing w
+            → IsFinished dialect TheSubject asked ended (Through places at n) u → (w : Account agent) → IsWhole agent u ↔ LeavesNothing w
         by_whole (Whole seat count told) is' how' w = ((λ did. nothing_left w how'.1 how'.2), (λ none. (is' agent).1 (refl, heard.0.there (to_ahead agent w))))
         by_whole (Cut seat count after' told) is' how' w = ((λ never. absurd never), (λ none. how'.1 (ends_so w none) (ended_is.1 none.ended)))
         by_whole (Not difference) is' how' w = ((λ never. absurd never), (λ none. (is' agent).1 (refl, heard.0.there (to_ahead agent w))))
 
-        by_numbers : (u : Vouching) → IsFinished dialect TheSubject asked ended memory (Through places at n) u → (w : Account agent) → HasNumbers dialect.text u w.heard w.unheard
-        by_numbers (Whole seat count told) how' w = (sym (own_long w) ∙ (has.3 ∙ sym how'.0), own_memory w ∙ sym how'.3)
-        by_numbers (Cut seat count after' told) how' w =
-            (sym (own_long w) ∙ (has.3 ∙ sym how'.0), how'.2 (count_by has_entry w.unheard) (has.1 (count_by has_entry w.unheard) (own_finishes w)), own_memory w ∙ sym how'.3)
-        by_numbers (Not difference) how' w = tt
+        by_numbers : (u : Vouching) → IsFinished dialect TheSubject asked ended (Through places at n) u → TellsMemory memory u → (w : Account agent) → HasNumbers dialect.text u w.heard w.unheard
+        by_numbers (Whole seat count told) how' tells' w = (sym (own_long w) ∙ (has.3 ∙ sym how'.0), own_memory w ∙ sym tells')
+        by_numbers (Cut seat count after' told) how' tells' w =
+            (sym (own_long w) ∙ (has.3 ∙ sym how'.0), how'.2 (count_by has_entry w.unheard) (has.1 (count_by has_entry w.unheard) (own_finishes w)), own_memory w ∙ sym tells')
+        by_numbers (Not difference) how' tells' w = tt
 
-        by_difference : (u : Vouching) → IsFinished dialect TheSubject asked ended memory (Through places at n) u → IsDifferenceOf game dialect log asked said u
+        by_difference : (u : Vouching) → IsFinished dialect TheSubject asked ended (Through places at n) u → IsDifferenceOf game dialect log asked said u
         by_difference (Whole seat count told) how' = tt
         by_difference (Cut seat count after' told) how' = tt
         by_difference (Not left) how' = different game dialect log asked said line all_lines first agent t boards table replies welcome left (stopped left how')
 
+    -- what the lines show of the end of the session
+    pub through_ending : (ending : Ending) → HasStayed dialect n (lines_at asked at) ending → EndsSo game dialect log asked said ending
+    through_ending endings.Left open' = absurd open'
+    through_ending (endings.Open full over quits) open' = of_each (λ other w. IsEnding dialect w (endings.Open full over quits))
+        (λ w. (stays w, subst (λ (l : ℕ × List TheLine). HasStayed dialect l.0 l.1 (endings.Open full over quits)) (λ i. (sym (count w) i, sym (rest_lines w) i)) open'))
+      where
+        count : (w : Account agent) → length w.heard ≡ n
+        count w = sym (own_long w) ∙ has.3
+
   -- ---- the agent left
 
+  gone_leaves : (n : ℕ) → HasHeard dialect TheSubject asked from replies (Gone n) → (w : Account agent) → has_left w.heard ≡ true
+  gone_leaves n has w = has.3 (record { turns = length w.heard; left = has_left w.heard; to = walked start w.heard }) (sym (own_long w) ∙ has.2) (own_heard w)
+
+  pub gone_ending : (n : ℕ) → HasHeard dialect TheSubject asked from replies (Gone n) → EndsSo game dialect log asked said endings.Left
+  gone_ending n has = of_each (λ other w. IsEnding dialect w endings.Left) (gone_leaves n has)
+
   pub gone_accounted : (n : ℕ) → IsHeard dialect TheSubject asked from replies (Gone n) → HasHeard dialect TheSubject asked from replies (Gone n)
-      → (v : Vouching) → v ≡ (if ended then Whole agent n memory else Cut agent n 0 memory) → IsAccounted game dialect log asked said v true
+      → (v : Vouching) → v ≡ (if ended then Whole agent n memory else Cut agent n 0 memory) → IsAccounted game dialect log asked said v
   gone_accounted n heard has v is = record {
     yes = λ other. (
       (λ did. subst Account ((yes_so agent n 0 memory ended v is other).0 did) (account_by heard)),
       (λ found. (yes_so agent n 0 memory ended v is other).1 (same other found)),
     );
     whole = of_each (λ other w. IsWhole other v ↔ LeavesNothing w) (λ w. subst (λ (u : Vouching). IsWhole agent u ↔ LeavesNothing w) (sym is) (by_whole ended refl w));
-    leaves = of_each (λ other w. has_left w.heard ≡ true) leaves;
     numbers = of_each (λ other w. HasNumbers dialect.text v w.heard w.unheard) (λ w. subst (λ (u : Vouching). HasNumbers dialect.text u w.heard w.unheard) (sym is) (by_numbers ended w));
     difference = subst (IsDifferenceOf game dialect log asked said) (sym is) (by_difference ended);
   }
     where
-      leaves : (w : Account agent) → has_left w.heard ≡ true
-      leaves w = has.3 (record { turns = length w.heard; left = has_left w.heard; to = walked start w.heard }) (sym (own_long w) ∙ has.2) (own_heard w)
-
       by_whole : (b : Bool) → ended ≡ b → (w : Account agent) → IsWhole agent (if b then Whole agent n memory else Cut agent n 0 memory) ↔ LeavesNothing w
       by_whole true end w = (
-        (λ own'. record { all_heard = left_last start w.heard w.unheard (own_allowed w) (leaves w); last = inl (leaves w); ended = ended_is.0 end }),
+        (λ own'. record { all_heard = left_last start w.heard w.unheard (own_allowed w) (gone_leaves n has w); last = inl (gone_leaves n has w); ended = ended_is.0 end }),
         (λ none. refl),
       )
       by_whole false end w = ((λ never. absurd never), (λ none. absurd (let both : true ≡ false = sym (ended_is.1 none.ended) ∙ end in cc)))
@@ -404,7 +419,10 @@ module _ (game : GameFile) (dialect : Dialect) (log : LoggedGame) (asked said : 
 
   -- ---- something differs
 
+  pub different_ending : (IsAhead dialect TheSubject start all_lines replies SESSION_LINES → ⊥) → (ending : Ending) → EndsSo game dialect log asked said ending
+  different_ending none ending other w = absurd (none (to_ahead other w))
+
   pub different_accounted : (difference : Difference) → (IsAhead dialect TheSubject start all_lines replies SESSION_LINES → ⊥) → IsDifferent dialect TheSubject all_lines replies difference
-      → IsAccounted game dialect log asked said (Not difference) false
+      → IsAccounted game dialect log asked said (Not difference)
   different_accounted difference none is = not_accounted game dialect log asked said difference (λ other found. none (to_ahead other found))
       (different game dialect log asked said line all_lines first agent t boards table replies welcome difference is)

@@ -218,17 +218,26 @@ module _ (hosted : HostedGame) (one : (reply : Said) → HasNoEnd (hosted.dialec
         transcript = subst (IsTranscript agent (closed_in game log)) (sym all) l.seated.transcript;
       }
 
-  vouched_stay : (cause : Cause) → l.seated.cause ≡ cause → said ≡ sent_by turns → has_left turns ≡ false → (cause ≡ causes.WriteFault → ⊥) → (cause ≡ causes.Budget → MayUseUp asked)
-      → IsVouched game hosted.dialect log agent asked said
+  vouched_stay : (cause : Cause) → l.seated.cause ≡ cause → said ≡ sent_by turns → has_left turns ≡ false → (cause ≡ causes.Quit → ⊥) → (length turns ≡ SESSION_LINES → cause ≡ causes.Budget)
+      → (cause ≡ causes.WriteFault → ⊥) → (cause ≡ causes.Budget → MayUseUp asked) → IsVouched game hosted.dialect log agent asked said
   unfolding heard_all
-  vouched_stay cause same is stays other used = vouched_by (heard_all is) cause same (record {
+  vouched_stay cause same is stays on full other used = vouched_by (heard_all is) cause same (record {
     left = λ left. absurd (let both : true ≡ false = sym left ∙ stays in cc);
+    quit = λ quits. absurd (on quits);
+    full = λ none most. full most;
     cut = λ fault. absurd (other fault);
     used_up = used;
   })
 
-  vouched_left : l.seated.cause ≡ causes.Quit → said ≡ sent_by turns → IsVouched game hosted.dialect log agent asked said
-  vouched_left same is = vouched_by (heard_all is) causes.Quit same (record { left = λ left. refl; cut = λ other. absurd cc; used_up = λ other. absurd cc })
+  vouched_left : l.seated.cause ≡ causes.Quit → said ≡ sent_by turns → has_left turns ≡ true → IsVouched game hosted.dialect log agent asked said
+  unfolding heard_all
+  vouched_left same is leaves = vouched_by (heard_all is) causes.Quit same (record {
+    left = λ left. refl;
+    quit = λ quits. inl leaves;
+    full = λ none. absurd (let both : true ≡ false = sym leaves ∙ none in cc);
+    cut = λ other. absurd cc;
+    used_up = λ other. absurd cc;
+  })
 
   abbrev session : Session
   session = record { welcome = welcome_text game agent; turns = turns; rest = l.seated.rest; before = fresh_link asked; after = l.after }
@@ -265,6 +274,9 @@ module _ (hosted : HostedGame) (one : (reply : Said) → HasNoEnd (hosted.dialec
     few : length (answered ++ last ∷ []) ≤ SESSION_LINES
     few = subst (λ (some : List Turn). length some ≤ SESSION_LINES) parts l.seated.served.few
 
+    not_full : length answered ≡ SESSION_LINES → ⊥
+    not_full most = let less = few in let one_more = length-append answered (last ∷ []) in omega (arith, less, one_more, most)
+
     module _ (first : List TheLine) (line : TheLine) (split : lines ≡ first ++ line ∷ []) where
       split_lines : all_answers [] LINK_BYTES asked ≡ (gots.Line, l.seated.line) ∷ first ++ (line ∷ asked_lines.0)
       split_lines =
@@ -295,7 +307,9 @@ module _ (hosted : HostedGame) (one : (reply : Said) → HasNoEnd (hosted.dialec
         ended = ended;
         allowed = record {
           left = λ left. absurd (let both : true ≡ false = sym left ∙ lawful_stays answered last lawful in cc);
-          cut = λ same nothing. (let none = nothing.all_heard in cc);
+          quit = λ quits. absurd cc;
+          full = λ none most. absurd (not_full most);
+          cut = λ same none. read_line may_answer line asked_lines.0 (item_of last) own none;
           used_up = λ budget. absurd cc;
         };
       }
@@ -330,7 +344,9 @@ module _ (hosted : HostedGame) (one : (reply : Said) → HasNoEnd (hosted.dialec
             ended = ended;
             allowed = record {
               left = λ left. absurd (let both : true ≡ false = sym left ∙ stays in cc);
-              cut = λ same nothing. elim nothing.last [ inl left ↦ (let both : true ≡ false = sym left ∙ stays in cc) | inr end ↦ read_line may_answer line asked_lines.0 (item_of last) own end ];
+              quit = λ quits. absurd cc;
+              full = λ none most. absurd (not_full most);
+              cut = λ same none. read_line may_answer line asked_lines.0 (item_of last) own none;
               used_up = λ budget. absurd cc;
             };
           }
@@ -341,10 +357,10 @@ module _ (hosted : HostedGame) (one : (reply : Said) → HasNoEnd (hosted.dialec
         elim (tells last) [ inl other ↦ unheard_last found.0 found.1 found.2 found.3 found.4 other | inr memory ↦ later_last found.0 found.1 found.2 found.3 found.4 memory ]
 
   by_cause : (cause : Cause) (count : ℕ) → l.seated.cause ≡ cause → EndsFor cause text session count → HasWelcome game agent said → IsVouched game hosted.dialect log agent asked said
-  by_cause causes.Quit count same ends whole = vouched_left same (sent_is (sent_by turns) ends.1.0)
-  by_cause causes.End count same ends whole = vouched_stay causes.End same (sent_is (sent_by turns) ends.2.0) ends.0.0 (λ other. cc) (λ other. absurd cc)
-  by_cause causes.ReadFault count same ends whole = vouched_stay causes.ReadFault same (sent_is (sent_by turns) ends.1.0) ends.0.0 (λ other. cc) (λ other. absurd cc)
-  by_cause causes.Budget count same ends whole = vouched_stay causes.Budget same (sent_is (sent_by turns) ends.1.0) (stayed ends.0) (λ other. cc) (λ budget. used_up ends.0)
+  by_cause causes.Quit count same ends whole = vouched_left same (sent_is (sent_by turns) ends.1.0) ends.0
+  by_cause causes.End count same ends whole = vouched_stay causes.End same (sent_is (sent_by turns) ends.2.0) ends.0.0 (λ other. cc) (λ most. absurd (let low = ends.0.1 in omega (arith, low, most))) (λ other. cc) (λ other. absurd cc)
+  by_cause causes.ReadFault count same ends whole = vouched_stay causes.ReadFault same (sent_is (sent_by turns) ends.1.0) ends.0.0 (λ other. cc) (λ most. absurd (let low = ends.0.1 in omega (arith, low, most))) (λ other. cc) (λ other. absurd cc)
+  by_cause causes.Budget count same ends whole = vouched_stay causes.Budget same (sent_is (sent_by turns) ends.1.0) (stayed ends.0) (λ other. cc) (λ most. refl) (λ other. cc) (λ budget. used_up ends.0)
     where
       stayed : IsUsedUp session ⊎ ComesTo gots.Budget session → has_left turns ≡ false
       stayed (inl full) = full.0

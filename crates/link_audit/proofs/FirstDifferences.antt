@@ -2,9 +2,8 @@
 use Rattle.std.proofs.Common.{◌≡◌, ℕ, zero, suc, ◌+◌, ◌<◌, ◌≤◌, List, [], ◌∷◌, ◌++◌, Bool, true, false, length, map, get_or, take, drop, Option, Some, None, Result, Ok, Err, refl, sym, ap, ◌∙◌, subst, arith, inl, inr, ◌⊎◌, ◌==◌, if◌then◌else◌, slice_index, slice_index_or, codes, take-append-drop, length-take-le, eq-eqb}
 use Rattle.std.proofs.lemmas.Bool.Decides.{eqb_tells, leb_tells}
 use Rattle.std.proofs.lemmas.Option.{slice_get_within}
-use Rattle.link_audit.specs.{AGENT_CALLS, CASH_READINGS, GOODS, LINK_BYTES, SESSION_LINES, Board, Call, CashEntry, due_post, GameFile, all_answers, ended_line, LineGot, Seated, verdict_of, free_seats, Request, RequestFault, Said, said_text, json_text, IsLogged, LoggedGame, logged_history, Dialect, Item, Asks, Overlong, IsItem, Turn, Called, CallDenied, CashRead, CashDenied, Quoted, Refused, Skipped, Left, asked_call, item_of, said_of, welcome_lines, Subject, AreAllowed, AreBoards, FitsReply, HasNext, ArePostedAt, IsAhead, IsAllowed, IsAnswerTo, IsEasier, IsNextInLog, IsNote, IsOver, ReadsBy, behind, behind_call, behind_turn, calls_left, cash_caller, cash_left, entry_caller, rest_of, start, AreAnswered, AreNext, HaveTurns, IsDifferent, IsFirstLeft, IsFirstLine, IsLowestLeft, walked, AccountsFor, DiffersBehind, HasOneDifference, HasSeatAndLines, IsFirstDifference, LacksWelcome, RefutesCause}
+use Rattle.link_audit.specs.{AGENT_CALLS, CASH_READINGS, GOODS, LINK_BYTES, SESSION_LINES, Board, Call, CashEntry, due_post, GameFile, all_answers, ended_line, LineGot, Seated, verdict_of, free_seats, Request, RequestFault, Said, json_text, IsLogged, LoggedGame, logged_history, Dialect, Item, Asks, Overlong, IsItem, Turn, Called, CallDenied, CashRead, CashDenied, Quoted, Refused, Skipped, Left, asked_call, item_of, said_of, welcome_lines, Subject, AreAllowed, AreBoards, FitsReply, HasNext, ArePostedAt, IsAhead, IsAllowed, IsAnswerTo, IsEasier, IsNextInLog, IsNote, IsOver, ReadsBy, behind, behind_call, behind_turn, calls_left, cash_caller, cash_left, entry_caller, rest_of, start, AreAnswered, AreNext, HaveTurns, IsDifferent, IsFirstLeft, IsFirstLine, IsLowestLeft, walked, AccountsFor, DiffersBehind, HasOneDifference, HasSeatAndLines, IsFirstDifference, LacksWelcome, RefutesCause}
 use Rattle.auction_rules.specs.History.{Entry}
-use Rattle.line_protocol.specs.Requests.{request_of}
 use Rattle.json_dialect.specs.JsonRequests.{asks_json}
 use Rattle.tac_io.specs.declared.line_got.LineGot.TheVariants as gots
 use Rattle.line_protocol.specs.declared.asking.Request.TheVariants as requests
@@ -13,6 +12,7 @@ use Rattle.line_protocol.specs.declared.saying.Said.TheVariants as said
 use Rattle.link_audit.specs.declared.places.Places.{Places}
 use Rattle.link_audit.specs.declared.vouching.Difference.{Difference}
 use Rattle.link_audit.specs.declared.vouching.Difference.TheVariants as differences
+use Rattle.link_audit.specs.Vouchings.{json, words}
 use Rattle.link_audit.proofs.Rest.{same_position}
 use Rattle.link_audit.proofs.Easier.{easy_allowed, easy_next}
 use Rattle.link_audit.proofs.Leading.{TheLine, first_line, other_lines}
@@ -29,15 +29,9 @@ abbrev pub IsKnown : Dialect → Type 0
 IsKnown dialect = (heard : Bool) (line reply : List ℕ) (one other : Result Request RequestFault) (answer answer' : Said) → ReadsBy dialect.may_answer heard line one → ReadsBy dialect.may_answer heard line other
     → IsAnswerTo one answer → IsAnswerTo other answer' → FitsReply dialect heard reply answer → FitsReply dialect heard reply answer' → one ≡ other
 
-abbrev words : Dialect
-words = record { may_answer = λ line answer. answer ≡ request_of line; text = said_text }
-
 words_known : IsKnown words
 words_known true line reply one other answer answer' may may' to to' fits fits' = may ∙ sym may'
 words_known false line reply one other answer answer' may may' to to' fits fits' = may.0 ∙ sym may'.0
-
-abbrev json : Dialect
-json = record { may_answer = λ line answer. (answer ≡ asks_json line) ⊎ (answer ≡ Err faults.Memory); text = json_text }
 
 -- no other reply has the text of that for want of memory
 memory_alone : (answer : Said) → json_text answer ≡ codes "{\"no\":\"memory\"}" → answer ≡ said.Fault faults.Memory

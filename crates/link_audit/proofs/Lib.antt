@@ -23,3 +23,4 @@ mod MemoryReplies
 mod Accounted
 mod Judged
 mod FirstDifferences
+mod Quitting

@@ -1,9 +1,10 @@
 -- When a log is right about one link, by the bytes that it gave and those that it was sent. This project defines the two relations.
-use Rattle.std.specs.Prelude.{◌≡◌, ◌≢◌, ℕ, ◌-◌, ◌==◌, ◌<◌, ◌≤◌, ◌⊎◌, if◌then◌else◌, List, [], ◌∷◌, ◌++◌, Contains, Result, Err, Some, true, length, map, slice_get, take, count_by}
+use Rattle.std.specs.Prelude.{◌≡◌, ◌≢◌, ℕ, ◌-◌, ◌==◌, ◌<◌, ◌≤◌, ◌⊎◌, if◌then◌else◌, List, [], ◌∷◌, ◌++◌, Contains, Result, Ok, Err, Some, true, false, length, map, slice_get, take, count_by}
 use Rattle.std.specs.List.{list_any}
-use Rattle.link_audit.specs.Prelude.{LINK_BYTES, SESSION_LINES, GoesOn, GameFile, all_answers, LinkState, LineGot, Cause, Verdict, Seated, Request, RequestFault, Said, IsOneLine, ClosedGame, LoggedGame, auctions_in, gives_seat, Dialect, verdict_of, AreItems, IsTranscript, Turn, AreLawful, has_left, item_of, said_of, welcome_lines, welcome_text, free_seats, seats_given, HostedGame, hosted_game, IsSeated, PlayedGame}
+use Rattle.link_audit.specs.Prelude.{LINK_BYTES, SESSION_LINES, GoesOn, GameFile, all_answers, LinkState, LineGot, Cause, Verdict, Seated, Request, RequestFault, Said, IsOneLine, ClosedGame, LoggedGame, auctions_in, gives_seat, Dialect, verdict_of, AreItems, Asks, IsItem, IsTranscript, Turn, AreLawful, has_left, item_of, said_of, welcome_lines, welcome_text, free_seats, seats_given, HostedGame, hosted_game, IsSeated, PlayedGame}
 use Rattle.tac_io.specs.declared.line_got.LineGot.TheVariants as gots
 use Rattle.line_protocol.specs.declared.admission.Cause.TheVariants as causes
+use Rattle.line_protocol.specs.declared.asking.Request.TheVariants.{Quit}
 use Rattle.line_protocol.specs.declared.asking.RequestFault.TheVariants.{Memory}
 use Rattle.line_protocol.specs.Heads.{Head, Play, Serve}
 
@@ -107,11 +108,19 @@ pub record LeavesNothing {game : GameFile} {dialect : Dialect} {log : LoggedGame
 abbrev pub MayUseUp : List ℕ → Type 0
 MayUseUp asked = (SESSION_LINES < count_by (λ byte. byte == 10) asked) ⊎ (LINK_BYTES ≤ length asked)
 
--- A cause that the record of a link allows. If a `bye` arrived, `quit` was answered. If a write failed, something is left over. The session
--- used up its lines or its bytes only if there were as many.
+-- one of these lines may be read as `quit`
+abbrev pub AsksToLeave : Dialect → List (LineGot × List ℕ) → Type 0
+AsksToLeave dialect [] = ⊥
+AsksToLeave dialect (line ∷ lines) = IsItem (MayAsk dialect.may_answer) line (Asks (Ok Quit)) ⊎ AsksToLeave dialect lines
+
+-- A cause that the record of a link allows. If a `bye` arrived, the agent quit. It quit only if a `bye` arrived, or if a line of the session
+-- whose reply did not arrive may be read as `quit`. After 65,536 replies the session is used up. If a write failed, a line has no reply. The
+-- session used up its lines or its bytes only if there were as many.
 pub record AllowsCause {game : GameFile} {dialect : Dialect} {log : LoggedGame} {agent : ℕ} {asked said : List ℕ} (account : AccountsFor game dialect log agent asked said) (cause : Cause) : Type 0 where
   pub left : has_left account.heard ≡ true → cause ≡ causes.Quit
-  pub cut : cause ≡ causes.WriteFault → LeavesNothing account → ⊥
+  pub quit : cause ≡ causes.Quit → (has_left account.heard ≡ true) ⊎ AsksToLeave dialect (take (SESSION_LINES - length account.heard) (account.unanswered ++ account.later))
+  pub full : has_left account.heard ≡ false → length account.heard ≡ SESSION_LINES → cause ≡ causes.Budget
+  pub cut : cause ≡ causes.WriteFault → HasNoLine (account.unanswered ++ account.later) → ⊥
   pub used_up : cause ≡ causes.Budget → MayUseUp asked
 
 -- A sound log is right about a link: its lines account for the agent's whole part of the log, and its record allows the cause that the log's

@@ -1,11 +1,13 @@
 -- The result of auditing a link.
-use Rattle.std.specs.Prelude.{⊤, ◌≡◌, ℕ, ◌↔◌, List, [], ◌∷◌, ◌++◌, Contains, true, length, map, count_by}
+use Rattle.std.specs.Prelude.{⊤, ◌≡◌, ℕ, ◌↔◌, ◌⊎◌, List, [], ◌∷◌, ◌++◌, Contains, Err, true, length, map, count_by}
 use Rattle.std.specs.Str.{bytes_eq}
 use Rattle.std.specs.List.{list_any}
-use Rattle.link_audit.specs.Prelude.{Board, LINK_BYTES, GameFile, all_answers, Cause, LineGot, Seated, Said, IsLogged, LoggedGame, gives_seat, Dialect, verdict_of, Turn, said_of, welcome_lines, free_seats}
+use Rattle.link_audit.specs.Prelude.{Board, LINK_BYTES, GameFile, all_answers, Cause, LineGot, Seated, Said, IsLogged, LoggedGame, gives_seat, Dialect, json_text, said_text, verdict_of, Turn, said_of, welcome_lines, free_seats}
 use Rattle.tac_io.specs.declared.line_got.LineGot.TheVariants as gots
+use Rattle.line_protocol.specs.Requests.{request_of}
 use Rattle.line_protocol.specs.declared.asking.RequestFault.TheVariants.{Memory}
 use Rattle.line_protocol.specs.declared.saying.Said.TheVariants as said
+use Rattle.json_dialect.specs.JsonRequests.{asks_json}
 use Rattle.link_audit.specs.declared.vouching.Difference.{Difference}
 use Rattle.link_audit.specs.declared.vouching.Difference.TheVariants as differences
 use Rattle.link_audit.specs.declared.vouching.Vouching.{Vouching}
@@ -90,6 +92,13 @@ IsFirstDifference game dialect log asked said differences.Seat = (agent : ℕ) (
 IsFirstDifference game dialect log asked said differences.Welcome = LacksWelcome game log asked said
 IsFirstDifference game dialect log asked said differences.Cause = RefutesCause game dialect log asked said
 IsFirstDifference game dialect log asked said difference = DiffersBehind game dialect log asked said difference
+
+-- the two forms of lines
+abbrev pub words : Dialect
+words = record { may_answer = λ line answer. answer ≡ request_of line; text = said_text }
+
+abbrev pub json : Dialect
+json = record { may_answer = λ line answer. (answer ≡ asks_json line) ⊎ (answer ≡ Err Memory); text = json_text }
 
 -- in this form of lines, a log differs from a link at one place first
 abbrev pub HasOneDifference : Dialect → Type 0

@@ -1,9 +1,11 @@
 -- The walk over a link's lines; for private clauses.
-use Rattle.std.specs.Prelude.{⊤, ◌≡◌, ℕ, ◌+◌, ◌-◌, ◌<◌, ◌≤◌, ◌↔◌, List, [], ◌++◌, Contains, Bool, true, false, Option, MatchOption, Result, Ok, Err, drop, length, slice_range}
+use Rattle.std.specs.Prelude.{⊤, ◌≡◌, ℕ, ◌+◌, ◌-◌, ◌<◌, ◌≤◌, ◌↔◌, List, [], ◌++◌, Contains, Bool, true, false, Option, MatchOption, Result, Ok, Err, drop, length, slice_range, take}
 use Rattle.std.specs.List.{list_any}
 use Rattle.link_audit.specs.Prelude.{LINK_BYTES, SESSION_LINES, GameFile, all_answers, ended_line, BeginsWithLine, has_end, LineGot, Cause, Seated, LoggedGame, gives_seat, Dialect, verdict_of, has_left, free_seats}
 use Rattle.tac_io.specs.declared.line_got.LineGot.TheVariants as gots
 use Rattle.line_protocol.specs.declared.admission.Cause.TheVariants as causes
+use Rattle.link_audit.specs.declared.causes.Ending.{Ending}
+use Rattle.link_audit.specs.declared.causes.Ending.TheVariants as endings
 use Rattle.link_audit.specs.declared.hearing.Heard.{Heard}
 use Rattle.link_audit.specs.declared.hearing.Heard.TheVariants.{Through, Gone, Not}
 use Rattle.link_audit.specs.declared.places.Places.{Places}
@@ -14,7 +16,7 @@ use Rattle.link_audit.specs.declared.vouching.Vouching.TheVariants.{Whole, Cut}
 use Rattle.link_audit.specs.declared.vouching.Vouching.TheVariants as vouchings
 use Rattle.link_audit.specs.Ahead.{Subject, IsAhead, IsOver, IsWide, start}
 use Rattle.link_audit.specs.Courses.{Course, FinishesLog, HasCourse, IsDifferent, IsLowestLeft, IsStop, behind_course}
-use Rattle.link_audit.specs.Links.{AccountsFor, HasNoLine, LeavesNothing, MayUseUp, logged_ends, logged_verdicts, whole_lines}
+use Rattle.link_audit.specs.Links.{AccountsFor, AsksToLeave, HasNoLine, LeavesNothing, MayUseUp, logged_ends, logged_verdicts, whole_lines}
 use Rattle.link_audit.specs.Vouchings.{HasNumbers, IsDifferenceOf, IsWhole, IsYes}
 
 -- the lines of bytes from a place on
@@ -92,37 +94,64 @@ abbrev pub HasPassed : Dialect → Subject → Places → List (LineGot × List 
 HasPassed dialect s from lines used (Ok count) = (entries : ℕ) → FinishesLog dialect s from lines [] entries → entries ≡ count
 HasPassed dialect s from lines used (Err left) = IsStop dialect s from lines used left
 
--- what is answered where the replies end, by whether the last byte that was said is a line end, and by how many replies told of no memory
-abbrev pub IsFinished : Dialect → Subject → List ℕ → Bool → ℕ → Heard → Vouching → Type 0
-IsFinished dialect s asked ended memory (Through places at lines) (Whole agent count told) =
-    (count ≡ lines) × HasNoLine (lines_at asked at) × (ended ≡ true) × (told ≡ memory)
-IsFinished dialect s asked ended memory (Through places at lines) (Cut agent count after told) =
+-- what is answered where the replies end, by whether the last byte that was said is a line end
+abbrev pub IsFinished : Dialect → Subject → List ℕ → Bool → Heard → Vouching → Type 0
+IsFinished dialect s asked ended (Through places at lines) (Whole agent count memory) = (count ≡ lines) × HasNoLine (lines_at asked at) × (ended ≡ true)
+IsFinished dialect s asked ended (Through places at lines) (Cut agent count after memory) =
     (count ≡ lines) × (HasNoLine (lines_at asked at) → ended ≡ true → ⊥) × ((entries : ℕ) → FinishesLog dialect s places (lines_at asked at) [] entries → entries ≡ after)
-    × (told ≡ memory)
-IsFinished dialect s asked ended memory (Through places at lines) (vouchings.Not left) = IsStop dialect s places (lines_at asked at) lines left
-IsFinished dialect s asked ended memory heard vouching = ⊤
+IsFinished dialect s asked ended (Through places at lines) (vouchings.Not left) = IsStop dialect s places (lines_at asked at) lines left
+IsFinished dialect s asked ended heard vouching = ⊤
 
--- all that is stated about a result by the lines alone; `left` is whether the agent left by a line that was answered
-pub record IsAccounted (game : GameFile) (dialect : Dialect) (log : LoggedGame) (asked said : List ℕ) (vouching : Vouching) (left : Bool) : Type 0 where
+-- a yes tells of this many replies for want of memory
+abbrev pub TellsMemory : ℕ → Vouching → Type 0
+TellsMemory memory (Whole agent lines told) = told ≡ memory
+TellsMemory memory (Cut agent lines after told) = told ≡ memory
+TellsMemory memory (vouchings.Not difference) = ⊤
+
+-- all that is stated about a result by the lines alone
+pub record IsAccounted (game : GameFile) (dialect : Dialect) (log : LoggedGame) (asked said : List ℕ) (vouching : Vouching) : Type 0 where
   pub yes : (agent : ℕ) → IsYes agent vouching ↔ AccountsFor game dialect log agent asked said
   pub whole : (agent : ℕ) (account : AccountsFor game dialect log agent asked said) → IsWhole agent vouching ↔ LeavesNothing account
-  pub leaves : (agent : ℕ) (account : AccountsFor game dialect log agent asked said) → has_left account.heard ≡ left
   pub numbers : (agent : ℕ) (account : AccountsFor game dialect log agent asked said) → HasNumbers dialect.text vouching account.heard account.unheard
   pub difference : IsDifferenceOf game dialect log asked said vouching
 
--- a record allows this cause: the agent left by a line that was answered, or did not, and nothing is left over, or something is
-abbrev pub MayEndBy : Cause → Bool → Bool → List ℕ → Type 0
-MayEndBy causes.Quit left whole asked = ⊤
-MayEndBy causes.End left whole asked = left ≡ false
-MayEndBy causes.ReadFault left whole asked = left ≡ false
-MayEndBy causes.WriteFault left whole asked = (left ≡ false) × (whole ≡ false)
-MayEndBy causes.Budget left whole asked = (left ≡ false) × MayUseUp asked
+-- ---- the end of the session
 
--- the head of a log has a cause for the agent of a yes by which its session may have ended
-abbrev pub HasCauseFor : LoggedGame → List ℕ → Bool → Vouching → Type 0
-HasCauseFor log asked left (Whole agent lines memory) = (cause : Cause) × Contains (logged_ends log.head) (agent, cause) × MayEndBy cause left true asked
-HasCauseFor log asked left (Cut agent lines after memory) = (cause : Cause) × Contains (logged_ends log.head) (agent, cause) × MayEndBy cause left false asked
-HasCauseFor log asked left (vouchings.Not difference) = ⊤
+-- the agent did not leave by one of so many lines that were answered, behind which these lines stand
+abbrev pub HasStayed : Dialect → ℕ → List (LineGot × List ℕ) → Ending → Type 0
+HasStayed dialect answered lines endings.Left = ⊥
+HasStayed dialect answered lines (endings.Open full over quits) =
+    ((full ≡ true) ↔ (answered ≡ SESSION_LINES)) × ((over ≡ true) ↔ HasNoLine lines) × ((quits ≡ true) ↔ AsksToLeave dialect (take (SESSION_LINES - answered) lines))
+
+-- what an account shows of the end of its session
+abbrev pub IsEnding : (dialect : Dialect) {game : GameFile} {log : LoggedGame} {agent : ℕ} {asked said : List ℕ} → AccountsFor game dialect log agent asked said → Ending → Type 0
+IsEnding dialect account endings.Left = has_left account.heard ≡ true
+IsEnding dialect account (endings.Open full over quits) =
+    (has_left account.heard ≡ false) × HasStayed dialect (length account.heard) (account.unanswered ++ account.later) (endings.Open full over quits)
+
+-- each account of a link shows this of the end of its session
+abbrev pub EndsSo : GameFile → Dialect → LoggedGame → List ℕ → List ℕ → Ending → Type 0
+EndsSo game dialect log asked said ending = (agent : ℕ) (account : AccountsFor game dialect log agent asked said) → IsEnding dialect account ending
+
+-- a record that shows this allows this cause
+abbrev pub MayEndBy : Cause → Ending → List ℕ → Type 0
+MayEndBy causes.Quit endings.Left asked = ⊤
+MayEndBy causes.Quit (endings.Open full over quits) asked = quits ≡ true
+MayEndBy causes.End (endings.Open full over quits) asked = full ≡ false
+MayEndBy causes.ReadFault (endings.Open full over quits) asked = full ≡ false
+MayEndBy causes.WriteFault (endings.Open full over quits) asked = (full ≡ false) × (over ≡ false)
+MayEndBy causes.Budget (endings.Open full over quits) asked = MayUseUp asked
+MayEndBy cause endings.Left asked = ⊥
+
+-- the head of a log has a cause for this agent by which its session may have ended
+abbrev pub HasCauseOf : LoggedGame → List ℕ → Ending → ℕ → Type 0
+HasCauseOf log asked ending agent = (cause : Cause) × Contains (logged_ends log.head) (agent, cause) × MayEndBy cause ending asked
+
+-- the same for the agent of a yes
+abbrev pub HasCauseFor : LoggedGame → List ℕ → Ending → Vouching → Type 0
+HasCauseFor log asked ending (Whole agent lines memory) = HasCauseOf log asked ending agent
+HasCauseFor log asked ending (Cut agent lines after memory) = HasCauseOf log asked ending agent
+HasCauseFor log asked ending (vouchings.Not difference) = ⊤
 
 -- a first line takes the seat of an agent, which the head of the log gives to a link
 pub record TakesSeat (game : GameFile) (log : LoggedGame) (line : List ℕ) (agent : ℕ) : Type 0 where

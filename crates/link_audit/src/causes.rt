@@ -2,13 +2,29 @@
 ghost use Rattle.std.specs.Prelude.{◌≡◌, ◌↔◌, Contains, IsTrue};
 ghost use Rattle.link_audit.specs.Prelude.{Cause as EndCause};
 ghost use Rattle.link_audit.specs.Links.{MayUseUp, logged_ends};
-ghost use Rattle.link_audit.specs.Walks.{HasCauseFor, MayEndBy};
+ghost use Rattle.link_audit.specs.Walks.{HasCauseFor, HasCauseOf, MayEndBy};
 
 use crate::vouching::Vouching;
 use line_protocol::{Cause, LogHead};
 use log_reader::Log;
 use tac_base::Agent;
 use tac_base::limits::{LINK_BYTES, SESSION_LINES};
+
+/// What the record of a link shows of the end of its session.
+#[derive(Clone, Copy, Debug)]
+pub(crate) enum Ending {
+    /// The agent left by a line that was answered.
+    Left,
+    /// It did not.
+    Open {
+        /// As many lines were answered as a session may have.
+        full: bool,
+        /// Each whole line was answered.
+        over: bool,
+        /// One of the other lines of the session may be `quit`.
+        quits: bool,
+    },
+}
 
 /// Whether these bytes may use up a session.
 fn may_use_up(asked: &[u8]) -> bool
@@ -26,25 +42,37 @@ fn may_use_up(asked: &[u8]) -> bool
     ends > SESSION_LINES as usize
 }
 
-/// Whether a record allows this cause: the agent left by a line that was answered, or did not, and nothing is left over, or something is.
-fn may_end_by(cause: Cause, left: bool, whole: bool, asked: &[u8]) -> bool
-    ensures { IsTrue result ↔ MayEndBy cause left whole asked.now }
+/// Whether a record that shows this allows a cause.
+fn may_end_by(cause: Cause, ending: &Ending, asked: &[u8]) -> bool
+    ensures { IsTrue result ↔ MayEndBy cause ending.now asked.now }
 {
     match cause {
-        Cause::Quit => true,
-        Cause::End | Cause::ReadFault => !left,
-        Cause::WriteFault => !left && !whole,
-        Cause::Budget => !left && may_use_up(asked),
+        Cause::Quit => match ending {
+            Ending::Left => true,
+            Ending::Open { quits, .. } => *quits,
+        },
+        Cause::End | Cause::ReadFault => match ending {
+            Ending::Left => false,
+            Ending::Open { full, .. } => !*full,
+        },
+        Cause::WriteFault => match ending {
+            Ending::Left => false,
+            Ending::Open { full, over, .. } => !*full && !*over,
+        },
+        Cause::Budget => match ending {
+            Ending::Left => false,
+            Ending::Open { .. } => may_use_up(asked),
+        },
     }
 }
 
 /// Whether one of the ends is the agent's, for a cause that the record allows.
-fn has_end(ends: &[(Agent, Cause)], agent: Agent, left: bool, whole: bool, asked: &[u8]) -> bool
-    ensures { IsTrue result ↔ ((cause : EndCause) × Contains ends.now (agent, cause) × MayEndBy cause left whole asked.now) }
+fn has_end(ends: &[(Agent, Cause)], agent: Agent, ending: &Ending, asked: &[u8]) -> bool
+    ensures { IsTrue result ↔ ((cause : EndCause) × Contains ends.now (agent, cause) × MayEndBy cause ending.now asked.now) }
 {
     for place in 0..ends.len() {
         let (seat, cause) = ends[place];
-        if seat == agent && may_end_by(cause, left, whole, asked) {
+        if seat == agent && may_end_by(cause, ending, asked) {
             return true;
         }
     }
@@ -52,22 +80,22 @@ fn has_end(ends: &[(Agent, Cause)], agent: Agent, left: bool, whole: bool, asked
 }
 
 /// Whether the head of a log has a cause for the agent that the record allows.
-fn has_cause(log: &Log, agent: Agent, left: bool, whole: bool, asked: &[u8]) -> bool
-    ensures { IsTrue result ↔ ((cause : EndCause) × Contains (logged_ends log.now.head) (agent, cause) × MayEndBy cause left whole asked.now) }
+fn has_cause(log: &Log, agent: Agent, ending: &Ending, asked: &[u8]) -> bool
+    ensures { IsTrue result ↔ HasCauseOf log.now asked.now ending.now agent }
 {
     match log.head() {
         LogHead::Play => false,
-        LogHead::Serve { ends, .. } => has_end(ends, agent, left, whole, asked),
+        LogHead::Serve { ends, .. } => has_end(ends, agent, ending, asked),
     }
 }
 
 /// Whether the head of a log has a cause for the agent of a yes by which its session may have ended.
-pub(crate) fn has_cause_for(log: &Log, asked: &[u8], left: bool, vouching: &Vouching) -> bool
-    ensures { IsTrue result ↔ HasCauseFor log.now asked.now left vouching.now }
+pub(crate) fn has_cause_for(log: &Log, asked: &[u8], ending: &Ending, vouching: &Vouching) -> bool
+    ensures { IsTrue result ↔ HasCauseFor log.now asked.now ending.now vouching.now }
 {
     match vouching {
-        Vouching::Whole { agent, .. } => has_cause(log, *agent, left, true, asked),
-        Vouching::Cut { agent, .. } => has_cause(log, *agent, left, false, asked),
+        Vouching::Whole { agent, .. } => has_cause(log, *agent, ending, asked),
+        Vouching::Cut { agent, .. } => has_cause(log, *agent, ending, asked),
         Vouching::Not(_) => true,
     }
 }

@@ -1,12 +1,13 @@
 // Judges a log by one link.
 ghost use Rattle.std.specs.Prelude.{◌≡◌, ◌≤◌, ◌-◌, ◌↔◌, if◌then◌else◌, ℕ, [], false, IfOk, IsTrue, Some, length, slice_get};
-ghost use Rattle.link_audit.specs.{LINK_BYTES, SESSION_LINES, IsSound, HasTruePosts, IsAhead, IsTable, IsWide, subject_of, IsVouched, HasNumbers, IsDifferenceOf, IsWhole, IsWholeLink, IsYes, IsYesExactlyIf, IsAccounted, IsFinished, lines_at};
+ghost use Rattle.link_audit.specs.{LINK_BYTES, SESSION_LINES, IsSound, HasTruePosts, IsAhead, IsTable, IsWide, subject_of, IsVouched, HasNumbers, IsDifferenceOf, IsWhole, IsWholeLink, IsYes, IsYesExactlyIf, EndsSo, IsAccounted, IsFinished, TellsMemory, lines_at};
 ghost use Rattle.link_audit.specs.declared.hearing.Heard.TheVariants.{Through};
 
-use crate::causes::has_cause_for;
+use crate::causes::{Ending, has_cause_for};
 use crate::greeting::{behind_welcome, seat_of};
 use crate::hearing::{Heard, hear};
 use crate::known::KnownDialect;
+use crate::leaving::open_ending;
 use crate::lines::line_end;
 use crate::passing::pass;
 use crate::places::Places;
@@ -19,11 +20,11 @@ use log_reader::Log;
 use std::alloc::Global;
 use tac_base::{Agent, Board, Memory};
 
-/// The result for a link by its lines alone, and whether the agent left by a line that was answered.
+/// The result for a link by its lines alone, and what they show of the end of its session.
 #[derive(Clone, Copy, Debug)]
 struct Accounted {
     vouching: Vouching,
-    left: bool,
+    ending: Ending,
 }
 
 /// The result for a link about which the log is right, once no line without a reply is left: whole, if the last byte sent to the agent is a
@@ -76,7 +77,8 @@ fn finish<D: KnownDialect>(
     requires wide { IsWide places.now }
     requires few { lines ≤ SESSION_LINES }
     ensures yes { IfOk result (IsYesExactlyIf agent (IsAhead (D.form dialect.now) (subject_of log.now boards.now agent) places.now (lines_at asked.now at) [] (SESSION_LINES - lines))) }
-    ensures how { IfOk result (IsFinished (D.form dialect.now) (subject_of log.now boards.now agent) asked.now ended memory (Through places.now at lines)) }
+    ensures how { IfOk result (IsFinished (D.form dialect.now) (subject_of log.now boards.now agent) asked.now ended (Through places.now at lines)) }
+    ensures told { IfOk result (TellsMemory memory) }
 {
     match pass(log, boards, agent, dialect, asked, at, places, lines)? {
         Ok(after) => match line_end(asked, at) {
@@ -94,11 +96,11 @@ fn finish<D: KnownDialect>(
 
 /// The result for a link that differs here.
 fn unlike(difference: Difference) -> Accounted
-    ensures { result ≡ record { vouching = Vouching.Not difference; left = false } }
+    ensures { result ≡ record { vouching = Vouching.Not difference; ending = Ending.Left } }
 {
     Accounted {
         vouching: Vouching::Not(difference),
-        left: false,
+        ending: Ending::Left,
     }
 }
 
@@ -113,7 +115,8 @@ fn account<D: KnownDialect>(
 ) -> Result<Accounted, Memory>
     requires sound { IsSound game.now log.now }
     requires short { length asked.now ≤ LINK_BYTES }
-    ensures { IfOk result (λ found. IsAccounted game.now (D.form dialect.now) log.now asked.now said.now found.vouching found.left) }
+    ensures lines { IfOk result (λ found. IsAccounted game.now (D.form dialect.now) log.now asked.now said.now found.vouching) }
+    ensures ending { IfOk result (λ found. EndsSo game.now (D.form dialect.now) log.now asked.now said.now found.ending) }
 {
     // The log is in its ranges, and has no flaw.
     let _head = log.head();
@@ -135,14 +138,12 @@ fn account<D: KnownDialect>(
             let vouching = finish(
                 log, &boards, agent, dialect, asked, at, &places, lines, memory, ended,
             )?;
-            Ok(Accounted {
-                vouching,
-                left: false,
-            })
+            let ending = open_ending(dialect, asked, at, lines)?;
+            Ok(Accounted { vouching, ending })
         }
         Heard::Gone { lines } => Ok(Accounted {
             vouching: vouched(agent, lines, 0, memory, ended),
-            left: true,
+            ending: Ending::Left,
         }),
         Heard::Not(difference) => Ok(unlike(difference)),
     }
@@ -172,7 +173,7 @@ pub fn vouch<D: KnownDialect>(
     ensures difference { IfOk result (IsDifferenceOf game.now (D.form dialect.now) log.now asked.now said.now) }
 {
     let found = account(alloc, game, log, dialect, asked, said)?;
-    if has_cause_for(log, asked, found.left, &found.vouching) {
+    if has_cause_for(log, asked, &found.ending, &found.vouching) {
         Ok(found.vouching)
     } else {
         Ok(Vouching::Not(Difference::Cause))

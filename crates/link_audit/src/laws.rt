@@ -1,9 +1,6 @@
 // Laws about links and what their far ends saw.
-ghost use Rattle.std.specs.Prelude.{◌≡◌, ◌⊎◌, Err};
-ghost use Rattle.line_protocol.specs.Requests.{request_of};
-ghost use Rattle.line_protocol.specs.declared.asking.RequestFault.TheVariants.{Memory};
-ghost use Rattle.json_dialect.specs.JsonRequests.{asks_json};
-ghost use Rattle.link_audit.specs.{Said, IsOneLine, said_text, json_text, VouchesForLinks, HasOneDifference};
+ghost use Rattle.link_audit.specs.{Said, IsOneLine, said_text, json_text, VouchesForLinks};
+ghost use Rattle.link_audit.specs.Vouchings.{HasOneDifference, json, words};
 
 use agent_gate::Dialect;
 
@@ -21,6 +18,6 @@ pub fn line_replies()
 
 /// The law of first differences, as this call's contract: a log differs from a link at one place first, in words and in JSON.
 pub fn first_differences()
-    ensures words { HasOneDifference (record { may_answer = λ line answer. answer ≡ request_of line; text = said_text }) }
-    ensures json { HasOneDifference (record { may_answer = λ line answer. (answer ≡ asks_json line) ⊎ (answer ≡ Err Memory); text = json_text }) }
+    ensures words { HasOneDifference words }
+    ensures json { HasOneDifference json }
 {}

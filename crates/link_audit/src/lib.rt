@@ -10,6 +10,7 @@ mod hearing;
 mod judging;
 mod known;
 mod laws;
+mod leaving;
 mod leftovers;
 mod lines;
 mod next;

@@ -13,8 +13,9 @@ pub enum Difference {
     Entry { good: Good, position: u32 },
     /// The same for this entry of the agent in the cash history; no entry is left over at any good.
     Cash(u32),
-    /// The cause of the session's end is not one that the record allows: another than `quit` although the `bye` arrived, a failed write although
-    /// nothing is left over, or a used-up budget of more lines and bytes than there are.
+    /// The cause of the session's end is not one that the record allows: another than `quit` although the `bye` arrived, `quit` although no line
+    /// without a reply asks for it, another than a used-up budget although 65,536 lines were answered, a failed write although each line was
+    /// answered, or a used-up budget of more lines and bytes than there are.
     Cause,
 }
 

@@ -40,7 +40,7 @@ const LINKS: &[(&str, &str, u8, &str, u8, &str)] = &[
     // A reply that did not arrive, or not whole.
     (
         WORDS,
-        "hello seat2\nbid 24 ((1 70))\n",
+        "hello seat2\nbid 24 ((1 70))\nquit\n",
         2,
         "",
         0,
@@ -48,7 +48,7 @@ const LINKS: &[(&str, &str, u8, &str, u8, &str)] = &[
     ),
     (
         WORDS,
-        "hello seat2\nbid 24 ((1 70))\n",
+        "hello seat2\nbid 24 ((1 70))\nquit\n",
         2,
         "@2 take",
         0,
@@ -120,6 +120,14 @@ const LINKS: &[(&str, &str, u8, &str, u8, &str)] = &[
         "vouched 2 cut 1 1 memory 1\n",
     ),
     // Causes that the record does not allow, and some that it does.
+    (
+        WORDS,
+        "hello seat2\nbid 24 ((1 70))\n",
+        2,
+        "@2 taken 1 0\n",
+        9,
+        "unvouched cause\n",
+    ),
     (
         "vouch game ended asked said",
         "hello seat2\nbid 24 ((1 70))\nquit\n",

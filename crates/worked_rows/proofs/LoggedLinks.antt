@@ -1,5 +1,5 @@
 -- Links of agent 2, which bought two seats and read its cash, and the log of that game: each session ended for another cause.
-use Rattle.std.proofs.Common.{◌≡◌, ℕ, zero, suc, List, [], ◌∷◌, ◌++◌, length, refl, arith, inl, inr, Some, codes, replicate, slice_get}
+use Rattle.std.proofs.Common.{◌≡◌, ℕ, zero, suc, true, false, List, [], ◌∷◌, ◌++◌, length, refl, arith, inl, inr, Some, codes, replicate, slice_get}
 use Rattle.std.specs.Fmt.{digits}
 use Rattle.tac_base.specs.Numerals.{numeral, signed_numeral}
 use Rattle.game_text.specs.QuietGames.{quiet_game}
@@ -251,7 +251,7 @@ quit_was_answered = record {
 a_bye_is_of_quit_alone : AllowsCause quit_was_answered causes.Quit × (AllowsCause quit_was_answered causes.End → ⊥) × (AllowsCause quit_was_answered causes.Budget → ⊥)
 unfolding quit_was_answered
 a_bye_is_of_quit_alone = (
-  record { left = λ bye. refl; cut = λ other. absurd cc; used_up = λ other. absurd cc },
+  record { left = λ bye. refl; quit = λ same. inl refl; full = λ stays. absurd (let both : true ≡ false = stays in cc); cut = λ other. absurd cc; used_up = λ other. absurd cc },
   (λ allowed. let other = allowed.left refl in cc),
   (λ allowed. let other = allowed.left refl in cc),
 )
@@ -282,9 +282,14 @@ no_fault_and_no_budget : LeavesNothing all_was_answered × (AllowsCause all_was_
 unfolding all_was_answered quiet_game digits
 no_fault_and_no_budget = (
   record { all_heard = refl; last = inr (inl refl); ended = refl },
-  (λ allowed. allowed.cut refl (record { all_heard = refl; last = inr (inl refl); ended = refl })),
+  (λ allowed. allowed.cut refl (inl refl)),
   (λ allowed. elim (allowed.used_up refl) [ inl lines ↦ omega (arith, lines) | inr bytes ↦ omega (arith, bytes) ]),
 )
+
+-- nor did the agent quit
+no_quit : AllowsCause all_was_answered causes.Quit → ⊥
+unfolding all_was_answered quiet_game digits
+no_quit allowed = elim (allowed.quit refl) [ inl bye ↦ (let other = bye in cc) | inr asks ↦ elim asks [ inl is ↦ is | inr more ↦ more ] ]
 
 -- of two replies one says that there was no memory
 memory_is_counted : memory_replies json.text (codes "{\"no\":\"memory\"}" ∷ codes "{\"bye\":true}" ∷ []) ≡ 1

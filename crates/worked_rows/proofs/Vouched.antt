@@ -148,7 +148,7 @@ link_is_vouched_for = record {
   account = lines_account_for_the_log;
   cause = causes.End;
   ended = (0, omega arith, refl);
-  allowed = record { left = λ bye. absurd cc; cut = λ other. absurd cc; used_up = λ other. absurd cc };
+  allowed = record { left = λ bye. absurd cc; quit = λ other. absurd cc; full = λ stays most. absurd (omega (arith, most)); cut = λ other. absurd cc; used_up = λ other. absurd cc };
 }
 
 -- ---- links that are not vouched for, whatever the rest

@@ -6,5 +6,5 @@ use Rattle.link_audit.proofs.causes.has_cause.Goals as goal
 pub returns-in-Serve : goal.returns-in-Serve
 returns-in-Serve c =
     let ends : logged_ends c.args.log.now.head ≡ c.in-Serve.ends.items = ap logged_ends (sym c.head.ensures.value ∙ ap head_of c.in-Serve.is) in
-    subst (λ (l : List (ℕ × Cause)). IsTrue c.has_end.result ↔ ((cause : Cause) × Contains l (c.args.agent, cause) × MayEndBy cause c.args.left c.args.whole c.args.asked.now))
+    subst (λ (l : List (ℕ × Cause)). IsTrue c.has_end.result ↔ ((cause : Cause) × Contains l (c.args.agent, cause) × MayEndBy cause c.args.ending.now c.args.asked.now))
     (c.deref.ensures.value ∙ sym ends) c.has_end.ensures
