@@ -56,6 +56,8 @@ print(json.dumps({
     "outside": tried(lambda: connected(given["port"])),
     "others": tried(others), "marked": tried(marked),
     "shared": [ctypes.CDLL(None).shmget(77, 4096, 0o600 | flag) >= 0 for flag in (0, 0o1000)],
+    "key": ctypes.CDLL(None).syscall(248 if os.uname().machine == "x86_64" else 217, b"user",
+                                     b"spy", b"x", 1, -3),
     "set": tried(lambda: open("/proc/sys/kernel/panic", "a").close()), "process": os.getpid(),
     "link": tried(lambda: connected(int(sys.argv[2]))),
 }))
@@ -190,12 +192,13 @@ class Apart(Places):
                 self.assertEqual(
                     {name: seen[name] for name in ("run", "own", "beside", "written",
                                                    "temporary", "memory", "outside", "process",
-                                                   "others", "link", "marked", "shared", "set")},
+                                                   "others", "link", "marked", "shared", "set",
+                                                   "key")},
                     {"run": "FileNotFoundError", "own": SPY[:3], "beside": "data",
                      "written": "OSError", "temporary": [],
                      "memory": "MemoryError", "outside": "ConnectionRefusedError",
                      "process": 2, "others": 0, "link": "hi", "marked": ["/dev/shm", "/tmp"],
-                     "shared": [False, True], "set": "OSError"})
+                     "shared": [False, True], "set": "OSError", "key": -1})
                 self.assertNotIn(".bashrc", seen["home"])
 
     def test_an_agent_that_ends_all_that_it_can_has_only_crashed(self) -> None:
