@@ -153,7 +153,7 @@ class InTheGame(Case):
         self.assertEqual((lines[0]["pace"], lines[0]["form"]), (10, "words"))
         told = [(line["tick"], line["t"]) for line in lines if "tick" in line]
         self.assertEqual([tick for tick, _ in told], [0, *numbers])
-        self.assertTrue(all(10 * tick <= at for tick, at in told))
+        self.assertTrue(all(10 * tick - 5 <= at for tick, at in told))
         self.assertEqual({**lines[-1], "t": 0}, {"over": 0, "t": 0})
 
     def test_orders_come_at_any_time(self) -> None:

@@ -228,8 +228,6 @@ class WholeGame(unittest.TestCase):
         self.assertEqual([agent["name"] for agent in last["agents"]], NAMES)
         self.assertEqual([agent["score"] for agent in last["agents"]],
                          [[row.best, row.cash, row.short, row.score] for row in log.scores])
-        self.assertEqual(last["traded"], sum(len(entry.trades) for good in TICKETS
-                                             for entry in log.histories[good]))
         text = json.dumps(states)
         self.assertFalse([word for word in WORDS if word in text])
 
