@@ -46,6 +46,7 @@ def bid(tab: Tab, tile: str, button: str, sell: bool = False, kind: str = "butto
     has_tapped = tab.tap("dialog button", button)
     is_seen(lambda: not tab.value("document.querySelector('dialog').open")
             or tab.value("document.getElementById('refused').textContent"), SOON)
+    tab.tap("dialog button", "^Close$")  # if it is open still, as where the auction has closed
     return has_tapped
 
 

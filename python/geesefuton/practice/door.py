@@ -63,8 +63,8 @@ class Handed(socket.socket):
         """Closes it, and the links that nobody took."""
         super().close()
         self._writing.close()
-        for link, _ in self._links:
-            link.close()
+        while self._links:  # the door may still put one in
+            self._links.popleft()[0].close()
 
 
 @dataclass
