@@ -394,7 +394,7 @@ fn a_link_that_fails_ends_its_session(rt: HostRuntime) {
     check_faulty(&rt);
 }
 
-// Prints how a run ended if a word of one byte follows the test's name, as in checks/refused_memory.py: its code, and how many lines
+// Prints how a run ended if a word of one byte follows the test's name, as in tests/program/refused_memory.py: its code, and how many lines
 // its links were sent; its text; and what each link that it gave back was sent. A form feed follows each part.
 fn tell<R: Env + Print + Abort>(
     rt: &R,

@@ -91,7 +91,7 @@ impl Files for GivenFiles<'_, '_, '_> {
     }
 }
 
-// A size that no other growth has. A run lies between two growths of it, so that checks/refuse.c refuses none outside.
+// A size that no other growth has. A run lies between two growths of it, so that tests/program/refuse.c refuses none outside.
 const MARK: usize = 76_543;
 
 fn mark<R: Abort + AllocGlobal>(rt: &R) {
