@@ -136,6 +136,12 @@ class Answering(Case):
             with contextlib.suppress(ConnectionError):
                 self.assertEqual(self.get(head)[0], due)
 
+    def test_a_head_of_thousands_of_lines_is_not_split(self) -> None:
+        for lines, due in ((97, "HTTP/1.1 200 OK"), (16000, "")):
+            head = b"GET / HTTP/1.1\r\n" + b"a:\r\n" * lines + b"\r\n"
+            with contextlib.suppress(ConnectionError):
+                self.assertEqual(self.get(head)[0], due)
+
     def test_a_link_with_a_token_is_kept(self) -> None:
         async def work(port: int) -> List[bytes]:
             reader, writer = await self.open(port)

@@ -27,6 +27,7 @@ KEPT = 4  # one place of so many is kept for those who have a token, and for thi
 OTHERS = 48  # open files that the rest of the process may need
 AT_ONCE = 16  # links that are taken before others are served
 MOST_HEAD = 1 << 16  # bytes of a request's head, which has the cookies of the host's other servers
+MOST_LINES = 100  # of a head
 MOST_BODY = 4096  # bytes of its body
 FIRST = 3.0  # seconds for the head of a link's first request
 PATIENCE = 15.0  # seconds for a body, for a piece of an answer, and until the next head is whole
@@ -242,6 +243,8 @@ async def _read(reader: asyncio.StreamReader, writer: asyncio.StreamWriter, visi
     """
     with _within(seconds, writer):
         head = await reader.readuntil(b"\r\n\r\n")
+    if head.count(b"\n") > MOST_LINES:  # thousands of them would hold up all others
+        raise asyncio.LimitOverrunError("many lines", 0)
     first, *lines = head[:-4].decode("latin-1").split("\r\n")
     parts = [line.partition(":") for line in lines]
     fields = {name.lower(): value.strip() for name, _, value in parts}
