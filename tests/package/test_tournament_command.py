@@ -99,7 +99,7 @@ class Commands(unittest.TestCase):
         with mock.patch("geesefuton.experiments.plan.tell") as tell:
             plan = plan_of("sh", "cat", "--games", "3")
             self.assertEqual((plan.games, plan.rotations), (4, 2))
-            self.assertIn("playing 4 games", tell.call_args[0][0])
+            self.assertIn("playing 4 games", str(tell.call_args_list))
             self.assertEqual(plan_of().games, 6)  # three agents
             many = [f"sh {number}" for number in range(20)]
             for words, games, rotations in ((["sh", "cat", "ls"], 4, 3), (["sh", "cat"], 4, 2),
