@@ -210,8 +210,8 @@ def spent_in_a_game(is_by_hand: bool, folder: Path, before: List[str]) -> Spent:
         host = children.start([*before, *words], stdin=subprocess.DEVNULL,
                               stdout=subprocess.DEVNULL, stderr=subprocess.DEVNULL)
         for number in range(8 if is_by_hand else 0):
-            threading.Thread(target=play_by_hand, args=(f"http://127.0.0.1:{page}/", f"seat{number}"),
-                             daemon=True).start()
+            threading.Thread(target=play_by_hand, daemon=True, args=(
+                f"http://127.0.0.1:{page}/", f"seat{number}")).start()
         for number in range(0 if is_by_hand else 8):
             children.start([sys.executable, "-c", PROBE, str(port), f"seat{number}", "1000000",
                             str(1 / OFTEN)], stdout=subprocess.DEVNULL, stderr=subprocess.DEVNULL)

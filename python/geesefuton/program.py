@@ -20,9 +20,9 @@ from typing import Any, Iterator, List, Optional, Sequence, Set, Tuple, Union
 
 __all__ = [
     "INPUT", "LEAST_LIBRARY", "MEANINGS", "OK", "CLOCK", "REFUSED", "STOPPING", "UNSOUND",
-    "CommandError", "ProgramError", "audit", "ended", "examples", "exit_status", "find", "find_runnable",
-    "library", "make", "moved", "nameless_file", "play", "run", "served_words", "show", "solve",
-    "start", "table", "top", "upgrade", "vouch", "why_not_run", "worth",
+    "CommandError", "ProgramError", "audit", "ended", "examples", "exit_status", "find",
+    "find_runnable", "library", "make", "moved", "nameless_file", "play", "run", "served_words",
+    "show", "solve", "start", "table", "top", "upgrade", "vouch", "why_not_run", "worth",
 ]
 
 Word = Union[str, int, "os.PathLike[str]"]

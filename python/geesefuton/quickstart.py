@@ -1,7 +1,7 @@
 """Plays a game of eight small agents over links, and shows their output and the scores.
 
-The game is drawn from a secret, and its seed is shown in the end. It uses the file that the variable TAC names, or else the proved program if it is built, or else the
-toolchain's quick run.
+The game is drawn from a secret, and its seed is shown in the end. It uses the file that the
+variable TAC names, or else the proved program if it is built, or else the toolchain's quick run.
 """
 
 import os

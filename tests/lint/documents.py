@@ -50,10 +50,15 @@ def wide_lines(text: str) -> Iterator[int]:
 def places() -> Iterator[str]:
     """The files, folders and calls that the documents name exist: a path in backquotes that begins
     with a folder of the repository, and `NAME` (`PATH`), a call, a type or a definition of that
-    file, where PATH may leave out `crates/`. No line of prose has more than 100 columns."""
+    file, where PATH may leave out `crates/`. No line of prose or of a script has more than 100
+    columns."""
     for file in files("*.md", "docs/*.md", "examples/**/*.md", "python/*.md"):
         text = text_of(file)
         for fault in (*missing_paths(text), *missing_calls(text)):
             yield f"{name_of(file)}: {fault}"
         for number in wide_lines(text):
             yield f"{name_of(file)}:{number}: wider than {WIDTH} columns"
+    for file in files("**/*.py", "**/*.js", "**/*.mjs", "**/*.css", "tests/run", "tests/soak/run"):
+        for number, line in enumerate(text_of(file).splitlines(), 1):
+            if len(line) > WIDTH:
+                yield f"{name_of(file)}:{number}: wider than {WIDTH} columns"

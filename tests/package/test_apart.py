@@ -65,7 +65,7 @@ sys.exit(3)
 """
 
 
-# What stands in /tmp in a sandbox: the Python that runs the tests may.
+# The folder in /tmp that each sandbox shows, if the Python that runs the tests is installed there.
 HELD = {Path(sys.prefix).parts[2]} if sys.prefix.startswith("/tmp/") else set()
 
 
@@ -142,8 +142,9 @@ class Shared(Places):
                              (3, "red", "5", SPY[:3], "hi"))
 
     def test_an_agent_that_does_not_end_is_killed_with_all_that_it_has_started(self) -> None:
-        (self.own / "spy.py").write_text("import os, time\nif os.fork() == 0:\n    time.sleep(600)\n"
-                                         "print(os.getpgid(0), flush=True)\ntime.sleep(600)\n")
+        (self.own / "spy.py").write_text("import os, time\nif os.fork() == 0:\n"
+                                         "    time.sleep(600)\nprint(os.getpgid(0), flush=True)\n"
+                                         "time.sleep(600)\n")
         process, = self.seated(self.spy)
         reading, writing = os.pipe()
         with open(reading, "rb") as printed, open(writing, "wb") as out:

@@ -5,8 +5,8 @@ from typing import List, Tuple
 
 from geesefuton.experiments import study
 from geesefuton.experiments.comparisons import (Estimate, bonferroni_halves, estimate, groups_of,
-                                                holm, mean_of, signed_rank_p, student_outside, student_p,
-                                                student_quantile)
+                                                holm, mean_of, signed_rank_p, student_outside,
+                                                student_p, student_quantile)
 from tests.package.helpers import needs_study
 
 if not study.missing("comparing with scipy"):

@@ -71,14 +71,15 @@ class Lucks(unittest.TestCase):
     def test_it_is_the_best_of_all_trips(self) -> None:
         for clients in served_game().clients:
             for client in clients:
-                gains = [client.worth(package) - sum(covariates.PRICES[good] for good in package.goods())
+                gains = [client.worth(package)
+                         - sum(covariates.PRICES[good] for good in package.goods())
                          for package in PACKAGES]
                 self.assertEqual(best_trip(client), max(0, *gains))
 
     def test_each_good_has_its_price(self) -> None:
-        self.assertEqual((covariates.SEAT, covariates.SHANTIES, covariates.TOWERS, covariates.TICKET), (350, 80, 120, 80))
-        prices = [covariates.SEAT] * 8 + [covariates.SHANTIES] * 4 + [covariates.TOWERS] * 4 + [covariates.TICKET] * 12
-        self.assertEqual(list(covariates.PRICES), prices)
+        self.assertEqual((covariates.SEAT, covariates.SHANTIES, covariates.TOWERS,
+                          covariates.TICKET), (350, 80, 120, 80))
+        self.assertEqual(list(covariates.PRICES), [350] * 8 + [80] * 4 + [120] * 4 + [80] * 12)
 
 
 if __name__ == "__main__":

@@ -435,7 +435,8 @@ class Games(unittest.TestCase):
             told = environment.step({agents[6]: ["bid 15 ((2 7))"]})
             self.assertEqual({agent: info["hindsight"] for agent, info in told[-1].items()}, scores)
             last = rest(environment)
-            self.assertEqual({agent: info["hindsight"] for agent, info in last[-1].items()}, last[1])
+            self.assertEqual({agent: info["hindsight"] for agent, info in last[-1].items()},
+                             last[1])
             self.assertEqual(last[1], scores)
             self.assertEqual(environment.log, played(environment))
 

@@ -102,8 +102,9 @@ class Texts(unittest.TestCase):
         self.assertEqual(list(first), ["what", "agent", "other", "mean", "half", "adjusted",
                                        "adjusted_half", "deals", "seats", "played", "absent",
                                        "crashed", "hung", "killed", "refused", "luck",
-                                       "played_mean", "played_half", "paired_by", "left_out", "all_pairs_half",
-                                       "student_p", "holm_p", "wilcoxon_p", "deals_needed"])
+                                       "played_mean", "played_half", "paired_by", "left_out",
+                                       "all_pairs_half", "student_p", "holm_p", "wilcoxon_p",
+                                       "deals_needed"])
         self.assertEqual([first["luck"], second["luck"], second["mean"], second["adjusted"],
                           second["adjusted_half"]], ["10.67", "5.33", "6.33", "9.0", "0.0"])
         self.assertEqual((pair["seats"], pair["luck"], pair["mean"]), ("", "", "13.0"))
@@ -137,11 +138,12 @@ class Texts(unittest.TestCase):
 
     def test_several_pairs_have_columns_that_allow_for_all(self) -> None:
         rows = [row(str(deal), 0, seat, agent, score + deal * (seat + 1) % 3)
-                for deal in range(4) for seat, (agent, score) in enumerate(zip("abc", (90, 50, 50)))]
+                for deal in range(4)
+                for seat, (agent, score) in enumerate(zip("abc", (90, 50, 50)))]
         summary = summarize(rows)
         lines = [" ".join(line.split()) for line in as_text(summary).splitlines()]
-        self.assertEqual(lines[7], "difference, by games mean all pairs adjusted for the draw deals "
-                                   "p (Student) p (Holm) p (Wilcoxon)")
+        self.assertEqual(lines[7], "difference, by games mean all pairs adjusted for the draw "
+                                   "deals p (Student) p (Holm) p (Wilcoxon)")
         self.assertRegex(lines[8], r"^a less b 40 \+- \d+ \+- \d+ - 4 0\.000 0\.000 0\.125$")
         self.assertEqual(lines[11:13], [
             "all pairs: intervals that together hold for all 3 comparisons (Bonferroni); p (Holm) "

@@ -56,8 +56,9 @@ class Package(unittest.TestCase):
         self.assertIn(f'requires-python = ">={OLDEST[0]}.{OLDEST[1]}"',
                       (PACKAGE / "pyproject.toml").read_text())
         bad: List[str] = []
-        files = [*PACKAGE.rglob("*.py"), *(TOP / "tests").rglob("*.py"), *(TOP / "docs").glob("*.py"),
-                 *(TOP / "examples").rglob("*.py"), *(TOP / "bench").glob("*.py")]
+        files = [*PACKAGE.rglob("*.py"), *(TOP / "tests").rglob("*.py"),
+                 *(TOP / "docs").glob("*.py"), *(TOP / "examples").rglob("*.py"),
+                 *(TOP / "bench").glob("*.py")]
         self.assertGreater(len(files), 60)
         for file in files:
             tree = ast.parse(file.read_text(encoding="utf-8"), str(file), feature_version=OLDEST)

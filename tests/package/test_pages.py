@@ -376,8 +376,8 @@ class Style(unittest.TestCase):
             file = Path(folder, "a.html")
             file.write_text("<title>A</title>")
             text = read_page(file).decode()
-        self.assertRegex(text, r"(?s)^<!doctype html>\n.*<style>\n:root \{.*\}\n</style>\n<script>\n"
-                               r"\"use strict\";\n.*;\n</script>\n<title>A</title>$")
+        self.assertRegex(text, r"(?s)^<!doctype html>\n.*<style>\n:root \{.*\}\n</style>\n"
+                               r"<script>\n\"use strict\";\n.*;\n</script>\n<title>A</title>$")
 
 
 if __name__ == "__main__":

@@ -155,8 +155,9 @@ class Tables(unittest.TestCase):
         for deal in "12":
             for number, profile in enumerate(needed_profiles(3, 4)):
                 seats = [place for place, count in enumerate(profile) for _ in range(count)]
-                rows += [Row(deal, number, seat, "abc"[place], 1000 - 10 * (profile[place] - 1) ** 2,
-                             Outcome.PLAYED, 0) for seat, place in enumerate(seats)]
+                rows += [Row(deal, number, seat, "abc"[place],
+                             1000 - 10 * (profile[place] - 1) ** 2, Outcome.PLAYED, 0)
+                         for seat, place in enumerate(seats)]
         found = find(4, Payoffs(list("abc"), 4, rows).samples(), resamples=1)
         self.assertEqual(len(found.equilibria), 1)
         for share in found.equilibria[0].mixture:

@@ -100,7 +100,8 @@ class Scores(unittest.TestCase):
                                    for agent in range(8)))
         told = {row[1]: row[8] for row in table_of(text_of(log), "Scores")[1:]}
         self.assertEqual([told[word] for word in GAME.words[:5]], [
-            "played to the end", "left without quit", "lost its link", "lost its link", "used up its lines"])
+            "played to the end", "left without quit", "lost its link", "lost its link",
+            "used up its lines"])
 
     def test_what_the_columns_are(self) -> None:
         trip = Package(0, 1, 3, (1, 0, 2))

@@ -280,8 +280,8 @@ class Boards(Case):
         made = self.board()
         for _ in range(3):
             made.show(None, ["a"], {}, {})
-        self.assertEqual(self.told, ["the page cannot be started: Resource temporarily unavailable; "
-                                     "the game goes on, and it is tried again in 5 s"])
+        self.assertEqual(self.told, ["the page cannot be started: Resource temporarily "
+                                     "unavailable; the game goes on, and it is tried again in 5 s"])
         self.assertEqual(self.children.start.call_count, 1)
 
     def test_what_cannot_be_written_is_told_and_the_page_has_what_it_had(self) -> None:

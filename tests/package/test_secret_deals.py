@@ -64,7 +64,8 @@ class MadeAgain(unittest.TestCase):
     def test_games_of_each_kind(self) -> None:
         plain = {"rooms": "16..16", "live": "false"}
         for rule, settings in (
-                (Rule(SECRET), plain), (Rule(SECRET, is_clumped=True), {**plain, "endow": "classic"}),
+                (Rule(SECRET), plain),
+                (Rule(SECRET, is_clumped=True), {**plain, "endow": "classic"}),
                 (Rule(SECRET, live=True), {**plain, "live": "true"}),
                 (Rule(SECRET, rooms=(3, 6), live=True, is_clumped=True),
                  {"rooms": "3..6", "live": "true", "endow": "classic"})):

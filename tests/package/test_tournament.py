@@ -152,10 +152,12 @@ class Playing(unittest.TestCase):
             self.assertEqual(sorted(row.agent for row in game), list("aaaabbbb"))
         self.assertTrue(all(one.agent != other.agent for one, other in zip(rows, rows[8:16])))
         self.assertEqual([row.end for row in rows[:8]], [Outcome.PLAYED] * 7 + [Outcome.HUNG])
-        self.assertEqual([row.luck for row in rows[:8]], [drawn.luck for drawn in covariates_of(served_game())])
+        self.assertEqual([row.luck for row in rows[:8]],
+                         [drawn.luck for drawn in covariates_of(served_game())])
         self.assertEqual({row.kind for row in rows}, {Kind.SERVED})
         self.assertEqual((made.lost, self.left), ([], 0))
-        self.assertRegex(self.told[-1], r"^game 4 of 4 \(deal [12], rotation [01]\): scored; 0:00 left$")
+        self.assertRegex(self.told[-1],
+                         r"^game 4 of 4 \(deal [12], rotation [01]\): scored; 0:00 left$")
 
     def test_the_time_that_is_left_is_told_in_minutes_and_seconds(self) -> None:
         plan = self.plan("a", games=3, rotations=1)

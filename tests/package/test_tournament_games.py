@@ -115,8 +115,9 @@ class Real(unittest.TestCase):
             self.assertEqual(value["agents"][1]["ends"], {"absent": 2, "crashed": 4, "refused": 2})
             log = place / "run" / "games" / "1.0.log"
             self.assertTrue(log.read_text().startswith("taclog 1\n"))
-            self.assertTrue(re.search("failing at seat [0-7] .failing[b-d]?. counts as crashed: ended "
-                                      "with status 1; its last line: ValueError: before the game",
+            self.assertTrue(re.search("failing at seat [0-7] .failing[b-d]?. counts as crashed: "
+                                      "ended with status 1; its last line: ValueError: "
+                                      "before the game",
                                       done.stderr))
             made = run("experiments.deals_command", place / "run")
             self.assertEqual((made.returncode, made.stdout, made.stderr),

@@ -200,7 +200,8 @@ class OneAgent(Record):
             self.assertEqual(self.judge(unquit, unsaid, log), unasked, cause)
         # What comes first is told, and a budget of 65,536 lines may be used up.
         log = self.played.log.replace("end 2 quit\n", "end 2 budget\n")
-        self.assertEqual(self.judge(unquit[:-1], unsaid[:-1], log), self.lowest_from(self.count - 1))
+        self.assertEqual(self.judge(unquit[:-1], unsaid[:-1], log),
+                         self.lowest_from(self.count - 1))
         many = unquit + ["own 3"] * (65_536 - len(unquit))
         self.assertEqual(self.judge(many, unsaid, log), "unvouched cause")
         self.assertEqual(self.judge([*many, "own 3"], unsaid, log), cut)

@@ -209,8 +209,8 @@ class Classroom:
         with Children() as children, self._log.open("wb") as log, \
                 (self._folder / "told").open("wb") as told:
             host = children.start(
-                [*LOBBY, str(self._game), str(self._ports["agents"]), str(PACE), "--start", str(START),
-                 "--after", "15", "--journal", str(self._folder / "journal"), "--page",
+                [*LOBBY, str(self._game), str(self._ports["agents"]), str(PACE), "--start",
+                 str(START), "--after", "15", "--journal", str(self._folder / "journal"), "--page",
                  str(self._ports["page"])],
                 stdin=subprocess.PIPE, stdout=log, stderr=told, cwd=self._folder,
                 env={**os.environ, "AGENT_RECORD": str(self._folder)})

@@ -292,7 +292,7 @@ def _main() -> int:
     with contextlib.closing(Connection(int(sys.argv[1]))) as parent, Children() as children, \
             contextlib.closing(Agents(children)) as agents, contextlib.suppress(EOFError):
         while True:
-            job: Job = parent.recv()  # at the end of which there are no more
+            job: Job = parent.recv()  # raises EOFError once there are no more
             try:
                 result = Match(job, children, agents, parent.send).play()
             except OSError as fault:

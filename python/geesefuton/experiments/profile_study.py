@@ -170,8 +170,8 @@ def _text_of(payoffs: Payoffs) -> str:
     names = list(map(shown, payoffs.names))
     size = "the full game" if payoffs.players == SEATS else \
         f"reduced to {payoffs.players} players"
-    head = [f"{count_text(len(payoffs.deals), 'deal')} of {len(payoffs.profiles)} profiles, {size}; "
-            "dollars a seat with 95 % intervals by deals (Student's t)",
+    head = [f"{count_text(len(payoffs.deals), 'deal')} of {len(payoffs.profiles)} profiles, "
+            f"{size}; dollars a seat with 95 % intervals by deals (Student's t)",
             *(f"{count_text(count, 'seat')} of {shown(name)} did not play to the end: see `end` in "
               "scores.csv" for name, count in payoffs.failed.items())]
     if payoffs.mixed < len(names):

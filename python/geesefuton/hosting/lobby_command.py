@@ -163,8 +163,9 @@ class _Signals:
             return self._control.end()
         self._is_ending = True
         left, words = self._lobby.waits_for()
-        return self._teller.say(f"ctrl-C: waiting {left:.0f} s for {' '.join(words) or 'the server'}"
-                                "; press Enter or ctrl-C to end now, with the log")
+        waits_for = " ".join(words) or "the server"
+        return self._teller.say(f"ctrl-C: waiting {left:.0f} s for {waits_for}; press Enter "
+                                "or ctrl-C to end now, with the log")
 
 
 def _result_lines(game: Path, words: Sequence[str], log: Path) -> Iterator[str]:

@@ -213,7 +213,8 @@ _WORDS_BY_KEYS = {frozenset(keys.split()): words for keys, words in (
     ("at no need price offered", "@{at} no {no} {need} {price} {offered}"),
     ("at taken", "@{at} taken {taken[0]} {taken[1]}"), ("at done", "@{at} done"),
     ("at sold", "@{at} sold {sold[0]} {sold[1]}"), ("at own points", "@{at} own {own} {points}"),
-    ("at cash", "@{at} cash {cash}"), ("at quote open", "@{at} quote {quote[0]} {quote[1]} {open}"))}
+    ("at cash", "@{at} cash {cash}"),
+    ("at quote open", "@{at} quote {quote[0]} {quote[1]} {open}"))}
 _STATES = {"true": "open", "false": "closed"}
 
 

@@ -208,7 +208,8 @@ def chart(title: str, points: PricePath, low: int, high: int, steps: bool,
            if steps else "")
     return (f'<figure><figcaption>{title}</figcaption><div class="plot">'
             f'<svg viewBox="0 0 {TICKS} 100" preserveAspectRatio="none" aria-hidden="true">'
-            f'{shade}<path class="grid" d="{grid}"/>{"".join(map(line, [points, *more]))}</svg>{dot}'
+            f'{shade}<path class="grid" d="{grid}"/>'
+            f'{"".join(map(line, [points, *more]))}</svg>{dot}'
             f'<span class="top">{number(high)}</span><span class="low">{number(low)}</span></div>'
             "</figure>")
 
