@@ -1,10 +1,10 @@
 #!/usr/bin/env python3
 """Measures how well a live page's order during a game agrees with the final one.
 
-    tools/tournament --turns 10 --games 20 --out runs/1 planner.py baseline.py
+    geesefuton tournament --turns 10 --games 20 --out runs/1 planner.py baseline.py
     bench/board_order.py runs/1/games [--tick 36]
 
-It reads the games and logs of a folder, as `tools/tournament` keeps them. For each game it orders
+It reads the games and logs of a folder, as a tournament keeps them. For each game it orders
 the seats by what their best plans are worth at the prices of the tick; as the page does, on which
 those who have bought nothing come last; and by what they would score if nobody did anything more.
 It writes for each order the mean rank correlation (Spearman's) with the final scores over all
@@ -22,8 +22,8 @@ sys.path.insert(0, str(TOP / "python"))
 from geesefuton.arguments import Parser, whole  # noqa: E402
 from geesefuton.hosting.projection import is_empty, plan_of  # noqa: E402
 from geesefuton.processes import command, tell  # noqa: E402
-from geesefuton.records.accounts import Accounts  # noqa: E402
 from geesefuton.records.best_plans import best_plan, parts_of  # noqa: E402
+from geesefuton.records.books import Books  # noqa: E402
 from geesefuton.records.games import GOODS, SEATS, TICKS, Game, read_game  # noqa: E402
 from geesefuton.records.logs import read_log  # noqa: E402
 from geesefuton.records.ticks import entries_by_tick, ticks_by_log  # noqa: E402
@@ -55,7 +55,7 @@ def correlation(one: Sequence[float], other: Sequence[float]) -> float:
     return sum(x * y for x, y in zip(first, second)) / scale if scale else 0.0
 
 
-def has_trip(accounts: Accounts, seat: int) -> bool:
+def has_trip(accounts: Books, seat: int) -> bool:
     """Whether a seat has all goods of a trip."""
     packages = accounts.plan(seat).packages
     return any(own and not lacking for own, lacking in parts_of(packages, accounts.holdings[seat]))
@@ -63,7 +63,7 @@ def has_trip(accounts: Accounts, seat: int) -> bool:
 
 def agreements(game: Game, text: bytes, tick: int) -> List[Agreement]:
     """How well the orders at a tick agree with the final one."""
-    log, accounts, seats = read_log(text), Accounts(game), range(SEATS)
+    log, accounts, seats = read_log(text), Books(game), range(SEATS)
     for entries in entries_by_tick(ticks_by_log(game, log), log)[:tick + 1]:
         for good, _, entry in entries:
             accounts.take(good, entry)

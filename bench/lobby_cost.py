@@ -31,6 +31,7 @@ from typing import Any, Dict, List, NamedTuple
 
 TOP = Path(__file__).resolve().parent.parent
 sys.path.insert(0, str(TOP / "python"))
+COMMAND = [sys.executable, str(TOP / "python" / "geesefuton")]
 
 from geesefuton import program
 from geesefuton.arguments import Parser, whole
@@ -122,8 +123,8 @@ def measure(way: str, agents: int, count: int, folder: Path,
         if way == WAYS[0]:
             words = program.served_words(game, port, PACE)
         else:
-            words = [sys.executable, str(TOP / "tools/lobby"), str(game), str(port), str(PACE),
-                     "--start", "2", "--after", "0", "--journal", str(journal)]
+            words = [*COMMAND, "lobby", str(game), str(port), str(PACE), "--start", "2", "--after",
+                     "0", "--journal", str(journal)]
             words += ["--page", str(page)] if way != WAYS[1] else []
         host = children.start([*before, *words], stdin=subprocess.DEVNULL,
                               stdout=subprocess.DEVNULL, stderr=subprocess.DEVNULL)
@@ -205,8 +206,8 @@ def spent_in_a_game(is_by_hand: bool, folder: Path, before: List[str]) -> Spent:
     game.write_text(program.make(42))
     journal = folder / f"{time.monotonic_ns()}.journal"
     with Children() as children:
-        words = [sys.executable, str(TOP / "tools/lobby"), str(game), str(port), str(PACE),
-                 "--journal", str(journal), *["--page", str(page)] * is_by_hand]
+        words = [*COMMAND, "lobby", str(game), str(port), str(PACE), "--journal", str(journal),
+                 *["--page", str(page)] * is_by_hand]
         host = children.start([*before, *words], stdin=subprocess.DEVNULL,
                               stdout=subprocess.DEVNULL, stderr=subprocess.DEVNULL)
         for number in range(8 if is_by_hand else 0):

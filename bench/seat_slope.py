@@ -1,7 +1,7 @@
 #!/usr/bin/env python3
 """What a seat's place costs in games in turns, by the folder of a run of eight agents of one kind.
 
-    tools/tournament --turns 40 --games 64 --seed 8001 --out runs/1 planner.py
+    geesefuton tournament --turns 40 --games 64 --seed 8001 --out runs/1 planner.py
     bench/seat_slope.py runs/1
 
 A score is taken less what the seat's luck tells of it within its game, by least squares. The slope
@@ -19,9 +19,8 @@ from typing import Callable, List, NamedTuple, Sequence
 from running import Parser, command
 
 from geesefuton.experiments.joining import read_source
-from geesefuton.experiments.kept import games_of, name_of
 from geesefuton.experiments.results import Row
-from geesefuton.experiments.runs import GAMES
+from geesefuton.experiments.runs import GAMES, games_of
 from geesefuton.processes import tell
 from geesefuton.records.games import SEATS
 from geesefuton.records.order import first_seat
@@ -76,7 +75,7 @@ def main() -> int:
         return 1
     games = []
     for rows in games_of(source.rows):
-        file = given.folder / GAMES / f"{name_of(rows)}.game"
+        file = given.folder / GAMES / f"{rows[0].game_name}.game"
         games.append(Game(rows, first_seat(file.read_text("ascii"))))
     print(f"{len(games)} games of {games[0].rows[0].agent}")
     ways = {"by number": lambda game, seat: seat,

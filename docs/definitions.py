@@ -6,16 +6,17 @@ the code (`declared`), limits and words of the toolchain's library. A call of th
 NAME or TYPE::NAME.
 """
 
-import os
 import re
 from dataclasses import dataclass, field
+from pathlib import Path
 from typing import Dict, Iterable, List, Optional, Set, Tuple
 
-ROOT = os.path.dirname(os.path.dirname(os.path.abspath(__file__)))
-CRATES = os.path.join(ROOT, "crates")
+CRATES = Path(__file__).absolute().parents[1] / "crates"
 WORD = re.compile(r"[A-Za-z_][A-Za-z0-9_'?]*(?:\.[A-Za-z_][A-Za-z0-9_'?]*)*")
 HEADS = r"(?:(?:pub|abbrev|unfoldable) )*"
 USES = ("use ", "pub use ", "unfoldable pub use ")
+USE_FORMS = (r"(?:unfoldable )?(?:pub )?use (?:Rattle\.)?([\w.]+)\.\{(.*)\}",
+             r"use Rattle\.([\w.]+) as (\w+)", r"pub use Rattle\.([\w.]+)")
 Target = Tuple[str, str]  # the path of a module, and a name in it
 
 
@@ -33,9 +34,9 @@ class Definition:
 class Module:
     """A module of `specs/`: its imports and its definitions, without comments and blank lines."""
 
-    def __init__(self, crate: str, name: str, file: str) -> None:
-        self.crate, self.name, self.file = crate, name, file
-        self.path = f"{crate}.specs.{name}"
+    def __init__(self, file: Path) -> None:
+        parts = file.relative_to(CRATES).with_suffix("").parts
+        self.crate, self.name, self.path, self.file = parts[0], parts[-1], ".".join(parts), file
         self.imports: Dict[str, Target] = {}
         self.aliases: Dict[str, str] = {}
         self.given_again: List[str] = []
@@ -43,35 +44,28 @@ class Module:
         self.definitions: Dict[str, Definition] = {}
         self.parameters: Dict[str, List[str]] = {}
         self._targets: Dict[str, List[Target]] = {}
-        with open(file, encoding="utf-8") as source:
-            lines = source.read().split("\n")
-        self._read_imports(lines)
-        self._read_definitions(lines)
-        self.operators = {
-            name.replace("◌", ""): name
-            for name in [*self.imports, *self.definitions]
-            if "◌" in name and not re.match(r"[\w◌]+$", name)
-        }
+        self.lines = file.read_text(encoding="utf-8").split("\n")
+        self._read_imports()
+        self._read_definitions()
+        self.operators = {name.replace("◌", ""): name
+                          for name in [*self.imports, *self.definitions]
+                          if "◌" in name and not re.match(r"[\w◌]+$", name)}
 
-    def _read_imports(self, lines: Iterable[str]) -> None:
-        for line in lines:
-            several = re.match(
-                r"(?:unfoldable )?(?:pub )?use (?:Rattle\.)?([\w.]+)\.\{(.*)\}$", line
-            )
-            whole = re.match(r"use Rattle\.([\w.]+) as (\w+)$", line)
-            given = re.match(r"pub use Rattle\.([\w.]+)$", line)
+    def _read_imports(self) -> None:
+        for line in self.lines:
+            several, whole, given = (re.match(form + "$", line) for form in USE_FORMS)
             if several:
-                names = imported(several.group(1), several.group(2))
+                names = imported(several[1], several[2])
                 self.imports.update(names)
                 self.passed_on.update(names if "pub use " in line else [])
             elif whole:
-                self.aliases[whole.group(2)] = whole.group(1)
+                self.aliases[whole[2]] = whole[1]
             elif given:
-                self.given_again.append(given.group(1))
+                self.given_again.append(given[1])
 
-    def _read_definitions(self, lines: Iterable[str]) -> None:
+    def _read_definitions(self) -> None:
         level, current, block = 0, None, None
-        for number, line in enumerate(lines, 1):
+        for number, line in enumerate(self.lines, 1):
             text, depth = line.strip(), len(line) - len(line.lstrip())
             if not text or text.startswith(("--", *USES, "pub mod ", "infix")):
                 continue
@@ -84,15 +78,14 @@ class Module:
                 level, current = depth + 2, None
                 continue
             if depth == level:
-                named = re.match(HEADS + r"(?:record|data) ([^\s:({]+)", text) or re.match(
-                    HEADS + r"([^\s(){}:]+) :", text
-                )
+                named = (re.match(HEADS + r"(?:record|data) ([^\s:({]+)", text)
+                         or re.match(HEADS + r"([^\s(){}:]+) :", text))
                 equation = re.match(r"[^\s(){}]+", text)
                 if named:
-                    current = named.group(1)
+                    current = named[1]
                     self.definitions.setdefault(current, Definition(current, number))
-                elif equation and equation.group(0) in self.definitions:
-                    current = equation.group(0)
+                elif equation and equation[0] in self.definitions:
+                    current = equation[0]
                 if block and current is not None:
                     self.parameters.setdefault(current, block)
             if current is not None:
@@ -119,30 +112,20 @@ class Module:
 
     def _found_targets(self, name: str) -> List[Target]:
         text = "\n".join(self.definitions[name].lines + self.parameters.get(name, []))
-        words = WORD.findall(text) + [
-            sign for sign in self.operators if f" {sign} " in text.replace("\n", " ")
-        ]
+        spaced = text.replace("\n", " ")
+        words = WORD.findall(text) + [sign for sign in self.operators if f" {sign} " in spaced]
         found = (self.target(self.operators.get(word, word)) for word in words)
         return list(dict.fromkeys(target for target in found if target))
 
     def unused_imports(self) -> List[str]:
         """The names that an import brings and no other line has, but those that are passed on."""
-        with open(self.file, encoding="utf-8") as source:
-            lines = [
-                line
-                for line in source.read().split("\n")
-                if not line.lstrip().startswith(("--", *USES))
-            ]
+        lines = (line for line in self.lines if not line.lstrip().startswith(("--", *USES)))
         used = set(re.split(r"[\s(){},;.]+", "\n".join(lines)))
         if "do" in used:
             used.add(">>=")  # what a `do` block stands for
-        return [
-            name
-            for name in [*self.imports, *self.aliases]
-            if name not in used
-            and name not in self.passed_on
-            and not used.issuperset(part for part in name.split("◌") if part)
-        ]
+        return [name for name in [*self.imports, *self.aliases]
+                if name not in used and name not in self.passed_on
+                and not used.issuperset(part for part in name.split("◌") if part)]
 
 
 def imported(path: str, items: str) -> Dict[str, Target]:
@@ -158,28 +141,18 @@ class Definitions:
         self.modules: Dict[str, Module] = {}
         self.given: Dict[str, str] = {}
         self.given_names: Dict[Target, Target] = {}
-        for crate in sorted(os.listdir(CRATES)):
-            folder = os.path.join(CRATES, crate, "specs")
-            for file in sorted(os.listdir(folder)) if os.path.isdir(folder) else []:
-                if not file.endswith(".antt"):
-                    continue
-                module = Module(crate, file[:-5], os.path.join(folder, file))
-                if file == "Lib.antt":
-                    self.given.update(
-                        {
-                            f"{crate}.specs.{path.split('.')[-1]}": path
-                            for path in module.given_again
-                        }
-                    )
-                    self.given_names.update(
-                        {(f"{crate}.specs", name): it for name, it in module.imports.items()}
-                    )
-                elif module.definitions:
-                    self.modules[module.path] = module
-                else:
-                    self.given_names.update(
-                        {(module.path, name): it for name, it in module.imports.items()}
-                    )
+        for file in sorted(CRATES.glob("*/specs/*.antt")):
+            module = Module(file)
+            if module.name == "Lib":
+                specs = f"{module.crate}.specs"
+                self.given.update({f"{specs}.{path.split('.')[-1]}": path
+                                   for path in module.given_again})
+                self.given_names.update({(specs, name): it for name, it in module.imports.items()})
+            elif module.definitions:
+                self.modules[module.path] = module
+            else:
+                self.given_names.update({(module.path, name): it
+                                         for name, it in module.imports.items()})
         for module in self.modules.values():
             module.imports = {name: self.owner(it) for name, it in module.imports.items()}
 
@@ -210,19 +183,13 @@ class Definitions:
                 todo += [] if (path, name) in stop else module.targets(name)
             else:
                 row = re.compile(r"\s+(?:pub )?%s :" % re.escape(name))
-                todo += [
-                    (path, owner.name)
-                    for owner in module.definitions.values()
-                    if any(row.match(line) for line in owner.lines[1:])
-                ]
+                todo += [(path, owner.name) for owner in module.definitions.values()
+                         if any(row.match(line) for line in owner.lines[1:])]
         return found
 
 
-CALLS = re.compile(
-    r"^(?:impl|(?:pub(?:\(\w+\))? )?trait)\b([^{]*)\{|^(\})"
-    r"|^[ \t]*(?:pub(?:\(\w+\))? )?(?:const )?fn (\w+)",
-    re.M,
-)
+CALLS = re.compile(r"^(?:impl|(?:pub(?:\(\w+\))? )?trait)\b([^{]*)\{|^(\})"
+                   r"|^[ \t]*(?:pub(?:\(\w+\))? )?(?:const )?fn (\w+)", re.M)
 GHOST_USE = re.compile(r"ghost use Rattle\.([\w.]+?)(?:\.\{(.*?)\}| as (\w+));")
 
 
@@ -244,12 +211,11 @@ def head_of(text: str, call: str) -> Tuple[int, int]:
     return found[0], min((b.start() for b in bodies if b.start() > found[0]), default=len(text))
 
 
-def clauses_of(file: str, call: str) -> Dict[str, Tuple[int, List[Target]]]:
+def clauses_of(file: Path, call: str) -> Dict[str, Tuple[int, List[Target]]]:
     """The clauses of a call of the code by their names, each with its line and what the names of
     its text stand for. A clause without a name has an empty one, and what is required is named
     `requires NAME`. Raises a LookupError if there is not exactly one such call."""
-    with open(file, encoding="utf-8") as source:
-        text = source.read()
+    text = file.read_text(encoding="utf-8")
     names: Dict[str, Target] = {}
     modules: Dict[str, str] = {}
     for path, several, alias in GHOST_USE.findall(text):

@@ -79,22 +79,16 @@ class Reading:
         self.all = Definitions()
         self.with_rows = with_rows  # whether what each row states is printed
         self.left_out = {target_of(place): why for place, why in lines_of("left_out.tsv")}
-        self.found = self.all.reached(clauses_of(str(TOP), "tac")["headline"][1], self.left_out)
-        self.faults = [
-            f"docs/left_out.tsv: the headline does not reach {name} of {path}"
-            for path, name in self.left_out.keys() - self.found
-        ]
-        self.names = {
-            path: [name for name in module.definitions if (path, name) in self.found]
-            for path, module in self.all.modules.items()
-            if any(path == reached for reached, _ in self.found)
-        }
+        self.found = self.all.reached(clauses_of(TOP, "tac")["headline"][1], self.left_out)
+        self.faults = [f"docs/left_out.tsv: the headline does not reach {name} of {path}"
+                       for path, name in self.left_out.keys() - self.found]
+        met = {path for path, _ in self.found}
+        self.names = {path: [name for name in module.definitions if (path, name) in self.found]
+                      for path, module in self.all.modules.items() if path in met}
         self.rows = [
             (target_of(place), re.sub(r"(\w+)/(\w+):(\w+)", r"-- Row: \3 (\1/proofs/\2.antt)", row))
             for *_, places, _, _, _, rows in lines_of("rules.tsv")
-            for place in places.split("; ")
-            for row in filter(None, rows.split("; "))
-        ]
+            for place in places.split("; ") for row in filter(None, rows.split("; "))]
         self.proofs: Dict[str, Module] = {}
         self.told: Set[Target] = set()  # what is printed once: types, rows, heads of blocks
         self.count = 0  # the lines of the definitions that were printed, without comments
@@ -136,8 +130,7 @@ class Reading:
         for path, word in todo:
             file = CRATES / (path.replace(".", "/") + ".antt")
             if path not in self.proofs and file.exists():
-                self.proofs[path] = Module(path.split(".")[0], file.stem, str(file))
-                self.proofs[path].path = path
+                self.proofs[path] = Module(file)
             if path in self.proofs and word in self.proofs[path].definitions:
                 lines = self.proofs[path].definitions[word].lines
                 statement = statement or [lines[0], *takewhile(re.compile(" ").match, lines[1:])]
@@ -155,7 +148,7 @@ class Reading:
     def definition(self, path: str, name: str) -> Iterator[str]:
         """A definition with its rule and its rows."""
         module = self.all.modules[path]
-        here, lines = module.definitions[name], text_of(Path(module.file)).split("\n")
+        here, lines = module.definitions[name], module.lines
         above = [*takewhile(re.compile(" *--(?! ----)").match, lines[here.line - 2 :: -1])][::-1]
         rows = [line.strip() for line in above if ROW.match(line)]
         if len(rows) == len(above):
@@ -197,7 +190,7 @@ class Reading:
     def module(self, path: str) -> Iterator[str]:
         """A module: what it says first, where it renames what it uses, and its definitions."""
         module = self.all.modules[path]
-        lines = text_of(Path(module.file)).split("\n")
+        lines = module.lines
         said = str([module.definitions[name].lines for name in self.names[path]])
         yield f"---- {path.replace('.', '/')}.antt"
         yield from takewhile(re.compile("--").match, lines)
@@ -242,7 +235,7 @@ class Rules:
 
     def __init__(self, definitions: Definitions) -> None:
         self.all, self.faults, self.lines = definitions, list[str](), list[str]()
-        self.headline = set(definitions.reached(clauses_of(str(TOP), "tac")["headline"][1]))
+        self.headline = set(definitions.reached(clauses_of(TOP, "tac")["headline"][1]))
         self.reached: Set[Target] = set()  # what the clauses of a rule lead to
         self.anchors: Dict[str, Dict[str, str]] = {}  # of the headings of each page
         for page in DOCS.glob("*.md"):
@@ -284,7 +277,7 @@ class Rules:
         file = CRATES / crate / "src" / f"{path}.rt"
         if kind == "clause":
             call, _, name_of_clause = name.partition(".")
-            line, targets = clauses_of(str(file), call)[name_of_clause]
+            line, targets = clauses_of(file, call)[name_of_clause]
             self.reached.update(self.all.reached(targets))
         elif kind == "code":
             line = text_of(file).count("\n", 0, head_of(text_of(file), name)[0]) + 1

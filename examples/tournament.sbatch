@@ -3,7 +3,7 @@
 # stopped or requeued, the same command plays the games that are missing. From the top of the clone:
 #
 #     sbatch examples/tournament.sbatch mine.py examples/agents/planner.py
-#     tools/tournament --join runs/*
+#     ./geesefuton tournament --join runs/*
 #
 #SBATCH --job-name=tournament
 #SBATCH --array=0-49
@@ -11,4 +11,4 @@
 #SBATCH --mem=2G
 #SBATCH --time=00:30:00
 #SBATCH --requeue
-exec tools/tournament --turns 40 --games 20 --out "runs/$SLURM_ARRAY_TASK_ID" --resume "$@"
+exec ./geesefuton tournament --turns 40 --games 20 --out "runs/$SLURM_ARRAY_TASK_ID" --resume "$@"

@@ -10,6 +10,9 @@ from email.utils import formatdate
 from pathlib import Path
 from typing import Dict, Tuple
 
+from geesefuton.front import COMMANDS, PARTS
+from geesefuton.program import CommandError
+
 INSTALLED = Path("usr/lib/python3/dist-packages")
 DOCUMENTS = Path("usr/share/doc/geesefuton")
 MAINTAINER = "The Geesefuton maintainers <maintainers@geesefuton.invalid>"
@@ -51,7 +54,7 @@ License: Expat
 """
 
 
-class DebianError(Exception):
+class DebianError(CommandError):
     """dpkg-deb is missing, or failed."""
 
 
@@ -74,6 +77,18 @@ def _licence(text: str) -> str:
     return "\n".join(" " + (line or ".") for line in body.strip().split("\n"))
 
 
+def man_page(text: str) -> str:
+    """The man page, whose text has a line PARTS where an entry for each part is to stand."""
+    entries = "".join(f".TP\n.B geesefuton {name} \\fI{part.words}\n".replace("-", "\\-")
+                      + f"{part.does[0].upper()}{part.does[1:]}.\n" for name, part in PARTS.items())
+    return text.replace("PARTS\n", entries)
+
+
+def completion(text: str) -> str:
+    """The completion, whose text has the words PARTS and COMMANDS where the names are to stand."""
+    return text.replace("PARTS", " ".join(PARTS)).replace("COMMANDS", " ".join(COMMANDS))
+
+
 def lay_out(place: Path, version: str, epoch: int, files: Dict[str, Tuple[bytes, bool]],
             documents: Dict[str, bytes], top: Path) -> None:
     """Writes the files of the package below a folder."""
@@ -93,9 +108,9 @@ def lay_out(place: Path, version: str, epoch: int, files: Dict[str, Tuple[bytes,
             put(INSTALLED / name, data, can_run)
     put(Path("usr/bin/geesefuton"), (packaging / "geesefuton").read_bytes(), True)
     put(Path("usr/share/man/man1/geesefuton.1.gz"),
-        _packed((packaging / "geesefuton.1").read_bytes()))
+        _packed(man_page((packaging / "geesefuton.1").read_text()).encode()))
     put(Path("usr/share/bash-completion/completions/geesefuton"),
-        (packaging / "completion.bash").read_bytes())
+        completion((packaging / "completion.bash").read_text()).encode())
     for name, data in documents.items():
         put(DOCUMENTS / name, data)
     licence = _licence((top / "LICENSE").read_text())

@@ -4,12 +4,14 @@ import re
 from pathlib import Path
 from typing import Dict, Optional, Sequence
 
+from geesefuton.program import CommandError
+
 HOW = "(git rev-parse HEAD; time rt ci) > LOG 2>&1"  # makes such a log
 FACTS = ("gate", "gate-minutes", "gate-work")  # what a release says of its gate
 UNTOLD = dict.fromkeys(FACTS, "not told")
 
 
-class GateError(Exception):
+class GateError(CommandError):
     """A log that is not that of a gate which passed at the commit."""
 
 

@@ -2,8 +2,8 @@
 """Makes a release of a clone: an archive, a wheel and a Debian package, with the program in each.
 
     (git rev-parse HEAD; time rt ci) > ../gate.log 2>&1      # in bash
-    tools/release --gate ../gate.log           # into release/VERSION
-    tools/release --check release/1.1.0        # builds again, and compares
+    packaging/release.py --gate ../gate.log      # into release/VERSION
+    packaging/release.py --check release/1.1.0   # builds again, and compares
 
 PROVENANCE has the last line of the gate, its minutes, and how much of its work was new. Both
 commands first prove and build the program, by `(cd crates/tacd && rt run -- make 42)`: this takes
@@ -36,22 +36,22 @@ sys.path.insert(0, str(TOP / "packaging"))
 
 import debian  # noqa: E402
 import gate_log  # noqa: E402
-import toolchain  # noqa: E402
 import wheel_file  # noqa: E402
 
+from geesefuton import front  # noqa: E402
 from geesefuton.arguments import Parser  # noqa: E402
 from geesefuton.processes import command, tell  # noqa: E402
+from geesefuton.program import CommandError  # noqa: E402
 
-TREE = ("README.md", "LICENSE", "CHANGELOG.md", "CITATION.cff", "quickstart", "tools", "examples",
-        "docs", "python/geesefuton", "python/README.md", "python/pyproject.toml",
-        "packaging/Containerfile")
-# Only in a clone can one make a release, or read the definitions by the script of the pages.
-NOT_TAKEN = ("tools/release", "docs/reading.py", "docs/definitions.py", "docs/chapters.tsv",
-             "docs/left_out.tsv", "docs/rules.tsv")
+TREE = ("README.md", "LICENSE", "CHANGELOG.md", "CITATION.cff", "geesefuton", "examples", "docs",
+        "python/geesefuton", "python/README.md", "python/pyproject.toml", "packaging/Containerfile")
+# Only in a clone can one read the definitions by the script of the pages.
+NOT_TAKEN = ("docs/reading.py", "docs/definitions.py", "docs/chapters.tsv", "docs/left_out.tsv",
+             "docs/rules.tsv")
 PACKAGE = Path("python/geesefuton")
 
 
-class ReleaseError(Exception):
+class ReleaseError(CommandError):
     """A release that cannot be made, or one that differs."""
 
 
@@ -132,6 +132,16 @@ def gate_of(given: argparse.Namespace, commit: str) -> Dict[str, str]:
     raise ReleaseError(f"give --gate LOG; in bash {gate_log.HOW} makes LOG")
 
 
+def kit() -> str:
+    """What the toolchain, Rattle, says of its version."""
+    try:
+        said = subprocess.run(["rt", "version"], check=True, text=True,
+                              stdout=subprocess.PIPE).stdout
+    except (OSError, subprocess.CalledProcessError):
+        return "no toolchain"
+    return "; ".join(said.splitlines())
+
+
 def program_of(given: Optional[Path], commit: str) -> bytes:
     """The bytes of the program: of the given file, or as the toolchain builds it now.
 
@@ -140,15 +150,18 @@ def program_of(given: Optional[Path], commit: str) -> bytes:
         commit: The commit, as `commit_of` gives it.
 
     Raises:
-        ReleaseError: There is no such file, or the clone has changed meanwhile.
-        ToolchainError: There is no toolchain, or it builds no program.
+        ReleaseError: There is no such file, no toolchain, or the clone has changed meanwhile.
+        ProgramError: The toolchain builds no program.
     """
     if given is not None:
         try:
             return given.read_bytes()
         except OSError as fault:
             raise ReleaseError(f"{given}: {fault.strerror}") from None
-    data = toolchain.build(TOP)
+    if shutil.which("rt") is None:
+        raise ReleaseError("there is no command rt in PATH: install the toolchain, Rattle, to "
+                           "build the program at this commit")
+    data = front.build(TOP, "release").read_bytes()
     if commit_of(True) != commit:
         raise ReleaseError(f"the clone was at {commit} before the build, but is no longer: start "
                            "again")
@@ -270,8 +283,8 @@ def check(folder: Path, given: Optional[Path], commit: str) -> int:
         commit: The commit, as `commit_of` gives it.
 
     Raises:
-        ReleaseError: It is no release, or one of another commit.
-        ToolchainError: There is no toolchain, or it builds no program.
+        ReleaseError: It is no release, or one of another commit, or there is no toolchain.
+        ProgramError: The toolchain builds no program.
     """
     told = told_in(folder)
     if told.get("commit") != commit:
@@ -319,8 +332,8 @@ def _main() -> int:
         commit = commit_of(given.changed)
         if given.check is not None:
             return check(given.check, given.program, commit)
-        facts = {**gate_of(given, commit), "kit": toolchain.kit(),
-                 "program": toolchain.GIVEN if given.program else toolchain.BUILT}
+        facts = {**gate_of(given, commit), "kit": kit(),
+                 "program": "given, not built" if given.program else "proved and built"}
         place = given.out or TOP / "release" / version_of()
         place.mkdir(parents=True)
         with contextlib.ExitStack() as stack:
@@ -331,10 +344,6 @@ def _main() -> int:
             stack.pop_all()
     except FileExistsError as fault:
         tell(f"release: {fault.filename} already exists: name a new folder")
-        return 1
-    except (ReleaseError, gate_log.GateError, toolchain.ToolchainError,
-            debian.DebianError) as fault:
-        tell(f"release: {fault}")
         return 1
     return 0
 

@@ -22,9 +22,8 @@ import baseline
 from geesefuton.arguments import whole
 from geesefuton.learning.rivals import maker_of, played
 from geesefuton.processes import command
-from geesefuton.records.drawing import MOST_SEED, drawn_rooms
+from geesefuton.records.drawing import MOST_SEED, drawn_rooms, made_game
 from geesefuton.records.games import Game
-from geesefuton.records.made_games import made_game
 
 Entry = Tuple[str, int, int]  # a table, its row, and how many nights have closed
 TABLES = "PLENTY", "SCARCE"

@@ -16,7 +16,7 @@ from geesefuton.arguments import Parser
 from geesefuton.network.addresses import own_addresses
 from geesefuton.processes import Output, command, free_port, tell
 
-PROVENANCE = Path(__file__).resolve().with_name("provenance.json")  # written by tools/release
+PROVENANCE = Path(__file__).resolve().with_name("provenance.json")  # written by a release
 PORT = 7000  # the port of the documents' examples
 
 

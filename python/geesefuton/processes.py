@@ -10,6 +10,7 @@ import socket
 import subprocess
 import sys
 import tempfile
+import time
 from pathlib import Path
 from types import FrameType, TracebackType
 from typing import Any, Callable, List, Optional, Sequence, Type, Union
@@ -266,6 +267,21 @@ def tell(what: str, is_passing: bool = False) -> None:
         os.write(2, (start + what + "\n" * is_kept).encode("utf-8", "replace"))
     except OSError:
         pass  # nobody can be told
+
+
+def wait_until(is_over: Callable[[], bool], what: str) -> None:
+    """Waits until something is over, and tells what it is, on a terminal with its seconds so far:
+    in a line of a screen, if it has at most 70 letters."""
+    begun, told, is_shown = time.monotonic(), 0, os.isatty(2)
+    tell(what, is_passing=True)
+    while not is_over():
+        time.sleep(0.05)
+        seconds = int(time.monotonic() - begun)
+        if is_shown and seconds > told:
+            tell(f"{what}: {seconds} s", is_passing=True)
+            told = seconds
+    if is_shown:
+        tell(f"{what}: {told} s")
 
 
 def command(name: str, main: Callable[[], int]) -> int:

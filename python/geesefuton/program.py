@@ -22,7 +22,8 @@ __all__ = [
     "INPUT", "LEAST_LIBRARY", "MEANINGS", "OK", "CLOCK", "REFUSED", "STOPPING", "UNSOUND",
     "CommandError", "ProgramError", "audit", "ended", "examples", "exit_status", "find",
     "find_runnable", "library", "make", "moved", "nameless_file", "play", "run", "served_words",
-    "show", "solve", "start", "table", "top", "upgrade", "vouch", "why_not_run", "worth",
+    "show", "solve", "start", "table", "to_build", "top", "typed", "upgrade", "vouch",
+    "why_not_run", "worth",
 ]
 
 Word = Union[str, int, "os.PathLike[str]"]
@@ -80,6 +81,28 @@ def top() -> Optional[Path]:
     return folder if (folder / "crates" / "tacd").is_dir() else None
 
 
+def to_build() -> Optional[Path]:
+    """The clone whose program is due here, and has to be built first; None if there is a program,
+    or no toolchain."""
+    clone = top()
+    is_there = os.environ.get("TAC") or BUNDLED.exists() or (clone and built_in(clone).exists())
+    return None if is_there or not shutil.which("rt") else clone
+
+
+def built_in(clone: Path) -> Path:
+    """The file of the program that is built in a clone."""
+    return clone / "crates" / "tacd" / "out" / "tacd"
+
+
+def typed(words: str) -> str:
+    """A command line of `geesefuton`, as it is typed here: in a clone or an archive by its file."""
+    file = Path(__file__).resolve().parents[2] / "geesefuton"
+    if not file.is_file():
+        return f"geesefuton {words}"
+    name = os.path.relpath(file)
+    return f"{name} {words}" if "/" in name else f"./{name} {words}"
+
+
 def examples() -> Path:
     """The folder of the example agents and games, of a clone, a release or the package.
 
@@ -105,7 +128,7 @@ def find() -> str:
         name = str(BUNDLED)
     if not name:
         clone = top()
-        name = str(clone / "crates" / "tacd" / "out" / "tacd") if clone else None
+        name = str(built_in(clone)) if clone else None
     if name is None:
         raise ProgramError("there is no program: set the variable TAC to the file of tac")
     if name.startswith("/") and os.access(name, os.X_OK) and not os.path.isdir(name):
@@ -115,8 +138,12 @@ def find() -> str:
         if os.path.isfile(name):
             raise ProgramError(f"{name} is not executable: chmod +x it, or set TAC to the file of "
                                "tac")
-        raise ProgramError(f"there is no program {name}: build it (README, The proved program), "
-                           "or set TAC to the file of tac")
+        how = "install the toolchain, Rattle, whose command rt builds it, or "
+        if os.environ.get("TAC"):
+            how = ""
+        elif to_build() is not None:
+            how = f"build it by `{typed('tac make 42')}`, or "
+        raise ProgramError(f"there is no program {name}: {how}set TAC to the file of tac")
     # A name with a slash is taken from here, so that it holds in any folder.
     return os.path.abspath(file)
 

@@ -1,17 +1,18 @@
 """Documents: what they name exists, and their lines are short."""
 
 import re
+from pathlib import Path
 from typing import Iterator
 
 from tree import CRATES, TOP, files, name_of, text_of
 
-FOLDERS = ("crates/", "docs/", "examples/", "bench/", "tools/", "python/", "tests/")
+FOLDERS = ("crates/", "docs/", "examples/", "bench/", "python/", "tests/")
 MADE = ("crates/tacd/out", "python/geesefuton/bin/")  # made, and in no clone
 WIDTH = 100
 
 
 def missing_paths(text: str) -> Iterator[str]:
-    """The paths in backquotes that are not there. One that ends in capitals, as `tools/NAME`, is
+    """The paths in backquotes that are not there. One that ends in capitals, as `docs/NAME`, is
     none."""
     for quoted in sorted(set(re.findall(r"`([^`\s]+)", text))):
         if (quoted.startswith(FOLDERS) and not quoted.startswith(MADE) and ".." not in quoted
@@ -30,21 +31,20 @@ def is_there(path: str) -> bool:
 def missing_calls(text: str) -> Iterator[str]:
     """What a text calls `NAME` (`PATH`) and that is not there."""
     for name, path in re.findall(r"`([\w:]+)`\s+\(`([\w/.]+\.(?:rt|antt|py))`\)", text):
-        file = next((place for place in (TOP / path, CRATES / path) if place.exists()), None)
-        if file is None:
-            yield f"there is no file {path}"
-        elif not re.search(rf"\b{re.escape(name.split('::')[-1])}\b", text_of(file)):
-            yield f"{path} has no {name}"
+        found = text_of(TOP / path) + text_of(CRATES / path)
+        if not re.search(rf"\b{re.escape(name.split('::')[-1])}\b", found):
+            yield f"{path} has no {name}" if found else f"there is no file {path}"
 
 
-def wide_lines(text: str) -> Iterator[int]:
-    """The numbers of the lines of prose that are too wide; tables, code and links may be."""
+def wide_lines(file: Path, is_prose: bool) -> Iterator[str]:
+    """A fault for each line that is too wide; in prose tables, code and links may be."""
     fenced = False
-    for number, line in enumerate(text.split("\n"), 1):
+    for number, line in enumerate(text_of(file).splitlines(), 1):
         fenced ^= line.startswith("```")
-        if len(line) > WIDTH and not (fenced or line.lstrip().startswith(("|", "!["))
-                                      or line.startswith("    ") or "](" in line):
-            yield number
+        may_be = is_prose and (fenced or line.lstrip().startswith(("|", "!["))
+                               or line.startswith("    ") or "](" in line)
+        if len(line) > WIDTH and not may_be:
+            yield f"{name_of(file)}:{number}: wider than {WIDTH} columns"
 
 
 def places() -> Iterator[str]:
@@ -56,9 +56,6 @@ def places() -> Iterator[str]:
         text = text_of(file)
         for fault in (*missing_paths(text), *missing_calls(text)):
             yield f"{name_of(file)}: {fault}"
-        for number in wide_lines(text):
-            yield f"{name_of(file)}:{number}: wider than {WIDTH} columns"
+        yield from wide_lines(file, is_prose=True)
     for file in files("**/*.py", "**/*.js", "**/*.mjs", "**/*.css", "tests/run", "tests/soak/run"):
-        for number, line in enumerate(text_of(file).splitlines(), 1):
-            if len(line) > WIDTH:
-                yield f"{name_of(file)}:{number}: wider than {WIDTH} columns"
+        yield from wide_lines(file, is_prose=False)

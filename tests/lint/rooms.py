@@ -51,9 +51,8 @@ def read_modules(package: Path) -> Dict[str, Module]:
     """All modules of the package in a folder by their names."""
     modules = {}
     for file in sorted(package.rglob("*.py")):
-        parts = file.relative_to(package.parent).with_suffix("").parts
-        name = ".".join(parts[:-1] if parts[-1] == "__init__" else parts)
-        text = file.read_text(encoding="utf-8")
+        name = ".".join(file.relative_to(package.parent).with_suffix("").parts)
+        name, text = name.replace(".__init__", ""), file.read_text(encoding="utf-8")
         modules[name] = Module(name, file, text.count("\n"), ast.parse(text, str(file)))
     return modules
 
@@ -69,12 +68,9 @@ def imports_of(module: Module, modules: Dict[str, Module]) -> Iterator[Import]:
                 yield Import(node.lineno, alias.name, None, alias.asname or alias.name)
         elif isinstance(node, ast.ImportFrom):
             for alias in node.names:
-                whole = f"{node.module}.{alias.name}"
-                name = alias.asname or alias.name
-                if whole in modules:
-                    yield Import(node.lineno, whole, None, name)
-                else:
-                    yield Import(node.lineno, node.module or "", alias.name, name)
+                whole, name = f"{node.module}.{alias.name}", alias.asname or alias.name
+                yield Import(node.lineno, *((whole, None) if whole in modules else
+                                            (node.module or "", alias.name)), name)
 
 
 def place_of(room: str) -> int:
@@ -114,10 +110,8 @@ def own_names(tree: ast.AST) -> Set[str]:
     for node in ast.walk(tree):
         if isinstance(node, (ast.FunctionDef, ast.AsyncFunctionDef, ast.ClassDef)):
             names.add(node.name)
-        elif isinstance(node, ast.Name) and isinstance(node.ctx, ast.Store):
-            names.add(node.id)
-        elif isinstance(node, ast.Attribute) and isinstance(node.ctx, ast.Store):
-            names.add(node.attr)
+        elif isinstance(getattr(node, "ctx", None), ast.Store):
+            names.add(getattr(node, "id", getattr(node, "attr", "")))
     return {name for name in names if is_private(name)}
 
 
@@ -126,25 +120,22 @@ def inherited(module: Module, of: ast.ClassDef, modules: Dict[str, Module]) -> S
     origins = {each.name: each for each in imports_of(module, modules)}
     names: Set[str] = set()
     for base in of.bases:
-        found = class_of(base, origins)
-        if found is None:
-            continue
-        other = modules.get(found[0])
+        name, taken = class_of(base, origins)
+        other = modules.get(name)
         for node in ast.walk(other.tree) if other else ():
-            if isinstance(node, ast.ClassDef) and node.name == found[1] and other:
+            if isinstance(node, ast.ClassDef) and node.name == taken and other:
                 names |= own_names(node) | inherited(other, node, modules)
     return names
 
 
-def class_of(base: ast.expr, origins: Dict[str, Import]) -> Optional[Tuple[str, str]]:
-    """The module and the name of an imported class; None if it is no such class."""
-    if isinstance(base, ast.Name) and base.id in origins:
-        origin = origins[base.id]
-        return (origin.module, origin.taken) if origin.taken else None
-    if (isinstance(base, ast.Attribute) and isinstance(base.value, ast.Name)
-            and base.value.id in origins and origins[base.value.id].taken is None):
-        return origins[base.value.id].module, base.attr
-    return None
+def class_of(base: ast.expr, origins: Dict[str, Import]) -> Tuple[str, Optional[str]]:
+    """The module and the name of an imported class; empty and None if it is no such class."""
+    attribute = base.attr if isinstance(base, ast.Attribute) else None
+    place = base.value if isinstance(base, ast.Attribute) else base
+    origin = origins.get(place.id) if isinstance(place, ast.Name) else None
+    if origin is None or (origin.taken is None) == (attribute is None):
+        return "", None
+    return origin.module, origin.taken or attribute
 
 
 def bad_members(module: Module, modules: Dict[str, Module]) -> Iterator[str]:

@@ -8,7 +8,7 @@ from typing import Callable, Dict, Iterable, Iterator, List, Set, Tuple
 
 from tree import CRATES, NAMES_OF_CRATES, TOP, definitions, name_of, proofs, text_of
 
-from definitions import Definition, Target, clauses_of
+from definitions import Definition, clauses_of
 
 MOST = 6  # arguments
 GIVEN = re.compile(r"^pub use ([\w:]+)::(?:\{([^}]*)\}|(\w+));$", re.M)
@@ -22,47 +22,43 @@ SEARCH = {"relaxation", "dual_bound", "allocator", "score_sheet"}
 # Names.
 
 
-def defined_twice(targets: Iterable[Target]) -> Dict[str, List[str]]:
-    """The names that several modules define, of these definitions: each with its modules."""
-    places: Dict[str, List[str]] = collections.defaultdict(list)
-    for path, name in targets:
-        places[name].append(path.replace(".specs.", "."))
-    return {name: keys for name, keys in sorted(places.items()) if len(keys) > 1}
+def of_several(pairs: Iterable[Tuple[str, str]]) -> Iterator[Tuple[str, List[str]]]:
+    """The names that are paired with several places, each with these."""
+    places: Dict[str, Set[str]] = collections.defaultdict(set)
+    for place, name in pairs:
+        places[name].add(place.replace(".specs.", "."))
+    yield from ((name, sorted(at)) for name, at in sorted(places.items()) if len(at) > 1)
 
 
 def names_of_several() -> Iterator[str]:
     """The names that several modules of specs/ define."""
     everywhere = [(path, name) for path, module in definitions().modules.items()
                   for name in module.definitions]
-    for name, keys in defined_twice(everywhere).items():
+    for name, keys in of_several(everywhere):
         yield f"{name}: {', '.join(keys)}"
 
 
-def public_items() -> Dict[str, Set[str]]:
-    """The crates' public items: each name with the crates that define it, other than those that
-    give it again from another crate."""
-    owners: Dict[str, Set[str]] = collections.defaultdict(set)
+def public_items() -> Iterator[Tuple[str, str]]:
+    """The crates and their public items, without what a crate gives again from another one."""
     for crate in sorted(NAMES_OF_CRATES):
         for source, several, one in GIVEN.findall(text_of(CRATES / crate / "src" / "lib.rt")):
             for item in (several or one).split(","):
                 if item.strip() and source.split("::")[0] not in NAMES_OF_CRATES:
-                    owners[item.split(" as ")[-1].strip()].add(crate)
-    return owners
+                    yield crate, item.split(" as ")[-1].strip()
 
 
 def names() -> Iterator[str]:
     """The clauses of `tac` reach no two definitions of one name, no two crates make public items of
     one name, and no module of specs/ imports a name that it does not use."""
-    clauses = clauses_of(str(CRATES / "tacd" / "src" / "top.rt"), "tac")
+    clauses = clauses_of(CRATES / "tacd" / "src" / "top.rt", "tac")
     reached = definitions().reached([name for _, names in clauses.values() for name in names])
     # An operator is one word at several types, as `>>=` of a result and of an optional value.
     believed = [(path, name) for path, name in reached
                 if path in definitions().modules and "◌" not in name]
-    for name, keys in defined_twice(believed).items():
+    for name, keys in of_several(believed):
         yield f"the clauses of `tac` reach `{name}` in {' and in '.join(keys)}"
-    for name, owners in sorted(public_items().items()):
-        if len(owners) > 1:
-            yield f"`{name}` is a public item of {' and of '.join(sorted(owners))}"
+    for name, owners in of_several(public_items()):
+        yield f"`{name}` is a public item of {' and of '.join(owners)}"
     for module in definitions().modules.values():
         for name in module.unused_imports():
             yield f"{module.crate}/{module.name}.{name} is imported and not used"
@@ -144,7 +140,7 @@ def arguments() -> Iterator[str]:
         for module in modules:
             for one in module.definitions.values():
                 if count(one) > MOST and not (private and is_lemma(one)):
-                    yield f"{name_of(Path(module.file))}:{one.line} `{one.name}` takes {count(one)}"
+                    yield f"{name_of(module.file)}:{one.line} `{one.name}` takes {count(one)}"
 
 
 # Layers.
@@ -161,10 +157,9 @@ def ways(start: str, next_of: Callable[[str], Iterable[str]]) -> Dict[str, List[
     """All that a start leads to, each with a way to it, the start first."""
     found, todo = {start: [start]}, [start]
     for place in todo:
-        for other in next_of(place):
-            if other not in found:
-                found[other] = found[place] + [other]
-                todo.append(other)
+        new = [other for other in dict.fromkeys(next_of(place)) if other not in found]
+        found.update({other: found[place] + [other] for other in new})
+        todo += new
     return found
 
 

@@ -40,4 +40,4 @@ def proofs() -> Iterator[Module]:
     """The modules of proofs/."""
     for file in files("crates/*/proofs/**/*.antt"):
         if file.name != "Lib.antt":
-            yield Module(file.relative_to(CRATES).parts[0], file.stem, str(file))
+            yield Module(file)

@@ -5,7 +5,9 @@ import contextlib
 import random
 import sys
 import types
-from typing import Any, Dict as Mapping, Iterator, Optional, Sequence as Several, Tuple as Pair
+import unittest
+from importlib import import_module
+from typing import Any, Dict as Mapping, Iterator, Optional, Sequence as Several, Tuple
 from unittest import mock
 
 
@@ -31,20 +33,6 @@ class Space:
 
     def __contains__(self, x: Any) -> bool:
         return self.contains(x)
-
-
-class Discrete(Space):
-    """The `n` whole numbers from `start`."""
-
-    def __init__(self, n: int, start: int = 0) -> None:
-        super().__init__()
-        self.n, self.start = n, start
-
-    def sample(self) -> int:
-        return self.start + self._source.randrange(self.n)
-
-    def contains(self, x: Any) -> bool:
-        return isinstance(x, int) and self.start <= x < self.start + self.n
 
 
 class Text(Space):
@@ -80,24 +68,6 @@ class Sequence(Space):
         return iter((self.feature_space,))
 
 
-class Tuple(Space):
-    """A value of each of some spaces, in their order."""
-
-    def __init__(self, spaces: Several[Space]) -> None:
-        super().__init__()
-        self.spaces = tuple(spaces)
-
-    def sample(self) -> Any:
-        return tuple(space.sample() for space in self.spaces)
-
-    def contains(self, x: Any) -> bool:
-        return (isinstance(x, (list, tuple)) and len(x) == len(self.spaces)
-                and all(space.contains(part) for space, part in zip(self.spaces, x)))
-
-    def _parts(self) -> Iterator[Space]:
-        return iter(self.spaces)
-
-
 class Dict(Space):
     """A value of each of some spaces, by their keys."""
 
@@ -122,7 +92,7 @@ class Dict(Space):
 class Box(Space):
     """Arrays of a shape, here tuples or lists, of numbers between two bounds; of no shape, one."""
 
-    def __init__(self, low: float, high: float, shape: Pair[int, ...] = (),
+    def __init__(self, low: float, high: float, shape: Tuple[int, ...] = (),
                  dtype: object = None) -> None:
         super().__init__()
         self.low, self.high, self.shape, self.dtype = low, high, shape, dtype
@@ -130,7 +100,7 @@ class Box(Space):
     def contains(self, x: Any) -> bool:
         return self._has(x, self.shape)
 
-    def _has(self, x: Any, shape: Pair[int, ...]) -> bool:
+    def _has(self, x: Any, shape: Tuple[int, ...]) -> bool:
         if shape:
             return (isinstance(x, (list, tuple)) and len(x) == shape[0]
                     and all(self._has(part, shape[1:]) for part in x))
@@ -182,8 +152,8 @@ def same(numbers: Any) -> Any:
 def installed() -> Iterator[None]:
     """Lets these stand for `gymnasium` and `numpy`, and their importers be imported anew."""
     spaces = types.ModuleType("gymnasium.spaces")
-    vars(spaces).update(Space=Space, Discrete=Discrete, Text=Text, Sequence=Sequence, Tuple=Tuple,
-                        Dict=Dict, Box=Box, MultiDiscrete=MultiDiscrete)
+    vars(spaces).update(Space=Space, Text=Text, Sequence=Sequence, Dict=Dict, Box=Box,
+                        MultiDiscrete=MultiDiscrete)
     gymnasium, numpy = types.ModuleType("gymnasium"), types.ModuleType("numpy")
     vars(gymnasium).update(spaces=spaces, Env=Env, register=register)
     vars(numpy).update(array=array, int64="int64", float32="float32", asarray=same)
@@ -194,3 +164,11 @@ def installed() -> Iterator[None]:
         for name in ours:
             sys.modules.pop(name, None)
         yield
+
+
+def imported(case: unittest.TestCase, name: str) -> Any:
+    """A module of `learning` that imports these, for a test."""
+    context = installed()
+    context.__enter__()
+    case.addCleanup(context.__exit__, None, None, None)
+    return import_module(f"geesefuton.learning.{name}")

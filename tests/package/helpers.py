@@ -6,6 +6,7 @@ import os
 import re
 import subprocess
 import sys
+import tempfile
 import unittest
 from functools import lru_cache
 from pathlib import Path
@@ -13,54 +14,49 @@ from typing import Any, Callable, Dict, List, Optional, Tuple, TypeVar, Union
 from unittest import mock
 
 from geesefuton import program
-from geesefuton.experiments import study
+from geesefuton.experiments.comparisons import missing_libraries
 from geesefuton.hosting.journal import Schedule
 from geesefuton.records.dialects import asked_by
 from geesefuton.records.games import CLOCK, GOODS, HOTELS, SEATS, Game, read_game
 from geesefuton.records.logs import Log, read_log
 from geesefuton.records.replies import read_points
+from tests.package.cases import FolderCase
+from tests.support.trying import COMMAND as COMMAND, TOP as TOP, needs_program as needs_program
 
-DATA = Path(__file__).resolve().parent / "data"
-TOP = DATA.parents[2]
+DATA = TOP / "tests" / "package" / "data"
 PACKAGE = TOP / "python"
 SERVED_GAME, SERVED_LOG = DATA / "served.game", DATA / "served.log"
 PLAYED = DATA / "played.text"
+MOST = 300.0  # seconds that a process may take, on a machine that is busy with other work
 Decorated = TypeVar("Decorated", bound=Union[type, Callable[..., Any]])  # tests, or a class of them
-
-
-def has_program() -> bool:
-    """Whether there is a program."""
-    try:
-        program.find()
-    except program.ProgramError:
-        return False
-    return True
-
-
-@lru_cache(maxsize=1)
-def has_step() -> bool:
-    """Whether there is a program that plays a game line by line."""
-    try:
-        program.run("step", TOP / "examples" / "first.game", os.devnull)
-    except program.ProgramError:
-        return False
-    return True
-
-
-def needs_program(case: Decorated) -> Decorated:
-    """Skips tests where there is no program."""
-    return unittest.skipUnless(has_program(), "there is no program of tac")(case)
+needs_study = unittest.skipIf(bool(missing_libraries("these tests")),
+                              "there is no numpy, scipy or pandas")
 
 
 def needs_step(case: Decorated) -> Decorated:
     """Skips tests where the program cannot play a game line by line."""
-    return unittest.skipUnless(has_step(), "there is no program of tac with the command step")(case)
+    return unittest.skipUnless(_has_step(), "there is no program of tac with the command step"
+                               )(case)
 
 
-def needs_study(case: Decorated) -> Decorated:
-    """Skips tests where the libraries for research are missing."""
-    return unittest.skipIf(bool(study.missing("these tests")), "there is no numpy, scipy or pandas"
-                           )(case)
+@lru_cache(maxsize=1)
+def _has_step() -> bool:
+    with contextlib.suppress(program.ProgramError):
+        program.run("step", TOP / "examples" / "first.game", os.devnull)
+        return True
+    return False
+
+
+class Case(FolderCase):
+    """A test with a folder of its own, `place`."""
+
+    def setUp(self) -> None:
+        super().setUp()
+        self.place = self.folder
+
+    def set(self, **values: str) -> None:
+        """Sets environment variables for the test."""
+        self.enter(mock.patch.dict(os.environ, values))
 
 
 def served_game() -> Game:
@@ -73,13 +69,25 @@ def served_log() -> Log:
     return read_log(SERVED_LOG.read_bytes())
 
 
+def completed(*words: object, env: Optional[Dict[str, str]] = None,
+              **how: Any) -> "subprocess.CompletedProcess[Any]":
+    """Runs a command that finds the package to its end, with its output and its errors as texts.
+
+    Args:
+        words: The command.
+        env: More variables.
+        how: What else `subprocess.run` is given.
+    """
+    how = {"stdin": subprocess.DEVNULL, "stdout": subprocess.PIPE, "stderr": subprocess.PIPE,
+           "text": True, "timeout": MOST, "check": False, **how}
+    return subprocess.run([str(word) for word in words], env=variables(env), **how)
+
+
 def run(module: str, *words: object, env: Optional[Dict[str, str]] = None,
         **how: Any) -> "subprocess.CompletedProcess[str]":
     """Runs a command of the package in a process of its own."""
     code = f"import sys; from geesefuton.{module} import main; sys.exit(main())"
-    how.setdefault("stdout", subprocess.PIPE)
-    return subprocess.run(python(code, *words), stdin=subprocess.DEVNULL, stderr=subprocess.PIPE,
-                          text=True, timeout=300, check=False, env=variables(env), **how)
+    return completed(*python(code, *words), env=env, **how)
 
 
 def refusal(module: str, *words: object) -> Tuple[int, str]:
@@ -124,7 +132,16 @@ def fake_program(folder: Path, body: str) -> str:
 
 # How a JVM is run: it leaves no file where temporary files stand, and loads and compiles little.
 JVM = ["-XX:-UsePerfData", "-XX:+UseSerialGC", "-XX:TieredStopAtLevel=1"]
-JAVAC = ["javac", *(f"-J{word}" for word in JVM)]
+
+
+@lru_cache(maxsize=None)
+def compiled(*words: str) -> str:
+    """The folder of what `javac` makes of its words, until a test module's end."""
+    folder = tempfile.TemporaryDirectory()
+    unittest.addModuleCleanup(folder.cleanup)
+    subprocess.run(["javac", *(f"-J{word}" for word in JVM), "-d", folder.name, *words],
+                   stdin=subprocess.DEVNULL, check=True)
+    return folder.name
 
 # The beginning of a stand-in for the process of a game of a tournament, which has its job and its
 # name then. It starts fast: it loads neither the package nor `multiprocessing`, whose messages are

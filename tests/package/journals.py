@@ -3,9 +3,12 @@
 import json
 from typing import Any, Dict, List, Sequence
 
+from geesefuton import program
 from geesefuton.hosting.journal import JournalReader
 from geesefuton.hosting.nights import Night, Nights
+from geesefuton.hosting.recovery import Player
 from geesefuton.records.games import Game, read_game
+from tests.package.cases import FolderCase
 from tests.package.helpers import DATA
 
 TEXT = (DATA / "lobby.journal").read_text()
@@ -13,6 +16,7 @@ LINES = TEXT.split("\n")[:-1]
 HEAD: Dict[str, Any] = json.loads(LINES[0])  # its pace is 100 milliseconds
 GAME: Game = read_game(HEAD["game"])
 BEGIN = '{"begin":[0,1,2,3,4,5,6,7]}'
+HEADED = [LINES[0], BEGIN, '{"tick":0,"t":0}']
 
 
 def place_of(tick: int) -> int:
@@ -46,13 +50,25 @@ def nights_of(reader: JournalReader) -> List[Night]:
 
 def begun(*lines: Dict[str, Any], tick: int = 0, game: Game = GAME) -> JournalReader:
     """A journal of a game that has begun: with these lines, and then the tick."""
-    reader = JournalReader()
-    reader.read("\n".join(map(json.dumps, [
-        {**HEAD, "game": game.text()}, {"begin": [0, 1, 2, 3, 4, 5, 6, 7]}, {"tick": 0, "t": 0},
-        *lines, *([{"tick": tick, "t": 100 * tick}] if tick else [])])))
-    return reader
+    _, *begin = HEADED
+    return of_text([json.dumps({**HEAD, "game": game.text()}), *begin, *map(json.dumps, [
+        *lines, *([{"tick": tick, "t": 100 * tick}] if tick else [])])])
 
 
 def asked(agent: int, line: str, reply: str, time: int) -> List[Dict[str, Any]]:
     """The lines of a request and its reply."""
     return [{"a": agent, "q": line}, {"a": agent, "r": reply, "t": time}]
+
+
+class PlayedCase(FolderCase):
+    """A game that the program plays again, in a folder of the test."""
+
+    def setUp(self) -> None:
+        super().setUp()
+        self.player = Player(self.folder)
+
+    def audit(self, log: str) -> str:
+        """What the program says of a log of the kept game."""
+        (self.folder / "my.game").write_text(GAME.text())
+        (self.folder / "my.log").write_text(log)
+        return program.audit(self.folder / "my.game", self.folder / "my.log")

@@ -3,10 +3,8 @@
 import os
 import socket
 import struct
-import tempfile
 import threading
 import time
-import unittest
 from pathlib import Path
 from typing import Any, Dict, List, Optional, Type
 from unittest import mock
@@ -15,6 +13,7 @@ from geesefuton.hosting import events
 from geesefuton.hosting.events import End, Event
 from geesefuton.hosting.lobby import Lobby
 from geesefuton.hosting.settings import LobbySettings
+from tests.package.cases import FolderCase
 
 HERE = Path(__file__).resolve().parent
 TOP = HERE.parents[1]
@@ -88,25 +87,42 @@ class Host:
         """Lets the ticks that are left pass."""
         self.lobby.settings.pace = 1
 
+    def finish(self) -> Dict[str, End]:
+        """Lets the ticks that are left pass: why each seat's part was over."""
+        self.hurry()
+        return self.end()
+
     def end(self) -> Dict[str, End]:
         self.thread.join(MOST)
         assert not self.thread.is_alive(), self.told
         return {event.word: event.reason for event in self.of(events.Ended)}
 
 
-class Case(unittest.TestCase):
+class Case(FolderCase):
     def setUp(self) -> None:
-        place = tempfile.TemporaryDirectory()
-        self.addCleanup(place.cleanup)
-        self.folder = Path(place.name)
-        change = mock.patch.dict(os.environ, {"TAC": str(HERE / "fake_tac.py")})
-        change.start()
-        self.addCleanup(change.stop)
+        super().setUp()
+        self.set(TAC=str(HERE / "fake_tac.py"))
         # Some agents keep their links; and what a test asks for is looked at soon.
-        for name, value in (("lobby.ENDING", 0.1), ("hosted_game.LOOK", 0.05)):
-            waiting = mock.patch(f"geesefuton.hosting.{name}", value)
-            waiting.start()
-            self.addCleanup(waiting.stop)
+        self.patch("hosting.lobby.ENDING", 0.1)
+        self.patch("hosting.hosted_game.LOOK", 0.05)
+
+    def set(self, **variables: str) -> None:
+        """Variables of the environment."""
+        self.enter(mock.patch.dict(os.environ, variables))
+
+    def ended(self, **how: Any) -> Host:
+        """A lobby whose game nobody plays, once it is over."""
+        host = Host(self.folder, **{"pace": 2, "start": 0, "linger": 0, **how})
+        host.end()
+        return host
+
+    def leave_all(self, host: Host, agents: List[Agent]) -> None:
+        """All eight agents are welcomed and leave, and the game ends well."""
+        for number, agent in enumerate(agents):
+            self.assertEqual(agent.welcome()[0], f"welcome {number}")
+            agent.quit()
+        self.assertEqual(set(host.finish().values()), {End.LEFT})
+        self.assertEqual(host.status, 0)
 
     def agents(self, host: Host, *words: str) -> List[Agent]:
         agents = [Agent(host.port, word) for word in words]

@@ -1,13 +1,15 @@
 """The addresses of this machine, also where nothing leads out of the room's network."""
 
+import contextlib
 import re
 import socket
 import unittest
-from typing import Any, Dict, List, Optional
+from pathlib import Path
+from typing import Any, Dict, List
 from unittest import mock
 
 from geesefuton.network import addresses
-from geesefuton.network.addresses import (join_address, listen, new_token, own_address,
+from geesefuton.network.addresses import (BACKLOG, join_address, listen, new_token, own_address,
                                           own_addresses)
 
 
@@ -58,27 +60,30 @@ class Machine:
 
 
 class Own(unittest.TestCase):
-    def check(self, due: List[str], named: Optional[List[str]] = None, **routes: str) -> None:
-        machine = Machine({name.replace("default", ""): address
-                           for name, address in routes.items()}, named or [])
-        self.assertEqual(machine.found(), due)
-        self.assertEqual(machine.first, due[0] if due else "localhost")
-
-    def test_the_default_route_comes_first(self) -> None:
-        self.check(["10.0.0.7", "192.168.1.5"], default="10.0.0.7", wlan0="192.168.1.5",
-                   eth0="10.0.0.7", lo="127.0.0.1")
-        self.check(["fd00::7"], default="fd00::7")
-
-    def test_without_one_the_interfaces_tell(self) -> None:
-        self.check(["192.168.1.5"], lo="127.0.0.1", wlan0="192.168.1.5")
-
-    def test_without_interfaces_the_name_tells(self) -> None:
-        self.check(["192.168.1.6"], ["127.0.1.1", "192.168.1.6"])
-        self.check([], [], lo="127.0.0.1")
+    def test_the_default_route_comes_first_then_the_interfaces_and_then_the_name(self) -> None:
+        for due, named, routes in (
+                (["10.0.0.7", "192.168.1.5"], [],
+                 {"": "10.0.0.7", "wlan0": "192.168.1.5", "eth0": "10.0.0.7", "lo": "127.0.0.1"}),
+                (["fd00::7"], [], {"": "fd00::7"}),
+                (["192.168.1.5"], [], {"lo": "127.0.0.1", "wlan0": "192.168.1.5"}),
+                (["192.168.1.6"], ["127.0.1.1", "192.168.1.6"], {}),
+                ([], [], {"lo": "127.0.0.1"})):
+            with self.subTest(due=due):
+                machine = Machine(routes, named)
+                self.assertEqual(machine.found(), due)
+                self.assertEqual(machine.first, due[0] if due else "localhost")
 
     def test_on_this_machine(self) -> None:
         for each in own_addresses():
             listen(0, each).close()
+
+    def test_hundreds_of_links_may_wait_to_be_taken(self) -> None:
+        if int(Path("/proc/sys/net/core/somaxconn").read_text()) < BACKLOG:
+            self.skipTest("the system lets fewer")
+        with contextlib.ExitStack() as stack:
+            listener = stack.enter_context(listen(0, "127.0.0.1"))
+            for _ in range(300):
+                stack.enter_context(socket.create_connection(listener.getsockname(), timeout=5))
 
 
 class Pages(unittest.TestCase):
@@ -91,7 +96,3 @@ class Pages(unittest.TestCase):
         self.assertEqual(len(tokens), 100)
         for token in tokens:
             self.assertTrue(re.fullmatch("[a-hjkmnp-z2-9]{10}", token), token)
-
-
-if __name__ == "__main__":
-    unittest.main()

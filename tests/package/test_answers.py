@@ -29,15 +29,15 @@ class Answers(unittest.TestCase):
 
     def test_too_low_for_a_hotel(self) -> None:
         bid = Request("bid", 8, ((2, 100),))
-        self.assertEqual(refusal("@3 no belowquote 3 101 2", bid),
-                         "Too low: a new bid has to offer 3 rooms at 101 dollars or more, since "
-                         "you would win 3 now; yours offers only 2 at that price.")
-        self.assertEqual(refusal("@3 no belowquote 1 101 0", bid),
-                         "Too low: a new bid has to offer 1 room at 101 dollars or more; yours "
-                         "offers none at that price.")
-        self.assertIn("no bid can beat it", refusal("@3 no belowquote 1 10001 0", bid))
-        for line, fix in (("@3 no belowquote 3 101 2", (3, 101)),
-                          ("@3 no belowquote 1 10001 0", None), ("@3 no closed", None)):
+        for line, text, fix in (
+                ("@3 no belowquote 3 101 2", "Too low: a new bid has to offer 3 rooms at 101 "
+                 "dollars or more, since you would win 3 now; yours offers only 2 at that price.",
+                 (3, 101)),
+                ("@3 no belowquote 1 101 0", "Too low: a new bid has to offer 1 room at 101 "
+                 "dollars or more; yours offers none at that price.", (1, 101)),
+                ("@3 no belowquote 1 10001 0", "no bid can beat it", None),
+                ("@3 no closed", "closed", None)):
+            self.assertIn(text, refusal(line, bid))
             self.assertEqual(answer_of(bid, read_words(line), None).fix, fix)
 
     def test_each_refusal_has_a_sentence_of_its_own(self) -> None:
@@ -69,7 +69,3 @@ class Answers(unittest.TestCase):
             told = fault_of(points)
             self.assertEqual(told is None, due is None, points)
             self.assertIn(due or "", told or "")
-
-
-if __name__ == "__main__":
-    unittest.main()

@@ -1,17 +1,11 @@
 """Agents, and what tells what a machine lacks, on a system without the calls of Linux."""
 
-import os
-import subprocess
+import contextlib
 import sys
-import tempfile
-import unittest
 from pathlib import Path
 
-from tests.package.helpers import TOP, variables
+from tests.package.helpers import TOP, Case, completed
 from tests.package.seat_server import SeatServer
-
-HERE = Path(__file__).resolve().parent
-MOST = 120.0  # seconds that anything may take, on a machine that is busy with other work
 
 # It says what it has, with a sign that is other bytes in UTF-8, and writes it into a file.
 AGENT = """
@@ -30,32 +24,32 @@ run(__doc__, play)
 """
 
 
-class Agents(unittest.TestCase):
+class Agents(Case):
     """A server that stands for a game, in which all is closed soon."""
 
     def setUp(self) -> None:
-        folder = tempfile.TemporaryDirectory()
-        self.addCleanup(folder.cleanup)
-        self.place = Path(folder.name)
-        self.server = SeatServer()
-        self.addCleanup(self.server.close)
+        super().setUp()
+        self.server = self.enter(contextlib.closing(SeatServer()))
+        self.agent = self.place / "mine.py"
+        self.agent.write_text(AGENT, encoding="utf-8")
 
     def run_it(self, *words: object, tac: str = "") -> "subprocess.CompletedProcess[bytes]":
         """Runs a script or a module as Windows would."""
-        more = {"AGENT_RECORD": str(self.place / "record"), "TAC": tac}
-        return subprocess.run(
-            [sys.executable, HERE / "as_on_windows.py", *map(str, words)], env=variables(more),
-            stdin=subprocess.DEVNULL, stdout=subprocess.PIPE, stderr=subprocess.PIPE,
-            timeout=MOST, check=False, cwd=self.place)
+        return completed(sys.executable, Path(__file__).with_name("as_on_windows.py"), *words,
+                         env={"AGENT_RECORD": str(self.place / "record"), "TAC": tac},
+                         text=False, cwd=self.place)
+
+    def run_agent(self, agent: Path, *words: str,
+                  tac: str = "") -> "subprocess.CompletedProcess[bytes]":
+        """Runs an agent so, as the seat `red`."""
+        return self.run_it(agent, "127.0.0.1", self.server.port, "red", "--pause", 0, *words,
+                           tac=tac)
 
     def test_an_agent_plays_with_its_numbers_and_its_record(self) -> None:
-        agent = self.place / "mine.py"
-        agent.write_text(AGENT, encoding="utf-8")
         for tac in ("", sys.executable):
-            done = self.run_it(agent, "127.0.0.1", self.server.port, "red", "--set", "BID=120",
-                               "--seed", "3", "--pause", "0", tac=tac)
-            self.assertEqual((done.returncode, done.stderr), (0, b""))
-            self.assertEqual(done.stdout, b"120 \x80 0 None\r\n")
+            done = self.run_agent(self.agent, "--set", "BID=120", "--seed", "3", tac=tac)
+            self.assertEqual((done.returncode, done.stderr, done.stdout),
+                             (0, b"", b"120 \x80 0 None\r\n"))
         asked = ["hello red", "bid 0 ((1 120))", "own 0", "quit"]
         self.assertEqual(self.server.heard, asked * 2)
         for name in ("red", "red.2"):
@@ -69,16 +63,13 @@ class Agents(unittest.TestCase):
         self.server.closed = list(range(28))
         for name in ("watcher", "planner", "trader", "baseline"):
             with self.subTest(agent=name):
-                done = self.run_it(TOP / "examples" / "agents" / f"{name}.py", "127.0.0.1",
-                                   self.server.port, "red", "--pause", "0")
+                done = self.run_agent(TOP / "examples" / "agents" / f"{name}.py")
                 self.assertEqual((done.returncode, done.stderr), (0, b""))
                 self.assertEqual(self.server.heard[-1], "quit")
 
     def test_one_that_is_refused_says_so(self) -> None:
-        agent = self.place / "mine.py"
-        agent.write_text(AGENT, encoding="utf-8")
         self.server.refusals["hello"] = "refused wrongword"
-        done = self.run_it(agent, "127.0.0.1", self.server.port, "red")
+        done = self.run_agent(self.agent)
         self.assertEqual((done.returncode, done.stderr), (1, b"red: refused wrongword\r\n"))
 
     def test_doctor_tells_that_agents_run_and_where_games_are_hosted(self) -> None:
@@ -94,7 +85,3 @@ class Agents(unittest.TestCase):
         self.assertEqual((done.returncode, done.stdout, done.stderr), (
             1, b"", b"geesefuton: tac runs on x86-64 Linux alone: host games there; agents run "
             b"anywhere\n"))
-
-
-if __name__ == "__main__":
-    unittest.main()

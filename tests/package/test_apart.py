@@ -1,4 +1,4 @@
-"""Tests of experiments/agent_host.py, agents.py and apart.py, with agents that look around."""
+"""Tests of experiments/agent_host.py and agents.py, with agents that look around."""
 
 import json
 import os
@@ -13,10 +13,9 @@ from typing import Any, Dict, List, Optional, Tuple
 from unittest import mock
 
 from geesefuton.experiments.agent_host import PORT
-from geesefuton.experiments.agents import AgentProcess, Agents
-from geesefuton.experiments.apart import Limits, folder_of, sandbox, why_not
+from geesefuton.experiments.agents import (AgentProcess, Agents, Job, Limits, folder_of, sandbox,
+                                           why_not)
 from geesefuton.experiments.entrants import Entrant, environment, read_entrants
-from geesefuton.experiments.messages import Job
 from geesefuton.processes import Children
 
 TAC = "/bin/true"
@@ -177,7 +176,7 @@ class Shared(Places):
         with open(reading, "rb") as printed, open(writing, "wb") as out:
             process.begin([], self.variables(1), {}, out)
             host = int(printed.readline())
-        self.assertEqual(host, process.number)  # so that no other process is killed
+        self.assertEqual(host, process._host.pid)  # so that no other process is killed
         os.kill(host, signal.SIGKILL)
         self.assertEqual(waited(process), -9)
         self.assertNotEqual(self.seated(self.spy), [process])
@@ -268,7 +267,3 @@ class Apart(Places):
         self.addCleanup(process.close)
         with self.assertRaisesRegex(OSError, "the process of gone did not start: .*nowhere"):
             process.wait()
-
-
-if __name__ == "__main__":
-    unittest.main()

@@ -4,34 +4,27 @@ import argparse
 import contextlib
 import io
 import unittest
-from typing import Callable, List, Tuple
+from typing import Callable, Dict, List, Tuple
 from unittest import mock
 
 from geesefuton.arguments import Parser, seconds, whole
 
 
 class Numbers(unittest.TestCase):
-    def refused(self, read: Callable[[str], object], text: str) -> str:
-        with self.assertRaises(argparse.ArgumentTypeError, msg=text) as caught:
-            read(text)
-        return str(caught.exception)
-
-    def test_whole_numbers(self) -> None:
-        for text in ("3", "7", "65535"):
-            self.assertEqual(whole(3, 65535)(text), int(text))
-        for text in ("2", "65536", "-4", "+4", "4.0", " 4", "4 ", "", "x", "0x4", "1_0", "\u0664"):
-            self.assertIn(f"a number from 3 to 65535, not {text!r}",
-                          self.refused(whole(3, 65535), text))
-
-    def test_whole_numbers_without_a_limit(self) -> None:
-        self.assertEqual([whole(0)("0"), whole(0)("123456789")], [0, 123456789])
-        self.assertIn("a number of 1 or more, not '0'", self.refused(whole(1), "0"))
-
-    def test_seconds(self) -> None:
-        for text, value in (("0", 0.0), ("0.25", 0.25), ("30", 30.0), ("1000000", 1e6)):
-            self.assertEqual(seconds(text), value)
-        for text in ("-1", "-0.1", "1000001", "nan", "inf", "x", "", "1s"):
-            self.assertIn(f"a number of seconds, not {text!r}", self.refused(seconds, text))
+    def test_what_is_read_and_what_is_refused(self) -> None:
+        cases: List[Tuple[Callable[[str], object], Dict[str, object], str, List[str]]] = [
+            (whole(3, 65535), {"3": 3, "7": 7, "65535": 65535}, "a number from 3 to 65535",
+             ["2", "65536", "-4", "+4", "4.0", " 4", "4 ", "", "x", "0x4", "1_0", "\u0664"]),
+            (whole(0), {"0": 0, "123456789": 123456789}, "a number of 0 or more", ["-1"]),
+            (whole(1), {"1": 1}, "a number of 1 or more", ["0"]),
+            (seconds, {"0": 0.0, "0.25": 0.25, "30": 30.0, "1000000": 1e6},
+             "a number of seconds", ["-1", "-0.1", "1000001", "nan", "inf", "x", "", "1s"])]
+        for read, due, told, refused in cases:
+            self.assertEqual({text: read(text) for text in due}, due)
+            for text in refused:
+                with self.assertRaises(argparse.ArgumentTypeError, msg=text) as caught:
+                    read(text)
+                self.assertIn(f"{told}, not {text!r}", str(caught.exception))
 
 
 class Parsers(unittest.TestCase):
@@ -61,7 +54,3 @@ class Parsers(unittest.TestCase):
         self.assertEqual((status, told), (0, []))
         self.assertIn("usage: name ", printed)
         self.assertIn("What it does.\n\n    name 3   so\n", printed)  # lines stay as they are
-
-
-if __name__ == "__main__":
-    unittest.main()

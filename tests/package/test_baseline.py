@@ -11,7 +11,7 @@ from geesefuton.learning.market import Market
 from geesefuton.learning.rivals import SeatLink
 from geesefuton.link import Quote, Unanswered
 from geesefuton.records.games import HOTELS, TICKETS, TICKS, Client, Game, inbound, outbound
-from geesefuton.records.made_games import made_game
+from geesefuton.records.drawing import made_game
 from geesefuton.records.replies import Own
 from tests.package.helpers import TOP, needs_program
 from tests.package.test_link import Server
@@ -385,7 +385,3 @@ class Commands(unittest.TestCase):
             done = self.agent(*words)
             self.assertEqual((done.returncode, done.stdout), (2, ""), words)
             self.assertIn("error: ", done.stderr.splitlines()[-1])
-
-
-if __name__ == "__main__":
-    unittest.main()

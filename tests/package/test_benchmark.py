@@ -3,9 +3,6 @@
 import hashlib
 import json
 import os
-import tempfile
-import unittest
-from pathlib import Path
 from typing import Any, Dict, List, Tuple
 from unittest import mock
 
@@ -13,27 +10,21 @@ from geesefuton.experiments import benchmark
 from geesefuton.experiments.plan import Plan
 from geesefuton.experiments.results import Outcome, Row
 from geesefuton.processes import Output
-from tests.package.helpers import SERVED_GAME, TOP, fake_program, refusal
+from tests.package.run_cases import PlaceCase
+from tests.package.helpers import TOP
 
 REFERENCES = ["baseline", "equilibrium", "scenarios", "planner", "trader", "starter"]
 
 
-class Benchmarks(unittest.TestCase):
+class Benchmarks(PlaceCase):
     def setUp(self) -> None:
-        folder = tempfile.TemporaryDirectory()
-        self.addCleanup(folder.cleanup)
-        self.place = Path(folder.name)
+        super().setUp()
         (self.place / "own").mkdir()
         self.mine = self.place / "own" / "mine.py"
         self.mine.write_text("")
         self.plans: List[Plan] = []
-        environment = mock.patch.dict(os.environ, {
-            "TAC": fake_program(self.place, f"cat '{SERVED_GAME}'")})
-        environment.start()
-        self.addCleanup(environment.stop)
-        playing = mock.patch("geesefuton.experiments.benchmark.play_in_folder", self.play)
-        playing.start()
-        self.addCleanup(playing.stop)
+        self.use_program()
+        self.patch("experiments.benchmark.play_in_folder", self.play)
 
     def play(self, parser: object, plan: Plan) -> Tuple[int, List[Row], List[str]]:
         """Each agent has 100 dollars less than the one before it, in each deal some more."""
@@ -103,10 +94,6 @@ class Benchmarks(unittest.TestCase):
     def test_another_agent_with_the_name_of_a_reference_agent(self) -> None:
         other = self.mine.with_name("planner.py")
         other.write_text("")
-        status, text = refusal("experiments.benchmark", "classic", other, "--out", self.place / "x")
-        self.assertEqual((status, text.count("\n"), (self.place / "x").exists()), (2, 1, False))
-        self.assertIn("a reference agent has this name", text)
-
-
-if __name__ == "__main__":
-    unittest.main()
+        self.assert_refused("a reference agent has this name", "benchmark", "classic", other,
+                            "--out", self.place / "x")
+        self.assertFalse((self.place / "x").exists())

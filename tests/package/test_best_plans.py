@@ -58,7 +58,7 @@ def small_case(seed: int) -> Tuple[List[Client], List[int], Prices]:
     return clients, held(*draw.choices(GOODS, k=5)), prices
 
 
-# What the trips of `tight_case` are worth, by a program in whole numbers (test_allocations.py).
+# What the trips of `tight_case` are worth, by a program in whole numbers (test_overview.py).
 OPTIMA: Dict[int, int] = {17: 3960, 25: 3762, 47: 3157}
 
 
@@ -143,7 +143,3 @@ class Plans(unittest.TestCase):
             units = [draw.choice([0, 0, 1, 1, 2, 3]) for _ in GOODS]
             plan = best_plan(clients, units, [None] * 28)
             self.assertEqual((plan.value, plan.bound), (solve(units, clients),) * 2)
-
-
-if __name__ == "__main__":
-    unittest.main()

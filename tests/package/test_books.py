@@ -1,20 +1,29 @@
 """The books of games in steps, beside logs of the proved program, and on worked examples."""
 
-import json
 import unittest
-from typing import List, Tuple
+from typing import List, Optional, Tuple
 
-from geesefuton.records.books import Books, FlightBook, NightBook, TicketBook, text_of
-from geesefuton.records.games import CLOCK, FLIGHTS, GOODS, HOTELS, HOUSE, Game, read_game
-from geesefuton.records.logs import Entry, Log, read_log
-from geesefuton.records.replies import No, Own
+from geesefuton.records.books import Books, FlightBook, NightBook, Side, TicketBook, text_of
+from geesefuton.records.games import (CLOCK, FLIGHTS, GOODS, HOTELS, HOUSE, SEATS, TICKETS, TICKS,
+                                      Game)
+from geesefuton.records.logs import Call, Entry, Log, Trade, read_log
+from geesefuton.records.replies import No, Own, Reply, read_entry_reply
 from geesefuton.records.rules import prices_of
+from geesefuton.records.ticks import entries_by_tick, ticks_by_log
 from tests.package.helpers import DATA, served_game, served_log
+from tests.package.journals import GAME
 
-Trade = Tuple[int, int, int]
+TAKEN, DONE = read_entry_reply("taken 0 0"), read_entry_reply("done")
+GAMES: List[Tuple[Game, Log]] = [(served_game(), served_log()),
+                                 (GAME, read_log((DATA / "lobby.log").read_bytes()))]
 
 
-def trades_of(entry: Entry) -> List[Trade]:
+def bid(agent: int, *points: Tuple[int, int], trades: Tuple[Trade, ...] = (),
+        reply: Reply = TAKEN) -> Entry:
+    return Entry(agent, Call("bid", points), reply, trades)
+
+
+def trades_of(entry: Entry) -> List[Side]:
     """The trades of an entry by agent, units and dollars."""
     sides = [(party, sign * trade.units, trade.price) for trade in entry.trades
              for party, sign in ((trade.buyer, 1), (trade.seller, -1)) if party != HOUSE]
@@ -30,7 +39,7 @@ class Logs(unittest.TestCase):
             night = NightBook(game.rooms[good - 8], game.live) if good in HOTELS else None
             auction = flight or night or TicketBook()
             for place, entry in enumerate(log.histories[good]):
-                made: List[Trade] = []
+                made: List[Side] = []
                 if isinstance(entry.reply, No):
                     pass
                 elif entry.call.do == "bid":
@@ -55,12 +64,10 @@ class Logs(unittest.TestCase):
         self.assertEqual(short, [score.short for score in log.scores])
 
     def test_games_of_the_program_have_these_trades(self) -> None:
-        log, game = served_log(), served_game()
         self.assertGreater(sum(len(entry.trades) for good in GOODS
-                               for entry in log.histories[good]), 20)
-        self.same(game, log)
-        head = (DATA / "lobby.journal").read_text("latin-1").split("\n", 1)[0]
-        self.same(read_game(json.loads(head)["game"]), read_log((DATA / "lobby.log").read_bytes()))
+                               for entry in served_log().histories[good]), 20)
+        for game, log in GAMES:
+            self.same(game, log)
 
 
 class Entries(unittest.TestCase):
@@ -82,7 +89,7 @@ class Entries(unittest.TestCase):
         end = books.at_the_end()
         self.assertEqual((books.tick, books.cash[3], books.holdings[3][good]), (0, 0, 0))
         self.assertEqual((end.tick, end.holdings[3][good]), (54, 1))
-        self.assertIsNone(end.price_for(good, 0))
+        self.assertIsNone(end.prices_for(0)[good])
 
 
 class Auctions(unittest.TestCase):
@@ -154,3 +161,88 @@ class Rooms(unittest.TestCase):
     def test_no_more_rooms_are_sold_than_there_are(self) -> None:
         self.assertEqual([self.night(count).sold() for count in (1, 4, 5)], [1, 4, 4])
         self.assertEqual(NightBook(1, False).sold(), 0)
+
+
+class Asks(unittest.TestCase):
+    """What an agent has to pay for a ticket."""
+
+    def asks(self, *entries: Entry) -> List[Optional[int]]:
+        books = Books(served_game())
+        for entry in entries:
+            books.take(TICKETS[0], entry)
+        return [books.prices_for(agent)[TICKETS[0]] for agent in (0, 1, 2)]
+
+    def test_the_lowest_of_the_others(self) -> None:
+        self.assertEqual(self.asks(), [None, None, None])
+        self.assertEqual(self.asks(bid(0, (-2, 90), (1, 20)), bid(1, (-1, 80))), [80, 90, 80])
+
+    def test_a_new_bid_replaces_the_old_one_and_a_withdrawal_takes_it_away(self) -> None:
+        self.assertEqual(self.asks(bid(0, (-1, 50)), bid(0, (-1, 70)))[1], 70)
+        self.assertIsNone(self.asks(bid(0, (-1, 50)), Entry(0, Call("withdraw"), DONE))[1])
+        refused = bid(0, (-1, 10), reply=read_entry_reply("no selfcross"))
+        self.assertEqual(self.asks(bid(0, (-1, 50)), refused)[1], 50)
+
+    def test_what_is_sold_no_longer_stands(self) -> None:
+        self.assertEqual(self.asks(bid(0, (-1, 50), (-1, 60)), bid(1, (1, 55)))[1], 60)
+        # Who sells to a standing bid keeps what nobody took.
+        self.assertEqual(self.asks(bid(1, (1, 55)), bid(0, (-1, 90), (-1, 40)))[1], 90)
+
+
+class Markets(unittest.TestCase):
+    """What goods cost, call by call."""
+
+    def costs(self, live: bool, *entries: Entry) -> List[Optional[int]]:
+        """What night 8 costs after each of these entries, where each night has two rooms."""
+        books, costs = Books(GAME.with_rooms([2] * 8, live)), list[Optional[int]]()
+        for entry in entries:
+            books.take(8, entry)
+            costs.append(books.prices_for(0)[8])
+        return costs
+
+    def test_a_hotel_costs_what_was_published(self) -> None:
+        entries = [bid(0, (2, 50)), Entry(CLOCK, Call("publish"), DONE), bid(1, (1, 70)),
+                   bid(2, (2, 90), reply=read_entry_reply("no belowquote 1 51 0")),
+                   Entry(CLOCK, Call("publish"), DONE), Entry(CLOCK, Call("close"), DONE)]
+        self.assertEqual(self.costs(False, *entries), [0, 50, 50, 50, 50, None])
+        self.assertEqual(self.costs(True, *entries), [50, 50, 50, 50, 50, None])
+        entries[2] = bid(1, (2, 70))
+        self.assertEqual(self.costs(False, *entries), [0, 50, 50, 50, 70, None])
+        self.assertEqual(self.costs(True, *entries), [50, 50, 70, 70, 70, None])
+
+    def test_a_ticket_costs_what_another_agent_asks(self) -> None:
+        books = Books(GAME)
+        books.take(20, bid(1, (-1, 90)))
+        self.assertEqual([books.prices_for(agent)[20] for agent in (0, 1)], [90, None])
+        self.assertEqual(books.prices_for(0)[21], None)
+        books.take(20, bid(0, (1, 95), trades=(Trade(0, 1, 1, 90),)))
+        self.assertEqual((books.cash[:2], books.holdings[0][20] - GAME.endow[0][4],
+                          books.holdings[1][20] - GAME.endow[1][4]), ([-90, 90], 1, -1))
+
+
+class Played(unittest.TestCase):
+    """Games that are kept as data."""
+
+    def test_in_the_end_plans_are_worth_the_scores(self) -> None:
+        for game, log in GAMES:
+            books = Books(game)
+            for entries in entries_by_tick(ticks_by_log(game, log), log):
+                for good, _, entry in entries:
+                    books.take(good, entry)
+            self.assertEqual(books.cash, [score.cash for score in log.scores])
+            self.assertEqual([books.cash[agent] + books.plan(agent).value
+                              for agent in range(SEATS)], [score.score for score in log.scores])
+            self.assertEqual(books.prices_for(0), [None] * 28)
+
+    def test_prices_are_those_of_the_tick(self) -> None:
+        for game, log in GAMES:
+            books = Books(game)
+            by_tick = entries_by_tick(ticks_by_log(game, log), log)
+            for tick, entries in enumerate(by_tick[:TICKS]):
+                for good, _, entry in entries:
+                    books.take(good, entry)
+                self.assertEqual(books.tick, tick)
+                prices = books.prices_for(0)
+                self.assertEqual([prices[good] for good in FLIGHTS],
+                                 [prices_of(flight)[tick] for flight in game.flights])
+                self.assertEqual([prices[good] is None for good in HOTELS],
+                                 [hotel.closes <= tick for hotel in game.hotels])

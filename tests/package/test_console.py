@@ -1,7 +1,6 @@
 """The host's commands, before a relay whose agents have begun to play."""
 
 import socket
-import time
 import unittest
 from unittest import mock
 
@@ -36,19 +35,13 @@ class Commands(test_relay.Case):
         self.assertEqual(names, ["who", "begin", "without", "end", "ban", "allow", "word", "finish",
                                  "stop", "help"])
 
-    def test_who_is_here_and_who_is_silent(self) -> None:
-        self.assertEqual((self.who(0), self.who(2)),
-                         ("seat0 is here from 127.0.0.1", "seat2 is missing"))
-        now = time.monotonic()
-        with mock.patch("time.monotonic", lambda: now + 25.5):
-            self.assertRegex(self.who(0), "silent for 2[56] s$")
-
-    def test_an_agent_is_silent_after_ten_seconds_in_the_game(self) -> None:
+    def test_who_is_here_and_who_is_silent_for_ten_seconds_in_the_game(self) -> None:
+        self.assertEqual(self.who(2), "seat2 is missing")
         seat = self.relay.seats.seats[0]
-        for heard, is_playing, due in ((109.0, True, ""), (110.0, True, ", silent for 10 s"),
-                                       (900.0, False, "")):
+        for now, is_playing, due in ((109.0, True, ""), (110.0, True, ", silent for 10 s"),
+                                     (125.5, True, ", silent for 26 s"), (900.0, False, "")):
             seat.heard, seat.playing = 100.0, is_playing
-            with mock.patch("time.monotonic", lambda: heard):
+            with mock.patch("time.monotonic", lambda: now):
                 self.assertEqual(self.who(0), f"seat0 is here from 127.0.0.1{due}")
 
     def test_who_else_asks_for_a_seat_and_which_are_over(self) -> None:
@@ -60,8 +53,7 @@ class Commands(test_relay.Case):
         self.assertEqual((self.who(4), self.who(5)), ("seat4 is missing", "seat5 has finished"))
 
     def test_who_came_from_another_address(self) -> None:
-        link = self.relay.links[0]
-        link.source = "10.0.0.9"
+        self.relay.links[0].source = "10.0.0.9"
         self.assertIn("from 10.0.0.9, but first came from 127.0.0.1", self.who(0))
 
     def test_a_link_that_is_ended_may_reconnect(self) -> None:
@@ -94,49 +86,31 @@ class Commands(test_relay.Case):
                               (before, self.connect(b"", banned), kept)], [True, True, False])
             self.console.obey(f"allow {banned}")
 
-    def test_an_address_is_the_same_however_it_is_written(self) -> None:
-        for link, written, plain in ((0, "2001:DB8:0::7", "2001:db8::7"),
-                                     (1, "::FFFF:10.0.0.9", "10.0.0.9")):
-            self.relay.links[link].source = plain
+    def test_an_address_or_network_is_the_same_however_it_is_written(self) -> None:
+        for source, written, plain in (("2001:db8::7", "2001:DB8:0::7", "2001:db8::7"),
+                                       ("10.0.0.9", "::FFFF:10.0.0.9", "10.0.0.9"),
+                                       ("2001:db8::7", "2001:db8::1/64", "2001:db8::/64")):
+            link = self.connect(b"hel")
+            self.turns()
+            self.relay.links[max(self.relay.links)].source = source
+            self.relay.links[0].source = "2001:db8:0:1::7"
             self.assertEqual(self.console.obey(f"ban {written}"),
                              f"banned {plain}; links closed: 1")
-            self.assertTrue(self.has_ended(self.agents[link]))
+            self.assertTrue(self.has_ended(link))
+            self.assertFalse(any(map(self.has_ended, self.agents)))  # who has another address
             self.assertEqual(self.console.obey(f"allow {written}"),
                              f"{plain} is no longer banned")
 
-    def test_a_network_is_banned(self) -> None:
-        for number, source in enumerate(("2001:db8::7", "2001:db8:0:1::7")):
-            self.relay.links[number].source = source
-        self.assertEqual(self.console.obey("ban 2001:db8::1/64"),
-                         "banned 2001:db8::/64; links closed: 1")
-        self.assertEqual(self.console.obey("allow 2001:db8::/64"),
-                         "2001:db8::/64 is no longer banned")
-
-    def test_a_ban_of_another_address_ends_nobody(self) -> None:
-        self.relay.links[1].source = "10.0.0.9"
-        self.connect(b"hel")  # a link that has no seat yet
-        self.turns()
-        self.assertEqual(self.console.obey("ban 10.0.0.9"), "banned 10.0.0.9; links closed: 1")
-        self.assertFalse(self.has_ended(self.agents[0]))
-        self.assertTrue(self.has_ended(self.agents[1]))
-        self.assertEqual(len(self.relay.links), 2)
-
-    def test_a_new_word(self) -> None:
-        self.console.obey("word 1 red7k")
-        self.console.obey("end seat1")
-        old, _ = self.connect(b"hello seat1\n"), self.turns()
-        self.assertEqual(self.turn_until_told(events.Refused)[0].answer, "wrongword")
-        self.turn_until(old, b"refused wrongword\n")
-        self.connect(b"hello red7k\n")
-        self.turn_until_told(events.Rejoined)
-
-    def test_a_new_word_is_not_that_of_a_link_that_waits_with_the_old_one(self) -> None:
+    def test_a_new_word_is_not_that_of_a_link_that_waits_or_comes_with_the_old_one(self) -> None:
         thief = self.connect(b"hello seat1\n")
         self.turns()
         self.console.obey("word 1 red7k")
         self.console.obey("end seat1")
         self.turn_until(thief, b"refused taken\n")
+        self.turn_until(self.connect(b"hello seat1\n"), b"refused wrongword\n")
         self.assertEqual(self.of(events.Rejoined), [])
+        self.connect(b"hello red7k\n")
+        self.turn_until_told(events.Rejoined)
 
     def test_a_seat_may_keep_its_word_and_have_that_of_nobody(self) -> None:
         for word in ("seat1", "red7k", "seat1"):
@@ -188,7 +162,3 @@ class OwnAgents(test_relay.Case):
         self.assertEqual(self.turn_until_told(events.Arrived, 3)[2].source, "the house")
         self.connect(b"hello seat5\n")
         self.assertEqual(self.turn_until_told(events.Arrived, 4)[3].source, "127.0.0.1")
-
-
-if __name__ == "__main__":
-    unittest.main()

@@ -1,39 +1,28 @@
 """What may be asked of a hosted game from outside, and when."""
 
 import unittest
-from typing import Any, Dict
 
 from geesefuton.hosting.control import Control, Phase
 
 
 class Controls(unittest.TestCase):
-    def setUp(self) -> None:
-        self.control = Control()
-
-    def asked(self) -> "tuple[bool, bool, bool]":
-        control = self.control
-        return control.is_begin_asked, control.is_end_asked, control.is_stopped
-
-    def test_nothing_is_asked_at_first(self) -> None:
-        self.assertEqual((self.control.phase, self.asked()),
-                         (Phase.GATHERING, (False, False, False)))
+    def check(self, control: Control, *due: bool) -> None:
+        """Whether a beginning, an end and a stop are asked for."""
+        self.assertEqual((control.is_begin_asked, control.is_end_asked, control.is_stopped), due,
+                         control.phase)
 
     def test_what_enter_means_at_each_time(self) -> None:
-        due: Dict[Phase, Any] = {Phase.GATHERING: (True, False, False),
-                                 Phase.ENDING: (False, True, False)}
+        self.assertEqual(Control().phase, Phase.GATHERING)
+        self.check(Control(), False, False, False)  # nothing is asked at first
         for phase in Phase:
-            self.control = Control()
-            self.control.phase = phase
-            self.control.go_on()
-            self.assertEqual(self.asked(), due.get(phase, (False, False, False)), phase)
+            control = Control()
+            control.phase = phase
+            control.go_on()
+            self.check(control, phase is Phase.GATHERING, phase is Phase.ENDING, False)
 
     def test_what_is_asked_stays_asked(self) -> None:
-        for ask, due in ((self.control.end, (False, True, False)),
-                         (self.control.stop, (False, True, True))):
+        control = Control()
+        for ask, is_stopped in ((control.end, False), (control.stop, True)):
             for _ in range(2):
                 ask()
-                self.assertEqual(self.asked(), due)
-
-
-if __name__ == "__main__":
-    unittest.main()
+                self.check(control, False, True, is_stopped)

@@ -80,7 +80,3 @@ class Lucks(unittest.TestCase):
         self.assertEqual((covariates.SEAT, covariates.SHANTIES, covariates.TOWERS,
                           covariates.TICKET), (350, 80, 120, 80))
         self.assertEqual(list(covariates.PRICES), [350] * 8 + [80] * 4 + [120] * 4 + [80] * 12)
-
-
-if __name__ == "__main__":
-    unittest.main()

@@ -5,17 +5,16 @@ import json
 import re
 import shutil
 import subprocess
-import tempfile
 import unittest
 from collections import defaultdict
 from pathlib import Path
 from typing import Any, Dict, List, Tuple
 from unittest import mock
 
-from geesefuton.experiments.results import HEAD, Outcome, Row, text_of
+from geesefuton.experiments.results import Outcome, Row
 from geesefuton.records.data import SCHEMA, TABLES, DataError, read_data
 from geesefuton.records.rules import prices_of
-from geesefuton.records.tables import csv_of
+from tests.package.run_cases import PlaceCase, write_run
 from tests.package.helpers import DATA, PLAYED, SERVED_GAME, SERVED_LOG, TOP, refusal, served_game
 from tests.package.journals import GAME
 
@@ -39,16 +38,13 @@ def numbers(pattern: str, text: str) -> List[Tuple[int, ...]]:
                                                                      re.MULTILINE)]
 
 
-class Case(unittest.TestCase):
+class Case(PlaceCase):
     """A folder as that of a run."""
 
     def setUp(self) -> None:
-        place = tempfile.TemporaryDirectory()
-        self.addCleanup(place.cleanup)
-        self.folder, self.out = Path(place.name, "run"), Path(place.name, "tables")
+        super().setUp()
+        self.folder, self.out = self.place / "run", self.place / "tables"
         (self.folder / "games").mkdir(parents=True)
-        (self.folder / "run.json").write_text(json.dumps({
-            "tournament": 2, "settings": {}, "deals": {"seed": 1}, "agents": [], "runs": []}))
         rows: List[Row] = []
         for number, (deal, texts) in enumerate(TEXTS.items(), 9):
             for suffix, text in texts.items():
@@ -56,7 +52,7 @@ class Case(unittest.TestCase):
             scores = [score[-1] for score in numbers("score", texts["log"])]
             rows += [Row(deal, 0, seat, NAMES[seat], scores[seat], Outcome.PLAYED, 700, nights=2.5,
                          number=number) for seat in (3, 1, 0, 2, 7, 5, 4, 6)]
-        (self.folder / "scores.csv").write_text(csv_of([HEAD]) + text_of(rows))
+        write_run(self.folder, rows)
 
     def data(self) -> Tuple[int, str]:
         return refusal("experiments.data_command", self.folder, self.out)
@@ -204,9 +200,7 @@ class Refusals(Case):
     def test_nothing_is_written_over(self) -> None:
         self.out.mkdir()
         (self.out / "mine").write_text("mine")
-        status, text = self.data()
-        self.assertEqual((status, text.count("\n")), (2, 1))
-        self.assertIn("has mine): name a new folder", text)
+        self.assert_refused("has mine): name a new folder", "data_command", self.folder, self.out)
         self.assertEqual(sorted(file.name for file in self.out.iterdir()), ["mine"])
 
     def test_games_that_cannot_be_read_are_named_and_the_others_go_on(self) -> None:
@@ -247,7 +241,3 @@ class Refusals(Case):
             self.assertEqual(self.data(), (1, f"data: {self.out}/games.csv: No space left on "
                                               "device\n"))
         self.assertFalse((self.out / SCHEMA).exists())
-
-
-if __name__ == "__main__":
-    unittest.main()

@@ -129,7 +129,3 @@ class Secrets(unittest.TestCase):
             with self.assertRaisesRegex(DealError, "it has no secret of a run"):
                 shared_secret(file, secret)
             self.assertIsNone(kept_secret(Path(folder)))
-
-
-if __name__ == "__main__":
-    unittest.main()

@@ -1,9 +1,8 @@
-import json
 import unittest
 from typing import Optional
 
 from geesefuton.records.dialects import (CASH, Asked, asked_by, is_bye, is_refusal, position_of,
-                                         reply_of, said_in, words_for)
+                                         reply_of, words_for)
 from geesefuton.records.games import GOODS
 from geesefuton.records.replies import ReplyError
 
@@ -128,27 +127,3 @@ class Answers(unittest.TestCase):
         for line, form in (("@7 done", "json"), ('{"at":7,"done":true}', "words")):
             with self.assertRaises(ReplyError):
                 reply_of(line, form)
-
-
-class Saying(unittest.TestCase):
-    def test_every_reply(self) -> None:
-        for words, told in (
-                ("@7 taken 1 0", {"at": 7, "taken": [1, 0]}), ("@0 done", {"at": 0, "done": True}),
-                ("@8 own -2 ((1 70) (-1 95))", {"at": 8, "own": -2, "points": [[1, 70], [-1, 95]]}),
-                ("@8 own 0 ()", {"at": 8, "own": 0, "points": []}),
-                ("@31 cash -660", {"at": 31, "cash": -660}),
-                ("@9 quote 70 0 open", {"at": 9, "quote": [70, 0], "open": True}),
-                ("@0 quote 0 12 closed", {"at": 0, "quote": [0, 12], "open": False}),
-                ("@3 no belowquote 3 101 2",
-                 {"at": 3, "no": "belowquote", "need": 3, "price": 101, "offered": 2}),
-                ("@4 no closed", {"at": 4, "no": "closed"}), ("no spent", {"no": "spent"}),
-                ("no toolong", {"no": "toolong"}), ("no bid 5", {"no": "bid", "fault": 5}),
-                ("bye", {"bye": True})):
-            with self.subTest(words=words):
-                self.assertEqual(said_in(words.encode(), "words"), words.encode())
-                text = json.dumps(told, separators=(",", ":"))  # the keys are in this order
-                self.assertEqual(said_in(words.encode(), "json"), text.encode())
-
-
-if __name__ == "__main__":
-    unittest.main()

@@ -8,6 +8,7 @@ from typing import Callable, Dict, List
 from unittest import mock
 
 from geesefuton.hosting.relay import Relay
+from geesefuton.network.gate import AT_ONCE
 from geesefuton.practice import door as door_module
 from geesefuton.practice.door import Door, Handed
 from geesefuton.practice.teams import Team
@@ -50,6 +51,18 @@ class Case(unittest.TestCase):
         made.setblocking(False)
         return made
 
+    def seated(self, number: int) -> Handed:
+        """A table that has got the link of a team."""
+        table = self.handed()
+        self.come(number)
+        self.door.seat([f"team{number}"], table)
+        return table
+
+    def says_nothing(self, link: socket.socket) -> None:
+        link.setblocking(False)
+        with self.assertRaises(BlockingIOError):
+            link.recv(1)
+
     def until(self, is_so: Callable[[], bool]) -> None:
         deadline = time.monotonic() + MOST
         while not is_so():
@@ -75,16 +88,21 @@ class Case(unittest.TestCase):
 
 
 class Links(Case):
+    @staticmethod
+    def is_readable(table: Handed) -> bool:
+        with contextlib.suppress(BlockingIOError):
+            table.accept()[0].close()
+            return True
+        return False
+
     def test_a_team_waits_and_is_told_nothing_until_it_plays(self) -> None:
         link, = self.come(3)
-        link.setblocking(False)
-        with self.assertRaises(BlockingIOError):
-            link.recv(1)
+        self.says_nothing(link)
         table = self.handed()
         self.door.seat(["team3"], table)
         taken, where = table.accept()
         with taken:
-            self.assertEqual((taken.recv(100), where), (b"hello w3\n", link.getsockname()))
+            self.assertEqual((taken.recv(100), where[0]), (b"hello w3\n", "127.0.0.1"))
         self.assertEqual(self.door.waiting, {})
 
     def test_a_table_takes_its_links_as_if_they_had_come_to_its_port(self) -> None:
@@ -103,41 +121,21 @@ class Links(Case):
 
     def test_a_team_that_plays_comes_to_its_table_again_and_waits_once_the_game_is_over(
             self) -> None:
-        table = self.handed()
-        self.come(3)
-        self.door.seat(["team3"], table)
+        table = self.seated(3)
         table.accept()[0].close()
         self.link(b"hello w3\n")
-        accepted: List[socket.socket] = []
-
-        def is_handed_on() -> bool:
-            with contextlib.suppress(BlockingIOError):
-                accepted.append(table.accept()[0])
-            return bool(accepted)
-
-        self.until(is_handed_on)
-        accepted[0].close()
+        self.until(lambda: self.is_readable(table))
         table.close()
         self.come(3)
 
     def test_a_team_whose_part_in_its_game_is_over_waits_for_the_next(self) -> None:
-        table = self.handed()
-        self.come(3)
-        self.door.seat(["team3"], table)
-        table.over.add("team3")
+        self.seated(3).over.add("team3")
         self.come(3)
 
     def test_a_house_agent_comes_to_its_table(self) -> None:
         self.house["hidden"] = table = self.handed()
         self.link(b"hello hidden\n")
         self.until(lambda: self.is_readable(table))
-
-    @staticmethod
-    def is_readable(table: Handed) -> bool:
-        with contextlib.suppress(BlockingIOError):
-            table.accept()[0].close()
-            return True
-        return False
 
     def test_what_is_refused_and_how(self) -> None:
         self.come(3)
@@ -170,15 +168,18 @@ class Links(Case):
         self.come(4)
         self.assertEqual(list(self.door.waiting), ["team3", "team4"])
 
+    def test_many_links_are_taken_at_once(self) -> None:
+        links = [self.link(b"") for _ in range(AT_ONCE)]
+        self.door.turn(MOST)
+        self.assertEqual(len(self.door._visitors), len(links))
+
     def test_guesses_are_slow(self) -> None:
         with mock.patch("geesefuton.network.gate.CREDIT", 0.0):
             for _ in range(2):
                 link = self.link(b"hello guess\n")
                 self.until(lambda: any(each.visit.due for each in self.door._visitors.values()))
             self.door.turn(0.0)
-            link.setblocking(False)
-            with self.assertRaises(BlockingIOError):
-                link.recv(1)
+            self.says_nothing(link)
 
     def test_a_link_that_is_handed_to_a_game_that_is_over_is_closed(self) -> None:
         link, = self.come(3)
@@ -205,9 +206,7 @@ class Places(Case):
             with self.subTest(word=word):
                 self.assertEqual(self.answer(self.link(f"place {word}\n".encode())),
                                  f"{due}\n".encode())
-        link.setblocking(False)
-        with self.assertRaises(BlockingIOError):
-            link.recv(1)
+        self.says_nothing(link)
         self.assertEqual(self.door.places(), ["team4", "team7", "team2"])
 
     def test_a_game_begins_once_the_free_tables_are_full_or_the_first_team_has_waited(
@@ -241,7 +240,3 @@ class Places(Case):
                     del self.door.waiting[key]
             self.assertEqual(sizes, due)
             self.door.waiting = left
-
-
-if __name__ == "__main__":
-    unittest.main()

@@ -1,25 +1,24 @@
 import os
 import shutil
 import sys
-import tempfile
-import unittest
 from pathlib import Path
+from typing import List, Tuple
 from unittest import mock
 
 from geesefuton.experiments.entrants import (EntrantError, environment, read_entrant, read_entrants,
                                              seat_words)
+from tests.package.run_cases import PlaceCase
 from tests.package.helpers import PACKAGE
 
 
-class Entrants(unittest.TestCase):
-    def setUp(self) -> None:
-        folder = tempfile.TemporaryDirectory()
-        self.addCleanup(folder.cleanup)
-        self.place = Path(folder.name).resolve()
+class Entrants(PlaceCase):
+    def named(self, *commands: str) -> List[Tuple[str, str]]:
+        """The names of agents, and the roots of their words."""
+        return [(entrant.name, entrant.root) for entrant in read_entrants(commands)]
 
     def file(self, name: str, mode: int = 0o644) -> str:
         file = self.place / name
-        file.parent.mkdir(exist_ok=True)
+        file.parent.mkdir(parents=True, exist_ok=True)
         file.write_text("#!/bin/sh\n")
         file.chmod(mode)
         return str(file)
@@ -37,7 +36,7 @@ class Entrants(unittest.TestCase):
         entrants = read_entrants(files)
         self.assertEqual([entrant.words for entrant in entrants],
                          [(sys.executable, file) for file in files])
-        self.assertEqual([entrant.name for entrant in entrants], files)
+        self.assertEqual([entrant.name for entrant in entrants], ["my team", "o'brien"])
 
     def test_a_name_that_a_table_would_take_for_a_formula_is_refused(self) -> None:
         for name in ("=1+2", "+a", "-b", "@c"):
@@ -69,25 +68,21 @@ class Entrants(unittest.TestCase):
 
     def test_different_agents_of_one_name_are_told_apart(self) -> None:
         first, second = self.file("one/mine.py"), self.file("two/mine.py")
-        other = self.file("other.py")
-        entrants = read_entrants([first, other, second, first])
-        self.assertEqual([entrant.name for entrant in entrants], [first, "other", second, first])
-        self.assertEqual([entrant.root for entrant in entrants],
-                         ["mine1", "other", "mine2", "mine1"])
-
-    def test_variants_of_one_file_are_told_apart_by_their_words(self) -> None:
-        first, second = self.file("one/mine.py"), self.file("two/mine.py")
-        plain, variant = first, f"{first} --set SHADE=1.0"
-        self.assertEqual([entrant.name for entrant in read_entrants([plain, variant])],
+        other, deep = self.file("other.py"), self.file("deep/one/mine.py")
+        self.assertEqual(self.named(first, other, second, first), [
+            ("one", "mine1"), ("other", "other"), ("two", "mine2"), ("one", "mine1")])
+        self.assertEqual(self.named(first, other, other),  # an agent may be given twice
+                         [("mine", "mine"), ("other", "other"), ("other", "other")])
+        variant = f"{first} --set SHADE=1.0"
+        self.assertEqual([name for name, _ in self.named(first, variant)],
                          ["mine", "mine --set SHADE=1.0"])
-        self.assertEqual([entrant.name for entrant in read_entrants([plain, variant, second])],
-                         [plain, "mine --set SHADE=1.0", second])
-
-    def test_an_agent_that_is_given_twice_keeps_its_name(self) -> None:
-        mine = self.file("mine.py")
-        entrants = read_entrants([mine, mine, self.file("other.py")])
-        self.assertEqual([entrant.name for entrant in entrants], ["mine", "mine", "other"])
-        self.assertEqual([entrant.root for entrant in entrants], ["mine", "mine", "other"])
+        self.assertEqual([name for name, _ in self.named(first, variant, second)],
+                         ["one", "mine --set SHADE=1.0", "two"])
+        # Folders of one name are no names, nor are those of other agents.
+        self.assertEqual([name for name, _ in self.named(first, second, deep)],
+                         [first, "two", deep])
+        self.assertEqual([name for name, _ in self.named(first, second, self.file("two.py"))],
+                         ["one", second, self.file("two.py")])
 
     def test_agents_are_numbered_as_they_are_given(self) -> None:
         files = [self.file("one/mine.py"), self.file("two/mine.py")]
@@ -96,8 +91,7 @@ class Entrants(unittest.TestCase):
             self.assertEqual([entrant.command for entrant in entrants], commands)
             self.assertEqual([entrant.root for entrant in entrants], ["mine1", "mine2"])
         # Names that are different stay, also where the seat words have one beginning.
-        alike = read_entrants([self.file("My-Agent.py"), self.file("myagent.py")])
-        self.assertEqual([(entrant.name, entrant.root) for entrant in alike],
+        self.assertEqual(self.named(self.file("My-Agent.py"), self.file("myagent.py")),
                          [("My-Agent", "myagent1"), ("myagent", "myagent2")])
 
     def test_no_seat_word_is_the_root_of_another_agent(self) -> None:
@@ -121,12 +115,6 @@ class Entrants(unittest.TestCase):
         mine = {"PYTHONUNBUFFERED": "", "PYTHONPATH": "/mine"}
         with mock.patch.dict(os.environ, mine):
             variables = environment("/some/tac", Path("/some/folder"))
-        self.assertEqual(variables["TMPDIR"], "/some/folder")
-        self.assertEqual(variables["TAC"], "/some/tac")
-        self.assertEqual(variables["PYTHONPATH"].split(os.pathsep), [str(PACKAGE), "/mine"])
-        self.assertEqual(variables["PYTHONUNBUFFERED"], "1")
-        self.assertEqual(variables["PATH"], os.environ["PATH"])
-
-
-if __name__ == "__main__":
-    unittest.main()
+        self.assertEqual(variables, {
+            **os.environ, "TMPDIR": "/some/folder", "TAC": "/some/tac", "PYTHONUNBUFFERED": "1",
+            "PYTHONPATH": os.pathsep.join([str(PACKAGE), "/mine"])})

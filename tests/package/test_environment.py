@@ -1,3 +1,4 @@
+import contextlib
 import copy
 import os
 import pickle
@@ -8,17 +9,16 @@ import tempfile
 import unittest
 from collections import Counter
 from pathlib import Path
-from typing import Any, Dict, List
+from typing import Any, Dict, Iterator, List
 from unittest import mock
 
 from geesefuton import program
 from geesefuton.learning.environment import ActionError, Environment
 from geesefuton.learning.rivals import SeatLink, maker_of, scores_of
 from geesefuton.program import ProgramError
-from geesefuton.records.drawing import classic_endowments, drawn_rooms
+from geesefuton.records.drawing import classic_endowments, drawn_rooms, made_game
 from geesefuton.records.games import FLIGHTS, HOTELS, TICKS, Game, GameError, read_game
 from geesefuton.records.logs import read_scores
-from geesefuton.records.made_games import made_game
 from geesefuton.records.order import first_seat, order_of_turn
 from geesefuton.records.rules import prices_of
 from tests.package import fake_gymnasium
@@ -58,6 +58,11 @@ def rest(environment: Environment) -> "tuple[Any, ...]":
     return told
 
 
+def hindsight(told: Any) -> Dict[str, int]:
+    """The scores in what a step returns, if nobody asked anything more."""
+    return {agent: info["hindsight"] for agent, info in told[-1].items()}
+
+
 class Arguments(unittest.TestCase):
     def test_bad_arguments_are_told(self) -> None:
         bad: List[Dict[str, Any]] = [
@@ -86,9 +91,12 @@ class Arguments(unittest.TestCase):
                 Environment(rivals={"seat1": "baseline"})
 
     def test_without_a_game_nobody_plays(self) -> None:
-        environment = Environment()
+        environment: Any = Environment()
         self.assertEqual((environment.agents, environment.num_agents, environment.max_num_agents),
                          ([], 0, 8))
+        for seed in (-1, 1 << 64, "7", 1.5):  # told before anything changes
+            self.assertRaises(ValueError, environment.reset, seed)
+        self.assertIsNone(environment.seed)
         self.assertEqual(environment.possible_agents, [f"seat{seat}" for seat in range(8)])
         self.assertRaisesRegex(ActionError, "no game has begun", environment.step, {})
         self.assertEqual((environment.log, environment.script, environment.game), (None, "", ""))
@@ -98,23 +106,23 @@ class Arguments(unittest.TestCase):
             "name": "geesefuton_v4", "render_modes": ["ansi"], "is_parallelizable": True})
         environment.close()
 
-    def test_a_bad_reset_is_told_before_anything_changes(self) -> None:
-        environment: Any = Environment()
-        for seed in (-1, 1 << 64, "7", 1.5):
-            self.assertRaises(ValueError, environment.reset, seed)
-        self.assertIsNone(environment.seed)
+    @contextlib.contextmanager
+    def served_by(self, body: str) -> Iterator[Environment]:
+        """An environment whose program is a stand-in."""
+        with tempfile.TemporaryDirectory() as folder, \
+                mock.patch.dict(os.environ, {"TAC": fake_program(Path(folder), body)}), \
+                Environment(FIRST) as environment:
+            yield environment
 
     def test_a_program_that_fails_ends_the_game(self) -> None:
         for body in ("read -r line; exit 7\n", "read -r line; echo text 1 1; exit 8\n"):
-            with tempfile.TemporaryDirectory() as folder:
-                tac = fake_program(Path(folder), body)
-                with mock.patch.dict(os.environ, {"TAC": tac}), Environment(FIRST) as environment:
-                    environment.reset()
-                    self.assertEqual(environment.num_agents, 8)
-                    agent = environment.agents[0]
-                    self.assertRaises(ProgramError, environment.step, {agent: ["own 8"]})
-                    self.assertEqual(environment.agents, [])
-                    self.assertRaisesRegex(ActionError, "no game has begun", environment.step, {})
+            with self.served_by(body) as environment:
+                environment.reset()
+                self.assertEqual(environment.num_agents, 8)
+                agent = environment.agents[0]
+                self.assertRaises(ProgramError, environment.step, {agent: ["own 8"]})
+                self.assertEqual(environment.agents, [])
+                self.assertRaisesRegex(ActionError, "no game has begun", environment.step, {})
         with mock.patch.dict(os.environ, {"TAC": "/nowhere/tac"}):
             self.assertRaises(ProgramError, Environment(FIRST).reset)
             environment = Environment()
@@ -122,16 +130,13 @@ class Arguments(unittest.TestCase):
             self.assertIsNone(environment.seed)
 
     def test_a_game_that_is_played_cannot_be_pickled(self) -> None:
-        with tempfile.TemporaryDirectory() as folder:
-            tac = fake_program(Path(folder), "read -r line\n")
-            patch = mock.patch.dict(os.environ, {"TAC": tac})
-            with patch, Environment(FIRST) as environment:
-                self.assertEqual(pickle.loads(pickle.dumps(environment)).possible_agents,
-                                 environment.possible_agents)
-                environment.reset()
-                self.assertRaisesRegex(TypeError, "cannot be copied or pickled", pickle.dumps,
-                                       environment)
-                self.assertEqual(environment.num_agents, 8)
+        with self.served_by("read -r line\n") as environment:
+            self.assertEqual(pickle.loads(pickle.dumps(environment)).possible_agents,
+                             environment.possible_agents)
+            environment.reset()
+            self.assertRaisesRegex(TypeError, "cannot be copied or pickled", pickle.dumps,
+                                   environment)
+            self.assertEqual(environment.num_agents, 8)
 
     def test_games_without_seeds_differ_between_workers(self) -> None:
         game = made_game(1)
@@ -267,13 +272,12 @@ class Steps(unittest.TestCase):
         self.environment.step({self.agents[2]: ["own 8"]})
 
     def test_overlong_requests_are_answered_as_over_a_link(self) -> None:
-        agent = self.agents[4]
-        requests = ["own 8", "x" * 512, "x" * 513, "ü" * 256, "ü" * 257, "own 8\r", "quit", "",
-                    "cash"]
-        *_, infos = self.environment.step({agent: requests})
-        self.assertEqual(infos[agent]["replies"],
-                         ["@0 own 0 ()", "no syntax", "no toolong", "no syntax", "no toolong",
-                          "no syntax", "no syntax", "no syntax", "@0 cash 0"])
+        agent, replies = self.agents[4], {
+            "own 8": "@0 own 0 ()", "x" * 512: "no syntax", "x" * 513: "no toolong",
+            "ü" * 256: "no syntax", "ü" * 257: "no toolong", "own 8\r": "no syntax",
+            "quit": "no syntax", "": "no syntax", "cash": "@0 cash 0"}
+        *_, infos = self.environment.step({agent: list(replies)})
+        self.assertEqual(infos[agent]["replies"], list(replies.values()))
         rest(self.environment)
         self.assertEqual(self.environment.log, played(self.environment))
 
@@ -363,36 +367,30 @@ class Games(unittest.TestCase):
         self.assertEqual(runs[0][:2], runs[0][5:])
         self.assertEqual(len(set(runs[0])), 5)
 
-    def test_made_games_may_have_classic_endowments(self) -> None:
-        with Environment(endow="classic", rooms=(3, 6)) as environment:
-            _, infos = environment.reset(9)
-            due = made_game(9).with_rooms(drawn_rooms(9, 3, 6), False)
-            self.assertEqual(read_game(environment.game),
-                             due.with_endowments(classic_endowments(9)))
-            self.assertEqual([infos[agent]["endow"] for agent in environment.agents],
-                             classic_endowments(9))
+    def test_made_games_may_have_other_rooms_quotes_and_tickets(self) -> None:
+        made = read_game(program.make(9))
+        few = made.with_rooms(drawn_rooms(9, 3, 6), False)
+        for settings, due in (
+                ({"rooms": (3, 6)}, few), ({"live": True}, made.with_rooms([16] * 8, True)),
+                ({"rooms": (2, 2), "live": True}, made.with_rooms([2] * 8, True)),
+                ({"rooms": (3, 6), "endow": "classic"},
+                 few.with_endowments(classic_endowments(9)))):
+            with self.subTest(settings=settings), Environment(**settings) as environment:
+                _, infos = environment.reset(9)
+                self.assertEqual(read_game(environment.game), due)
+                self.assertEqual([tuple(infos[agent]["endow"]) for agent in environment.agents],
+                                 list(due.endow))
+                self.assertEqual([tuple(client) for client in infos["seat7"]["clients"]],
+                                 [(client.arrive, client.depart, client.premium, *client.values)
+                                  for client in due.clients[7]])
 
-    def test_made_games_may_have_few_rooms_and_live_quotes(self) -> None:
+    def test_live_quotes_are_published_at_once(self) -> None:
         with Environment(rooms=(2, 2), live=True) as environment:
-            observations, infos = environment.reset(5)
-            game, made = read_game(environment.game), read_game(program.make(5))
-            self.assertEqual(game, made.with_rooms([2] * 8, True))
-            self.assertEqual(infos["seat6"]["endow"], list(made.endow[6]))
-            self.assertEqual([tuple(client) for client in infos["seat7"]["clients"]],
-                             [(client.arrive, client.depart, client.premium, *client.values)
-                              for client in made.clients[7]])
-            # The ask is the price of the second highest of three units, and is published at once.
+            environment.reset(5)
+            # The ask is the price of the second highest of three units.
             observations, *_ = environment.step({"seat0": ["bid 8 ((1 30) (1 20))"],
                                                  "seat1": ["bid 8 ((1 25))"]})
             self.assertEqual(observations["seat2"]["quotes"][8][1], 25)
-        with Environment(rooms=(3, 6)) as environment:
-            environment.reset(9)
-            self.assertEqual(read_game(environment.game).rooms, tuple(drawn_rooms(9, 3, 6)))
-            self.assertFalse(read_game(environment.game).live)
-        with Environment(live=True) as environment:
-            environment.reset(9)
-            self.assertEqual(read_game(environment.game), read_game(program.make(9)).with_rooms(
-                [16] * 8, True))
 
     def test_a_seed_that_comes_again_is_not_made_again(self) -> None:
         with Environment() as environment, \
@@ -427,17 +425,15 @@ class Games(unittest.TestCase):
                                      agents[5]: ["bid 16 ((16 30))"]})
             scores = {**dict.fromkeys(agents, 0), agents[0]: -price,
                       agents[4]: 16 * 30 - 200 * short, agents[5]: -16 * 30}
-            self.assertEqual({agent: info["hindsight"] for agent, info in told[-1].items()}, scores)
+            self.assertEqual(hindsight(told), scores)
             with mock.patch("geesefuton.learning.market.solve", side_effect=AssertionError):
                 told = environment.step({agents[4]: ["own 16", "cash", "quote 0", "what"]})
-            self.assertEqual({agent: info["hindsight"] for agent, info in told[-1].items()}, scores)
+            self.assertEqual(hindsight(told), scores)
             # Two rooms at 7 dollars or less, of 16: they cost nothing.
             told = environment.step({agents[6]: ["bid 15 ((2 7))"]})
-            self.assertEqual({agent: info["hindsight"] for agent, info in told[-1].items()}, scores)
+            self.assertEqual(hindsight(told), scores)
             last = rest(environment)
-            self.assertEqual({agent: info["hindsight"] for agent, info in last[-1].items()},
-                             last[1])
-            self.assertEqual(last[1], scores)
+            self.assertEqual((hindsight(last), last[1]), (scores, scores))
             self.assertEqual(environment.log, played(environment))
 
     def test_a_bid_that_is_taken_back_is_no_longer_in_the_scores(self) -> None:
@@ -451,24 +447,21 @@ class Games(unittest.TestCase):
             # The bid waits until the price has fallen so far, and a seat alone is no trip.
             for request, reply, score in ((f"bid {good} ((1 {least}))", "@0 taken 0 0", -least),
                                           (f"withdraw {good}", "@2 done", 0)):
-                *_, infos = environment.step({agents[3]: [request]})
-                self.assertEqual(infos[agents[3]]["replies"], [reply])
-                self.assertEqual({agent: info["hindsight"] for agent, info in infos.items()},
-                                 {**dict.fromkeys(agents, 0), agents[3]: score})
+                told = environment.step({agents[3]: [request]})
+                self.assertEqual(told[-1][agents[3]]["replies"], [reply])
+                self.assertEqual(hindsight(told), {**dict.fromkeys(agents, 0), agents[3]: score})
 
     def test_a_game_has_no_scores_of_the_one_before(self) -> None:
         with Environment(FIRST, hindsight=True) as environment:
             for is_played_on in (False, True):
                 environment.reset()
                 agents = list(environment.agents)
-                infos = environment.step({agents[0]: ["bid 0 ((1 800))"]})[-1]
-                self.assertLess(infos[agents[0]]["hindsight"], 0)
+                told = environment.step({agents[0]: ["bid 0 ((1 800))"]})
+                self.assertLess(hindsight(told)[agents[0]], 0)
                 if is_played_on:
                     rest(environment)
                 environment.reset()
-                infos = environment.step({})[-1]
-                self.assertEqual({agent: info["hindsight"] for agent, info in infos.items()},
-                                 dict.fromkeys(agents, 0))
+                self.assertEqual(hindsight(environment.step({})), dict.fromkeys(agents, 0))
 
     def test_a_game_that_is_closed_can_be_begun_again(self) -> None:
         environment = Environment()

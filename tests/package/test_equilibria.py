@@ -5,11 +5,11 @@ from itertools import combinations, product
 from typing import List, Sequence, Tuple
 from unittest import mock
 
-from geesefuton.experiments import study
+from geesefuton.experiments.comparisons import missing_libraries
 from geesefuton.experiments.reduction import counts_of
 from tests.package.helpers import needs_study
 
-if not study.missing("these tests"):
+if not missing_libraries("these tests"):
     import numpy as np
 
     from geesefuton.experiments.equilibria import (RESAMPLES, SymmetricGame, distance, equilibria,
@@ -218,7 +218,3 @@ class Deals(unittest.TestCase):
     def test_the_same_payoffs_give_the_same_findings(self) -> None:
         samples = scattered([[1, 2], [2, 1]], 1.0, 4, 2)
         self.assertEqual(find(2, samples, resamples=20), find(2, samples, resamples=20))
-
-
-if __name__ == "__main__":
-    unittest.main()

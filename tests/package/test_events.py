@@ -48,35 +48,19 @@ class Lines(unittest.TestCase):
 
 
 class Queue(unittest.TestCase):
-    def test_a_slow_listener_holds_nobody_and_has_all_in_the_end(self) -> None:
+    def test_a_slow_listener_holds_nobody_and_what_it_raises_comes_at_the_end(self) -> None:
         told, held = list[Event](), threading.Event()
 
         def listen(event: Event) -> None:
             held.wait(60.0)
-            told.append(event)
-
-        queue = EventQueue(listen)
-        for event, _ in ROWS:
-            queue.put(event)
-        self.assertEqual(told, [])
-        held.set()
-        queue.close()
-        self.assertEqual(told, [event for event, _ in ROWS])
-
-    def test_what_a_listener_raises_comes_at_the_end(self) -> None:
-        told = list[Event]()
-
-        def listen(event: Event) -> None:
             told.append(event)
             raise OSError(f"fault {len(told)}")
 
         queue = EventQueue(listen)
         for event, _ in ROWS:
             queue.put(event)
+        self.assertEqual(told, [])
+        held.set()
         with self.assertRaisesRegex(OSError, "fault 1"):
             queue.close()
-        self.assertEqual(len(told), len(ROWS))
-
-
-if __name__ == "__main__":
-    unittest.main()
+        self.assertEqual(told, [event for event, _ in ROWS])

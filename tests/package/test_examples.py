@@ -1,41 +1,37 @@
+"""The agents and the scripts of examples/, as they stand there."""
+
 import importlib.util
 import re
-import subprocess
 import sys
 import unittest
 from typing import List
 from unittest import mock
 
-from tests.package.helpers import TOP, needs_program, python, variables
+from tests.package.helpers import TOP, completed, needs_program, python
 from tests.package.test_link import WELCOME, Server
+
+EXAMPLES = TOP / "examples"
 
 
 def ran(name: str, *words: str) -> List[str]:
     """The lines that an example prints."""
-    done = subprocess.run([sys.executable, str(TOP / "examples" / name), *words], text=True,
-                          stdin=subprocess.DEVNULL, stdout=subprocess.PIPE, timeout=300,
-                          env=variables(), check=True)
-    return done.stdout.splitlines()
+    done = completed(sys.executable, EXAMPLES / name, *words, check=True)
+    return str(done.stdout).splitlines()
 
 
 class Agents(unittest.TestCase):
-    def run_agent(self, name: str, port: int) -> "subprocess.CompletedProcess[str]":
-        words = [sys.executable, str(TOP / "examples" / "agents" / f"{name}.py"), "127.0.0.1",
-                 str(port), "red", "--pause", "0"]
-        return subprocess.run(words, stdin=subprocess.DEVNULL, capture_output=True, text=True,
-                              timeout=60, env=variables(), check=False)
-
     def test_a_lost_link_ends_each_with_a_line(self) -> None:
         for name in ("watcher", "planner", "trader", "baseline", "equilibrium", "scenarios"):
             with self.subTest(name=name):
                 server = Server([WELCOME])
-                done = self.run_agent(name, server.port)
+                done = completed(sys.executable, EXAMPLES / "agents" / f"{name}.py", "127.0.0.1",
+                                 server.port, "red", "--pause", 0)
                 server.join()
                 self.assertEqual((done.returncode, done.stdout, done.stderr),
                                  (1, "", "red: the link was closed\n"))
 
     def test_who_plans_buys_only_the_seats_that_are_lacking(self) -> None:
-        with mock.patch.object(sys, "path", [str(TOP / "examples" / "agents"), *sys.path]):
+        with mock.patch.object(sys, "path", [str(EXAMPLES / "agents"), *sys.path]):
             planner = importlib.import_module("planner")
         link = mock.Mock(own={0: 0, 1: 3, 5: 1, 6: 2}.__getitem__)
         planner.buy_seats(link, {0: 2, 1: 2, 5: 3, 6: 2, 8: 4})
@@ -63,8 +59,7 @@ class WithoutNumpy(unittest.TestCase):
         # An entry of None in sys.modules stands for a module that is not there.
         code = ("import runpy, sys; sys.modules['numpy'] = None; sys.path.insert(0, sys.argv[1]); "
                 "runpy.run_path(sys.argv[1] + '/learn_numeric.py', run_name='__main__')")
-        done = subprocess.run(python(code, TOP / "examples"), stdin=subprocess.DEVNULL, text=True,
-                              capture_output=True, timeout=60, env=variables(), check=False)
+        done = completed(*python(code, EXAMPLES))
         self.assertEqual((done.returncode, done.stdout, done.stderr.count("\n")), (1, "", 1))
         self.assertTrue(done.stderr.startswith("learn_numeric.py: it needs numpy"), done.stderr)
 

@@ -1,22 +1,22 @@
-import csv
-import io
 import json
 import unittest
 from dataclasses import replace
 from typing import List
 from unittest import mock
 
-from geesefuton.experiments import study
-from geesefuton.experiments.comparisons import Estimate
-from geesefuton.experiments.forms import (FORMS, as_csv, as_json, as_text, columns,
+from geesefuton.experiments.comparisons import Estimate, deals_to_detect
+from geesefuton.experiments.forms import (FORMS, as_csv, as_grades, as_json, as_text, columns,
                                           number_text)
 from geesefuton.experiments.results import Kind, Outcome, Row
-from geesefuton.experiments.summary import summarize
+from geesefuton.experiments.summary import Summary, summarize
+from tests.package.run_cases import read_csv
 from tests.package.helpers import needs_study
 from tests.package.test_summary import SWAPPED, row
 
-if not study.missing("these tests"):
-    from geesefuton.experiments.study import deals_to_detect
+
+def words_of(summary: Summary) -> List[str]:
+    """The lines of its text, with a space between words."""
+    return [" ".join(line.split()) for line in as_text(summary).splitlines()]
 
 
 class Columns(unittest.TestCase):
@@ -41,21 +41,20 @@ class Texts(unittest.TestCase):
         self.summary = summarize(rows, ["game 7.0 is lost: why"])
 
     def test_text(self) -> None:
-        text = as_text(self.summary)
-        self.assertIn("4 games of 2 deals", text)
-        lines = [" ".join(line.split()) for line in text.splitlines()]
-        self.assertIn("a 200 +- 381 200 +- 381 100 - 0 of 4", lines)
-        self.assertIn("c 7 +- ?* - 100 - 1 of 1: 1 absent", lines)
-        self.assertIn("* includes seats that nobody took, with the scores of their logs", lines)
-        self.assertNotIn("*", as_text(summarize(SWAPPED)))
-        self.assertIn("a less b, by clients 40 +- 254 +- 254 - 2 0.295 0.295 0.500", lines)
-        self.assertIn("a less c, by games 223 +- ? ? - 1 - - -", lines)
-        self.assertNotIn("Holm", as_text(summarize(SWAPPED)))
-        self.assertIn("difference, by clients that both had", as_text(summarize(SWAPPED)))
+        lines = words_of(self.summary)
+        self.assertTrue(lines[0].startswith("4 games of 2 deals"))
+        for line in ("a 200 +- 381 200 +- 381 100 - 0 of 4", "c 7 +- ?* - 100 - 1 of 1: 1 absent",
+                     "* includes seats that nobody took, with the scores of their logs",
+                     "a less b, by clients 40 +- 254 +- 254 - 2 0.295 0.295 0.500",
+                     "a less c, by games 223 +- ? ? - 1 - - -"):
+            self.assertIn(line, lines)
         self.assertEqual(lines[-1], "game 7.0 is lost: why")
-        self.assertIn("1 game of 1 deal;", as_text(summarize(SWAPPED[:1])))
-        self.assertIn("110 +- ?", as_text(summarize(SWAPPED[:1])))
-        self.assertIn("difference, by games", as_text(summarize(SWAPPED[:2])))
+        for rows, parts in ((SWAPPED, ["difference, by clients that both had"]),
+                            (SWAPPED[:1], ["1 game of 1 deal;", "110 +- ?"]),
+                            (SWAPPED[:2], ["difference, by games"])):
+            for part in parts:
+                self.assertIn(part, as_text(summarize(rows)))
+        self.assertNotRegex(as_text(summarize(SWAPPED)), r"\*|Holm")
 
     def test_nothing_has_no_sign(self) -> None:
         self.assertEqual(number_text(Estimate(-0.3, 1.6, 4)), "0 +- 2")
@@ -79,7 +78,7 @@ class Texts(unittest.TestCase):
         self.assertIn(" 4 of 5: 1 crashed, 2 hung, 1 refused\n", as_text(summarize(rows)))
         self.assertEqual(json.loads(as_json(summarize(rows)))["agents"][0]["ends"],
                          {"played": 1, "crashed": 1, "hung": 2, "refused": 1})
-        line = next(csv.DictReader(io.StringIO(as_csv(summarize(rows)))))
+        line = read_csv(as_csv(summarize(rows)))[0]
         self.assertEqual([line[end] for end in ("played", "absent", "crashed", "hung", "refused")],
                          ["1", "0", "1", "2", "1"])
 
@@ -90,7 +89,7 @@ class Texts(unittest.TestCase):
                 for deal, both in enumerate((((6, 2), (1, 0)), ((12, 6), (5, 4)),
                                              ((40, 24), (13, 12))))
                 for seat, (agent, (score, luck)) in enumerate(zip("ab", both))]
-        lines = [" ".join(line.split()) for line in as_text(summarize(rows)).splitlines()]
+        lines = words_of(summarize(rows))
         self.assertEqual(lines[2], "agent mean of seats that played luck mean adjusted for the "
                                    "draw did not play")
         self.assertRegex(lines[3], r"^a 19 \+- \d+ 19 \+- \d+ 11 \S+ \+- \S+ 0 of 3$")
@@ -98,7 +97,7 @@ class Texts(unittest.TestCase):
         self.assertEqual(lines[6], "difference, by games mean adjusted for the draw deals p "
                                    "(Student) p (Wilcoxon)")
         self.assertRegex(lines[7], r"^a less b 13 \+- \d+ \S+ \+- \S+ 3 0\.\d+ 0\.250$")
-        first, second, pair = csv.DictReader(io.StringIO(as_csv(summarize(rows))))
+        first, second, pair = read_csv(as_csv(summarize(rows)))
         self.assertEqual(list(first), ["what", "agent", "other", "mean", "half", "adjusted",
                                        "adjusted_half", "deals", "seats", "played", "absent",
                                        "crashed", "hung", "killed", "refused", "luck",
@@ -110,15 +109,15 @@ class Texts(unittest.TestCase):
         self.assertEqual((pair["seats"], pair["luck"], pair["mean"]), ("", "", "13.0"))
         value = json.loads(as_json(summarize(rows)))
         self.assertEqual((value["level"], value["lost"]), (0.95, []))
-        self.assertEqual([agent["agent"] for agent in value["agents"]], ["a", "b"])
-        self.assertAlmostEqual(value["agents"][1]["luck"], 16 / 3)
-        self.assertAlmostEqual(value["agents"][1]["adjusted"]["mean"], 9.0)
-        self.assertAlmostEqual(value["agents"][1]["adjusted"]["half"], 0.0)
-        self.assertEqual((value["agents"][1]["seats"], value["agents"][1]["score"]["count"]),
-                         (3, 3))
+        a, b = value["agents"]
+        self.assertEqual((a["agent"], b["agent"], b["seats"], b["score"]["count"]),
+                         ("a", "b", 3, 3))
+        for found, due in ((b["luck"], 16 / 3), (b["adjusted"]["mean"], 9.0),
+                           (b["adjusted"]["half"], 0.0)):
+            self.assertAlmostEqual(found, due)
         told = value["differences"][0]
-        self.assertEqual((told["first"], told["second"], told["score"]["mean"]), ("a", "b", 13.0))
-        self.assertEqual(told["adjusted"]["count"], 3)
+        self.assertEqual((told["first"], told["second"], told["score"]["mean"],
+                          told["adjusted"]["count"]), ("a", "b", 13.0, 3))
 
     def test_games_in_turns_are_counted(self) -> None:
         rows = [row(deal, 0, seat, "a", 5, kind=kind) for deal, kind in
@@ -141,7 +140,7 @@ class Texts(unittest.TestCase):
                 for deal in range(4)
                 for seat, (agent, score) in enumerate(zip("abc", (90, 50, 50)))]
         summary = summarize(rows)
-        lines = [" ".join(line.split()) for line in as_text(summary).splitlines()]
+        lines = words_of(summary)
         self.assertEqual(lines[7], "difference, by games mean all pairs adjusted for the draw "
                                    "deals p (Student) p (Holm) p (Wilcoxon)")
         self.assertRegex(lines[8], r"^a less b 40 \+- \d+ \+- \d+ - 4 0\.000 0\.000 0\.125$")
@@ -154,7 +153,7 @@ class Texts(unittest.TestCase):
         self.assertEqual((told["bonferroni"], told["student"], told["holm"], told["wilcoxon"]),
                          (pair.bonferroni, pair.student, pair.holm, pair.wilcoxon))
         self.assertEqual(value["groups"], [["a"], ["b", "c"]])
-        line = list(csv.DictReader(io.StringIO(as_csv(summary))))[3]
+        line = read_csv(as_csv(summary))[3]
         self.assertEqual((line["all_pairs_half"], line["wilcoxon_p"], line["holm_p"]),
                          (str(round(pair.bonferroni or 0.0, 2)), "0.125", f"{pair.holm:.6g}"))
 
@@ -164,14 +163,14 @@ class Texts(unittest.TestCase):
         pair = summary.differences[0]
         assert pair.score is not None and pair.needed is not None
         self.assertEqual(pair.needed, deals_to_detect(pair.score, 100))
-        lines = [" ".join(line.split()) for line in as_text(summary).splitlines()]
+        lines = words_of(summary)
         self.assertTrue(lines[-3].endswith("p (Wilcoxon) games to detect 100"))
         self.assertTrue(lines[-2].endswith(f" 0.500 {2 * pair.needed}"))
         self.assertEqual(lines[-1], "with so many games, 80 % of experiments detect a difference "
                                     "of 100 dollars, for the largest spread that these games leave "
                                     "possible (80 % upper limit)")
         self.assertEqual(json.loads(as_json(summary))["differences"][0]["needed"], pair.needed)
-        self.assertEqual(list(csv.DictReader(io.StringIO(as_csv(summary))))[2]["deals_needed"],
+        self.assertEqual(read_csv(as_csv(summary))[2]["deals_needed"],
                          str(pair.needed))
         self.assertRegex(as_text(summarize(SWAPPED[:2], detect=100)), r"(?m)^b less a .* - +\?$")
 
@@ -180,18 +179,18 @@ class Texts(unittest.TestCase):
             lines = as_text(summarize(rows)).splitlines()
             return [line for line in lines[lines.index("", 2) + 1:] if "numpy" not in line]
 
-        one = [row(deal, 0, 0, "a", 5) for deal in "12"]
-        self.assertIn("one agent: there is nothing to compare", told(one))
-        self.assertIn("one deal: there are no intervals", told(SWAPPED[:4]))
         half = [replace(each, settings="rotations=2") for each in SWAPPED[2:]]
-        self.assertIn("1 deal not played whole: some clients count for some agents alone",
-                      told(half))
-        self.assertIn("a less b: 1 deal left out, without a client of both", told(half))
-        apart = [row("1", 0, 0, "a", 7), row("2", 0, 0, "b", 5)]
-        self.assertIn("a less b: no deal of both", told(apart))
+        for rows, line in (
+                ([row(deal, 0, 0, "a", 5) for deal in "12"],
+                 "one agent: there is nothing to compare"),
+                (SWAPPED[:4], "one deal: there are no intervals"),
+                (half, "1 deal not played whole: some clients count for some agents alone"),
+                (half, "a less b: 1 deal left out, without a client of both"),
+                ([row("1", 0, 0, "a", 7), row("2", 0, 0, "b", 5)], "a less b: no deal of both")):
+            self.assertIn(line, told(rows))
 
     def test_without_the_libraries_the_rest_is_there_and_a_line_tells_how_to_get_them(self) -> None:
-        with mock.patch("geesefuton.experiments.study.find_spec", return_value=None):
+        with mock.patch("geesefuton.experiments.comparisons.find_spec", return_value=None):
             text = as_text(summarize(SWAPPED, detect=100))
         self.assertIn("a less b", text)
         last = text.splitlines()[-1]
@@ -206,12 +205,12 @@ class Texts(unittest.TestCase):
         lines = as_text(summary).splitlines()
         self.assertEqual(len(lines), len(as_text(summary).split("\n")) - 1)
         self.assertIn("x\\u2028y", "".join(lines))
-        cells = list(csv.DictReader(io.StringIO(as_csv(summary), newline="")))
+        cells = read_csv(as_csv(summary))
         self.assertEqual(sorted(line["agent"] for line in cells if line["what"] == "mean"),
                          sorted(names))
 
     def test_csv(self) -> None:
-        rows = list(csv.DictReader(io.StringIO(as_csv(self.summary))))
+        rows = read_csv(as_csv(self.summary))
         self.assertEqual([(line["what"], line["agent"], line["other"]) for line in rows],
                          [("mean", "a", ""), ("mean", "b", ""), ("mean", "c", ""),
                           ("difference", "a", "b"), ("difference", "a", "c"),
@@ -230,11 +229,10 @@ class Texts(unittest.TestCase):
         self.assertEqual((value["games"], value["deals"]), (4, 2))
         self.assertEqual([pair["by_clients"] for pair in value["differences"]],
                          [True, False, False])
-        self.assertEqual(value["agents"][0]["score"]["mean"], 200.0)
-        self.assertEqual(value["agents"][2]["ends"], {"absent": 1})
-        self.assertEqual(value["agents"][0]["played"], value["agents"][0]["score"])
-        self.assertEqual((value["agents"][2]["score"]["mean"], value["agents"][2]["played"]),
-                         (7.0, None))
+        first, _, third = value["agents"]
+        self.assertEqual((first["score"]["mean"], first["played"]), (200.0, first["score"]))
+        self.assertEqual((third["score"]["mean"], third["played"], third["ends"]),
+                         (7.0, None, {"absent": 1}))
         self.assertEqual(value["differences"][0]["score"]["count"], 2)
         self.assertEqual(value["lost"], ["game 7.0 is lost: why"])
 
@@ -244,5 +242,19 @@ class Texts(unittest.TestCase):
         self.assertEqual(set(FORMS), {".txt", ".csv", ".json"})
 
 
-if __name__ == "__main__":
-    unittest.main()
+class Grades(unittest.TestCase):
+    def test_a_row_for_each_agent_with_the_groups_that_are_not_separated(self) -> None:
+        rows = [Row(str(deal), 0, seat, agent, score + noise * (deal % 3), Outcome.PLAYED, 5)
+                for deal in range(12) for seat, (agent, score, noise) in
+                enumerate([("a,b", 3000, 2), ("c", 2990, 9), ("d", 100, 1)])]
+        rows[2] = replace(rows[2], end=Outcome.CRASHED)
+        self.assertEqual(as_grades(summarize(rows)).splitlines(), [
+            "entrant,mean,low,high,groups,games_not_finished",
+            '"a,b",3002.00,3000.92,3003.08,A,0', "c,2999.00,2994.12,3003.88,A,0",
+            "d,101.00,100.46,101.54,B,1"])
+
+    def test_one_deal_has_no_interval(self) -> None:
+        rows = [Row("1", 0, seat, "ab"[seat % 2], 100 * seat, Outcome.PLAYED, 5)
+                for seat in range(8)]
+        self.assertEqual(as_grades(summarize(rows)).splitlines()[1:],
+                         ["b,400.00,,,A,0", "a,300.00,,,A,0"])

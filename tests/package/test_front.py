@@ -5,130 +5,192 @@ import io
 import json
 import os
 import re
+import shutil
 import socket
 import subprocess
 import sys
 import tempfile
 import unittest
 from pathlib import Path
-from typing import Any, Dict, List, Tuple
+from typing import Any, List, Tuple
 from unittest import mock
 
 import geesefuton
-from geesefuton import doctor, front, program
+from geesefuton import arguments, doctor, front, program
 from geesefuton.processes import free_port
 
 from .helpers import PACKAGE, TOP, fake_program
 
+sys.path.insert(0, str(TOP / "packaging"))
 
-class Front(unittest.TestCase):
-    """Programs by their words."""
+import debian  # noqa: E402
+
+# A toolchain that builds a program if there is one.
+RT = """#!/bin/sh
+[ "$*" = "run -- make 42" ] || exit 9
+echo proving
+[ -e built ] || { echo 'no proof of main'; exit 3; }
+mkdir out && mv built out/tacd
+"""
+
+
+class Case(unittest.TestCase):
+    """A command `./geesefuton` that is run from another folder, by a symbolic link."""
 
     def setUp(self) -> None:
         folder = tempfile.TemporaryDirectory()
         self.addCleanup(folder.cleanup)
         self.place = Path(folder.name)
+        self.link = self.place / "linked"
+        self.link.symlink_to(TOP / "geesefuton")
 
-    def run_front(self, *words: str, tac: str = "") -> "subprocess.CompletedProcess[str]":
-        """Runs `python -m geesefuton` in a process of its own."""
-        return subprocess.run([sys.executable, "-m", "geesefuton", *words], cwd=PACKAGE, text=True,
-                              stdin=subprocess.DEVNULL, stdout=subprocess.PIPE, check=False,
-                              stderr=subprocess.PIPE, env={**os.environ, "TAC": tac})
+    def ran(self, *words: str, **more: str) -> "subprocess.CompletedProcess[str]":
+        """Runs it; `more` are further variables."""
+        kept = {key: value for key, value in os.environ.items() if key not in ("TAC", "PYTHONPATH")}
+        return subprocess.run([self.link, *words], cwd=self.place, text=True, check=False,
+                              stdin=subprocess.DEVNULL, stdout=subprocess.PIPE,
+                              stderr=subprocess.PIPE, env={**kept, **more})
+
+    def refused(self, status: int, told: str, *words: str, **more: str) -> None:
+        """It ends with a status and one line."""
+        done = self.ran(*words, **more)
+        self.assertEqual((done.returncode, done.stdout, done.stderr), (status, "", told + "\n"))
+
+
+class Front(Case):
+    """Parts by their names."""
 
     def test_tac_passes_words_output_and_status_on(self) -> None:
         tac = fake_program(self.place, 'echo "$#:$1:$2"; echo told >&2; exit 9')
-        done = self.run_front("tac", "audit", "--help", tac=tac)
+        done = self.ran("tac", "audit", "--help", TAC=tac)
         self.assertEqual((done.returncode, done.stdout, done.stderr), (9, "2:audit:--help\n",
                                                                        "told\n"))
+
+    def test_a_part_runs(self) -> None:
+        (self.place / "argparse.py").write_text("raise SystemExit('what stands here is no module')")
+        done = self.ran("version")
+        self.assertEqual((done.returncode, done.stderr), (0, ""))
+        self.assertIn(f"geesefuton {geesefuton.__version__}\n", done.stdout)
 
     def test_a_program_of_another_system(self) -> None:
         file = self.place / "tac"
         file.write_bytes(b"\x7fELF\x02\x01\x01" + bytes(57))
         file.chmod(0o755)
-        done = self.run_front("tac", "make", "1", tac=str(file))
-        self.assertEqual((done.returncode, done.stdout), (1, ""))
-        self.assertEqual(done.stderr, f"geesefuton: {file} is not a program for this system: tac "
-                         "needs x86-64 Linux; set TAC to its file\n")
+        self.refused(1, f"geesefuton: {file} is not a program for this system: tac needs x86-64 "
+                     "Linux; set TAC to its file", "tac", "make", "1", TAC=str(file))
 
-    def test_help_lists_the_programs_in_a_screenful(self) -> None:
-        done = self.run_front("--help")
-        self.assertEqual(done.returncode, 0)
-        self.assertLessEqual(len(done.stdout.splitlines()), 24)
-        for word in (*front.PROGRAMS, "tac"):
-            self.assertIn(f"\n  {word}", done.stdout)
+    def test_no_program(self) -> None:
+        self.refused(1, "geesefuton: there is no program /nowhere/tac: set TAC to the file of tac",
+                     "tac", "make", "1", TAC="/nowhere/tac")
 
-    def test_an_unknown_word(self) -> None:
-        done = self.run_front("lobbby")
-        self.assertEqual((done.returncode, done.stderr),
-                         (2, "geesefuton: unknown program 'lobbby' (--help lists them)\n"))
+    def test_a_name_that_is_no_part(self) -> None:
+        for name, meant in (("lobbby", "; `geesefuton lobby`?"), ("qwxz", ""),
+                            ("make", "; `geesefuton tac make`?"), ("", "")):
+            self.refused(2, f"geesefuton: there is no part {name!r}{meant} (--help lists them)",
+                         name)
 
-    def test_each_program_tells_its_help(self) -> None:
-        for word in front.PROGRAMS:
-            with self.subTest(word=word):
-                done = self.run_front(word, "--help")
-                self.assertEqual((done.returncode, done.stderr), (0, ""))
-                self.assertIn(f"usage: {word}", done.stdout)
+    def test_an_option_that_a_part_does_not_have(self) -> None:
+        self.refused(2, "doctor: unrecognized arguments: --fix (see --help)", "doctor", "--fix")
+
+    def test_python_that_is_missing_or_too_old(self) -> None:
+        for name in ("dirname", "readlink"):
+            (self.place / name).symlink_to(f"/usr/bin/{name}")
+        for body in ("", "#!/bin/sh\nexit 1\n"):
+            if body:
+                (self.place / "python3").write_text(body)
+                (self.place / "python3").chmod(0o755)
+            self.refused(1, "geesefuton: it needs Python 3.9 or later (sudo apt install python3); "
+                         "the program tac does not need Python", "doctor", PATH=str(self.place))
 
 
-class Pages(unittest.TestCase):
-    """What names the programs beside the command: all of them name the same."""
+class Helps(unittest.TestCase):
+    """Each fits a screen of 80 columns, and of 24 lines but for one that has thirty options."""
+
+    def help_of(self, *words: str) -> List[str]:
+        """The lines of a help."""
+        out = io.StringIO()
+        with mock.patch.object(sys, "argv", ["geesefuton", *words]), \
+                mock.patch.dict(os.environ, {"COLUMNS": "80"}), contextlib.redirect_stdout(out), \
+                mock.patch.object(arguments.Parser, "before", ""), \
+                mock.patch("geesefuton.processes.stop_on_signals"):
+            self.assertEqual(front.main(), 0)
+        return out.getvalue().splitlines()
+
+    def test_that_of_the_command(self) -> None:
+        for words in ((), ("-h",), ("--help",)):
+            lines = self.help_of(*words)
+            self.assertLessEqual(len(lines), 24)
+            self.assertLessEqual(max(map(len, lines)), 80)
+            self.assertEqual([line.split()[0] for line in lines if line.startswith("  ")],
+                             [*front.PARTS])
+
+    def test_that_of_each_part(self) -> None:
+        for name in front.PARTS.keys() - {"tac"}:
+            with self.subTest(name=name):
+                lines = self.help_of(name, "--help")
+                self.assertRegex(lines[0], f"^usage: geesefuton {name}( |$)")
+                self.assertLessEqual(len(lines), 41 if name == "tournament" else 24)
+                self.assertLessEqual(max(map(len, lines)), 80)
+                # Each option has one line.
+                self.assertEqual([line for line in lines if line.startswith(13 * " ")], [])
+
+
+class Texts(unittest.TestCase):
+    """What a release makes of the table of parts."""
+
+    def test_the_man_page_and_the_completion(self) -> None:
+        page = debian.man_page((TOP / "packaging" / "geesefuton.1").read_text())
+        self.assertEqual(re.findall(r"(?m)^\.B geesefuton ([a-z]+)", page), [*front.PARTS])
+        text = debian.completion((TOP / "packaging" / "completion.bash").read_text())
+        self.assertEqual([words.split() for words in re.findall('-W "(.*?)"', text)],
+                         [[*front.PARTS, "--help"], [*front.COMMANDS]])
+
+    def test_the_commands_are_those_of_the_program(self) -> None:
+        specs = TOP / "crates" / "tac_commands" / "specs"
+        text = "".join((specs / f"{name}.antt").read_text() for name in ("Commands", "Services"))
+        found = re.findall(r'bytes_eq word \(codes "([a-z]+)"', text)
+        self.assertEqual(sorted(set(found)), [*front.COMMANDS])
+
+    def test_there_is_one_script(self) -> None:
+        settings = (PACKAGE / "pyproject.toml").read_text()
+        self.assertEqual(settings.split("[project.scripts]\n")[1].split("\n\n")[0],
+                         'geesefuton = "geesefuton.front:main"')
+
+
+class Building(Case):
+    """`geesefuton tac` in a clone whose program is not built."""
 
     def setUp(self) -> None:
-        self.words = {*front.PROGRAMS, "tac"}
+        super().setUp()
+        clone = self.place / "clone"
+        self.crate = clone / "crates" / "tacd"
+        self.crate.mkdir(parents=True)
+        shutil.copytree(PACKAGE / "geesefuton", clone / "python" / "geesefuton",
+                        ignore=shutil.ignore_patterns("__pycache__", "bin"))
+        self.link.unlink()
+        self.link.symlink_to(shutil.copy(TOP / "geesefuton", clone))
+        (self.place / "rt").write_text(RT)
+        self.path = f"{self.place}{os.pathsep}{os.environ['PATH']}"
 
-    def test_the_man_page(self) -> None:
-        page = (TOP / "packaging" / "geesefuton.1").read_text()
-        self.assertEqual(re.findall(r"(?m)^\.B geesefuton ([a-z]+)", page),
-                         ["tac", *front.PROGRAMS])
+    def test_it_is_built_once_with_a_line_that_says_so(self) -> None:
+        (self.place / "rt").chmod(0o755)
+        os.rename(fake_program(self.crate, 'echo "$@"'), self.crate / "built")
+        for told in (f"geesefuton: {front.BUILDING}\n", ""):
+            done = self.ran("tac", "make", "7", PATH=self.path)
+            self.assertEqual((done.returncode, done.stdout, done.stderr), (0, "make 7\n", told))
 
-    def test_completion(self) -> None:
-        text = (TOP / "packaging" / "completion.bash").read_text()
-        known: Dict[str, List[str]] = {}
-        for name, words in re.findall(r'(\w+)\+?="(.*)"', text):
-            known.setdefault(name, []).extend(words.split())
-        self.assertEqual(known["programs"], sorted(self.words))
-        table = (TOP / "README.md").read_text().split("## Commands and", 1)[1].split("### Exit", 1)
-        commands = re.findall(r"(?m)^\| `([a-z]+) [A-Z]", table[0])
-        self.assertEqual(known["commands"], sorted(set(commands)))
+    def test_a_build_that_fails(self) -> None:
+        (self.place / "rt").chmod(0o755)
+        done = self.ran("tac", "make", "7", PATH=self.path)
+        self.assertEqual((done.returncode, done.stdout, done.stderr.splitlines()), (1, "", [
+            f"geesefuton: {front.BUILDING}",
+            f"geesefuton: {front.BUILD} ended with 3: no proof of main"]))
 
-    def test_each_tool_and_script_is_a_program(self) -> None:
-        tools = {file.name for file in (TOP / "tools").iterdir()}
-        # One is for clones alone, and one runs all others.
-        self.assertEqual(tools - self.words, {"release", "geesefuton"})
-        settings = (PACKAGE / "pyproject.toml").read_text()
-        scripts = dict(re.findall(r'(?m)^tac-(\w+) = "(.*):main"', settings))
-        self.assertLessEqual(scripts.items(), {word: each.module for word, each in
-                                               front.PROGRAMS.items()}.items())
-
-
-class Quickstart(unittest.TestCase):
-    """The first command that most people type."""
-
-    def run_with(self, python: str) -> "subprocess.CompletedProcess[str]":
-        """Runs ./quickstart where `python3` is a shell script; "" for none."""
-        with tempfile.TemporaryDirectory() as place:
-            for name in ("dirname", "readlink"):
-                os.symlink(f"/usr/bin/{name}", f"{place}/{name}")
-            if python:
-                file = Path(place) / "python3"
-                file.write_text(f"#!/bin/sh\n{python}\n")
-                file.chmod(0o755)
-            return subprocess.run(["/bin/sh", TOP / "quickstart", "a", "b c"], check=False,
-                                  text=True, stdin=subprocess.DEVNULL, stdout=subprocess.PIPE,
-                                  stderr=subprocess.PIPE, env={"PATH": place})
-
-    def test_without_python_it_says_in_a_line_what_to_install(self) -> None:
-        for python in ("", "exit 1"):  # none, and one that is too old
-            with self.subTest(python=python):
-                done = self.run_with(python)
-                self.assertEqual((done.returncode, done.stdout), (1, ""))
-                self.assertEqual(done.stderr, "quickstart: it needs Python 3.9 or later (sudo apt "
-                                 "install python3); the program tac does not need Python\n")
-
-    def test_with_python_it_hands_its_words_on(self) -> None:
-        done = self.run_with('[ "$1" = -c ] || echo "$#:$1:$2:$3"')
-        self.assertEqual((done.returncode, done.stderr), (0, ""))
-        self.assertEqual(done.stdout, f"3:{TOP / 'tools' / 'quickstart'}:a:b c\n")
+    def test_without_a_toolchain_it_says_what_to_do(self) -> None:
+        file = self.crate / "out" / "tacd"
+        self.refused(1, f"geesefuton: there is no program {file}: install the toolchain, Rattle, "
+                     "whose command rt builds it, or set TAC to the file of tac", "tac", "make",
+                     "7", PATH=os.defpath)
 
 
 class Doctor(unittest.TestCase):
@@ -250,7 +312,3 @@ class Doctor(unittest.TestCase):
         with self.assertRaises(program.ProgramError) as caught:
             program.make(1)
         self.assertIn("did not start: it needs glibc 2.34 or later", str(caught.exception))
-
-
-if __name__ == "__main__":
-    unittest.main()

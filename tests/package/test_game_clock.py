@@ -3,10 +3,16 @@ import unittest
 from geesefuton.playing.game_clock import GameClock
 
 
+def begun(pace: float, closed: int = 0, is_start: bool = True) -> GameClock:
+    """A clock of a seat that came at 100 seconds, as so many hotels had closed."""
+    clock = GameClock(pace)
+    clock.begin(100.0, closed, is_start)
+    return clock
+
+
 class GameClocks(unittest.TestCase):
     def test_a_told_pace_from_the_start(self) -> None:
-        clock = GameClock(2.0)
-        clock.begin(100.0, 0, True)
+        clock = begun(2.0)
         self.assertTrue(clock.is_exact)
         self.assertEqual(clock.now(101.9), (100.0, 0))
         self.assertEqual(clock.now(102.5), (102.0, 1))
@@ -16,15 +22,13 @@ class GameClocks(unittest.TestCase):
         self.assertEqual(clock.now(107.0), (106.0, 3))
 
     def test_a_tick_that_is_late_is_not_counted_twice(self) -> None:
-        clock = GameClock(2.0)
-        clock.begin(100.0, 0, True)
+        clock = begun(2.0)
         self.assertEqual(clock.now(105.0).tick, 1)
         clock.move(102.1)
         self.assertEqual(clock.now(110.0).tick, 2)
 
     def test_a_seat_that_comes_in_the_game_waits_for_a_closing(self) -> None:
-        clock = GameClock(2.0)
-        clock.begin(100.0, 2, False)
+        clock = begun(2.0, 2, False)
         self.assertEqual((clock.tick, clock.is_exact, clock.now(101.0).tick), (12, False, 12))
         clock.move(101.0)
         clock.move(103.1)
@@ -37,17 +41,11 @@ class GameClocks(unittest.TestCase):
         self.assertEqual(clock.tick, 24)
 
     def test_a_closing_as_the_first_thing_that_is_seen(self) -> None:
-        clock = GameClock(1.0)
-        clock.begin(100.0, 0, False)
+        clock = begun(1.0, 0, False)
         clock.close(100.5, 1)
         self.assertEqual(clock.now(100.6), (100.5, 6))
 
     def test_there_are_54_ticks(self) -> None:
-        clock = GameClock(1.0)
-        clock.begin(0.0, 0, True)
-        clock.move(54.0)
-        self.assertEqual(clock.now(60.0).tick, 54)
-
-
-if __name__ == "__main__":
-    unittest.main()
+        clock = begun(1.0)
+        clock.move(154.0)
+        self.assertEqual(clock.now(160.0).tick, 54)

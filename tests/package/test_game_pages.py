@@ -6,8 +6,6 @@ import os
 import re
 import socket
 import subprocess
-import tempfile
-import time
 import unittest
 import urllib.request
 from pathlib import Path
@@ -17,29 +15,21 @@ from unittest import mock
 from geesefuton.hosting.page_process import AGAIN, LONGEST, STEADY, PageProcess, SideProcess
 from geesefuton.hosting.settings import LobbySettings
 from geesefuton.processes import Children, free_port, python_words
+from tests.package.cases import MOST, Case, FolderCase, is_listening
 from tests.package.helpers import DATA, TOP
 from tests.package.journals import LINES, place_of
 from tests.package.seat_server import SeatServer, ask
 
 GAME = TOP / "examples" / "first.game"
 TICK_9 = place_of(9)
-MOST = 60.0  # seconds that anything may take, on a machine that is busy with other work
 WORDS = ["red", "blue"]
 
 
-def is_listening(port: int) -> bool:
-    """Whether somebody listens there."""
-    with socket.socket() as link:
-        return link.connect_ex(("127.0.0.1", port)) == 0
-
-
-class Serving(unittest.TestCase):
+class Serving(FolderCase):
     """The process, before a stand-in of the lobby."""
 
     def setUp(self) -> None:
-        place = tempfile.TemporaryDirectory()
-        self.addCleanup(place.cleanup)
-        self.folder = Path(place.name)
+        super().setUp()
         self.server = SeatServer()
         self.addCleanup(self.server.close)
         told = self.enter(open(self.folder / "told", "w", encoding="utf-8"))
@@ -56,48 +46,42 @@ class Serving(unittest.TestCase):
         self.addCleanup(self.pages.end)
         self.seats = [f"http://127.0.0.1:{self.port}/{token}/" for _, token in self.pages.seats]
 
-    def enter(self, context: Any) -> Any:
-        """What a context gives, which ends with the test."""
-        self.addCleanup(lambda: context.__exit__(None, None, None))
-        return context.__enter__()
-
     def begin(self) -> None:
         """Starts the process, if there is none, and waits until it serves its pages."""
         self.assertEqual(self.pages.look(), "")
-        self.wait(lambda: is_listening(self.port))
+        self.until(lambda: is_listening(self.port))
 
-    def wait(self, holds: Any) -> None:
-        """Waits until something holds."""
-        until = time.monotonic() + MOST
-        while not holds():
-            self.assertLess(time.monotonic(), until)
-            time.sleep(0.02)
+    def open(self, seat: int, phase: str = "running") -> str:
+        """A new page of a seat, once it is so far."""
+        page: str = ask(self.seats[seat] + "open")["page"]
+        self.wait(seat, page, phase)
+        return page
 
-    def phase(self, seat: str, page: str) -> str:
-        """How far a seat is."""
-        told: str = ask(seat + "state", page=page)["phase"]
-        return told
+    def wait(self, seat: int, page: str, phase: str) -> None:
+        """Waits until a seat is so far."""
+        self.until(lambda: ask(self.seats[seat] + "state", page=page)["phase"] == phase)
+
+    def end(self) -> None:
+        """The process ends by itself."""
+        self.pages.wait(MOST, lambda: False)
+        assert self.pages._process is not None
+        self.assertEqual(self.pages._process.wait(MOST), 0)
 
     def test_its_end_is_the_lobbys_word_alone(self) -> None:
         self.begin()
         self.server.refusals["hello red"] = "refused taken"
         self.server.refusals["hello blue"] = "refused wrongword"
-        failed = ask(self.seats[1] + "open")["page"]
-        self.wait(lambda: self.phase(self.seats[1], failed) == "failed")
-        page = ask(self.seats[0] + "open")["page"]  # the others are served as before
-        self.wait(lambda: self.phase(self.seats[0], page) != "waiting")
+        self.open(1, "failed")
+        self.open(0, "failed")  # the others are served as before
         self.assertTrue(self.pages.is_running())
         with urllib.request.urlopen(f"http://127.0.0.1:{self.port}/", timeout=MOST) as board:
             self.assertIn(b"<title>TAC Classic</title>", board.read())
         self.pages.close()
-        self.pages.wait(MOST, lambda: False)
-        assert self.pages._process is not None
-        self.assertEqual(self.pages._process.wait(MOST), 0)
+        self.end()
 
     def test_screens_and_players_get_the_last_state(self) -> None:
         self.begin()
-        page = ask(self.seats[0] + "open")["page"]
-        self.wait(lambda: self.phase(self.seats[0], page) == "running")
+        page = self.open(0)
         with socket.create_connection(("127.0.0.1", self.port)) as link, \
                 link.makefile("rb") as screen:
             link.settimeout(MOST)
@@ -105,20 +89,17 @@ class Serving(unittest.TestCase):
             while not screen.readline().startswith(b"data: {"):
                 pass
             self.server.closed = list(range(28))
-            self.wait(lambda: self.server.heard[-1] == "quit")
+            self.until(lambda: self.server.heard[-1] == "quit")
             self.pages.close()  # the journal has no end, as on a full disk
-            self.wait(lambda: self.phase(self.seats[0], page) == "over")
+            self.wait(0, page, "over")
             text = screen.read()
         state = json.loads(re.findall(rb"data: (\{.*\})", text)[-1])
         self.assertEqual((state["phase"], state["status"], state["tick"]), ("over", None, 9))
-        self.pages.wait(MOST, lambda: False)
-        assert self.pages._process is not None
-        self.assertEqual(self.pages._process.wait(MOST), 0)
+        self.end()
 
     def test_one_that_is_killed_serves_the_same_addresses_again(self) -> None:
         self.begin()
-        page = ask(self.seats[0] + "open")["page"]
-        self.wait(lambda: self.phase(self.seats[0], page) == "running")
+        self.open(0)
         self.pages._began -= STEADY
         process = self.pages._process
         assert process is not None
@@ -127,8 +108,7 @@ class Serving(unittest.TestCase):
         self.assertEqual(self.pages.look(),
                          "the page ended with exit status -9, and was restarted")
         self.begin()
-        page = ask(self.seats[0] + "open")["page"]
-        self.wait(lambda: self.phase(self.seats[0], page) == "running")
+        self.open(0)
         with urllib.request.urlopen(f"http://127.0.0.1:{self.port}/play", b"red") as token:
             self.assertIn(f"/{token.read().decode()}/", self.seats[0])
 
@@ -148,14 +128,12 @@ class Serving(unittest.TestCase):
         self.assertFalse(Path("taken").exists())
 
 
-class Started(unittest.TestCase):
+class Started(Case):
     """How a process beside the game is started, by a clock of the test."""
 
     def setUp(self) -> None:
         self.now, self.children = 100.0, mock.Mock()
-        change = mock.patch("geesefuton.hosting.page_process.time.monotonic", lambda: self.now)
-        change.start()
-        self.addCleanup(change.stop)
+        self.patch("hosting.page_process.time.monotonic", lambda: self.now)
         self.side = SideProcess(self.children, "the page", "geesefuton.hosting.live",
                                 lambda: b"what it is told\n")
         self.children.start.side_effect = lambda *_, **__: mock.Mock(
@@ -195,15 +173,10 @@ class Started(unittest.TestCase):
         self.children.start.side_effect = start
         self.assertEqual(self.looks(LONGEST), [""])
         self.assertTrue(self.side.is_running())
-
-    def test_one_that_ends_in_the_game_cannot_end_it_whatever_the_system_says(self) -> None:
-        self.looks(0)
-        start, self.children.start.side_effect = self.children.start.side_effect, BlockingIOError(
-            11, "Resource temporarily unavailable")
-        self.end(-9)
-        self.assertEqual(self.looks(STEADY), [
-            "the page cannot be started: Resource temporarily unavailable; the game goes on, and "
-            "it is tried again in 5 s"])
+        self.end(-9)  # and so is one that ends in the game
+        self.children.start.side_effect = BlockingIOError(11, "Resource temporarily unavailable")
+        self.assertEqual(self.looks(STEADY), [line.format(5).replace(
+            "Too many open files", "Resource temporarily unavailable")])
         self.children.start.side_effect = start
         self.assertEqual(self.looks(AGAIN), [""])
 
@@ -249,7 +222,3 @@ class Told(unittest.TestCase):
         self.assertEqual([word for word, _ in told["seats"]], WORDS)
         told = self.told(25.0, page=7080, start=20.0, advice=False)
         self.assertEqual((told["begins"], told["advice"]), (0.0, False))
-
-
-if __name__ == "__main__":
-    unittest.main()

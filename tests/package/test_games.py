@@ -46,20 +46,17 @@ class Texts(unittest.TestCase):
             self.assertEqual(game.hotels[good - 8].closes, 6 * place)
         self.assertEqual([hotel.rooms for hotel in game.hotels], list(game.rooms))
 
-    def test_version_one_has_sixteen_rooms_and_quotes_by_the_minute(self) -> None:
+    def test_version_one_has_sixteen_rooms_and_quotes_by_the_minute_which_is_usual(self) -> None:
         game = read_game(text_of("first.game"))
         self.assertEqual((game.rooms, game.live), ((16,) * 8, False))
+        self.assertEqual(Game(game.words, game.flights, game.closing, game.endow, game.clients),
+                         game)
 
     def test_quotes_by_the_minute_in_version_two(self) -> None:
         game = read_game(text_of("first.game")).with_rooms([3] * 8, live=False)
         self.assertIn("\nrooms 3 3 3 3 3 3 3 3\nquotes minute\n", game.text())
         self.assertTrue(game.text().startswith("tac 2\n"))
         self.assertEqual(read_game(game.text()), game)
-
-    def test_a_game_that_says_nothing_of_rooms_and_quotes(self) -> None:
-        game = read_game(text_of("first.game"))
-        self.assertEqual(Game(game.words, game.flights, game.closing, game.endow, game.clients),
-                         game)
 
     def test_the_greatest_game_file(self) -> None:
         text = text_of("first.game")
@@ -95,63 +92,51 @@ class Faults(unittest.TestCase):
         lines[line - 1] = text
         return "\n".join(lines) + "\n"
 
-    def test_first_line(self) -> None:
-        for text in ("tac 3", "tac 2\r", "tac x"):
-            self.refuse(self.changed(1, text), 1, "neither 1 nor 2")
-        self.refuse(self.changed(1, "tac"), 1, "expected 1 words after `tac`, not 0")
-        self.refuse(self.changed(1, "game"), 1, "expected a line `tac`")
+    def test_lines_that_are_refused(self) -> None:
+        seats, draws = "b c d e f g h", " 0" * 53
+        for number, why, *lines in (
+                (1, "neither 1 nor 2", "tac 3", "tac 2\r", "tac x"),
+                (1, "expected 1 words after `tac`, not 0", "tac"),
+                (1, "expected a line `tac`", "game"),
+                (2, "is not a seat word", *(f"words {bad} {seats}" for bad in (
+                    "Seat", "s" * 17, "a-b", "")), *(f"words {seats} {bad}" for bad in (
+                        "Seat", "s" * 17, "a-b", ""))),
+                (2, "equal", "words a b c d e f g a"),
+                (2, "8 words after `words`, not 7", "words a b c d e f g"),
+                (3, "1 is not from 0 to 0", "flight 1 300 0" + draws),
+                (3, "from 250 to 400", "flight 0 249 0" + draws, "flight 0 401 0" + draws),
+                (3, "from -10 to 30", "flight 0 300 -11" + draws, "flight 0 300 31" + draws),
+                (3, "56 words", "flight 0 300 0" + draws[2:]),
+                (3, "4294967295", f"flight 0 300 0{draws[2:]} 4294967296"),
+                (3, "canonical form", f"flight 0 300 0{draws[2:]} -1", "flight 0 300 -0" + draws),
+                (11, "equal", "close 8 9 10 11 12 13 14 14"),
+                (11, "from 8 to 15", "close 8 9 10 11 12 13 14 16"),
+                (12, "from 1 to 64", "rooms 0 4 4 6 4 3 3 4", "rooms 65 4 4 6 4 3 3 4"),
+                (12, "canonical form", *(f"rooms {bad} 4 4 6 4 3 3 4" for bad in (
+                    "01", "+1", "-0", "1.0", "", "x", "99999999999", "٣", "-1"))),
+                (13, "`minute` or `live`", "quotes hour"),
+                (14, "from 0 to 16", "endow 0 17" + " 0" * 11),
+                (14, "canonical form", "endow 0 -1" + " 0" * 11),
+                (15, "0 is not from 1 to 1", "endow 0" + " 0" * 12),
+                (22, "from 1 to 4", "client 0 0 5 5 50 0 0 0", "client 0 0 0 2 50 0 0 0"),
+                (22, "from 2 to 5", "client 0 0 1 6 50 0 0 0"),
+                (22, "not after the arrival", "client 0 0 2 2 50 0 0 0"),
+                (22, "from 50 to 150", "client 0 0 1 2 49 0 0 0", "client 0 0 1 2 151 0 0 0"),
+                (22, "from 0 to 200", "client 0 0 1 2 50 0 0 201"),
+                (23, "1 is not from 0 to 0", "client 1 1 1 2 50 0 0 0"),
+                (23, "0 is not from 1 to 1", "client 0 0 1 2 50 0 0 0")):
+            for line in lines:
+                with self.subTest(number=number, line=line[:40]):
+                    self.refuse(self.changed(number, line), number, why)
 
-    def test_words(self) -> None:
-        for bad in ("Seat", "s" * 17, "a-b", ""):
-            self.refuse(self.changed(2, f"words {bad} b c d e f g h"), 2, "is not a seat word")
-            self.refuse(self.changed(2, f"words a b c d e f g {bad}"), 2, "is not a seat word")
-        self.refuse(self.changed(2, "words a b c d e f g a"), 2, "equal")
-        self.refuse(self.changed(2, "words a b c d e f g"), 2, "8 words after `words`, not 7")
+    def test_the_least_and_the_greatest_are_taken(self) -> None:
         longest = self.changed(2, f"words {'s' * 16} b c d e f g h")
         self.assertEqual(read_game(longest).words[:2], ("s" * 16, "b"))
-
-    def test_flights(self) -> None:
-        draws = " 0" * 53
-        self.refuse(self.changed(3, "flight 1 300 0" + draws), 3, "1 is not from 0 to 0")
-        self.refuse(self.changed(3, "flight 0 249 0" + draws), 3, "from 250 to 400")
-        self.refuse(self.changed(3, "flight 0 401 0" + draws), 3, "from 250 to 400")
-        self.refuse(self.changed(3, "flight 0 300 -11" + draws), 3, "from -10 to 30")
-        self.refuse(self.changed(3, "flight 0 300 31" + draws), 3, "from -10 to 30")
-        self.refuse(self.changed(3, "flight 0 300 0" + " 0" * 52), 3, "56 words")
-        self.refuse(self.changed(3, "flight 0 300 0" + " 0" * 52 + " 4294967296"), 3, "4294967295")
-        self.refuse(self.changed(3, "flight 0 300 0" + " 0" * 52 + " -1"), 3, "canonical form")
         for first, bound, draw in ((250, -10, 4294967295), (400, 30, 0)):
             text = self.changed(3, f"flight 0 {first} {bound}" + f" {draw}" * 53)
             self.assertEqual(read_game(text).flights[0], Flight(first, bound, (draw,) * 53))
-
-    def test_spelling_of_numbers(self) -> None:
-        for bad in ("01", "+1", "-0", "1.0", "", "x", "99999999999", "٣"):
-            self.refuse(self.changed(12, f"rooms {bad} 4 4 6 4 3 3 4"), 12, "canonical form")
-        self.refuse(self.changed(3, "flight 0 300 -0" + " 0" * 53), 3, "canonical form")
-        self.refuse(self.changed(12, "rooms -1 4 4 6 4 3 3 4"), 12, "canonical form")
-
-    def test_hotels(self) -> None:
-        self.refuse(self.changed(11, "close 8 9 10 11 12 13 14 14"), 11, "equal")
-        self.refuse(self.changed(11, "close 8 9 10 11 12 13 14 16"), 11, "from 8 to 15")
-        self.refuse(self.changed(12, "rooms 0 4 4 6 4 3 3 4"), 12, "from 1 to 64")
-        self.refuse(self.changed(12, "rooms 65 4 4 6 4 3 3 4"), 12, "from 1 to 64")
-        self.refuse(self.changed(13, "quotes hour"), 13, "`minute` or `live`")
-
-    def test_seats(self) -> None:
-        self.refuse(self.changed(14, "endow 0 17" + " 0" * 11), 14, "from 0 to 16")
-        self.refuse(self.changed(15, "endow 0" + " 0" * 12), 15, "0 is not from 1 to 1")
-        self.refuse(self.changed(14, "endow 0 -1" + " 0" * 11), 14, "canonical form")
-        self.refuse(self.changed(22, "client 0 0 5 5 50 0 0 0"), 22, "from 1 to 4")
-        self.refuse(self.changed(22, "client 0 0 1 2 49 0 0 0"), 22, "from 50 to 150")
-        self.refuse(self.changed(23, "client 1 1 1 2 50 0 0 0"), 23, "1 is not from 0 to 0")
         for text in ("client 0 0 1 5 50 0 0 0", "client 0 0 4 5 150 200 200 200"):
             self.assertEqual(read_game(self.changed(22, text)).text().split("\n")[21], text)
-        self.refuse(self.changed(22, "client 0 0 2 2 50 0 0 0"), 22, "not after the arrival")
-        self.refuse(self.changed(22, "client 0 0 0 2 50 0 0 0"), 22, "from 1 to 4")
-        self.refuse(self.changed(22, "client 0 0 1 6 50 0 0 0"), 22, "from 2 to 5")
-        self.refuse(self.changed(22, "client 0 0 1 2 151 0 0 0"), 22, "from 50 to 150")
-        self.refuse(self.changed(22, "client 0 0 1 2 50 0 0 201"), 22, "from 0 to 200")
-        self.refuse(self.changed(23, "client 0 0 1 2 50 0 0 0"), 23, "0 is not from 1 to 1")
 
     def test_ends(self) -> None:
         whole = canonical(text_of("first.game"))
@@ -221,7 +206,3 @@ class Rules(unittest.TestCase):
         for nights, more in (((2, 0, 0), 10), ((0, 3, 0), 20), ((0, 0, 2), 40), ((3, 0, 2), 50)):
             self.assertEqual(early.worth(Package(0, 2, 4, nights)), 1000 + more)
         self.assertEqual(list(client.nights()), [1, 2])
-
-
-if __name__ == "__main__":
-    unittest.main()

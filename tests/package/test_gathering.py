@@ -1,12 +1,12 @@
 """When a game begins, by which words its seats are taken, and how long its pages stay."""
 
 import io
-import unittest
 from types import SimpleNamespace
-from typing import Any, Optional, Tuple
+from typing import Any, Dict, List, Optional, Sequence, Tuple
 from unittest import mock
 
 from geesefuton.hosting import events, lobby
+from geesefuton.hosting.control import Phase
 from geesefuton.hosting.lobby import Lobby
 from geesefuton.hosting.settings import LobbySettings
 from geesefuton.processes import free_port
@@ -46,34 +46,28 @@ class Beginning(Case):
             made._gather(game)  # type: ignore[arg-type]
         return None if game.is_stopped else clock.now
 
-    def check(self, begins: Optional[float], due: Optional[float]) -> None:
+    def test_when_it_begins(self) -> None:
         """The lobby looks five times a second."""
-        if begins is None or due is None:
-            self.assertEqual(begins, due)
-        else:
-            self.assertTrue(due - 1e-6 <= begins <= due + 0.4, (begins, due))
-
-    def test_all_are_waited_for(self) -> None:
-        self.check(self.begins((1, NEVER)), None)
-        self.check(self.begins((1, NEVER), full=40), 40)
-        self.check(self.begins(asked=7), 7)
-
-    def test_a_time_counts_from_the_beginning(self) -> None:
-        self.check(self.begins(start=12.5), 12.5)
-        self.check(self.begins(start=0.0), 0)
-        self.check(self.begins((1, NEVER), start=30.0, full=20), 20)
-
-    def test_a_wait_counts_from_the_first_guest_who_is_still_there(self) -> None:
-        self.check(self.begins(wait=10.0), None)
-        self.check(self.begins((20, NEVER), wait=10.0), 30)
-        self.check(self.begins((20, 25), (26, NEVER), wait=10.0), 36)
-        self.check(self.begins((20, 29), wait=10.0), None)
-        self.check(self.begins((20, NEVER), wait=10.0, full=22), 22)
-        self.check(self.begins((5, NEVER), wait=0.0), 5)
-
-    def test_of_both_the_earlier_one_counts(self) -> None:
-        self.check(self.begins((20, NEVER), wait=10.0, start=25.0), 25)
-        self.check(self.begins((20, NEVER), wait=10.0, start=35.0), 30)
+        here = [(20.0, NEVER)]
+        rows: List[Tuple[Dict[str, Any], Sequence[Tuple[float, float]], Optional[float]]] = [
+            # All are waited for, or the host says so.
+            ({}, [(1, NEVER)], None), ({"full": 40}, [(1, NEVER)], 40), ({"asked": 7}, [], 7),
+            # A time counts from the beginning.
+            ({"start": 12.5}, [], 12.5), ({"start": 0.0}, [], 0),
+            ({"start": 30.0, "full": 20}, [(1, NEVER)], 20),
+            # A wait counts from the first guest who is still there.
+            ({"wait": 10.0}, [], None), ({"wait": 10.0}, here, 30),
+            ({"wait": 10.0}, [(20, 25), (26, NEVER)], 36), ({"wait": 10.0}, [(20, 29)], None),
+            ({"wait": 10.0, "full": 22}, here, 22), ({"wait": 0.0}, [(5, NEVER)], 5),
+            # Of both the earlier one counts.
+            ({"wait": 10.0, "start": 25.0}, here, 25), ({"wait": 10.0, "start": 35.0}, here, 30)]
+        for given, here, due in rows:
+            with self.subTest(given=given, here=here):
+                begins = self.begins(*here, **given)
+                if begins is None or due is None:
+                    self.assertEqual(begins, due)
+                else:
+                    self.assertTrue(due - 1e-6 <= begins <= due + 0.4, begins)
 
 
 class Hosting(Case):
@@ -89,38 +83,25 @@ class Hosting(Case):
         self.assertEqual([agent.welcome()[0] for agent in agents], ["welcome 3", "welcome 0"])
         for agent in agents:
             agent.quit()
-        host.hurry()
-        host.end()
+        host.finish()
         for file in ("my.journal", "my.log"):
             self.assertNotIn("red7k", (self.folder / file).read_text())
 
     def test_the_host_is_answered_in_lines(self) -> None:
-        host = Host(self.folder, start=None, pace=2, linger=0,
-                    orders=io.StringIO("who\nhelp\nwho seat1\n\n"))
-        host.end()
+        host = self.ended(start=None, orders=io.StringIO("who\nhelp\nwho seat1\n\n"))
         told = [event.text for event in host.of(events.Answered)]
         self.assertEqual(told[:8], [f"{word} is missing" for word in WORDS])
         self.assertTrue(told[8].startswith("who: "), told[8])
         self.assertEqual([event.text for event in host.of(events.Warned)][:1], ["expected `who`"])
 
-    def test_how_long_pages_stay_after_the_game(self) -> None:
-        for stays in (False, True):
-            page = mock.Mock(look=mock.Mock(return_value=""))
-            with mock.patch.object(lobby, "PageProcess", return_value=page):
-                host = Host(self.folder, pace=2, start=0, linger=0, stays=stays, page=free_port(),
-                            journal=self.folder / f"{stays}.journal")
-                host.end()
-            showing = page.wait.call_args[0][0]
-            self.assertTrue(showing == NEVER if stays else 10 <= showing <= 60, showing)
-            self.assertEqual(page.close.call_count, int(not stays))
-            page.end.assert_called_once_with()
-
-    def test_what_the_page_says_in_the_game_is_told(self) -> None:
-        page = mock.Mock(look=mock.Mock(side_effect=["the page has ended", *[""] * 999]))
-        with mock.patch.object(lobby, "PageProcess", return_value=page) as made:
-            host = Host(self.folder, pace=5, start=0, linger=0, page=free_port())
-            host.end()
-        self.assertEqual([event.text for event in host.of(events.Warned)], ["the page has ended"])
+    def test_what_the_page_says_is_told_at_once(self) -> None:
+        page = mock.Mock(look=mock.Mock(side_effect=["the page has ended", *[""] * 9999]))
+        made = self.patch("hosting.lobby.PageProcess", return_value=page)
+        host = Host(self.folder, start=None, page=free_port())
+        self.assertEqual([event.text for event in host.wait(events.Warned)], ["the page has ended"])
+        self.assertIs(host.lobby.control.phase, Phase.GATHERING)
+        host.lobby.control.stop()
+        host.end()
         self.assertEqual(made.call_args[0][2:4], (WORDS, host.lobby.port))
 
 
@@ -135,14 +116,8 @@ class Limits(Case):
         self.assertEqual(LobbySettings(GAME, 0, 1, None).longest_silence(), 10.0)
 
     def test_the_relay_is_told_them(self) -> None:
-        with mock.patch.object(lobby, "Relay", side_effect=lobby.Relay) as made:
-            host = Host(self.folder, pace=100, start=0, patience=7.0, silence=9.0, linger=0)
-            host.hurry()
-            host.end()
+        made = self.patch("hosting.lobby.Relay", side_effect=lobby.Relay)
+        self.ended(patience=7.0, silence=9.0)
         words, _, _, journal, patience, silence = made.call_args[0]
         self.assertEqual((words, journal.file, patience, silence),
                          (WORDS, self.folder / "my.journal", 7.0, 9.0))
-
-
-if __name__ == "__main__":
-    unittest.main()

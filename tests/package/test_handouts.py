@@ -5,14 +5,13 @@ import re
 import shutil
 import subprocess
 import sys
-import tempfile
 import unittest
 from pathlib import Path
-from typing import List
 from unittest import mock
 
 from geesefuton import program
 from geesefuton.hosting.handouts import STARTERS, Handouts
+from tests.package.cases import FolderCase
 from tests.package.helpers import JVM, variables
 from tests.package.seat_server import SeatServer
 
@@ -55,17 +54,13 @@ class Filled(unittest.TestCase):
         for path in ("/", "/starter", "/../link.py", "/starter.py/", "join", ""):
             self.assertIsNone(Handouts(7000).answer(path, ""))
 
-    def test_where_the_starters_are_not_installed_nothing_is_handed_out(self) -> None:
+    def test_a_game_in_json_has_no_starters_nor_has_one_where_they_are_not_installed(self) -> None:
         with mock.patch.object(program, "examples", lambda: Path("/nowhere")):
-            handouts = Handouts(7000)
-        self.assertIn("<section hidden>", text_of(handouts, "join"))
-        self.assertIsNone(handouts.answer("/starter.py", ""))
-
-    def test_a_game_in_json_has_no_starters(self) -> None:
-        handouts = Handouts(7000, has_starters=False)
-        self.assertIn("<section hidden>", text_of(handouts, "join"))
+            without = Handouts(7000)
+        for handouts in (without, Handouts(7000, has_starters=False)):
+            self.assertIn("<section hidden>", text_of(handouts, "join"))
+            self.assertIsNone(handouts.answer("/starter.py", ""))
         self.assertNotIn("<section hidden>", text_of(Handouts(7000), "join"))
-        self.assertIsNone(handouts.answer("/starter.py", ""))
 
     def test_screens_say_where_to_join(self) -> None:
         with mock.patch("geesefuton.hosting.handouts.qr_picture", lambda text: f"code {text}"):
@@ -80,29 +75,20 @@ class Filled(unittest.TestCase):
         self.assertNotRegex(page, r'(src|href)="(https?:)?//|url\(|@import|--host--|--port--')
 
 
-class Played(unittest.TestCase):
-    def run_file(self, name: str) -> "subprocess.CompletedProcess[str]":
-        """Runs what is handed out, with the word filled in as the page does it."""
-        server = SeatServer()
-        server.closed = [0]
-        with tempfile.TemporaryDirectory() as folder, contextlib.closing(server):
-            file = Path(folder) / name
+class Played(FolderCase):
+    def test_a_file_runs_as_it_is(self) -> None:
+        """With the word filled in as the page does it."""
+        for name in STARTERS:
+            server, file = SeatServer(), self.folder / name
+            server.closed = [0]
             text = text_of(Handouts(server.port), name, "127.0.0.1")
             file.write_text(text.replace('WORD = "seat0"', 'WORD = "red7k"'))
-            words: List[str] = [*RUN[name], str(file), "--pause", "0"]
-            done = subprocess.run(words, stdin=subprocess.DEVNULL, capture_output=True, text=True,
-                                  timeout=120, check=False, cwd=folder, env=variables())
-        self.assertEqual(server.heard[:1], ["hello red7k"], done.stderr)
-        return done
-
-    def test_a_file_runs_as_it_is(self) -> None:
-        for name in STARTERS:
-            if shutil.which(RUN[name][0]):
-                with self.subTest(name=name):
-                    done = self.run_file(name)
+            with self.subTest(name=name), contextlib.closing(server):
+                if shutil.which(RUN[name][0]):
+                    done = subprocess.run(
+                        [*RUN[name], str(file), "--pause", "0"], stdin=subprocess.DEVNULL,
+                        capture_output=True, text=True, timeout=120, check=False, cwd=self.folder,
+                        env=variables())
+                    self.assertEqual(server.heard[:1], ["hello red7k"], done.stderr)
                     self.assertEqual((done.returncode, done.stderr), (0, ""))
                     self.assertRegex(done.stdout, "^agent 3 holds .*, cash 0\n$")
-
-
-if __name__ == "__main__":
-    unittest.main()

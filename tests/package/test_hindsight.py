@@ -33,7 +33,7 @@ def found_once(clients: Sequence[Client], held: Sequence[int], prices: Sequence[
 
 def told_of(log: Log) -> List[Story]:
     """The stories of the eight teams by a log of the game."""
-    with mock.patch("geesefuton.records.accounts.best_plan", found_once):
+    with mock.patch("geesefuton.records.books.best_plan", found_once):
         return stories(GAME, log)
 
 
@@ -161,18 +161,14 @@ class Stories(unittest.TestCase):
         moments = told_of(log_of({
             0: flight, 1: (Entry(1, Call("bid", ((1, 200),)), TAKEN),
                            Entry(1, Call("withdraw"), CLOSED)),
-            hotel: (Entry(1, Call("bid", ((2, 50),)), TAKEN),
+            hotel: (Entry(1, Call("bid", ((2, 50), (1, 40))), TAKEN),
                     Entry(1, Call("bid", ((4, 10),)), refused),
                     Entry(3, Call("bid", ((1, 70),)), TAKEN), Entry(CLOCK, Call("close"), CLOSED)),
             20: (Entry(1, Call("bid", ((1, 60),)), TAKEN),)}))
-        self.assertEqual(moments[1].moments[0].bids, {0: f"3 at {price - 1}", hotel: "2 at 50"})
+        self.assertEqual(moments[1].moments[0].bids, {0: f"3 at {price - 1}",
+                                                      hotel: "2 at 50, 1 at 40"})
         self.assertEqual(moments[3].moments[5].bids, {hotel: "1 at 70"})
         self.assertEqual(moments[1].moments[6].bids, {0: f"3 at {price - 1}"})
-
-    def test_bids_that_stand_are_shown(self) -> None:
-        stands = Entry(1, Call("bid", ((2, 130), (1, 90))), TAKEN)
-        moments = told_of(log_of({8: (stands,)}))[1].moments
-        self.assertEqual(moments[0].bids, {8: "2 at 130, 1 at 90"})
 
 
 class Page(unittest.TestCase):
@@ -188,7 +184,3 @@ class Page(unittest.TestCase):
         rows = {row[0]: row[1:] for row in moments[0]["goods"]}
         self.assertEqual(rows["Shanties, night 1"][2], "2 at 130")
         self.assertIn("No decision lowered", story_html(Story(story.moments, [])))
-
-
-if __name__ == "__main__":
-    unittest.main()

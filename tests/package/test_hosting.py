@@ -7,11 +7,11 @@ import signal
 import socket
 import subprocess
 import sys
-import tempfile
 import unittest
 from argparse import Namespace
+from dataclasses import replace
 from pathlib import Path
-from typing import Any, Iterator, Optional
+from typing import Any, Iterator, Optional, Tuple
 from unittest import mock
 
 from geesefuton.hosting import events, lobby, lobby_command
@@ -20,48 +20,36 @@ from geesefuton.hosting.lobby import Lobby, LobbyError
 from geesefuton.hosting.settings import LobbySettings
 from geesefuton.processes import command, free_port
 from geesefuton.records.logs import read_log
-from tests.package.helpers import DATA, TOP, python, variables
+from tests.package import lobbies
+from tests.package.cases import FolderCase
+from tests.package.helpers import DATA, python, variables
+from tests.package.lobbies import GAME
 
-GAME = TOP / "examples" / "first.game"
+DEFAULTS = LobbySettings(
+    game=Path("my.game"), port=7000, pace=500, log=sys.stdout.buffer, form="words", start=None,
+    linger=30.0, patience=30.0, silence=10.0, journal=None, page=None, late=6, names=False)
 
 
-class Case(unittest.TestCase):
-    def setUp(self) -> None:
-        place = tempfile.TemporaryDirectory()
-        self.addCleanup(place.cleanup)
-        self.folder = Path(place.name).resolve()
-
+class Case(FolderCase):
     def patch(self, name: str, *what: Any, **how: Any) -> Any:
-        change = mock.patch(f"geesefuton.hosting.lobby_command.{name}", *what, **how)
-        self.addCleanup(change.stop)
-        return change.start()
+        return super().patch(f"hosting.lobby_command.{name}", *what, **how)
 
 
-class Words(Case):
+class Words(unittest.TestCase):
     def given(self, *words: str) -> Namespace:
         with mock.patch("sys.argv", ["lobby", *words]):
             return lobby_command._arguments()
 
-    def test_what_holds_if_nothing_is_said(self) -> None:
-        self.assertEqual(vars(self.given("my.game", "7000", "500")), {
-            "game": Path("my.game"), "port": 7000, "pace": 500, "form": None, "start": None,
-            "after": 30.0, "patience": 30.0, "silence": 10.0, "journal": None, "page": None,
-            "late": 6, "names": False, "no_advice": False})
-
-    def test_all_that_may_be_said(self) -> None:
-        self.assertEqual(vars(self.given(
-            "g", "65535", "60000", "--start", "0", "--after", "1.5", "--patience", "2",
-            "--silence", "3", "--journal", "j", "--page", "1", "--late", "54", "--names",
-            "--no-advice", "json"
-        )), {"game": Path("g"), "port": 65535, "pace": 60000, "form": "json", "start": 0.0,
-             "after": 1.5, "patience": 2.0, "silence": 3.0, "journal": Path("j"), "page": 1,
-             "late": 54, "names": True, "no_advice": True})
-        self.assertEqual(self.given("g", "1", "1", "--late", "0").late, 0)
+    def test_the_limits_of_what_may_be_said(self) -> None:
+        for words in (["g", "1", "1", "--late", "0", "--page", "1", "--start", "0"],
+                      ["g", "65535", "60000", "--late", "54", "--page", "65535", "json"]):
+            self.assertEqual(self.given(*words).port, int(words[1]))
 
     def test_what_is_refused(self) -> None:
         for words in (["g", "0", "1"], ["g", "65536", "1"], ["g", "7", "0"], ["g", "7", "60001"],
                       ["g", "7"], ["g", "7", "1", "xml"], ["g", "7", "1", "--late", "55"],
-                      ["g", "7", "1", "--page", "65536"], ["g", "7", "1", "--start", "-1"],
+                      ["g", "7", "1", "--page", "65536"], ["g", "7", "1", "--page", "0"],
+                      ["g", "7", "1", "--start", "-1"], ["g", "7", "1", "--start", "nan"],
                       ["g", "7", "1", "--after", "x"], ["g", "7", "1", "--silence", "nan"],
                       ["g", "7", "1", "--patience", "-2"], ["g", "7", "1", "--name"]):
             with mock.patch("geesefuton.arguments.tell") as told, \
@@ -82,7 +70,7 @@ class Main(Case):
         self.patch("_open_standard_files", return_value=True)
         self.patch("_default_journal", return_value=Path("default.journal"))
 
-    def run_it(self, status: int, number: int = 0, *words: str) -> int:
+    def run_it(self, status: int, *words: str, number: int = 0) -> int:
         self.made.return_value.run.return_value = status
         self.signals.number = number
         with mock.patch("sys.argv", ["lobby", "my.game", "7000", "500", *words]):
@@ -93,7 +81,7 @@ class Main(Case):
         return settings
 
     def test_the_lobby_is_told_all(self) -> None:
-        self.run_it(0, 0, "json", "--start", "1", "--after", "2", "--patience", "3", "--silence",
+        self.run_it(0, "json", "--start", "1", "--after", "2", "--patience", "3", "--silence",
                     "4", "--journal", "j", "--page", "8", "--late", "9", "--names",
                     "--no-advice")
         self.assertEqual(self.settings(), LobbySettings(
@@ -119,10 +107,9 @@ class Main(Case):
 
     def test_what_holds_if_nothing_is_said(self) -> None:
         self.run_it(0)
-        self.assertEqual(self.settings(), LobbySettings(
-            game=Path("my.game"), port=7000, pace=500, log=sys.stdout.buffer, form="words",
-            start=None, linger=30.0, patience=30.0, silence=10.0, journal=Path("default.journal"),
-            page=None, late=6, names=False, orders=sys.stdin, vouches=True))
+        self.assertEqual(self.settings(), replace(
+            DEFAULTS, journal=Path("default.journal"), orders=sys.stdin, vouches=True))
+        self.assertEqual(LobbySettings(Path("my.game"), 7000, 500, sys.stdout.buffer), DEFAULTS)
 
     def test_without_an_output_and_without_a_journal(self) -> None:
         self.patch("_open_standard_files", return_value=False)
@@ -131,24 +118,22 @@ class Main(Case):
         self.assertIsNone(self.settings().log)
         self.assertIn("there is no journal", self.teller.say.call_args[0][0])
 
-    def test_settings_that_are_not_given(self) -> None:
-        self.assertEqual(LobbySettings(Path("g"), 7, 5, None), LobbySettings(
-            game=Path("g"), port=7, pace=5, log=None, form="words", start=None, linger=30.0,
-            patience=30.0, silence=10.0, journal=None, page=None, late=6, names=False, orders=None))
-
     def test_exit_statuses(self) -> None:
         for status, number, due in ((0, 0, 0), (6, 0, 6), (4, 2, 4), (137, 0, 137),
                                     (STOPPED, signal.SIGINT, 130), (STOPPED, signal.SIGTERM, 143),
                                     (STOPPED, signal.SIGHUP, 129), (STOPPED, 0, 130)):
-            self.assertEqual(self.run_it(status, number), due)
+            self.assertEqual(self.run_it(status, number=number), due)
 
     def test_errors(self) -> None:
         self.made.return_value.run.side_effect = LobbyError("the journal is there already")
-        with mock.patch("geesefuton.processes.tell") as told, \
-                mock.patch("geesefuton.processes.stop_on_signals"):
-            self.assertEqual(command("lobby", lambda: self.run_it(0)), 1)
+        told = FolderCase.patch(self, "processes.tell")
+        FolderCase.patch(self, "processes.stop_on_signals")
+        self.assertEqual(command("lobby", lambda: self.run_it(0)), 1)
         told.assert_called_once_with("lobby: the journal is there already")
         self.teller.close.assert_called_once_with()
+
+
+NOTHING = (False, False, "")
 
 
 class Signals(Case):
@@ -158,83 +143,75 @@ class Signals(Case):
         self.patch("signal.signal", self.handlers.__setitem__)
         self.clock = self.patch("time.monotonic", return_value=0.5)
         self.lobby, self.teller = mock.Mock(), mock.Mock()
-        self.lobby.control.phase = Phase.PLAYING
 
-    def take(self, number: int, at: float) -> bool:
-        """Whether the game is ended by a signal."""
+    def begin(self, phase: Phase) -> Any:
+        """The handlers, in a phase of the game, in which nothing was told yet."""
+        self.lobby.control.phase = phase
+        self.teller.say.reset_mock()
+        return lobby_command._Signals(self.lobby, self.teller)
+
+    def take(self, number: int, at: float = 1.0) -> Tuple[bool, bool, str]:
+        """Whether the game is stopped by a signal, or what is left of it ended, and what is told
+        last."""
         self.clock.return_value = at
-        self.lobby.control.stop.reset_mock()
+        self.lobby.control.reset_mock()
         self.handlers[number](number, None)
-        return bool(self.lobby.control.stop.called)
+        said = self.teller.say.call_args
+        return (self.lobby.control.stop.called, self.lobby.control.end.called,
+                said[0][0] if said else "")
 
     def test_in_the_game(self) -> None:
-        taken = lobby_command._Signals(self.lobby, self.teller)
+        taken = self.begin(Phase.PLAYING)
         self.assertEqual(set(self.handlers),
                          {signal.SIGINT, signal.SIGTERM, signal.SIGHUP, signal.SIGTSTP})
-        self.assertFalse(self.take(signal.SIGHUP, 0.5) or self.teller.say.called)
+        self.assertEqual(self.take(signal.SIGHUP, 0.5), NOTHING)
         self.assertIs(self.lobby.settings.stays, False)
-        self.assertFalse(self.take(signal.SIGINT, 1.0))
-        self.assertIn("the game goes on", self.teller.say.call_args[0][0])
-        self.assertFalse(self.take(signal.SIGINT, 6.5))  # not within five seconds
-        self.assertEqual((self.teller.say.call_count, taken.number), (2, 0))
-        self.assertTrue(self.take(signal.SIGINT, 11.0))
-        self.assertEqual(taken.number, signal.SIGINT)
-        self.assertTrue(self.take(signal.SIGTERM, 20.0))
-        self.assertEqual(taken.number, signal.SIGTERM)
-        self.lobby.control.end.assert_not_called()
+        for at in (1.0, 6.5):  # not within five seconds
+            stopped, _, said = self.take(signal.SIGINT, at)
+            self.assertEqual((stopped, taken.number, self.teller.say.call_count),
+                             (False, 0, 1 + (at > 1)))
+            self.assertIn("the game goes on", said)
+        for number, at in ((signal.SIGINT, 11.0), (signal.SIGTERM, 20.0)):
+            self.assertEqual(self.take(number, at)[:2], (True, False))
+            self.assertEqual(taken.number, number)
 
-    def test_before_the_game(self) -> None:
-        for phase in (Phase.GATHERING, Phase.STARTING):
-            self.lobby.control.phase = phase
+    def test_before_the_game_it_is_ended_and_the_page_once_the_log_is_written(self) -> None:
+        for phase in (Phase.GATHERING, Phase.STARTING, Phase.SHOWING):
             for number in (signal.SIGINT, signal.SIGHUP, signal.SIGTERM):
-                taken = lobby_command._Signals(self.lobby, self.teller)
-                self.assertTrue(self.take(number, 1.0))
-                self.assertEqual(taken.number, number)
+                taken = self.begin(phase)
+                self.assertEqual((self.take(number), taken.number), ((True, False, ""), number))
 
-    def test_after_the_last_tick_ctrl_c_says_what_is_waited_for_and_a_second_one_ends_it(
-            self) -> None:
-        self.lobby.control.phase = Phase.ENDING
+    def test_after_the_last_tick_the_wait_is_told_or_ended_with_the_log(self) -> None:
         self.lobby.waits_for.return_value = (29.7, ["seat0", "seat4"])
-        lobby_command._Signals(self.lobby, self.teller)
-        self.assertFalse(self.take(signal.SIGHUP, 1.0) or self.teller.say.called)
-        self.assertFalse(self.take(signal.SIGINT, 1.0))
-        self.assertIn("waiting 30 s for seat0 seat4; press Enter", self.teller.say.call_args[0][0])
-        self.lobby.control.end.assert_not_called()
-        self.assertFalse(self.take(signal.SIGINT, 2.0))
-        self.lobby.control.end.assert_called_once_with()
-        self.assertTrue(self.take(signal.SIGINT, 3.0))  # the server does not end
-
-    def test_after_the_last_tick_a_request_to_stop_leaves_the_log(self) -> None:
-        self.lobby.control.phase = Phase.ENDING
-        lobby_command._Signals(self.lobby, self.teller)
-        self.assertFalse(self.take(signal.SIGTERM, 1.0))
-        self.lobby.control.end.assert_called_once_with()
-        self.assertTrue(self.take(signal.SIGTERM, 2.0))
-
-    def test_once_the_log_is_written_the_page_is_ended(self) -> None:
-        self.lobby.control.phase = Phase.SHOWING
-        for number in (signal.SIGINT, signal.SIGHUP, signal.SIGTERM):
-            lobby_command._Signals(self.lobby, self.teller)
-            self.assertTrue(self.take(number, 1.0))
+        self.begin(Phase.ENDING)
+        self.assertEqual(self.take(signal.SIGHUP), NOTHING)
+        told = self.take(signal.SIGINT)
+        self.assertEqual(told[:2], (False, False))
+        self.assertIn("waiting 30 s for seat0 seat4; press Enter", told[2])
+        self.assertEqual(self.take(signal.SIGINT)[:2], (False, True))
+        self.assertEqual(self.take(signal.SIGINT)[:2], (True, False))  # the server does not end
+        self.begin(Phase.ENDING)
+        self.assertEqual(self.take(signal.SIGTERM), (False, True, ""))
+        self.assertEqual(self.take(signal.SIGTERM), (True, False, ""))
 
     def test_what_is_ignored_stays_so(self) -> None:
         self.patch("signal.getsignal", lambda number: (
             signal.SIG_IGN if number == signal.SIGHUP else signal.SIG_DFL))
-        lobby_command._Signals(self.lobby, self.teller)
+        self.begin(Phase.PLAYING)
         self.assertEqual(set(self.handlers), {signal.SIGINT, signal.SIGTERM, signal.SIGTSTP})
 
     def test_ctrl_z_stops_the_lobby_but_not_in_a_game(self) -> None:
         kill = self.patch("os.kill")
-        lobby_command._Signals(self.lobby, self.teller)
-        for phase in (Phase.STARTING, Phase.PLAYING, Phase.ENDING):
-            self.lobby.control.phase = phase
-            self.assertFalse(self.take(signal.SIGTSTP, 1.0) or kill.called)
-            self.assertIn("the game goes on", self.teller.say.call_args[0][0])
-        for phase in (Phase.GATHERING, Phase.SHOWING):
-            self.lobby.control.phase = phase
-            self.take(signal.SIGTSTP, 1.0)
-            kill.assert_called_once_with(os.getpid(), signal.SIGSTOP)
+        for phase in Phase:
             kill.reset_mock()
+            self.begin(phase)
+            told = self.take(signal.SIGTSTP)
+            self.assertEqual(told[:2], (False, False))
+            if phase in (Phase.GATHERING, Phase.SHOWING):
+                kill.assert_called_once_with(os.getpid(), signal.SIGSTOP)
+            else:
+                self.assertIn("the game goes on", told[2])
+                kill.assert_not_called()
 
 
 class Journals(Case):
@@ -292,24 +269,13 @@ class Journals(Case):
             self.assertEqual(lobby_command._output_folder(), Path())
 
     def test_how_a_log_is_made_of_one(self) -> None:
-        tool = os.path.relpath(TOP / "tools" / "recover")
+        FolderCase.patch(self, "program.typed", lambda words: f"./geesefuton {words}")
         self.assertEqual(lobby.recovery_line(Path("a/my-1.journal")),
-                         f"{tool} a/my-1.journal > my-1.recovered.log")
-        change = mock.patch("geesefuton.program.top", return_value=None)
-        self.addCleanup(change.stop)
-        change.start()
-        self.assertEqual(lobby.recovery_line(Path("my.journal")),
-                         "tac-recover my.journal > my.recovered.log")
+                         "./geesefuton recover a/my-1.journal > my-1.recovered.log")
 
 
-class Pages(Case):
+class Pages(lobbies.Case):
     """The page that the lobby starts."""
-
-    def setUp(self) -> None:
-        super().setUp()
-        change = mock.patch.dict(os.environ, {"TAC": str(Path(__file__).with_name("fake_tac.py"))})
-        change.start()
-        self.addCleanup(change.stop)
 
     def lobby(self, page: Optional[int], **more: Any) -> Lobby:
         made = Lobby(LobbySettings(GAME, 0, 5, None, page=page, **more))
@@ -319,7 +285,7 @@ class Pages(Case):
     def test_links_come_in_at_every_address(self) -> None:
         made = self.lobby(None)
         self.assertIn(made._listeners[0].getsockname()[0], ("::", "0.0.0.0"))
-        self.assertEqual(made.words, [f"seat{number}" for number in range(8)])
+        self.assertEqual(made.words, lobbies.WORDS)
         for host in ("127.0.0.1", *["::1"] * socket.has_dualstack_ipv6()):
             socket.create_connection((host, made.port)).close()
 
@@ -339,10 +305,13 @@ class Pages(Case):
         with self.assertRaisesRegex(LobbyError, f"port {port} is for the game: choose another"):
             Lobby(LobbySettings(GAME, port, 5, None, page=port))
 
-    def test_its_port_has_to_be_free(self) -> None:
-        with socket.create_server(("", 0)) as other, \
-                self.assertRaisesRegex(LobbyError, "port .*in use"):
-            self.lobby(other.getsockname()[1])
+    def test_ports_have_to_be_free(self) -> None:
+        with socket.create_server(("", 0)) as other:
+            taken = other.getsockname()[1]
+            with self.assertRaisesRegex(LobbyError, "port .*in use"):
+                self.lobby(taken)
+            with self.assertRaisesRegex(LobbyError, "port"):
+                Lobby(LobbySettings(GAME, taken, 5, None))
 
     def test_without_a_journal_of_the_hosts_it_has_one_that_goes_away(self) -> None:
         for page, given, due in ((None, None, None), (None, "my.journal", "my.journal"),
@@ -362,7 +331,3 @@ class Pages(Case):
         made = self.lobby(None, journal=self.folder / "none" / "my.journal")
         with self.assertRaisesRegex(LobbyError, "cannot create the journal .*No such file"):
             made._open_journal(self.folder, self.fail)
-
-
-if __name__ == "__main__":
-    unittest.main()

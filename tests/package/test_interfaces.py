@@ -16,10 +16,7 @@ HAS_PETTINGZOO = importlib.util.find_spec("pettingzoo") is not None
 
 class Case(unittest.TestCase):
     def setUp(self) -> None:
-        context = fake_gymnasium.installed()
-        context.__enter__()
-        self.addCleanup(context.__exit__, None, None, None)
-        self.numeric: Any = import_module("geesefuton.learning.numeric")
+        self.numeric = fake_gymnasium.imported(self, "numeric")
 
     def parallel(self, environment: Any, steps: int = 130) -> None:
         """The calls of `parallel_api_test`."""
@@ -107,7 +104,3 @@ class Installed(unittest.TestCase):
     def test_the_check_of_gymnasium(self) -> None:
         checker = import_module("gymnasium.utils.env_checker")
         checker.check_env(import_module("geesefuton.learning.numeric").Seat())
-
-
-if __name__ == "__main__":
-    unittest.main()

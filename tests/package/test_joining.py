@@ -1,18 +1,15 @@
-import json
 import os
-import tempfile
 import unittest
 from dataclasses import replace
 from pathlib import Path
 from typing import Any, Dict, List, Optional
-from unittest import mock
 
 from geesefuton.experiments.joining import (Source, differences, joined, missing, pooled,
                                             read_source, twice, whole_deals)
-from geesefuton.experiments.results import HEAD, Kind, Outcome, Row, text_of
+from geesefuton.experiments.results import Kind, Outcome, Row
 from geesefuton.experiments.summary import summarize
 from geesefuton.processes import Output
-from geesefuton.records.tables import csv_of
+from tests.package.run_cases import PlaceCase, write_run
 from tests.package.helpers import TOP, refusal
 
 SETTINGS = "agents=mine+planner rotations=1 turns=40 rooms=16..16"
@@ -38,11 +35,9 @@ class Differences(unittest.TestCase):
         broken = source("b.csv", 3, kind=Kind.UNREPEATABLE)
         self.assertEqual(joined([first, broken])[1], [])
 
-    def test_kinds(self) -> None:
+    def test_what_does_not(self) -> None:
         self.told("its games are by the clock, not in turns",
                   source("b.csv", 3, kind=Kind.SERVED))
-
-    def test_settings(self) -> None:
         self.told("turns is 20, not 40",
                   source("b.csv", 3, settings=SETTINGS.replace("turns=40", "turns=20")))
         self.told("agents is mine+planner*7, not mine+planner",
@@ -51,8 +46,6 @@ class Differences(unittest.TestCase):
             "turns=40 rooms=16..16", "turns=20 rooms=3..6")))
         self.assertEqual([line.rpartition(": ")[2] for line in lines],
                          ["turns is 20, not 40", "rooms is 3..6, not 16..16"])
-
-    def test_files_of_agents(self) -> None:
         other = source("b.csv", 3)
         changed = [replace(row, files="cccc") if row.agent == "mine" else row for row in other.rows]
         self.told("the files, libraries or words of mine differ", Source("b.csv", changed))
@@ -104,29 +97,19 @@ class Pools(unittest.TestCase):
                          ["b.csv and a.csv both have game 1.0"])
 
 
-class Reading(unittest.TestCase):
+class Reading(PlaceCase):
     def setUp(self) -> None:
-        folder = tempfile.TemporaryDirectory()
-        self.addCleanup(folder.cleanup)
-        self.place = Path(folder.name)
-        patch = mock.patch("geesefuton.experiments.tournament.Output", lambda target: Output(
-            os.devnull if target == 1 else target))
-        patch.start()
-        self.addCleanup(patch.stop)
+        super().setUp()
+        self.patch("experiments.tournament.Output",
+                   lambda target: Output(os.devnull if target == 1 else target))
 
-    def folder(self, name: str, *deals: int, planned: Optional[int] = None,
+    def run_of(self, name: str, *deals: int, planned: Optional[int] = None,
                run: Optional[Dict[str, Any]] = None, **more: Any) -> Path:
         """The folder of a run with these deals, which was to have so many games."""
-        folder = self.place / name
-        folder.mkdir()
         rows = source(name, *deals, **more).rows
-        (folder / "scores.csv").write_text(csv_of([HEAD]) + text_of(rows))
-        games = len({row.place for row in rows})
-        (folder / "run.json").write_text(json.dumps({
-            "tournament": 2, "settings": {}, "deals": {"seed": 1}, "agents": [],
-            "runs": [run or {"ended": "now", "status": 0, "lost": []}],
-            "planned": games if planned is None else planned}))
-        return folder
+        return write_run(
+            self.place / name, rows, runs=[run or {"ended": "now", "status": 0, "lost": []}],
+            planned=len({row.place for row in rows}) if planned is None else planned)
 
     def joined(self, *words: object) -> List[str]:
         """What is told on standard error."""
@@ -134,18 +117,15 @@ class Reading(unittest.TestCase):
                                "--join", *words)
         return [str(status), *text.splitlines()]
 
-    def test_folders(self) -> None:
-        read, told = read_source(self.folder("run", 2))
+    def test_what_can_be_read_and_what_cannot(self) -> None:
+        read, told = read_source(self.run_of("run", 2))
         assert read is not None
-        self.assertEqual((read.rows, told, missing(read)),
-                         (source("", 2).rows, [], ""))
-
-    def test_what_cannot_be_read_is_named(self) -> None:
-        old = self.folder("old", 1)
+        self.assertEqual((read.rows, told, missing(read)), (source("", 2).rows, [], ""))
+        old = self.run_of("old", 1)
         (old / "run.json").write_text('{"tournament": 1}')
         for path, text in ((self.place / "none", "not the folder of a tournament's run"),
                            (TOP / "README.md", "not the folder of a tournament's run"),
-                           (self.folder("empty"), "empty: it has no games"),
+                           (self.run_of("empty"), "empty: it has no games"),
                            (old, "run.json is not of a tournament of this version"),
                            (self.place, "not the folder of a tournament's run, but contains")):
             read, told = read_source(path)
@@ -154,16 +134,15 @@ class Reading(unittest.TestCase):
             self.assertIn(text, told[0])
 
     def test_runs_within_a_folder_are_named(self) -> None:
-        self.folder("part-1-of-2", 1)
-        self.folder("part-2-of-2", 2)
+        for part in (1, 2):
+            self.run_of(f"part-{part}-of-2", part)
         self.assertEqual(read_source(self.place), (None, [
             f"{self.place}: it is not the folder of a tournament's run, but contains part-1-of-2, "
             "part-2-of-2"]))
 
     def test_a_half_written_row_is_left_out_with_its_game(self) -> None:
-        folder = self.folder("run", 1, 2)
-        file = folder / "scores.csv"
-        file.write_text(file.read_text()[:-9])
+        folder = self.run_of("run", 1, 2)
+        (folder / "scores.csv").write_text((folder / "scores.csv").read_text()[:-9])
         read, told = read_source(folder)
         assert read is not None
         self.assertEqual({row.deal for row in read.rows}, {"1"})
@@ -171,10 +150,10 @@ class Reading(unittest.TestCase):
         self.assertIn("game 2.0 has 7 rows, not 8; its game is left out", told[1])
 
     def test_runs_that_lack_games_are_refused(self) -> None:
-        whole = self.folder("a", 3, 4)
-        stopped = self.folder("b", 1, planned=40, run={"ended": "now", "status": 143, "lost": []})
-        killed = self.folder("c", 5, planned=40, run={"ended": None})
-        lost = self.folder("d", 6, planned=2, run={"ended": "now", "status": 1, "lost": ["game"]})
+        whole = self.run_of("a", 3, 4)
+        stopped = self.run_of("b", 1, planned=40, run={"ended": "now", "status": 143, "lost": []})
+        killed = self.run_of("c", 5, planned=40, run={"ended": None})
+        lost = self.run_of("d", 6, planned=2, run={"ended": "now", "status": 1, "lost": ["game"]})
         for folder, told in ((stopped, "1 of 40 games were played (it was stopped)"),
                              (killed, "1 of 40 games were played (it was stopped)"),
                              (lost, "1 of 2 games were played (1 were lost)")):
@@ -186,8 +165,7 @@ class Reading(unittest.TestCase):
         settings = SETTINGS.replace("rotations=1", "rotations=2")
         rows = [*source("", 1, 2, settings=settings).rows,
                 *source("", 1, settings=settings, rotation=1).rows]
-        folder = self.folder("a", planned=40)
-        (folder / "scores.csv").write_text(csv_of([HEAD]) + text_of(rows))
+        folder = write_run(self.place / "a", rows, planned=40, runs=[{"ended": "now"}])
         told = self.joined(folder, "--partial")
         self.assertEqual(told, [
             "1", f"tournament: {folder}: 1 deals were played whole; 1 are left out",
@@ -202,14 +180,14 @@ class Reading(unittest.TestCase):
         self.assertEqual(({row.rotation for row in whole.rows}, parts), ({0, 1}, 1))
 
     def test_the_others_go_on_and_the_status_is_1(self) -> None:
-        told = self.joined("--partial", self.folder("a", 1), self.folder("bad"),
-                           self.folder("run", 2, 3))
+        told = self.joined("--partial", self.run_of("a", 1), self.run_of("bad"),
+                           self.run_of("run", 2, 3))
         self.assertEqual(told[0], "1")
         self.assertIn("bad: it has no games", told[1])
         self.assertIn("3 games of 3 deals", (self.place / "s.txt").read_text())
 
     def test_what_does_not_belong_together_is_refused_and_pooled(self) -> None:
-        folders = [self.folder("a", 1, 2), self.folder("b", 2, kind=Kind.SERVED)]
+        folders = [self.run_of("a", 1, 2), self.run_of("b", 2, kind=Kind.SERVED)]
         told = self.joined(*folders)
         self.assertEqual((told[0], len(told)), ("1", 3))
         self.assertTrue(told[1].endswith(f"b and {folders[0]} both have game 2.0"))
@@ -219,7 +197,3 @@ class Reading(unittest.TestCase):
                                self.place / "s.txt", "--join", *folders)
         self.assertEqual((status, text), (0, ""))
         self.assertIn("mine in b", (self.place / "s.txt").read_text())
-
-
-if __name__ == "__main__":
-    unittest.main()

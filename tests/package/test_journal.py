@@ -1,62 +1,44 @@
 """Journals: what the server takes a line for, what a reader makes of a journal, and its errors."""
 
+import contextlib
 import errno
 import json
 import os
-import tempfile
 import threading
-import time
 import unittest
-from pathlib import Path
-from typing import Any, Dict, List
+from typing import Any, Dict, Iterator, List, Optional
 from unittest import mock
 
 from geesefuton.hosting.journal import (SYNC, Exchange, Journal, JournalError, JournalReader,
                                         Schedule, read_journal)
 from geesefuton.hosting.server_links import server_links
 from geesefuton.records.dialects import CASH, Asked, asked_by, reply_of
+from tests.package.cases import FolderCase
+from tests.package.helpers import DATA
+from tests.package.journals import GAME, HEAD, LINES, of_text
 
-DATA = Path(__file__).resolve().parent / "data"
-LINES = (DATA / "lobby.journal").read_text().split("\n")[:-1]
+NO_SPACE = OSError(errno.ENOSPC, "No space left on device")
+FAILED = OSError(errno.EIO, "Input/output error")
+TICK = '{"tick":0,"t":0}\n'
 
 
 class Lines(unittest.TestCase):
     """The rows are those of the page for agents."""
 
     def test_words(self) -> None:
-        for line, asked in (
-                ("bid 24 ((2 70) (1 65))", Asked("bid", 24, "bid 24 ((2 70) (1 65))")),
-                ("withdraw 0", Asked("withdraw", 0, "withdraw 0")), ("own 27",
-                                                                     Asked("own", 27, "own 27")),
-                ("quote 9", Asked("quote", 9, "quote 9")), ("cash", Asked("cash", CASH, "cash")),
-                ("quit", None), ("own 28", None), ("own 05", None), ("own 1 ", None), ("own", None),
-                ("cash 1", None), ("bid 5", None), ("bid 5 ", None), ("bid 5 ()", None),
-                ("bid 5 ((01 5))", None), ("bid 5 ((1  5))", None), ("bid 5 ((1 0))", None),
-                ("bid 5 ((0 5))", None), ("bid 5 ((1 10001))", None), ("bid 5 ((17 5))", None),
-                ("bid 5 ((9 1) (-8 2))", None), ("bid 5 ((8 1) (-8 2))",
-                                                 Asked("bid", 5, "bid 5 ((8 1) (-8 2))")),
-                (f"bid 5 ({' '.join(['(1 1)'] * 17)})", None), ("", None), ("own 1\r", None),
-                ("own 1" + " " * 600, None), ("buy 5", None)):
+        for line in ("bid 24 ((2 70) (1 65))", "bid 5 ((8 1) (-8 2))", "withdraw 0", "own 27",
+                     "quote 9"):
             with self.subTest(line=line):
-                self.assertEqual(asked_by(line, "words"), asked)
-
-    def test_json(self) -> None:
-        for line, text in (
-                ('{"do":"bid","auction":8,"points":[[1,80],[-2,5]]}', "bid 8 ((1 80) (-2 5))"),
-                (' {"auction":3, "do":"own"}\r', "own 3"), ('{"do":"own","do":"quote","auction":1}',
-                                                            "quote 1"),
-                ('{"do":"cash"}', "cash"), ('{"do":"quit"}', None), ('{"do":"cash","x":1}', None),
-                ('{"do":"own","auction":28}', None), ('{"do":"own","auction":1.0}', None),
-                ('{"do":"own","auction":true}', None), ('{"do":"own","auction":-0}', "own 0"),
-                ('{"do":"bid","auction":8,"points":[]}', None),
-                ('{"do":"bid","auction":8,"points":[[1,5,6]]}', None),
-                ('{"do":"bid","auction":8,"points":[[1,100000]]}', None), ("[1]", None),
-                ("{", None), ("\xff", None), ('{"do":"withdraw","auction":4}' + " " * 600, None)):
-            if "-0" in line:
-                continue  # the server refuses it, but a reply without a position says so
+                keyword, good, *_ = line.split(" ")
+                self.assertEqual(asked_by(line, "words"), Asked(keyword, int(good), line))
+        self.assertEqual(asked_by("cash", "words"), Asked("cash", CASH, "cash"))
+        for line in ("quit", "own 28", "own 05", "own 1 ", "own", "cash 1", "bid 5", "bid 5 ",
+                     "bid 5 ()", "bid 5 ((01 5))", "bid 5 ((1  5))", "bid 5 ((1 0))",
+                     "bid 5 ((0 5))", "bid 5 ((1 10001))", "bid 5 ((17 5))",
+                     "bid 5 ((9 1) (-8 2))", f"bid 5 ({' '.join(['(1 1)'] * 17)})", "",
+                     "own 1\r", "own 1" + " " * 600, "buy 5"):
             with self.subTest(line=line):
-                asked = asked_by(line, "json")
-                self.assertEqual(asked and asked.text, text)
+                self.assertIsNone(asked_by(line, "words"))
 
     def test_replies(self) -> None:
         for text, words in (
@@ -74,7 +56,7 @@ class Lines(unittest.TestCase):
                 self.assertEqual(reply_of(words, "words"), words)
 
 
-class Reader(unittest.TestCase):
+class Reader(FolderCase):
     def test_a_game(self) -> None:
         reader = read_journal(DATA / "lobby.journal")
         self.assertEqual((reader.form, reader.pace, reader.tick, reader.status),
@@ -86,30 +68,20 @@ class Reader(unittest.TestCase):
         self.assertEqual(agents[4].refused, agents[4].answered)
         self.assertFalse(any(agent.is_here for agent in agents[5:]))
 
-    def test_a_cut_game(self) -> None:
-        place = max(number for number, line in enumerate(LINES) if '"q":"withdraw' in line)
-        reader = JournalReader()
-        reader.read("\n".join(LINES[:place + 1]))
-        self.assertEqual(len(reader.pending()), 1)
-        self.assertIsNone(reader.status)
-        copy = reader.copy()
-        reader.read("\n".join(LINES[place + 1:]))
-        self.assertEqual((len(copy.pending()), copy.status), (1, None))
-        self.assertEqual(reader.status, 0)
-
-    def test_a_last_line_without_its_end(self) -> None:
-        with tempfile.TemporaryDirectory() as place:
-            file = Path(place, "journal")
-            file.write_text("\n".join(LINES[:20]) + '\n{"tick":')
-            self.assertEqual(read_journal(file).lines, 20)
-            file.write_text("")
-            with self.assertRaisesRegex(JournalError, "lacks the first line"):
-                read_journal(file)
+    def test_a_last_line_without_its_end_and_a_journal_that_is_not_there(self) -> None:
+        file = self.folder / "journal"
+        self.assertRaises(OSError, read_journal, file)
+        file.write_text("\n".join(LINES[:20]) + '\n{"tick":')
+        self.assertEqual(read_journal(file).lines, 20)
+        file.write_bytes(LINES[0].encode() + b'\n{"gone":1}\n\xff\xfe{"a')
+        self.assertEqual(read_journal(file).lines, 2)
+        file.write_text("")
+        self.assertRaisesRegex(JournalError, "lacks the first line", read_journal, file)
 
     def test_errors_name_the_line(self) -> None:
         head = LINES[0]
-        other = json.dumps({**json.loads(head), "journal": 2})
-        bad = json.dumps({**json.loads(head), "game": "tac 1\n"})
+        other, bad = (json.dumps({**HEAD, **more})
+                      for more in ({"journal": 2}, {"game": "tac 1\n"}))
         for text, line in (("{}", 1), (other, 1), (bad, 1), (f"{head}\n{head}", 2),
                            (f"{head}\nhey", 2), (f"{head}\n[1]", 2), (f"{head}\n7", 2),
                            (f'{head}\n{{"a":8,"q":"cash"}}', 2),
@@ -117,66 +89,65 @@ class Reader(unittest.TestCase):
                            (f'{head}\n{{"a":1,"q":"cash"}}\n{{"a":1,"r":"hey","t":1}}', 3),
                            (f'{head}\n{{"a":1,"q":"cash"}}\n{{"a":1,"r":"bye"}}', 3),
                            (f'{head}\n{{"a":1,"q":"hey"}}\n{{"a":1,"r":"@1 cash 2","t":1}}', 3)):
-            with self.subTest(text=text[-40:]):
-                with self.assertRaisesRegex(JournalError, f"line {line} "):
-                    JournalReader().read(text)
+            with self.subTest(text=text[-40:]), \
+                    self.assertRaisesRegex(JournalError, f"line {line} "):
+                JournalReader().read(text)
 
 
-class Writer(unittest.TestCase):
-    def test_lines_are_read_as_they_were(self) -> None:
-        with tempfile.TemporaryDirectory() as place:
-            file = Path(place, "journal")
-            journal = Journal(file, self.fail)
-            journal.head(100, "words", json.loads(LINES[0])["game"])
-            self.assertEqual(file.stat().st_mode & 0o777, 0o600)
-            journal.timed(here=3, **{"from": "10.0.0.7"})
-            journal.begin_time()
-            size = file.stat().st_size
-            journal.request(3, b'caf\xe9 "\\\n'[:-1])
-            journal.request(3, b"x" * 600)
-            journal.reply(3, b"no syntax")
-            self.assertEqual(file.stat().st_size, size)  # nothing is written before `flush`
-            journal.flush()
-            journal.close()
-            lines = [json.loads(line) for line in file.read_text().split("\n")[1:-1]]
-            self.assertEqual(lines[0], {"here": 3, "from": "10.0.0.7"})
-            self.assertEqual(lines[1], {"a": 3, "q": 'caf\xe9 "\\'})
-            self.assertEqual(len(lines[2]["q"]), 513)
-            self.assertEqual(lines[3]["r"], "no syntax")
-            reader = read_journal(file)
-            self.assertEqual((reader.agents[3].asked, reader.agents[3].refused), (2, 1))
-
-    def test_lines_of_odd_bytes_take_little_room_and_are_read_as_they_came(self) -> None:
-        odd = [b"\xff" * 513, bytes(range(32)) * 16, b'"' * 512, b"\\" * 100, "\xe4 ".encode() * 99]
-        with tempfile.TemporaryDirectory() as place:
-            file = Path(place, "journal")
-            journal = Journal(file, self.fail)
-            journal.head(100, "words", json.loads(LINES[0])["game"])
-            journal.tell(begin=[0])
-            size = file.stat().st_size
-            for line in odd:
-                journal.request(0, line)
-                journal.reply(0, b"no syntax")
-            journal.close()
-            self.assertLess(file.stat().st_size - size, 1.5 * sum(map(len, odd)) + 400)
-            asked = b"".join(line + b"\n" for line in odd)
-            self.assertEqual(server_links(file)[0].asked.partition(b"\n")[2], asked)
-            self.assertEqual(read_journal(file).calls, [])
-
-
-class Keeping(unittest.TestCase):
+class Keeping(FolderCase):
     """What the file contains, and when."""
 
     def setUp(self) -> None:
-        place = tempfile.TemporaryDirectory()
-        self.addCleanup(place.cleanup)
-        self.file = Path(place.name, "journal")
+        super().setUp()
+        self.file = self.folder / "journal"
         self.warned: List[str] = []
 
     def open(self) -> Journal:
         journal = Journal(self.file, self.warned.append)
         self.addCleanup(journal.close)
         return journal
+
+    def begun(self) -> Journal:
+        """A journal in which a tick has passed."""
+        journal = self.open()
+        journal.tell(tick=0, t=0)
+        return journal
+
+    def test_lines_are_read_as_they_were(self) -> None:
+        journal = self.open()
+        journal.head(100, "words", HEAD["game"])
+        journal.timed(here=3, **{"from": "10.0.0.7"})
+        journal.begin_time()
+        size = self.file.stat().st_size
+        journal.request(3, b'caf\xe9 "\\\n'[:-1])
+        journal.request(3, b"x" * 600)
+        journal.reply(3, b"no syntax")
+        self.assertEqual(self.file.stat().st_size, size)  # nothing is written before `flush`
+        journal.flush()
+        journal.close()
+        lines = [json.loads(line) for line in self.file.read_text().split("\n")[1:-1]]
+        self.assertEqual(lines[0], {"here": 3, "from": "10.0.0.7"})
+        self.assertEqual(lines[1], {"a": 3, "q": 'caf\xe9 "\\'})
+        self.assertEqual(len(lines[2]["q"]), 513)
+        self.assertEqual(lines[3]["r"], "no syntax")
+        reader = read_journal(self.file)
+        agent = reader.agents[3]
+        self.assertEqual((agent.asked, agent.refused, self.warned), (2, 1, []))
+
+    def test_lines_of_odd_bytes_take_little_room_and_are_read_as_they_came(self) -> None:
+        odd = [b"\xff" * 513, bytes(range(32)) * 16, b'"' * 512, b"\\" * 100, "\xe4 ".encode() * 99]
+        journal = self.open()
+        journal.head(100, "words", HEAD["game"])
+        journal.tell(begin=[0])
+        size = self.file.stat().st_size
+        for line in odd:
+            journal.request(0, line)
+            journal.reply(0, b"no syntax")
+        journal.close()
+        self.assertLess(self.file.stat().st_size - size, 1.5 * sum(map(len, odd)) + 400)
+        asked = b"".join(line + b"\n" for line in odd)
+        self.assertEqual(server_links(self.file)[0].asked.partition(b"\n")[2], asked)
+        self.assertEqual((read_journal(self.file).calls, self.warned), ([], []))
 
     def test_objects_are_written_at_once_and_lines_with_the_next_flush(self) -> None:
         journal = self.open()
@@ -221,6 +192,9 @@ class Keeping(unittest.TestCase):
             Journal(self.file, self.fail)
         with self.assertRaises(OSError):
             Journal(self.file / "none", self.fail)
+        before = len(os.listdir("/dev/fd"))
+        journal.close()  # then it holds no file
+        self.assertEqual(len(os.listdir("/dev/fd")), before - 1)
 
     def test_a_system_that_takes_a_piece_at_a_time(self) -> None:
         journal, write = self.open(), os.write
@@ -233,25 +207,32 @@ class Keeping(unittest.TestCase):
         self.assertEqual(self.warned, [])
 
     def test_after_a_fault_nothing_more_is_written(self) -> None:
-        journal = self.open()
-        journal.tell(tick=0, t=0)
-        with mock.patch("os.write", side_effect=OSError(28, "No space left on device")):
+        journal = self.begun()
+        with mock.patch("os.write", side_effect=NO_SPACE):
             journal.tell(tick=1, t=1)
         self.assertFalse(journal.is_whole)
         journal.tell(tick=2, t=2)
         journal.flush()
-        self.assertEqual((self.file.read_text(), len(self.warned)), ('{"tick":0,"t":0}\n', 1))
+        self.assertEqual((self.file.read_text(), len(self.warned)), (TICK, 1))
         self.assertIn(str(self.file), self.warned[0])
         self.assertIn("No space left on device", self.warned[0])
 
-    def test_what_was_written_is_put_onto_the_disk(self) -> None:
+    @contextlib.contextmanager
+    def syncing(self, fault: Optional[OSError] = None) -> Iterator[threading.Event]:
+        """A disk that is asked often to keep the file, and then sets an event, or fails, too."""
         synced = threading.Event()
 
         def sync(number: int) -> None:
             if os.path.samestat(os.fstat(number), self.file.stat()):
                 synced.set()
+                if fault:
+                    raise fault
 
         with mock.patch("geesefuton.hosting.journal.SYNC", 0.01), mock.patch("os.fsync", sync):
+            yield synced
+
+    def test_what_was_written_is_put_onto_the_disk(self) -> None:
+        with self.syncing() as synced:
             journal = self.open()
             for tick in range(2):  # again and again, and not once alone
                 journal.tell(tick=tick, t=0)
@@ -276,28 +257,21 @@ class Keeping(unittest.TestCase):
 
     def test_a_file_that_no_disk_has(self) -> None:
         with mock.patch("os.fsync", side_effect=OSError(errno.EINVAL, "Invalid argument")):
-            journal = self.open()
-            journal.tell(tick=0, t=0)
-            journal.close()
-        self.assertEqual((self.warned, self.file.read_text()), ([], '{"tick":0,"t":0}\n'))
+            self.begun().close()
+        self.assertEqual((self.warned, self.file.read_text()), ([], TICK))
 
     def test_a_disk_that_fails_is_told_once(self) -> None:
-        threads = []
-        fault, failed = OSError(errno.EIO, "Input/output error"), threading.Event()
-
-        def sync(number: int) -> None:
-            if os.path.samestat(os.fstat(number), self.file.stat()):
-                failed.set()
-                raise fault
-
-        with mock.patch("os.fsync", sync), mock.patch("geesefuton.hosting.journal.SYNC", 0.01):
+        threads = list[threading.Thread]()
+        with self.syncing(FAILED):
             journal = Journal(self.file, lambda text: (
                 self.warned.append(text), threads.append(threading.current_thread())))
             self.addCleanup(journal.close)
-            deadline = time.monotonic() + 20
-            while not self.warned and time.monotonic() < deadline:
+
+            def is_warned() -> bool:
                 journal.tell(tick=0, t=0)
-                failed.wait(20)
+                return bool(self.warned)
+
+            self.until(is_warned)
             for _ in range(3):
                 journal.tell(tick=0, t=0)
             journal.close()
@@ -307,20 +281,17 @@ class Keeping(unittest.TestCase):
         self.assertEqual(threads, [threading.main_thread()])  # that of the game
         self.assertTrue(journal.is_whole)
 
-    def test_a_folder_that_cannot_be_put_onto_the_disk_is_told(self) -> None:
-        with mock.patch("os.fsync", side_effect=OSError(errno.EIO, "Input/output error")):
-            journal = self.open()
-            journal.tell(tick=0, t=0)
+    def test_a_disk_that_fails_for_the_folder_or_at_the_very_end_is_told(self) -> None:
+        with mock.patch("os.fsync", side_effect=FAILED):
+            journal = self.begun()
             self.assertEqual(len(self.warned), 1)
             journal.close()
         self.assertEqual(len(self.warned), 1)
-
-    def test_a_disk_that_fails_at_the_very_end_is_told(self) -> None:
-        journal = self.open()
-        journal.tell(tick=0, t=0)
-        with mock.patch("os.fsync", side_effect=OSError(errno.EIO, "Input/output error")):
+        self.file.unlink()
+        journal = self.begun()
+        with mock.patch("os.fsync", side_effect=FAILED):
             journal.close()
-        self.assertEqual(len(self.warned), 1)
+        self.assertEqual(len(self.warned), 2)
 
     def test_a_disk_that_stalls_is_told_and_waited_for(self) -> None:
         goes_on, write = threading.Event(), os.write
@@ -329,48 +300,38 @@ class Keeping(unittest.TestCase):
             goes_on.wait(60.0)
             return write(number, data)
 
-        with mock.patch("geesefuton.hosting.journal.SYNC", 0.01), \
-                mock.patch("geesefuton.hosting.journal.STALL", 0.05), mock.patch("os.write", slow):
+        self.patch("hosting.journal.SYNC", 0.01)
+        self.patch("hosting.journal.STALL", 0.05)
+        with mock.patch("os.write", slow):
             journal = self.open()
             told = threading.Thread(target=journal.tell, kwargs={"tick": 0, "t": 0})
             told.start()
-            deadline = time.monotonic() + 60.0
-            while not self.warned and time.monotonic() < deadline:
-                time.sleep(0.01)
+            self.until(lambda: self.warned)
             self.assertEqual(self.file.read_text(), "")
             goes_on.set()
             told.join()
             journal.close()
         self.assertEqual(self.warned, [f"the disk of the journal {self.file} has taken nothing for "
                                        "0.05 seconds: the game waits for it"])
-        self.assertEqual((self.file.read_text(), journal.is_whole), ('{"tick":0,"t":0}\n', True))
-
-    def test_a_closed_journal_holds_no_file(self) -> None:
-        before = len(os.listdir("/dev/fd"))
-        journal = Journal(self.file, self.fail)
-        self.assertEqual(len(os.listdir("/dev/fd")), before + 1)
-        journal.close()
-        self.assertEqual(len(os.listdir("/dev/fd")), before)
+        self.assertEqual((self.file.read_text(), journal.is_whole), (TICK, True))
 
 
 class Meaning(unittest.TestCase):
     """What a reader makes of each line."""
 
     def setUp(self) -> None:
-        self.reader = JournalReader()
-        self.reader.read(LINES[0])
+        self.reader = of_text(LINES[:1])
 
     def read(self, *lines: Dict[str, Any]) -> JournalReader:
         self.reader.read("".join(json.dumps(line) + "\n" for line in lines))
         return self.reader
 
     def test_the_first_line(self) -> None:
-        head = json.loads(LINES[0])
         reader = self.reader
         self.assertEqual((reader.text, reader.form, reader.pace, reader.at, reader.lines),
-                         (head["game"], "words", 100, head["at"], 1))
+                         (HEAD["game"], "words", 100, HEAD["at"], 1))
         assert reader.game is not None and reader.schedule is not None
-        self.assertEqual(reader.game.text(), head["game"])
+        self.assertEqual(reader.game.text(), HEAD["game"])
         self.assertEqual(reader.schedule.ticks, Schedule(reader.game).ticks)
         self.assertEqual((reader.has_begun, reader.is_playing, reader.status, reader.calls),
                          (False, False, None, []))
@@ -419,8 +380,7 @@ class Meaning(unittest.TestCase):
         first, second = reader.agents[1:3]
         self.assertEqual((first.asked, first.answered, first.refused, first.last), (3, 3, 0, 3))
         self.assertEqual((second.asked, second.answered, second.refused, second.last), (1, 1, 1, 3))
-
-    def test_what_an_auction_refuses_was_asked(self) -> None:
+        # What an auction refuses was asked.
         self.read({"a": 3, "q": "withdraw 9"}, {"a": 3, "r": "@4 no wrongcall", "t": 5},
                   {"a": 3, "q": "bid 9 ((1 0))"}, {"a": 3, "r": "no bid 4", "t": 6})
         agent = self.reader.agents[3]
@@ -437,13 +397,11 @@ class Meaning(unittest.TestCase):
                                             Exchange(7, Asked("own", 0, "own 0"), 11, 2)])
 
     def test_json(self) -> None:
-        reader = JournalReader()
-        reader.read(json.dumps({**json.loads(LINES[0]), "form": "json"}))
-        lines = [{"a": 1, "q": '{"do":"own","auction":20}'},
+        lines = [{**HEAD, "form": "json"}, {"a": 1, "q": '{"do":"own","auction":20}'},
                  {"a": 1, "r": '{"at":4,"own":0,"points":[]}', "t": 3}, {"a": 1, "q": "own 20"},
                  {"a": 1, "r": '{"no":"syntax"}', "t": 5},
                  {"a": 1, "q": '{"do":"own","auction":2}'}]
-        reader.read("\n".join(map(json.dumps, lines)))
+        reader = of_text([*map(json.dumps, lines)])
         self.assertEqual([(call.asked.text, call.reply, call.at) for call in reader.calls],
                          [("own 20", "@4 own 0 ()", 4)])
         self.assertEqual((reader.agents[1].refused, [call.asked for call in reader.pending()]),
@@ -460,31 +418,17 @@ class Meaning(unittest.TestCase):
         self.assertEqual((agent.asked, agent.answered, len(agent.waiting)), (1, 0, 1))
         self.assertFalse(other.agents[4].is_here)
 
-    def test_a_journal_that_is_not_there(self) -> None:
-        with tempfile.TemporaryDirectory() as place:
-            with self.assertRaises(OSError):
-                read_journal(Path(place, "none"))
-            file = Path(place, "journal")
-            file.write_bytes(LINES[0].encode() + b'\n{"gone":1}\n\xff\xfe{"a')
-            self.assertEqual(read_journal(file).lines, 2)
-
 
 class Clock(unittest.TestCase):
     def test_spans(self) -> None:
-        game = read_journal(DATA / "lobby.journal").game
-        assert game is not None
-        schedule = Schedule(game)
+        schedule = Schedule(GAME)
         self.assertEqual(sum(map(len, schedule.ticks)), 480)
         self.assertEqual(schedule.span(0, 0), (0, 0))
         self.assertEqual(schedule.span(0, 3), (3, 3))
         self.assertEqual(schedule.span(0, 54), (54, 54))
-        good = game.closing[1]
+        good = GAME.closing[1]
         self.assertEqual(schedule.ticks[good], [6, 12])
         self.assertEqual([schedule.span(good, count) for count in range(3)],
                          [(0, 5), (6, 11), (12, 54)])
         self.assertEqual([schedule.span(20, count) for count in range(2)], [(0, 53), (54, 54)])
         self.assertEqual([schedule.most(good, tick) for tick in (5, 6, 54)], [0, 1, 2])
-
-
-if __name__ == "__main__":
-    unittest.main()

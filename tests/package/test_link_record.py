@@ -1,66 +1,51 @@
 """What agents keep of their links, in Python and in JavaScript."""
 
-import contextlib
 import io
 import os
 import shutil
-import subprocess
-import tempfile
 import unittest
-from pathlib import Path
-from typing import Dict, Iterator, List, Optional, Sequence
+from typing import Dict, List, Set
 from unittest import mock
 
 from geesefuton import link
 from geesefuton.link import Link, LinkError
-from tests.package.helpers import TOP, variables
-from tests.package.test_link import WELCOME, Server
+from tests.package.helpers import TOP, Case, completed
+from tests.package.test_link import SAID, WELCOME, Server, linked
 
-SAID = "".join(f"{line}\n" for line in WELCOME)
 FULL = "/dev/full"
 
 
-class Records(unittest.TestCase):
+class Records(Case):
     def setUp(self) -> None:
-        place = tempfile.TemporaryDirectory()
-        self.addCleanup(place.cleanup)
-        self.folder = Path(place.name, "new", "mine")
+        super().setUp()
+        self.folder = self.place / "new" / "mine"
         self.told: List[str] = []
-        for patch in (mock.patch.dict(os.environ, {"AGENT_RECORD": str(self.folder)}),
-                      mock.patch.object(link, "BETWEEN", 0.01),
-                      mock.patch.object(link, "tell", lambda text: None),
-                      mock.patch("geesefuton.link_record.tell", self.told.append)):
-            patch.start()
-            self.addCleanup(patch.stop)
-
-    @contextlib.contextmanager
-    def seated(self, *links: Sequence[Optional[Sequence[str]]]) -> Iterator[Link]:
-        """A link that has its seat at a server of some links."""
-        server = Server(*links)
-        with Link.greet("127.0.0.1", server.port, "red", limit=5.0) as agent:
-            yield agent
-        server.join()
+        self.set(AGENT_RECORD=str(self.folder))
+        self.enter(mock.patch.multiple(link, BETWEEN=0.01, tell=lambda text: None))
+        self.enter(mock.patch("geesefuton.link_record.tell", self.told.append))
 
     def files(self) -> Dict[str, str]:
         """What each file of the folder holds."""
         return {file.name: file.read_text() for file in self.folder.glob("*")}
 
+    def modes(self) -> Set[int]:
+        """Who may do what with them."""
+        return {file.stat().st_mode & 0o777 for file in self.folder.glob("*")}
+
 
 class Keeping(Records):
     def test_what_was_sent_and_what_came(self) -> None:
-        with self.seated([WELCOME, ["@4 own 2 ()"], ["no syntax"], ["bye"]]) as agent:
+        with linked([WELCOME, ["@4 own 2 ()"], ["no syntax"], ["bye"]]) as (agent, _):
             agent.own(8)
             agent.ask("buy 5")
             agent.quit()
         self.assertEqual(self.files(), {"red.asked": "hello red\nown 8\nbuy 5\nquit\n",
                                         "red.said": SAID + "@4 own 2 ()\nno syntax\nbye\n"})
-        for file in self.folder.glob("*"):
-            self.assertEqual(file.stat().st_mode & 0o777, 0o600)
-        self.assertEqual(self.told, [])
+        self.assertEqual((self.modes(), self.told), ({0o600}, []))
 
     def test_each_link_has_files_of_its_own(self) -> None:
         lost, back = [WELCOME, ["@0 cash 5"]], [WELCOME, ["@7 cash 9"]]
-        with self.seated(lost, [["refused taken"]], back) as agent:
+        with linked(lost, [["refused taken"]], back) as (agent, _):
             self.assertEqual([agent.cash(), agent.cash()], [5, 9])
         self.assertEqual(self.files(), {
             "red.asked": "hello red\ncash\ncash\n", "red.said": SAID + "@0 cash 5\n",
@@ -70,7 +55,7 @@ class Keeping(Records):
         self.folder.mkdir(parents=True)
         for name in ("red.said", "red.2.asked"):
             (self.folder / name).write_text(name)
-        with self.seated([WELCOME]):
+        with linked([WELCOME]):
             pass
         self.assertEqual(self.files(), {"red.said": "red.said", "red.2.asked": "red.2.asked",
                                         "red.3.asked": "hello red\n", "red.3.said": SAID})
@@ -83,12 +68,11 @@ class Keeping(Records):
         self.assertFalse(self.folder.exists())
 
     def test_without_the_variable_there_are_none(self) -> None:
-        for value in ({"AGENT_RECORD": ""}, {}):
-            with mock.patch.dict(os.environ, value):
-                if not value:
-                    del os.environ["AGENT_RECORD"]
-                with self.seated([WELCOME, ["@0 cash 5"]]) as agent:
-                    self.assertEqual(agent.cash(), 5)
+        self.set(AGENT_RECORD="")
+        for _ in range(2):
+            with linked([WELCOME, ["@0 cash 5"]]) as (agent, _):
+                self.assertEqual(agent.cash(), 5)
+            os.environ.pop("AGENT_RECORD", None)
         self.assertFalse(self.folder.exists())
 
     def test_a_line_is_written_before_it_is_sent_and_half_a_reply_is_kept(self) -> None:
@@ -108,7 +92,7 @@ class Failing(Records):
     def test_a_folder_that_cannot_be_made_is_told_once(self) -> None:
         self.folder.parent.mkdir()
         self.folder.write_text("a file")
-        with self.seated([WELCOME, ["@0 cash 5"]], [WELCOME, ["@1 cash 9"]]) as agent:
+        with linked([WELCOME, ["@0 cash 5"]], [WELCOME, ["@1 cash 9"]]) as (agent, _):
             self.assertEqual([agent.cash(), agent.cash()], [5, 9])
         self.assertEqual(self.told, [f"red: {self.folder}: File exists: the agent plays on "
                                      "without its record"])
@@ -123,7 +107,7 @@ class Failing(Records):
                 open_file(str(name), *how)
 
         with mock.patch("geesefuton.link_record.os.open", opened):
-            with self.seated([WELCOME, ["@0 cash 5"]], [WELCOME, ["@1 cash 9"]]) as agent:
+            with linked([WELCOME, ["@0 cash 5"]], [WELCOME, ["@1 cash 9"]]) as (agent, _):
                 self.assertEqual([agent.cash(), agent.cash()], [5, 9])
         self.assertEqual(self.told, [f"red: {self.folder / 'red.said'}: No space left on device: "
                                      "the agent plays on without its record"])
@@ -148,14 +132,12 @@ class JavaScript(Records):
     def run_asker(self, folder: object) -> str:
         """What the agent in JavaScript tells of a game in which it asks ASKED."""
         server = Server([WELCOME, *([answer] for answer in ANSWERS)])
-        words = ["node", str(TOP / "examples/agents/asker.mjs"), "127.0.0.1", str(server.port)]
-        done = subprocess.run([*words, "red"], stdin=subprocess.DEVNULL, capture_output=True,
-                              text=True, timeout=60, check=False,
-                              env=variables({"AGENT_RECORD": str(folder)}))
+        done = completed("node", TOP / "examples/agents/asker.mjs", "127.0.0.1", server.port, "red",
+                         env={"AGENT_RECORD": str(folder)})
         server.join()
         holds = "agent 3 holds 0 0 0 0 0 0 of the goods 0 7 8 9 10 11, cash -7\n"
         self.assertEqual((done.returncode, done.stdout), (0, holds))
-        return done.stderr
+        return str(done.stderr)
 
     def test_it_keeps_the_same(self) -> None:
         for _ in range(2):
@@ -164,14 +146,9 @@ class JavaScript(Records):
                 "said": "".join(f"{line}\n" for line in [*WELCOME, *ANSWERS])}
         self.assertEqual(self.files(), {f"{name}.{side}": text for name in ("red", "red.2")
                                         for side, text in both.items()})
-        for file in self.folder.glob("*"):
-            self.assertEqual(file.stat().st_mode & 0o777, 0o600)
+        self.assertEqual(self.modes(), {0o600})
 
     def test_it_plays_on_without_a_record(self) -> None:
         told = self.run_asker("/dev/null/mine").splitlines()
         self.assertEqual(len(told), 1)
         self.assertRegex(told[0], "^asker.mjs: .*/dev/null/mine.*: the agent plays on without its")
-
-
-if __name__ == "__main__":
-    unittest.main()

@@ -1,7 +1,6 @@
 """The live page: what it serves, and to whom."""
 
 import asyncio
-import contextlib
 import json
 import os
 import re
@@ -9,8 +8,6 @@ import resource
 import signal
 import socket
 import subprocess
-import sys
-import tempfile
 import time
 import unittest
 import urllib.error
@@ -19,17 +16,18 @@ from pathlib import Path
 from typing import Any, Dict, List, Optional, Tuple
 from unittest import mock
 
-from geesefuton.hosting.live import NICE, PAGE, STALL, Live, _arguments
+from geesefuton.hosting.live import NICE, PAGE, Live, _arguments
 from geesefuton.hosting.projection import Projection, View
 from geesefuton.hosting.recovery import RecoveryError
 from geesefuton.hosting.viewers import BEAT
 from geesefuton.network.pages import Faults, read_page
 from geesefuton.processes import free_port
-from tests.package.helpers import DATA, TOP
+from tests.package.cases import MOST, Case, FolderCase, is_listening
+from tests.package.helpers import COMMAND, DATA
 from tests.package.journals import LINES, nights_of, place_of
 
 TICK_9 = place_of(9)
-MOST = 60.0  # seconds that anything may take, on a machine that is busy with other work
+BEGUN, REST = "\n".join(LINES[:TICK_9 + 1]) + "\n", "\n".join(LINES[TICK_9 + 1:]) + "\n"
 
 
 class Page(unittest.TestCase):
@@ -46,15 +44,49 @@ class Page(unittest.TestCase):
         self.assertGreaterEqual(int(quiet[0]), 2 * 1000 * BEAT)
 
 
+def last_of(text: bytes) -> Dict[str, Any]:
+    """The last state that a screen was sent."""
+    state: Dict[str, Any] = json.loads(re.findall(rb"data: (\{.*\})", text)[-1])
+    return state
+
+
 def projection(tick: int) -> Projection:
     return Projection(tick, [[tick, 0, 0, 0]] * 8, [[tick, 0, 0, tick]] * 8, [], [], [], [], [])
 
 
-class Lateness(unittest.TestCase):
+class LiveCase(Case):
+    """Pages of a game.
+
+    Attributes:
+        told: What the host is told.
+    """
+
+    def setUp(self) -> None:
+        self.told: List[str] = []
+
+    def live(self, late: int, *lines: str, begins: Optional[float] = None,
+             joining: Optional[Dict[str, Any]] = None) -> Live:
+        """A page on some lines of a journal."""
+        made = Live(mock.Mock(), View(late, False), mock.Mock(), mock.Mock(show=mock.AsyncMock()),
+                    Faults(self.told.append), joining, begins)
+        made._read("\n".join(lines))
+        return made
+
+    def shown(self, made: Live) -> List[Dict[str, Any]]:
+        """The states that viewers were sent so far."""
+        return [json.loads(call[0][0]) for call in made._viewers.show.call_args_list]
+
+    def last(self, made: Live) -> Dict[str, Any]:
+        """The state that is shown now."""
+        asyncio.run(made.show())
+        return self.shown(made)[-1]
+
+
+class Lateness(LiveCase):
     """Which projection may be shown whole."""
 
     def secret(self, late: int, ticks: List[int], now: int) -> Optional[int]:
-        live = Live(mock.Mock(), View(late, False), mock.Mock(), mock.Mock(), mock.Mock())
+        live = self.live(late)
         for tick in ticks:
             live._reader.tick = tick
             live._add(projection(tick))
@@ -63,17 +95,15 @@ class Lateness(unittest.TestCase):
         return None if shown is None else shown.tick
 
     def test_ticks(self) -> None:
-        self.assertEqual(self.secret(0, [3, 4, 5], 6), 5)
-        self.assertEqual(self.secret(6, [3, 4, 5], 8), None)
-        self.assertEqual(self.secret(6, [3, 4, 5], 9), 3)
-        self.assertEqual(self.secret(6, [3, 9, 10, 15], 15), 9)
-        self.assertEqual(self.secret(54, [0, 10, 54], 54), None)
-        self.assertEqual(self.secret(6, [], 9), None)
-        self.assertEqual(self.secret(0, [], 9), None)
+        for late, ticks, now, due in (
+                (0, [3, 4, 5], 6, 5), (6, [3, 4, 5], 8, None), (6, [3, 4, 5], 9, 3),
+                (6, [3, 9, 10, 15], 15, 9), (54, [0, 10, 54], 54, None), (6, [], 9, None),
+                (0, [], 9, None)):
+            self.assertEqual(self.secret(late, ticks, now), due, (late, ticks, now))
 
     def test_after_the_game_all_is_shown(self) -> None:
         for late in (0, 6, 54):
-            live = Live(mock.Mock(), View(late, False), mock.Mock(), mock.Mock(), mock.Mock())
+            live = self.live(late)
             for tick in (0, 53, 54):
                 live._add(projection(tick))
             live._is_final = True
@@ -81,40 +111,27 @@ class Lateness(unittest.TestCase):
             self.assertEqual(shown and shown.tick, 54)
 
 
-class Following(unittest.TestCase):
+class Following(LiveCase):
     def setUp(self) -> None:
-        self.told: List[str] = []
+        super().setUp()
+        self.patch("hosting.live.LOOK", 0.0)
+        self.patch("hosting.live.EACH", 0.01)
 
     def test_a_line_that_comes_in_pieces_is_read_once_it_is_whole(self) -> None:
-        text = ("\n".join(LINES) + "\n").encode("ascii")
-        pieces = [text[at:at + 1000] for at in range(0, len(text), 1000)]
-        journal = mock.Mock(read=mock.Mock(side_effect=[*pieces, b""]))
-        live = Live(journal, View(6, False), mock.Mock(), mock.Mock(), mock.Mock())
-        with mock.patch("geesefuton.hosting.live.LOOK", 0.0), \
-                mock.patch.object(live, "show", mock.AsyncMock()):
-            asyncio.run(live.follow())
-        self.assertEqual((live._reader.lines, live._reader.status), (len(LINES), 0))
-        self.assertTrue(live.is_over())
-
-    def live(self, late: int, *lines: str) -> Live:
-        """A page on some lines of a journal."""
-        made = Live(mock.Mock(), View(late, False), mock.Mock(), mock.Mock(show=mock.AsyncMock()),
-                    Faults(self.told.append))
-        made._read("\n".join(lines))
-        return made
-
-    def shown(self, made: Live) -> List[Dict[str, Any]]:
-        """The states that viewers were sent so far."""
-        return [json.loads(call[0][0]) for call in made._viewers.show.call_args_list]
+        text = (BEGUN + REST).encode("ascii")
+        made = self.live(6)
+        made._journal = mock.Mock(read=mock.Mock(side_effect=[
+            *(text[at:at + 1000] for at in range(0, len(text), 1000)), b""]))
+        asyncio.run(made.follow())
+        self.assertEqual((made._reader.lines, made._reader.status), (len(LINES), 0))
+        self.assertTrue(made.is_over())
 
     def test_the_time_of_the_welcome_is_that_of_the_journal(self) -> None:
-        texts = ("\n".join(lines) + "\n" for lines in (
-            LINES[:1], LINES[1:TICK_9 + 1], ['{"over":0,"t":950}']))
-        head, begun, over = (text.encode("ascii") for text in texts)  # until 900 milliseconds
+        head, begun = BEGUN.encode("ascii").split(b"\n", 1)  # until 900 milliseconds
         made = self.live(6)
-        made._journal = mock.Mock(read=mock.Mock(side_effect=[b"", head, begun, b"", over]))
-        with mock.patch("geesefuton.hosting.live.LOOK", 0.0):
-            asyncio.run(made.follow())
+        made._journal = mock.Mock(read=mock.Mock(side_effect=[
+            b"", head + b"\n", begun, b"", b'{"over":0,"t":950}\n']))
+        asyncio.run(made.follow())
         assert made._zero is not None
         since = time.monotonic() - made._zero
         self.assertTrue(0.9 <= since < 0.9 + MOST / 10, since)
@@ -127,8 +144,7 @@ class Following(unittest.TestCase):
             self.assertTrue(900 <= state["elapsed"] <= 1000 * since)
 
     def test_a_state_is_shown_once(self) -> None:
-        made = self.live(6)
-        made._read(LINES[0])
+        made = self.live(6, LINES[0])
         for _ in range(2):
             asyncio.run(made.show())
         state, = self.shown(made)
@@ -157,8 +173,7 @@ class Following(unittest.TestCase):
                 raise fault
             return projection(reader.tick)
 
-        with mock.patch("geesefuton.hosting.live.project", project), \
-                mock.patch("geesefuton.hosting.live.EACH", 0.01):
+        with mock.patch("geesefuton.hosting.live.project", project):
             asyncio.run(asyncio.wait_for(made.project(), MOST))
         return asked
 
@@ -187,10 +202,8 @@ class Following(unittest.TestCase):
                 made._read("\n".join(lines))
             await projecting
 
-        with mock.patch("geesefuton.hosting.live.project",
-                        mock.Mock(return_value=projection(54))) as project, \
-                mock.patch("geesefuton.hosting.live.EACH", 0.01):
-            asyncio.run(asyncio.wait_for(work(), MOST))
+        project = self.patch("hosting.live.project", return_value=projection(54))
+        asyncio.run(asyncio.wait_for(work(), MOST))
         self.assertEqual((project.call_count, len(made._older)), (1, 0))
         self.assertEqual(self.shown(made)[-1]["agents"][0]["score"], [54, 0, 0, 54])
 
@@ -200,40 +213,20 @@ class Following(unittest.TestCase):
             made._add(projection(tick))
         self.assertEqual([kept.tick for kept in made._older], [3, 4, 5, 9])
 
-    def test_a_projection_that_cannot_be_made_is_told(self) -> None:
-        made = self.live(0, *LINES[:TICK_9 + 1])
-        asked = self.projected(made, None, RecoveryError("no game"))
-        self.assertEqual((len(asked), self.told),
-                         (4, [f"live: no scores at tick {asked[1][0]}: no game"]))
-        self.assertEqual(self.shown(made)[-1]["shown"], 54)
-
-    def test_a_projection_for_which_there_is_no_open_file_is_told_once(self) -> None:
-        made = self.live(0, *LINES[:TICK_9 + 1])
-        asked = self.projected(made, *[OSError(24, "Too many open files")] * 3)
-        self.assertEqual((len(asked), self.told),
-                         (4, ["live: no scores at tick 9: Too many open files"]))
-        self.assertEqual(self.shown(made)[-1]["shown"], 54)
-
-    def test_a_journal_that_stops_is_shown_as_stopped(self) -> None:
-        made = self.live(6, *LINES[:TICK_9 + 1])
-        with mock.patch("time.monotonic", return_value=made._heard) as clock:
-            for late, due in ((0.1, False), (STALL, False), (STALL + 0.2, True), (STALL + 9, True)):
-                clock.return_value = made._heard + late
-                asyncio.run(made.show())
-                self.assertEqual(self.shown(made)[-1]["stalled"], due)
-            self.assertEqual(len(self.shown(made)), 2)
-            made._read(LINES[TICK_9 + 1])  # it goes on
-            asyncio.run(made.show())
-            self.assertFalse(self.shown(made)[-1]["stalled"])
-        made._read("\n".join(LINES[TICK_9 + 2:-1]))
-        with mock.patch("time.monotonic", return_value=made._heard + 99):
-            asyncio.run(made.show())
-        state = self.shown(made)[-1]
-        self.assertEqual((state["tick"], state["stalled"]), (54, False))  # nothing more is due
+    def test_why_a_projection_cannot_be_made_is_told_once(self) -> None:
+        for faults, at, why in (([None, RecoveryError("no game")], 1, "no game"),
+                                ([OSError(24, "Too many open files")] * 3, 0,
+                                 "Too many open files")):
+            self.told.clear()
+            made = self.live(0, *LINES[:TICK_9 + 1])
+            asked = self.projected(made, *faults)
+            self.assertEqual((len(asked), self.told),
+                             (4, [f"live: no scores at tick {asked[at][0]}: {why}"]))
+            self.assertEqual(self.shown(made)[-1]["shown"], 54)
 
     def test_a_journal_that_nobody_writes_any_more_ends_the_game(self) -> None:
-        rest = ("\n".join(LINES[:TICK_9 + 1]) + '\n{"a":3,"q":').encode("ascii")  # a full disk
-        for text, due in ((b"", {"phase": "empty", "over": True}), (rest, None)):
+        cut = (BEGUN + '{"a":3,"q":').encode("ascii")  # a full disk
+        for text, due in ((b"", {"phase": "empty", "over": True}), (cut, None)):
             made = self.live(6)
             pieces = iter([text[:1000], text[1000:]])
             made._journal = mock.Mock(read=lambda _: next(pieces, b""))
@@ -242,10 +235,8 @@ class Following(unittest.TestCase):
             async def work() -> None:
                 await asyncio.gather(made.follow(), made.project())
 
-            with mock.patch("geesefuton.hosting.live.project",
-                            mock.Mock(return_value=projection(9))) as project, \
-                    mock.patch("geesefuton.hosting.live.LOOK", 0.0):
-                asyncio.run(asyncio.wait_for(work(), MOST))
+            project = self.patch("hosting.live.project", return_value=projection(9))
+            asyncio.run(asyncio.wait_for(work(), MOST))
             self.assertTrue(made.is_over())
             last = made._viewers.show.call_args
             self.assertTrue(last[0][1])
@@ -277,19 +268,17 @@ class Words(unittest.TestCase):
                 _arguments()
 
 
-class Serving(unittest.TestCase):
+class Serving(FolderCase):
     """A page on a journal that grows. The stand-in for the program plays no scripts, so there are
     no scores."""
 
     def setUp(self) -> None:
-        place = tempfile.TemporaryDirectory()
-        self.addCleanup(place.cleanup)
-        self.journal = Path(place.name, "journal")
-        self.port = free_port()
+        super().setUp()
+        self.journal, self.port = self.folder / "journal", free_port()
 
     def start(self, *more: str, **how: Any) -> "subprocess.Popen[bytes]":
         live = subprocess.Popen(
-            [sys.executable, str(TOP / "tools/live"), str(self.journal), str(self.port), *more],
+            [*COMMAND, "live", str(self.journal), str(self.port), *more],
             env={**os.environ, "TAC": str(DATA.parent / "fake_tac.py")}, stderr=subprocess.PIPE,
             **{"stdin": subprocess.DEVNULL, **how})
         self.addCleanup(self.end, live)
@@ -303,27 +292,24 @@ class Serving(unittest.TestCase):
                 pipe.close()
 
     def get(self, path: str) -> "tuple[bytes, str]":
-        deadline = time.monotonic() + MOST
-        while True:
-            try:
-                address = f"http://127.0.0.1:{self.port}{path}"
-                with urllib.request.urlopen(address, timeout=MOST) as got:
-                    return got.read(), got.headers["Content-Security-Policy"]
-            except urllib.error.HTTPError:
-                raise
-            except OSError:
-                if time.monotonic() > deadline:
-                    raise
-                time.sleep(0.05)
+        self.until(lambda: is_listening(self.port))
+        with urllib.request.urlopen(f"http://127.0.0.1:{self.port}{path}", timeout=MOST) as got:
+            return got.read(), got.headers["Content-Security-Policy"]
 
-    def events(self) -> socket.socket:
-        link = socket.create_connection(("127.0.0.1", self.port))
+    def screen(self) -> Any:
+        """What a new screen is sent."""
+        link = self.enter(socket.create_connection(("127.0.0.1", self.port)))
         link.settimeout(MOST)
         link.sendall(b"GET /events HTTP/1.1\r\nHost: x\r\n\r\n")
-        return link
+        return self.enter(link.makefile("rb"))
+
+    def go_on(self) -> None:
+        """The game goes on, to its end."""
+        with self.journal.open("a") as file:
+            file.write(REST)
 
     def test_a_game_that_goes_on_and_ends(self) -> None:
-        self.journal.write_text("\n".join(LINES[:TICK_9 + 1]) + "\n")
+        self.journal.write_text(BEGUN)
         self.start()
         page, policy = self.get("/")
         self.assertEqual(page, read_page(PAGE))
@@ -331,13 +317,8 @@ class Serving(unittest.TestCase):
         with self.assertRaises(urllib.error.HTTPError) as refused:
             self.get("/../journal")
         refused.exception.close()
-        viewers = [self.events() for _ in range(3)]
-        self.addCleanup(lambda: [viewer.close() for viewer in viewers])
-        hangs = self.events()
-        self.addCleanup(hangs.close)
-        reads = [viewer.makefile("rb") for viewer in viewers]
-        self.addCleanup(lambda: [read.close() for read in reads])
-        states = [self.states(read, 1)[0] for read in reads]
+        reads = [self.screen() for _ in range(4)][:3]  # and one that hangs
+        states = [self.state(read) for read in reads]
         self.assertEqual({state["phase"] for state in states}, {"running"})
         self.assertEqual({(state["tick"], state["late"]) for state in states}, {(9, 6)})
         self.assertEqual([agent["name"] for agent in states[0]["agents"]],
@@ -345,39 +326,32 @@ class Serving(unittest.TestCase):
         self.assertEqual(len(states[0]["flights"][0]), 10)
         self.assertEqual([agent["here"] for agent in states[0]["agents"]][-3:], ["missing"] * 3)
         self.assertNotIn("score", states[0]["agents"][0])
-        with self.journal.open("a") as file:
-            file.write("\n".join(LINES[TICK_9 + 1:]) + "\n")
+        self.go_on()
         for read in reads:
             text = read.read()  # until the page ends it
             self.assertIn(b"event: end", text)
-            last = json.loads(re.findall(rb"data: (\{.*\})", text)[-1])
+            last = last_of(text)
             self.assertEqual((last["phase"], last["status"]), ("over", 0))
 
-    def states(self, read: "socket.SocketIO", count: int) -> List[dict]:
-        states: List[dict] = []
-        while len(states) < count:
-            line = read.readline()
-            self.assertTrue(line)
-            if line.startswith(b"data: {"):
-                states.append(json.loads(line[6:]))
-        return states
+    @staticmethod
+    def state(read: Any) -> Dict[str, Any]:
+        """The next state that a screen is sent."""
+        state: Dict[str, Any] = json.loads(next(
+            line[6:] for line in read if line.startswith(b"data: {")))
+        return state
 
     def test_silent_links_neither_end_the_page_nor_hide_it(self) -> None:
-        self.journal.write_text("\n".join(LINES[:TICK_9 + 1]) + "\n")
+        self.journal.write_text(BEGUN)
         few = 64  # open files
         live = self.start(preexec_fn=lambda: resource.setrlimit(
             resource.RLIMIT_NOFILE, (few, few)))
         self.get("/")
-        with contextlib.ExitStack() as stack:
-            for _ in range(5 * few):
-                stack.enter_context(socket.create_connection(("127.0.0.1", self.port)))
-            viewer = stack.enter_context(self.events())
-            read = stack.enter_context(viewer.makefile("rb"))
-            self.assertEqual(self.states(read, 1)[0]["tick"], 9)
-            with self.journal.open("a") as file:
-                file.write("\n".join(LINES[TICK_9 + 1:]) + "\n")
-            text = read.read()  # until the page ends it
-            self.assertEqual(json.loads(re.findall(rb"data: (\{.*\})", text)[-1])["phase"], "over")
+        for _ in range(3 * few):
+            self.enter(socket.create_connection(("127.0.0.1", self.port)))
+        read = self.screen()
+        self.assertEqual(self.state(read)["tick"], 9)
+        self.go_on()
+        self.assertEqual(last_of(read.read())["phase"], "over")  # until the page ends it
         self.assertEqual(self.get("/")[0], read_page(PAGE))
         self.assertIsNone(live.poll())
         live.terminate()
@@ -385,14 +359,12 @@ class Serving(unittest.TestCase):
         self.assertLess(len(told), 6, told)
 
     def test_it_stays_until_it_is_stopped(self) -> None:
-        self.journal.write_text("\n".join(LINES) + "\n")
+        self.journal.write_text(BEGUN + REST)
         live = self.start("--names", "--late", "0")
-        state = json.loads(re.findall(rb"data: (\{.*\})", self.get("/events")[0])[-1])
+        state = last_of(self.get("/events")[0])
         self.assertEqual((state["phase"], state["late"]), ("over", 0))
         self.assertEqual([agent["name"] for agent in state["agents"]][:2], ["red7k", "orange3x"])
-        viewer = self.events()
-        self.addCleanup(viewer.close)
-        viewer.recv(100)
+        self.screen().readline()
         own = os.getpriority(os.PRIO_PROCESS, 0)
         self.assertEqual(os.getpriority(os.PRIO_PROCESS, live.pid), min(19, own + NICE))
         live.send_signal(signal.SIGTERM)
@@ -411,13 +383,9 @@ class Serving(unittest.TestCase):
         status, text = told()
         self.assertEqual((status, text.count("\n")), (1, 1))
         self.assertIn(f"live: {self.journal}: line 1 is not a journal line", text)
-        self.journal.write_text("\n".join(LINES) + "\n")
+        self.journal.write_text(BEGUN + REST)
         with socket.create_server(("", self.port)):
             status, text = told()
         self.assertEqual((status, text.count("\n")), (1, 1))
         self.assertIn(f"live: port {self.port}: Address already in use", text)
         self.assertEqual(told("--late", "55")[0], 2)
-
-
-if __name__ == "__main__":
-    unittest.main()

@@ -2,21 +2,18 @@
 
 import asyncio
 import json
-import unittest
-from typing import Any, Dict, List, Optional
+from typing import Any, List, Optional
 from unittest import mock
 
 from geesefuton.hosting import live
 from geesefuton.hosting.live import Live
-from geesefuton.hosting.projection import View
-from geesefuton.network.pages import Faults
 from tests.package.journals import HEAD, LINES, place_of
-from tests.package.test_live import projection
+from tests.package.test_live import LiveCase, projection
 
 PORT = {"port": 7000, "address": "10.0.0.1", "seat": True}
 
 
-class Clock(unittest.TestCase):
+class Clock(LiveCase):
     """A page whose time passes only while it waits.
 
     Attributes:
@@ -24,34 +21,24 @@ class Clock(unittest.TestCase):
     """
 
     def setUp(self) -> None:
+        super().setUp()
         self.now, sleep = 1000.0, asyncio.sleep
 
         async def wait(seconds: float) -> None:
             self.now += max(seconds, 0.001)
             await sleep(0)
 
-        for name, what in (("time.monotonic", lambda: self.now), ("asyncio.sleep", wait)):
-            change = mock.patch(f"geesefuton.hosting.live.{name}", what)
-            change.start()
-            self.addCleanup(change.stop)
+        self.patch("hosting.live.time.monotonic", lambda: self.now)
+        self.patch("hosting.live.asyncio.sleep", wait)
 
     def page(self, *lines: str, late: int = 6, begins: Optional[float] = None,
              **head: Any) -> Live:
         """A page on these lines of a journal, after its first line."""
-        made = Live(mock.Mock(), View(late, False), mock.Mock(), mock.Mock(show=mock.AsyncMock()),
-                    Faults(self.fail), PORT, begins)
-        made._read("\n".join([json.dumps({**HEAD, **head}), *lines]))
-        return made
-
-    def last(self, made: Live) -> Dict[str, Any]:
-        """The state that is shown now."""
-        asyncio.run(made.show())
-        state: Dict[str, Any] = json.loads(made._viewers.show.call_args[0][0])
-        return state
+        return self.live(late, json.dumps({**HEAD, **head}), *lines, begins=begins, joining=PORT)
 
 
 class Pace(Clock):
-    def projections(self, pace: int, took: float, within: float) -> List[float]:
+    def between(self, pace: int, took: float, within: float) -> List[float]:
         """The seconds between the beginnings of projections, each of which takes some seconds,
         while the journal goes on all the time."""
         made, begun = self.page('{"begin":[]}', '{"tick":0,"t":0}', pace=pace), list[float]()
@@ -67,20 +54,18 @@ class Pace(Clock):
             asyncio.run(made.project())
         return [after - before for before, after in zip(begun[:-1], begun[1:-1])]
 
-    def test_one_is_made_each_second_or_each_tick_if_that_is_shorter(self) -> None:
-        for pace, due in ((2000, 1.0), (60000, 1.0), (300, 0.3)):
-            between = self.projections(pace, 0.05, 20.0)
+    def test_one_is_made_each_second_or_shorter_tick_and_in_half_of_the_time_at_most(self) -> None:
+        for pace, took, within, least, most in (
+                (2000, 0.05, 20.0, 0.99, 1.15), (60000, 0.05, 20.0, 0.99, 1.15),
+                (300, 0.05, 20.0, 0.29, 0.45), (2000, 4.0, 200.0, 7.9, 8.2)):
+            between = self.between(pace, took, within)
             self.assertGreater(len(between), 15)
             for seconds in between:
-                self.assertTrue(due - 0.01 <= seconds <= due + 0.15, (pace, seconds))
-
-    def test_they_take_half_of_the_time_at_most(self) -> None:
-        for seconds in self.projections(2000, 4.0, 100.0):
-            self.assertTrue(7.9 <= seconds <= 8.2, seconds)
+                self.assertTrue(least <= seconds <= most, (pace, seconds))
 
     def test_none_is_made_while_nothing_changes(self) -> None:
         made = self.page('{"begin":[]}', '{"tick":0,"t":0}')
-        project = mock.Mock(return_value=projection(0))
+        project = self.patch("hosting.live.project", return_value=projection(0))
 
         async def work() -> None:
             projecting = asyncio.ensure_future(made.project())
@@ -89,8 +74,7 @@ class Pace(Clock):
             made._read('{"over":0}')
             await projecting
 
-        with mock.patch.object(live, "project", project):
-            asyncio.run(work())
+        asyncio.run(work())
         self.assertEqual(project.call_count, 2)  # the first, and that of the end
 
     def test_the_journal_is_looked_at_five_times_a_second_and_read_on_at_once(self) -> None:
@@ -139,29 +123,22 @@ class Shown(Clock):
         self.now += 0.5
         self.assertEqual(self.last(made)["elapsed"], 16500)
 
-    def test_a_journal_stops_only_in_a_game_that_goes_on(self) -> None:
-        made = self.page()
-        self.now += 1000  # agents are waited for
-        self.assertFalse(self.last(made)["stalled"])
-        made._read('{"begin":[]}\n{"tick":0,"t":0}')
-        self.now += 60
-        self.assertTrue(self.last(made)["stalled"])
-        made._read('{"over":137}')  # the server has failed
-        self.now += 60
-        self.assertFalse(self.last(made)["stalled"])
-
-    def test_a_stop_is_told_three_seconds_after_the_tick_was_due(self) -> None:
-        made = self.page('{"begin":[]}', '{"tick":0,"t":0}', pace=2000)
-        for more, due in ((2.0, False), (2.9, False), (0.2, True)):
-            self.now += more
+    def test_a_journal_has_stopped_three_seconds_after_a_tick_was_due_in_a_game_that_goes_on(
+            self) -> None:
+        made = self.page(LINES[1], pace=2000)
+        for seconds, lines, due in (
+                (1000.0, ['{"begin":[]}', '{"tick":0,"t":0}'], False),  # agents are waited for
+                (2.0, [], False), (2.9, [], False), (0.2, [], True), (60.0, [], True),
+                (0.0, ['{"tick":1,"t":9}'], True), (0.0, [], False), (60.0, [], True),
+                (0.0, ['{"tick":54,"t":9}'], True), (60.0, [], False),  # nothing more is due
+                (0.0, ['{"over":137}'], False), (60.0, [], False)):  # the server has failed
+            self.now += seconds
             self.assertEqual(self.last(made)["stalled"], due)
+            if lines:
+                made._read("\n".join(lines))
 
     def test_what_is_shown_later_is_not_older_than_it_has_to_be(self) -> None:
         made = self.page(*LINES[1:place_of(9) + 1])
         for tick in (1, 3):
             made._add(projection(tick))
         self.assertEqual(self.last(made)["shown"], 3)
-
-
-if __name__ == "__main__":
-    unittest.main()

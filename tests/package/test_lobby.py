@@ -1,4 +1,5 @@
-"""The lobby in the game, with links of every kind, before a server that answers by no rules."""
+"""The lobby before the game and in it, with links of every kind, before a server that answers by
+no rules."""
 
 import json
 import os
@@ -9,23 +10,53 @@ from unittest import mock
 
 from geesefuton.hosting import events
 from geesefuton.hosting.events import End
-from geesefuton.hosting.journal import read_journal
 from tests.package.lobbies import MOST, WORDS, Agent, Case, Host
+
+
+class BeforeTheGame(Case):
+    def test_one_that_goes_may_come_again(self) -> None:
+        host = Host(self.folder, start=None, pace=1000)
+        first = self.agents(host, "seat0")[0]
+        first.close()
+        host.wait(events.Departed)
+        self.leave_all(host, self.agents(host, *WORDS))
+        self.assertEqual(len(host.of(events.Ended)), 8)
+        self.assertEqual(host.of(events.Began)[0].seats, tuple(range(8)))
+
+    def test_before_the_game_a_second_link_waits_for_the_end_of_the_first(self) -> None:
+        with mock.patch("geesefuton.hosting.seats.PROBED", 0.3):
+            host = Host(self.folder, start=None, pace=1000)
+            first = self.agents(host, "seat0")[0]
+            second = Agent(host.port, "seat0")
+            self.assertEqual(second.line(), "refused taken")  # the first is live
+            second.close()
+        third = Agent(host.port, "seat0")
+        first.close()
+        self.leave_all(host, [third, *self.agents(host, *WORDS[1:])])
+
+    def test_lines_before_the_game_are_asked_in_it(self) -> None:
+        host = Host(self.folder, pace=1000)
+        agent = Agent(host.port, first=b"hello seat2\nown 1\nown 2\nown 3")
+        agent.socket.shutdown(socket.SHUT_WR)
+        self.assertEqual(agent.welcome()[0], "welcome 2")
+        self.assertEqual([agent.line() for _ in range(3)], ["@1 own 0 ()", "@2 own 0 ()", ""])
+        agent.close()
+        host.wait(events.Departed)
+        self.assertEqual(host.finish()["seat2"], End.GONE)
+        self.assertEqual(self.asked(), ["2 own 1", "2 own 2"])
+        self.assertEqual([event.lines for event in host.of(events.Ended) if event.seat == 2], [2])
 
 
 class InTheGame(Case):
     def test_coming_again(self) -> None:
-        host = Host(self.folder, pace=1000, silence=1.5)
-        agent, talker, early = self.agents(host, "seat0", "seat1", "seat2")
+        host = Host(self.folder, pace=1000)
+        agent, early = self.agents(host, "seat0", "seat2")
         host.wait(events.Began)
         welcome = agent.welcome()
-        talker.welcome()
         early.welcome()
-
         early.quit()
         gone = Agent(host.port, "seat2")
         self.assertEqual(gone.line(), "refused taken")  # its session is over
-
         for end in (Agent.close, Agent.reset):
             agent.send(b"bid 5 ((1 1))\nown 6\n")  # the reply to the bid will be owed
             time.sleep(0.05)
@@ -33,63 +64,19 @@ class InTheGame(Case):
             agent = Agent(host.port, "seat0")
             self.assertEqual(agent.welcome(), welcome)
             self.assertEqual(agent.ask("own 17"), "@17 own 0 ()")
-        agent.send(b"bid 5 ((1 1))\n")
-        time.sleep(0.02)
-        heir = Agent(host.port, "seat0")  # the other one is half open
-        self.assertEqual(heir.welcome(), welcome)
-        self.assertEqual(heir.ask("own 18"), "@18 own 0 ()")
-        with self.assertRaises(OSError):
-            while agent.lines.readline():
-                pass
-            raise OSError("it was ended")
-
-        self.assertEqual(talker.ask("own 2"), "@2 own 0 ()")
-        second = Agent(host.port, "seat1")
-        time.sleep(0.05)
-        self.assertEqual(talker.ask("own 3"), "@3 own 0 ()")
-        self.assertEqual(second.line(), "refused taken")
         late = Agent(host.port, "seat7")
         self.assertEqual(late.welcome()[0], "welcome 7")
         self.assertEqual(late.ask("own 4"), "@4 own 0 ()")
-        for link in (gone, second, agent):
-            link.close()
-        for link in (heir, talker, late):
+        gone.close()
+        for link in (agent, late):
             link.quit()
-        host.hurry()
-        reasons = host.end()
-        self.assertEqual({reasons[word] for word in ("seat0", "seat1", "seat2", "seat7")},
-                         {End.LEFT})
-        self.assertEqual(reasons["seat5"], End.ABSENT)
-        self.assertEqual([event.word for event in host.of(events.Rejoined)], ["seat0"] * 3)
+        reasons = host.finish()
+        self.assertEqual([reasons[word] for word in ("seat0", "seat2", "seat5", "seat7")],
+                         [End.LEFT, End.LEFT, End.ABSENT, End.LEFT])
+        self.assertEqual([event.word for event in host.of(events.Rejoined)], ["seat0"] * 2)
         self.assertEqual(host.of(events.Arrived)[-1].word, "seat7")
         self.assertEqual([line for line in self.asked() if line.startswith("0 bid")],
-                         ["0 bid 5 ((1 1))"] * 3)
-
-    def test_hanging_refused_and_gone_agents(self) -> None:
-        host = Host(self.folder, pace=1000, linger=MOST)
-        hangs, babbles, goes, dies = self.agents(host, "seat0", "seat1", "seat2", "seat3")
-        host.wait(events.Began)
-        for agent in (hangs, babbles, goes, dies):
-            agent.welcome()
-        self.assertEqual(hangs.ask("own 1"), "@1 own 0 ()")
-        self.assertEqual([babbles.ask("hey"), babbles.ask("z" * 513)], ["no syntax", "no toolong"])
-        babbles.send(b"quit")  # it has no end, so nothing is asked
-        dies.reset()
-        host.wait(events.Departed)
-        host.hurry()
-        while not any(event.tick == 54 for event in host.of(events.Ticked)):
-            time.sleep(0.005)  # under load ticks may be passed over
-        goes.close()
-        while not any(event.word == "seat2" for event in host.of(events.Ended)):
-            time.sleep(0.005)
-        host.lobby.settings.linger = 0
-        reasons = host.end()
-        self.assertEqual([reasons[word] for word in WORDS[:5]],
-                         [End.HUNG, End.REFUSED, End.LEFT, End.GONE, End.ABSENT])
-        self.assertEqual(host.status, 0)
-        self.assertEqual([event.lines for event in host.of(events.Ended)
-                          if event.word == "seat1"], [2])
-        self.assertEqual(self.asked()[1:], ["1 hey", "1 " + "z" * 513])
+                         ["0 bid 5 ((1 1))"] * 2)
 
     @unittest.skipUnless(hasattr(socket, "TCP_USER_TIMEOUT"), "the system has no such time")
     def test_one_that_reads_nothing_for_long_loses_its_link_and_may_reconnect(self) -> None:
@@ -102,8 +89,7 @@ class InTheGame(Case):
         again = Agent(host.port, "seat0")
         self.assertEqual(again.welcome()[0], "welcome 0")
         again.quit()
-        host.hurry()
-        self.assertEqual(host.end()["seat0"], End.LEFT)
+        self.assertEqual(host.finish()["seat0"], End.LEFT)
 
     @mock.patch("geesefuton.hosting.links.UNACKNOWLEDGED", int(1000 * MOST))
     def test_one_that_never_reads_holds_nobody(self) -> None:
@@ -121,11 +107,9 @@ class InTheGame(Case):
         self.assertLess(time.monotonic() - start, MOST / 20)
         agent.quit()
         journal = self.folder / "my.journal"
-        while journal.read_bytes().count(b"\n") < 9000:  # so that the log comes in pieces
-            self.assertLess(time.monotonic() - start, MOST)
-            time.sleep(0.05)
-        host.hurry()
-        self.assertEqual(host.end()["seat0"], End.HUNG)
+        # So that the log comes in pieces.
+        self.until(lambda: journal.read_bytes().count(b"\n") >= 9000)
+        self.assertEqual(host.finish()["seat0"], End.HUNG)
         lines = (self.folder / "my.log").read_text().split("\n")
         self.assertEqual((lines[0], lines[-2:]), ("taclog 1", ["end", ""]))
         self.assertEqual((lines.count("0 own 1"), lines.count("1 own 1")), (len(lines) - 44, 1))
@@ -171,34 +155,14 @@ class InTheGame(Case):
                 keys.flush()
             host.wait(events.Waived, 3)
             host.wait(events.Warned, 2)
-            given_up = Agent(host.port, "seat1")
-            self.addCleanup(given_up.close)
-            self.assertEqual(given_up.line(), "refused taken")
+            for word in ("seat1", "seat3"):
+                given_up = Agent(host.port, word)
+                self.addCleanup(given_up.close)
+                self.assertEqual(given_up.line(), "refused taken")
             self.assertEqual(late.welcome()[0], "welcome 2")  # whoever is here stays
             self.assertEqual(late.ask("own 1"), "@1 own 0 ()")
             late.quit()
-            host.hurry()
-            self.assertEqual(host.end()["seat2"], End.LEFT)
+            self.assertEqual(host.finish()["seat2"], End.LEFT)
         self.assertEqual([event.word for event in host.of(events.Waived)],
                          ["seat3", "seat1", "seat2"])
         self.assertIn("`help` for the list", host.of(events.Warned)[0].text)
-
-    def test_a_reply_is_in_the_journal_before_it_is_passed_on(self) -> None:
-        host = Host(self.folder, pace=1000)
-        agent = self.agents(host, "seat3")[0]
-        agent.welcome()
-        for number in range(30):
-            reply = agent.ask(f"own {number % 28}")
-            lines = (self.folder / "my.journal").read_text().split("\n")[-4:-1]
-            self.assertIn(reply, [json.loads(line).get("r") for line in lines])
-        agent.quit()
-        host.hurry()
-        host.end()
-        journal = read_journal(self.folder / "my.journal")
-        self.assertEqual((journal.tick, journal.status, len(journal.calls)), (54, 0, 30))
-        self.assertEqual([agent.end for agent in journal.agents],
-                         ["absent"] * 3 + ["left"] + ["absent"] * 4)
-
-
-if __name__ == "__main__":
-    unittest.main()

@@ -2,22 +2,19 @@
 
 import signal
 import subprocess
-import sys
 import time
-import unittest
 from typing import Any, List
 
 from geesefuton.hosting.journal import read_journal
 from geesefuton.processes import free_port
-from tests.package.lobbies import GAME, MOST, TOP, Case
+from tests.package.helpers import COMMAND
+from tests.package.lobbies import GAME, MOST, Case
 
 
 class Command(Case):
-    """The command, as a host uses it and as things go wrong around it."""
-
     def words(self, *more: str, pace: int = 15) -> List[str]:
-        return [sys.executable, str(TOP / "tools/lobby"), str(GAME), str(free_port()), str(pace),
-                "--start", "0.2", "--after", "0", *more]
+        return [*COMMAND, "lobby", str(GAME), str(free_port()), str(pace), "--start", "0.2",
+                "--after", "0", *more]
 
     def start(self, *more: str, pace: int = 15, **how: Any) -> "subprocess.Popen[bytes]":
         how = {"stdin": subprocess.DEVNULL, "stdout": subprocess.PIPE, "stderr": subprocess.PIPE,
@@ -73,13 +70,3 @@ class Command(Case):
                 self.assertEqual([log.read_text() for log in logs],
                                  ["taclog 1\nend\n"] * len(logs))
                 self.assertTrue(logs)
-
-    def test_words(self) -> None:
-        for more in (["--late", "55"], ["--start", "nan"], ["--page", "0"]):
-            script = self.start(*more)
-            told = script.communicate(timeout=MOST)
-            self.assertEqual((script.returncode, told[1].count(b"Traceback")), (2, 0))
-
-
-if __name__ == "__main__":
-    unittest.main()

@@ -5,105 +5,86 @@ import io
 import json
 import os
 import socket
-import unittest
 from pathlib import Path
-from typing import List
+from typing import Any, List, Tuple
 from unittest import mock
 
+from geesefuton import program
 from geesefuton.hosting import events, log_files
 from geesefuton.hosting.control import Phase
 from geesefuton.hosting.journal import Journal, read_journal
 from geesefuton.hosting.lobby import Lobby, LobbyError
 from geesefuton.hosting.server import TRIES
+from geesefuton.hosting.server_links import summary
 from geesefuton.hosting.settings import LobbySettings
 from geesefuton.processes import free_port
 from tests.package.helpers import fake_program
-from tests.package.lobbies import GAME, Case, Host
+from tests.package.lobbies import GAME, WORDS, Agent, Case, Host
+
+LOG = "taclog 1\nend\n"
+HEAD = ",".join(["serve", *(f"link {seat} seated {seat}" for seat in range(8))])
+WRONG = "does not match each link"
 
 
 class TheEnd(Case):
     def test_a_full_disk_for_the_log(self) -> None:
         for status in (0, 6):  # also where ticks have lapsed
+            self.set(FAKE_STATUS=str(status))
             journal = self.folder / f"{status}.journal"
-            with open("/dev/full", "wb") as full, \
-                    mock.patch.dict(os.environ, {"FAKE_STATUS": str(status)}):
-                host = Host(self.folder, log=full, pace=2, start=0, linger=0, journal=journal)
-                host.end()
+            with open("/dev/full", "wb") as full:
+                host = self.ended(log=full, journal=journal)
             self.assertEqual(host.status, 4)
             self.assertIn("No space left on device", host.of(events.Warned)[-1].text)
             log = journal.with_suffix(".log")
-            self.assertEqual(log.read_text(), "taclog 1\nend\n")
+            self.assertEqual(log.read_text(), LOG)
             self.assertEqual(host.of(events.Finished)[0].log, str(log))
-
-    def test_a_full_disk_for_the_journal(self) -> None:
-        warned: List[str] = []
-        journal = Journal(self.folder / "journal", warned.append)
-        journal._number = os.open("/dev/full", os.O_WRONLY)
-        self.assertTrue(journal.is_whole)
-        journal.tell(tick=1, t=1)
-        journal.tell(tick=2, t=2)
-        journal.close()
-        self.assertFalse(journal.is_whole)
-        self.assertEqual(len(warned), 1)
-        self.assertIn("No space left on device", warned[0])
 
     def test_statuses_of_the_server(self) -> None:
         taken = self.folder / "taken"
         taken.touch()
-        with mock.patch.dict(os.environ, {"FAKE_STATUS": "6", "FAKE_TAKEN": str(taken)}):
-            host = Host(self.folder, pace=2, start=0, linger=0)
-            host.end()
-        self.assertEqual((host.status, taken.exists()), (6, False))
+        self.set(FAKE_STATUS="6", FAKE_TAKEN=str(taken))
+        self.assertEqual((self.ended().status, taken.exists()), (6, False))
 
     def test_a_port_that_is_taken_is_tried_five_times(self) -> None:
         script = f'[ "$1" = serve ] && exit 5\nexec {os.environ["TAC"]} "$@"\n'
-        with mock.patch.dict(os.environ, {"TAC": fake_program(self.folder, script)}), \
-                mock.patch("geesefuton.hosting.server.free_port", side_effect=free_port) as ports:
-            host = Host(self.folder, pace=5, start=0)
-            host.end()
-        self.assertEqual((host.status, ports.call_count), (5, TRIES))
-        self.assertEqual(TRIES, 5)
+        self.set(TAC=fake_program(self.folder, script))
+        ports = self.patch("hosting.server.free_port", side_effect=free_port)
+        host = self.ended()
+        self.assertEqual((host.status, ports.call_count, TRIES), (5, 5, 5))
         self.assertEqual(host.of(events.Began), [])
         self.assertEqual(host.of(events.Finished)[0].status, 5)
         self.assertEqual(host.of(events.Warned), [])  # no game has begun that could be recovered
 
-    def test_a_server_that_fails(self) -> None:
-        with mock.patch.dict(os.environ, {"FAKE_STATUS": "7"}):
-            host = Host(self.folder, pace=5, start=0, linger=0)
-            host.end()
-        self.assertEqual((host.status, host.of(events.Finished)[0].status), (7, 7))
-        self.assertRegex(host.of(events.Warned)[-1].text, "^the server failed.* /.*my.journal ")
-        self.assertEqual(read_journal(self.folder / "my.journal").status, 7)
+    def test_a_server_that_fails_or_is_killed(self) -> None:
+        for given, status, told in (("7", 7, r"^the server failed.* /.*7.journal "),
+                                    ("-9", 137, "to make a log from the journal")):
+            self.set(FAKE_STATUS=given)
+            journal = self.folder / f"{given}.journal"
+            host = self.ended(journal=journal)
+            self.assertEqual((host.status, host.of(events.Finished)[0].status), (status, status))
+            self.assertRegex(host.of(events.Warned)[-1].text, told)
+            self.assertEqual(read_journal(journal).status, status)
 
     def test_a_game_that_ends_well(self) -> None:
         file, other = self.folder / "a.log", self.folder / "b.journal"
         for log, journal, due in ((file, None, "a.log"), (io.BytesIO(), None, None),
                                   (io.BytesIO(), other, "b.log")):
-            host = Host(self.folder, pace=2, start=0, linger=0, log=log, journal=journal)
-            host.end()
+            host = self.ended(log=log, journal=journal)
             self.assertEqual((host.status, host.of(events.Warned)), (0, []))
             finished, = host.of(events.Finished)
             self.assertEqual((finished.status, finished.log), (0, due and str(self.folder / due)))
             self.assertEqual(host.told[-1], finished)
             if finished.log:
-                self.assertEqual(Path(finished.log).read_text(), "taclog 1\nend\n")
+                self.assertEqual(Path(finished.log).read_text(), LOG)
             if isinstance(log, io.BytesIO):
-                self.assertEqual(log.getvalue(), b"taclog 1\nend\n")
-
-    def test_a_server_that_is_killed(self) -> None:
-        with mock.patch.dict(os.environ, {"FAKE_STATUS": "-9"}):
-            host = Host(self.folder, pace=2, start=0, linger=0)
-            host.end()
-        self.assertEqual(host.status, 137)
-        self.assertIn("to make a log from the journal", host.of(events.Warned)[-1].text)
-        self.assertEqual(read_journal(self.folder / "my.journal").status, 137)
+                self.assertEqual(log.getvalue(), LOG.encode())
 
     def test_a_server_that_fails_at_once(self) -> None:
-        with mock.patch.dict(os.environ, {"FAKE_EARLY": "7"}):
-            host = Host(self.folder, pace=5, start=0.2)
-            agent = self.agents(host, "seat0")[0]
-            self.assertEqual(agent.line(), "")
-            self.assertEqual(len(host.end()), 8)
+        self.set(FAKE_EARLY="7")
+        host = Host(self.folder, pace=5, start=0.2)
+        agent, = self.agents(host, "seat0")
+        self.assertEqual(agent.line(), "")
+        self.assertEqual(len(host.end()), 8)
         self.assertEqual(host.status, 7)
         lines = [json.loads(line) for line in (self.folder / "my.journal").read_text().splitlines()]
         self.assertEqual(lines[-1], {"over": 7})  # who reads the journal ends there
@@ -121,20 +102,23 @@ class TheEnd(Case):
         self.assertEqual((finished.status, finished.log), (130, None))
         host.lobby.control.stop()  # it has ended already
 
-    def test_the_page_has_a_while_to_show_the_last_scores(self) -> None:
-        for is_stopped in (False, True):
-            page = mock.Mock(fault=mock.Mock(return_value=""))
-            journal = self.folder / f"{is_stopped}.journal"
-            with mock.patch("geesefuton.hosting.lobby.PageProcess", return_value=page) as started:
+    def test_how_long_the_page_shows_the_last_scores(self) -> None:
+        never = float("inf")
+        for stays, is_stopped, least, most in (
+                (False, False, 10, 60), (True, False, never, never), (False, True, 0, 0)):
+            page = mock.Mock(look=mock.Mock(return_value=""))
+            with mock.patch("geesefuton.hosting.lobby.PageProcess", return_value=page) as made:
                 host = Host(self.folder, pace=2, start=None if is_stopped else 0, linger=0,
-                            page=free_port(), journal=journal)
+                            stays=stays, page=free_port(), journal=self.folder / f"{most}.journal")
                 if is_stopped:
                     host.lobby.control.stop()
                 host.end()
-            self.assertEqual((host.status, started.call_count), (130 if is_stopped else 0, 1))
-            self.assertEqual([0 < call[0][0] <= 60 for call in page.wait.call_args_list],
+            self.assertEqual((host.status, made.call_count, len(host.of(events.Finished))),
+                             (130 if is_stopped else 0, 1, 1))
+            self.assertEqual([least <= call[0][0] <= most for call in page.wait.call_args_list],
                              [] if is_stopped else [True])
-            self.assertEqual(len(host.of(events.Finished)), 1)
+            self.assertEqual(page.close.call_count, int(not stays and not is_stopped))
+            page.end.assert_called_once_with()
 
     def test_while_the_page_shows_the_scores_nobody_listens_for_agents(self) -> None:
         port, tries = free_port(), list[int]()
@@ -143,9 +127,9 @@ class TheEnd(Case):
             with socket.socket() as link:
                 tries.append(link.connect_ex(("127.0.0.1", port)))
 
-        page = mock.Mock(fault=mock.Mock(return_value=""), wait=wait)
-        with mock.patch("geesefuton.hosting.lobby.PageProcess", return_value=page):
-            Host(self.folder, pace=2, start=0, linger=0, page=free_port(), port=port).end()
+        page = mock.Mock(look=mock.Mock(return_value=""), wait=wait)
+        self.patch("hosting.lobby.PageProcess", return_value=page)
+        self.ended(page=free_port(), port=port)
         self.assertEqual(tries, [errno.ECONNREFUSED])
 
     def test_interrupt_before_the_game(self) -> None:
@@ -166,46 +150,99 @@ class TheEnd(Case):
         lobby = Lobby(LobbySettings(GAME, 0, 5, None, journal=self.folder / "my.journal"))
         with self.assertRaisesRegex(LobbyError, "already exists"):
             lobby.run(lambda event: None)
-        with self.assertRaisesRegex(LobbyError, "port"):
-            with socket.create_server(("", 0)) as other:
-                Lobby(LobbySettings(GAME, other.getsockname()[1], 5, None))
-
-    def test_where_a_log_is_kept(self) -> None:
-        file = self.folder / "my.log"
-        with file.open("wb") as output:
-            self.assertEqual(log_files.keep(b"log\n", output, file), log_files.Kept(None, None))
-        self.assertEqual(file.read_bytes(), b"log\n")
-        kept = log_files.keep(b"other\n", None, file)
-        self.assertEqual((kept.fault, kept.file), ("it is closed", self.folder / "my-2.log"))
-        self.assertEqual((self.folder / "my-2.log").read_bytes(), b"other\n")
-        self.assertEqual(log_files.keep(b"x", io.BytesIO(), None), log_files.Kept(None, None))
-
-    def test_a_log_that_neither_place_takes(self) -> None:
-        nowhere = self.folder / "none" / "my.log"
-        with open("/dev/full", "wb") as full, mock.patch("tempfile.tempdir", str(self.folder)):
-            kept = log_files.keep(b"log\n", full, nowhere)
-            assert kept.file is not None
-            self.assertEqual((kept.file.parent, kept.file.read_bytes()), (self.folder, b"log\n"))
-            kept.file.unlink()
-            # A path is a caller's own, who is told of the fault.
-            self.assertIsNone(log_files.keep(b"log\n", nowhere, nowhere).file)
-            with mock.patch("os.write", side_effect=OSError(28, "the disk is full")):
-                self.assertEqual(log_files.keep(b"log\n", full, nowhere),
-                                 log_files.Kept("the disk is full", None))
-        self.assertEqual(list(self.folder.iterdir()), [])
 
     def test_what_is_told_of_a_log_that_is_lost(self) -> None:
+        self.patch("hosting.log_files.keep",
+                   return_value=log_files.Kept("the disk is full", None))
         for is_whole, due in ((True, "to make it again: "),
                               (False, "to make one from what the journal has: ")):
-            with mock.patch("geesefuton.hosting.log_files.keep",
-                            return_value=log_files.Kept("the disk is full", None)), \
-                    mock.patch.object(Journal, "is_whole", is_whole):
-                journal = self.folder / f"{is_whole}.journal"
-                host = Host(self.folder, pace=2, start=0, linger=0, journal=journal)
-                host.end()
+            with mock.patch.object(Journal, "is_whole", is_whole):
+                host = self.ended(journal=self.folder / f"{is_whole}.journal")
             self.assertIn(due, host.of(events.Warned)[-1].text)
             self.assertEqual(host.status, 4)
 
 
-if __name__ == "__main__":
-    unittest.main()
+class Vouching(Case):
+    """What the lobby says after a game of the log and its links to the server, with a stand-in for
+    `tac vouch`."""
+
+    def setUp(self) -> None:
+        super().setUp()
+        self.asked: List[Tuple[bytes, bytes]] = []
+        self.said = [f"vouched {seat} whole {int(seat == 2)}" for seat in range(8)]
+        self.set(FAKE_HEAD=HEAD)
+        self.patch("program.vouch", self.vouch)
+
+    def vouch(self, game: Path, log: bytes, asked: Path, said: Path, form: str,
+              timeout: float) -> str:
+        """Stands for `tac vouch`."""
+        self.asked.append((asked.read_bytes(), said.read_bytes()))
+        self.assertTrue(game.read_text().startswith("tac "))
+        self.assertEqual((log[:15], form), (b"taclog 1\nserve\n", "words"))
+        self.assertGreater(timeout, 0)
+        return self.said[len(self.asked) - 1]
+
+    def play(self, **more: Any) -> Tuple[Host, events.Finished, str]:
+        """A game in which seat 2 asks a line, what is told at its end, and all warnings."""
+        host = Host(self.folder, **{"pace": 1, "linger": 60.0, "start": None, "wait": 0.02,
+                                    "vouches": True, **more})
+        agent = Agent(host.port, WORDS[2])
+        self.addCleanup(agent.close)
+        agent.welcome()
+        agent.ask("own 7")
+        agent.quit()
+        host.end()
+        return (host, host.of(events.Finished)[0],
+                "\n".join(event.text for event in host.of(events.Warned)))
+
+    def test_all_links_are_vouched_for(self) -> None:
+        host, finished, warnings = self.play()
+        self.assertEqual((host.status, finished.status, finished.vouched, warnings),
+                         (0, 0, tuple(self.said), ""))
+        self.assertEqual([asked for asked, _ in self.asked], [
+            b"hello %b\n" % word.encode() + b"own 7\nquit\n" * (word == WORDS[2])
+            for word in WORDS])
+        self.assertTrue(self.asked[2][1].endswith(b"\n@7 own 0 ()\nbye\n"))
+
+    def test_one_is_not(self) -> None:
+        self.said[5] = "unvouched entry 8 3"
+        host, finished, warnings = self.play()
+        self.assertEqual((host.status, finished.status, finished.vouched),
+                         (9, 9, tuple(self.said)))
+        self.assertIn(WRONG, warnings)
+        self.assertTrue((self.folder / "my.log").read_text().startswith("taclog 1\nserve\n"))
+        self.assertEqual(summary(WORDS, finished.vouched),
+                         "vouched 7 of 8 (seat5: unvouched entry 8 3)")
+        self.asked.clear()  # a log that the output does not take is compared too
+        host, finished, warnings = self.play(log=self.folder / "no" / "where",
+                                             journal=self.folder / "other.journal")
+        self.assertEqual((host.status, finished.vouched), (4, tuple(self.said)))
+        self.assertIn(WRONG, warnings)
+
+    def test_where_nothing_can_be_said(self) -> None:
+        """No journal, one that is not whole, a log of no served game, or nobody asks for it."""
+        write = os.write
+
+        def full(number: int, data: Any) -> int:
+            if b'"over"' in bytes(data):
+                raise OSError(errno.ENOSPC, "No space left on device")
+            return write(number, data)
+
+        for more, patch in (
+                ({"journal": None}, mock.patch.object(Journal, "now", return_value=0)),
+                ({"journal": self.folder / "1"},
+                 mock.patch("geesefuton.hosting.journal.os.write", full)),
+                ({"journal": self.folder / "2"}, mock.patch.dict(os.environ, {"FAKE_HEAD": ""})),
+                ({"journal": self.folder / "3", "vouches": False}, mock.patch.dict(os.environ))):
+            with patch:
+                host, finished, warnings = self.play(**more)
+            self.assertEqual((host.status, finished.vouched, self.asked), (0, (), []), more)
+            self.assertNotIn(WRONG, warnings)
+
+    def test_a_program_that_fails_is_told_and_changes_nothing_else(self) -> None:
+        for number, fault in enumerate((program.ended("vouch", 7, "memory"),
+                                        OSError(errno.ENOSPC, "No space left on device"))):
+            with mock.patch.object(program, "vouch", side_effect=fault):
+                host, finished, warnings = self.play(journal=self.folder / f"{number}.journal")
+            self.assertEqual((host.status, finished.vouched), (0, ()))
+            self.assertIn("cannot compare the log with the lobby's links: ", warnings)

@@ -3,12 +3,12 @@
 import io
 import os
 import tempfile
-import unittest
 from pathlib import Path
 from typing import Any
 from unittest import mock
 
 from geesefuton.hosting.log_files import Kept, free_name, keep
+from tests.package.cases import FolderCase
 
 LOG = b"taclog 1\nend\n"
 
@@ -20,18 +20,11 @@ class Full(io.BytesIO):
         raise OSError(28, "No space left on device")
 
 
-class Case(unittest.TestCase):
+class Case(FolderCase):
     def setUp(self) -> None:
-        place = tempfile.TemporaryDirectory()
-        self.addCleanup(place.cleanup)
-        self.folder = Path(place.name, "games")
-        self.folder.mkdir()
-        elsewhere = Path(place.name, "temporary")
-        elsewhere.mkdir()
-        self.elsewhere = elsewhere
-        change = mock.patch("tempfile.tempdir", str(elsewhere))
-        change.start()
-        self.addCleanup(change.stop)
+        super().setUp()
+        self.elsewhere = Path(self.enter(tempfile.TemporaryDirectory()))
+        self.enter(mock.patch("tempfile.tempdir", str(self.elsewhere)))
 
     def files(self) -> "dict[str, bytes]":
         return {file.name: file.read_bytes() for folder in (self.folder, self.elsewhere)
@@ -39,17 +32,14 @@ class Case(unittest.TestCase):
 
 
 class Names(Case):
-    def test_a_name_that_is_free_is_taken(self) -> None:
-        self.assertEqual(free_name(self.folder / "my.log"), self.folder / "my.log")
-
-    def test_others_get_the_next_number(self) -> None:
-        for name in ("my.log", "my-2.log", "my-4.log"):
-            (self.folder / name).touch()
-        self.assertEqual(free_name(self.folder / "my.log"), self.folder / "my-3.log")
-
-    def test_a_link_to_nothing_is_there_too(self) -> None:
-        (self.folder / "my.log").symlink_to(self.folder / "none")
-        self.assertEqual(free_name(self.folder / "my.log"), self.folder / "my-2.log")
+    def test_a_name_that_is_free_is_taken_and_others_get_the_next_number(self) -> None:
+        name = self.folder / "my.log"
+        self.assertEqual(free_name(name), name)
+        name.symlink_to(self.folder / "none")  # a link to nothing is there too
+        self.assertEqual(free_name(name), self.folder / "my-2.log")
+        for other in ("my-2.log", "my-4.log"):
+            (self.folder / other).touch()
+        self.assertEqual(free_name(name), self.folder / "my-3.log")
 
 
 class Keeping(Case):
@@ -72,6 +62,10 @@ class Keeping(Case):
         for beside in (target, other):
             self.assertEqual(keep(LOG, target, beside), Kept(None, target))
         self.assertEqual(self.files(), {"my.log": LOG, "other.log": LOG})
+        with target.open("wb") as output:  # which stays open
+            self.assertEqual(keep(LOG, output, target), Kept(None, None))
+            output.write(b"more\n")
+        self.assertEqual(target.read_bytes(), LOG + b"more\n")
 
     def test_another_file_of_the_same_content_is_not_the_output(self) -> None:
         target, beside = self.folder / "asked.log", self.folder / "my.log"
@@ -80,12 +74,6 @@ class Keeping(Case):
         with target.open("wb") as output:
             self.assertEqual(keep(LOG, output, beside), Kept(None, self.folder / "my-2.log"))
         self.assertEqual(self.files(), {"asked.log": LOG, "my.log": b"", "my-2.log": LOG})
-
-    def test_an_output_stays_open(self) -> None:
-        with (self.folder / "asked.log").open("wb") as output:
-            keep(LOG, output, None)
-            output.write(b"more\n")
-        self.assertEqual(self.files(), {"asked.log": LOG + b"more\n"})
 
     def test_no_file_stays_open(self) -> None:
         def free() -> int:
@@ -135,7 +123,7 @@ class Keeping(Case):
 
 class Elsewhere(Case):
     def test_a_log_that_nobody_asked_for_and_no_folder_takes(self) -> None:
-        for target in (None, Full()):
+        for target in (None, Full(), self.enter(open("/dev/full", "wb"))):
             kept = keep(LOG, target, self.folder / "none" / "my.log")
             assert kept.file is not None
             self.assertEqual((kept.file.parent, kept.file.suffix), (self.elsewhere, ".log"))
@@ -144,22 +132,22 @@ class Elsewhere(Case):
             kept.file.unlink()
 
     def test_a_log_that_its_output_has_is_not_written_there(self) -> None:
-        raw = io.BytesIO()
-        self.assertEqual(keep(LOG, raw, self.folder / "none" / "my.log"), Kept(None, None))
-        self.assertEqual((raw.getvalue(), self.files()), (LOG, {}))
+        for beside in (self.folder / "none" / "my.log", None):
+            raw = io.BytesIO()
+            self.assertEqual(keep(LOG, raw, beside), Kept(None, None))
+            self.assertEqual((raw.getvalue(), self.files()), (LOG, {}))
 
     def test_a_path_that_takes_nothing_is_told_alone(self) -> None:
-        kept = keep(LOG, self.folder / "none" / "asked.log", None)
-        self.assertEqual(kept, Kept("No such file or directory", None))
-        self.assertEqual(self.files(), {})
-
-    def test_no_place_at_all(self) -> None:
-        for change in (mock.patch("tempfile.mkstemp", side_effect=OSError(28, "full")),
-                       mock.patch("os.write", side_effect=OSError(28, "full"))):
-            with change:
-                self.assertEqual(keep(LOG, None, None), Kept("it is closed", None))
+        nowhere = self.folder / "none" / "asked.log"
+        for beside in (nowhere, None):
+            self.assertEqual(keep(LOG, nowhere, beside), Kept("No such file or directory", None))
             self.assertEqual(self.files(), {})
 
-
-if __name__ == "__main__":
-    unittest.main()
+    def test_no_place_at_all(self) -> None:
+        full = self.enter(open("/dev/full", "wb"))
+        for name in ("tempfile.mkstemp", "os.write"):
+            for target, due in ((None, "it is closed"), (full, "the disk is full")):
+                with mock.patch("os.write", side_effect=OSError(28, "the disk is full")), \
+                        mock.patch(name, side_effect=OSError(28, "the disk is full")):
+                    self.assertEqual(keep(LOG, target, None), Kept(due, None))
+                self.assertEqual(self.files(), {})

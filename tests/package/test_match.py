@@ -1,8 +1,6 @@
 import json
 import os
 import signal
-import sys
-import tempfile
 import time
 import unittest
 from concurrent.futures import ThreadPoolExecutor
@@ -13,17 +11,16 @@ from typing import Any, Callable, List, Sequence
 from unittest import mock
 
 from geesefuton.experiments import match
-from geesefuton.experiments.agents import Agents
-from geesefuton.experiments.apart import Limits, why_not
+from geesefuton.experiments.agents import Agents, Job, Limits, why_not
 from geesefuton.experiments.entrants import Entrant
 from geesefuton.experiments.match import Exit, Match, outcome_of
-from geesefuton.experiments.messages import Job, Message, Note, Result
-from geesefuton.experiments.results import Kind, Outcome
+from geesefuton.experiments.results import Kind, Message, Note, Outcome, Result
 from geesefuton.hosting import events
 from geesefuton.hosting.events import End
 from geesefuton.hosting.lobby import LobbyError
 from geesefuton.processes import Children
-from tests.package.helpers import SERVED_GAME, SERVED_LOG, fake_program
+from tests.package.run_cases import PlaceCase
+from tests.package.helpers import SERVED_GAME, SERVED_LOG
 
 KEYS = tuple(f"key{seat}" for seat in range(8))
 WHY_NOT = why_not()
@@ -44,16 +41,14 @@ class Outcomes(unittest.TestCase):
                 self.assertIs(outcome_of(reason, exited, False, False), outcome,
                               (reason, exited))
 
-    def test_an_agent_that_asks_until_the_end_does_not_hang(self) -> None:
+    def test_who_asks_until_the_end_does_not_hang_and_refusals_count_for_empty_seats(self) -> None:
         for exited in (QUIT, FAILED, KILLED, STOPPED):
-            self.assertIs(outcome_of(End.HUNG, exited, False, True), Outcome.PLAYED)
+            for reason, was_refused, outcome in ((End.HUNG, False, Outcome.PLAYED),
+                                                 (End.ABSENT, True, Outcome.REFUSED),
+                                                 (End.LEFT, True, Outcome.PLAYED)):
+                self.assertIs(outcome_of(reason, exited, was_refused, not was_refused), outcome)
         self.assertIs(outcome_of(End.GONE, FAILED, False, True), Outcome.CRASHED)
         self.assertIs(outcome_of(End.REFUSED, QUIT, False, True), Outcome.REFUSED)
-
-    def test_a_refused_first_line_counts_only_for_an_empty_seat(self) -> None:
-        for exited in (QUIT, FAILED, KILLED, STOPPED):
-            self.assertIs(outcome_of(End.ABSENT, exited, True, False), Outcome.REFUSED)
-            self.assertIs(outcome_of(End.LEFT, exited, True, False), Outcome.PLAYED)
 
 
 class Lobby:
@@ -106,33 +101,22 @@ class Turns:
         Turns.given = given
 
 
-class Matches(unittest.TestCase):
+class Matches(PlaceCase):
     """A game with a stand-in for the lobby, and shell commands as agents."""
 
     def setUp(self) -> None:
-        folder = tempfile.TemporaryDirectory()
-        self.addCleanup(folder.cleanup)
-        self.place = Path(folder.name)
-        (self.place / "bin").mkdir()
+        super().setUp()
         self.sent: List[Message] = []
         self.audit("sound")
         self.lobby = type("Made", (Lobby,), {"ends": [End.LEFT] * 8,
                                              "log": SERVED_LOG.read_bytes(), "seconds": 0.3})
-        self.patch("geesefuton.experiments.match.Lobby", self.lobby)
+        self.patch("experiments.match.Lobby", self.lobby)
         self.turns = type("Made", (Turns,), {})
-        self.patch("geesefuton.experiments.match.TurnServer", self.turns)
-        self.patch("geesefuton.experiments.match.LEAVE", 60.0)
-
-    def patch(self, name: str, value: object) -> None:
-        patch = mock.patch(name, value)
-        patch.start()
-        self.addCleanup(patch.stop)
+        self.patch("experiments.match.TurnServer", self.turns)
+        self.patch("experiments.match.LEAVE", 60.0)
 
     def audit(self, says: str) -> None:
-        tac = fake_program(self.place / "bin", f"echo {says}; [ '{says}' = sound ] || exit 9")
-        patch = mock.patch.dict(os.environ, {"TAC": tac})
-        patch.start()
-        self.addCleanup(patch.stop)
+        self.use_program(f"echo {says}; [ '{says}' = sound ] || exit 9")
 
     def play(self, *scripts: str, words: Sequence[str] = tuple(f"red{seat}" for seat in range(8)),
              **more: Any) -> Result:
@@ -232,7 +216,7 @@ class Matches(unittest.TestCase):
                 listener.close()
             raise LobbyError("taken")
 
-        self.patch("geesefuton.experiments.match.Lobby", refuse)
+        self.patch("experiments.match.Lobby", refuse)
         self.assertEqual(self.play("echo here; sleep 600", limits=Limits()).fault, "taken")
         self.assertEqual(sorted(file.name for file in self.place.glob("7.0.out.*")),
                          [f"7.0.out.red{seat}" for seat in range(8)])
@@ -250,14 +234,14 @@ class Matches(unittest.TestCase):
         self.assertEqual((self.place / "7.0.out.red0").read_text(), "end\n")
 
     def test_the_lobby_is_told_of_agents_that_have_ended(self) -> None:
-        self.patch("geesefuton.experiments.match.LEAVE", 0.3)
+        self.patch("experiments.match.LEAVE", 0.3)
         self.lobby.awaited = 7
         self.play("sleep 600")
         self.assertEqual(sorted(Lobby.orders), [f"without red{seat}\n" for seat in range(1, 8)])
 
     def test_the_lobby_is_told_again_if_a_link_ended_after_its_agent(self) -> None:
         self.lobby.departed, self.lobby.awaited = [1, 2], 7
-        self.patch("geesefuton.experiments.match.LEAVE", 0.3)
+        self.patch("experiments.match.LEAVE", 0.3)
         self.play("exit 0", "exit 0", "sleep 600")
         self.assertEqual(Lobby.orders.count("without red0\n"), 1)
         self.assertEqual(Lobby.orders.count("without red1\n"), 2)
@@ -283,7 +267,7 @@ class Matches(unittest.TestCase):
     def test_agents_that_fail_are_told_with_what_they_printed_last(self) -> None:
         self.lobby.ends = [End.GONE, End.HUNG, End.ABSENT, End.ABSENT, End.LEFT, End.GONE,
                            End.REFUSED, End.LEFT]
-        self.patch("geesefuton.experiments.match.LEAVE", 3.0)
+        self.patch("experiments.match.LEAVE", 3.0)
         result = self.play("echo a; echo last; exit 3", "sleep 99", "exit 0", "kill -9 $$",
                            "exit 137", "exit 0", "exit 0")
         self.assertEqual([outcome.value for outcome in result.outcomes],
@@ -324,18 +308,18 @@ class Matches(unittest.TestCase):
 
     def test_an_agent_that_ignores_signals_is_ended_too(self) -> None:
         began = time.monotonic()
-        self.patch("geesefuton.experiments.match.LEAVE", 0.3)
+        self.patch("experiments.match.LEAVE", 0.3)
         self.play("trap '' TERM INT HUP; sleep 60")
         self.assertLess(time.monotonic() - began, 20)
         self.assertIn("was still running", self.notes())
 
     def test_much_that_is_printed_is_cut(self) -> None:
-        self.patch("geesefuton.experiments.match.MOST_KEPT", 1000)
+        self.patch("experiments.match.MOST_KEPT", 1000)
         self.play("seq 1 1000")
         text = (self.place / "7.0.out.red0").read_text()
         self.assertLess(len(text), 1100)
         self.assertTrue(text.startswith("[2893 bytes left out]\n") and text.endswith("1000\n"))
-        self.patch("geesefuton.experiments.match.MOST_PRINTED", 8)
+        self.patch("experiments.match.MOST_PRINTED", 8)
         self.lobby.ends = [End.GONE] * 8
         self.assertIs(self.play("seq 1 100000; exit 1").outcomes[0], Outcome.CRASHED)
         self.assertLessEqual((self.place / "7.0.out.red0").stat().st_size, 4096)
@@ -350,25 +334,18 @@ class Matches(unittest.TestCase):
             self.assertEqual((result.scores, result.outcomes), ((), ()))
             self.assertTrue(result.fault.startswith(told), result.fault)
 
-    def test_a_lapsed_tick_loses_nothing(self) -> None:
-        self.lobby.status = 6
-        self.assertEqual(len(self.play().scores), 8)
+        self.lobby.status, self.lobby.log = 6, SERVED_LOG.read_bytes()
+        self.assertEqual(len(self.play().scores), 8)  # a lapsed tick loses nothing
 
     def test_a_log_that_is_not_sound_loses_the_game(self) -> None:
         self.audit("unsound score 2")
         self.assertEqual(self.play().fault, "the audit of its log says `unsound score 2`")
 
     def test_a_lobby_that_cannot_begin(self) -> None:
-        with mock.patch.object(self.lobby, "__init__", side_effect=LobbyError("no port")):
-            self.assertEqual(self.play("sleep 60").fault, "no port")
-        with mock.patch.object(self.lobby, "run", side_effect=LobbyError("no disk")):
-            self.assertEqual(self.play("sleep 1").fault, "no disk")
+        for method, fault in (("__init__", "no port"), ("run", "no disk")):
+            with mock.patch.object(self.lobby, method, side_effect=LobbyError(fault)):
+                self.assertEqual(self.play("sleep 1").fault, fault)
 
     def test_signals_are_told_by_their_number(self) -> None:
         self.play(f"kill -{int(signal.SIGSEGV)} $$")
         self.assertIn(f"was ended by signal {int(signal.SIGSEGV)}", self.notes())
-        self.assertTrue(sys.executable)
-
-
-if __name__ == "__main__":
-    unittest.main()

@@ -38,18 +38,16 @@ class OneNight(unittest.TestCase):
             self.assertEqual(self.night(54, live=live),
                              Night([[0, 0], [6, 0], [12, 0], [18, 0]], [[0, 0]], [18, 0, 0]))
 
-    def test_by_the_minute_the_clock_publishes_the_ask(self) -> None:
+    def test_the_clock_publishes_the_ask_and_live_quotes_do_so_with_each_bid(self) -> None:
         asks = [[0, 0], [2.5, 60], [7, 95]]
-        for tick, published, closed in (
-                (12, [[0, 0], [6, 60], [12, 95]], None), (17, [[0, 0], [6, 60], [12, 95]], None),
-                (18, [[0, 0], [6, 60], [12, 95], [18, 95]], [18, 95, 2])):
-            self.assertEqual(self.night(tick, *self.BIDS), Night(published, asks, closed))
-
-    def test_live_quotes_publish_with_each_bid(self) -> None:
-        night = self.night(18, *self.BIDS, live=True)
-        self.assertEqual(night.published,
-                         [[0, 0], [2.5, 60], [6, 60], [7, 95], [12, 95], [18, 95]])
-        self.assertEqual((night.asks, night.closed), ([[0, 0], [2.5, 60], [7, 95]], [18, 95, 2]))
+        for tick, live, published, closed in (
+                (12, False, [[0, 0], [6, 60], [12, 95]], None),
+                (17, False, [[0, 0], [6, 60], [12, 95]], None),
+                (18, False, [[0, 0], [6, 60], [12, 95], [18, 95]], [18, 95, 2]),
+                (18, True, [[0, 0], [2.5, 60], [6, 60], [7, 95], [12, 95], [18, 95]],
+                 [18, 95, 2])):
+            self.assertEqual(self.night(tick, *self.BIDS, live=live),
+                             Night(published, asks, closed))
 
     def test_fewer_units_than_rooms_are_sold_for_nothing(self) -> None:
         self.assertEqual(self.night(18, *self.BIDS[:1]).closed, [18, 0, 1])
@@ -74,9 +72,10 @@ class OneNight(unittest.TestCase):
         night = self.night(18, self.BIDS[1], (0, "bid G ((1 70))", "@0 taken 0 0", 100),
                            (2, "bid G ((1 80))", "@3 taken 0 0", 599))
         self.assertEqual(night.asks, [[0, 0], [2.5, 60], [6, 70]])
-        night = self.night(6, (0, "bid G ((2 70))", "@0 taken 0 0", 300),
-                           (1, "bid G ((2 80))", "@1 taken 0 0", 290))
-        self.assertEqual(night.asks, [[0, 0], [3, 80]])  # the last of two at once
+        for first, then, at in ((300, 290, 3), (5, 15, 0.05)):  # the last of two at once
+            night = self.night(5, (0, "bid G ((2 70))", "@0 taken 0 0", first),
+                               (1, "bid G ((2 80))", "@1 taken 0 0", then))
+            self.assertEqual(night.asks, [[0, 0], [at, 80]])
 
     def test_what_follows_a_position_that_is_not_known_waits(self) -> None:
         calls = [(0, "bid G ((2 70))", "@0 taken 0 0", 300),
@@ -84,11 +83,6 @@ class OneNight(unittest.TestCase):
         self.assertEqual(self.night(5, *calls), Night([[0, 0]], [[0, 0], [3, 70]], None))
         self.assertEqual(self.night(6, *calls),
                          Night([[0, 0], [6, 70]], [[0, 0], [3, 70], [6, 80]], None))
-
-    def test_the_first_moment_keeps_its_price(self) -> None:
-        night = self.night(5, (0, "bid G ((2 70))", "@0 taken 0 0", 5),
-                           (1, "bid G ((2 80))", "@1 taken 0 0", 15))
-        self.assertEqual(night.asks, [[0, 0], [0.05, 80]])
 
     def test_times_end_with_the_game_and_have_two_digits(self) -> None:
         last = GAME.closing[7]
@@ -183,7 +177,3 @@ class WholeGames(unittest.TestCase):
             self.assertEqual(night.closed[2], sold)
             if sold:
                 self.assertEqual(night.closed[1], price)
-
-
-if __name__ == "__main__":
-    unittest.main()

@@ -49,7 +49,3 @@ class Order(unittest.TestCase):
         counts = Counter(first_seat(text + f"flight 0 {number}\n") for number in range(800))
         self.assertEqual(sorted(counts), list(range(SEATS)))
         self.assertTrue(all(60 <= count <= 140 for count in counts.values()), counts)
-
-
-if __name__ == "__main__":
-    unittest.main()

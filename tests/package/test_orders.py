@@ -2,14 +2,12 @@
 
 import io
 import os
-import tempfile
-import unittest
 from collections import deque
-from pathlib import Path
 from typing import Any, Callable, Deque, Dict, Optional
 from unittest import mock
 
 from geesefuton.hosting.console import Orders
+from tests.package.cases import Case, FolderCase
 
 
 class Selecting:
@@ -26,26 +24,19 @@ class Selecting:
         del self.calls[number]
 
 
-class Waiting(unittest.TestCase):
+class Waiting(Case):
     """Commands from a pipe, as from a terminal."""
 
     def setUp(self) -> None:
-        self.number, self.other = os.pipe()
-        self.source = os.fdopen(self.number, "r")
-        self.addCleanup(self.source.close)
-        self.addCleanup(self.close)
+        self.number, other = os.pipe()
+        self.other = self.enter(open(other, "wb", buffering=0))
         self.relay: Any = Selecting()
         self.got: Deque[str] = deque()
-        self.orders = Orders(self.source, self.got)
-
-    def close(self) -> None:
-        if self.other >= 0:
-            os.close(self.other)
-            self.other = -1
+        self.orders = Orders(self.enter(open(self.number, encoding="utf-8")), self.got)
 
     def say(self, data: bytes) -> None:
         """What comes is read at once, if it is attended."""
-        os.write(self.other, data)
+        self.other.write(data)
         self.relay.calls[self.number]()
 
     def test_lines_come_whole_and_in_order(self) -> None:
@@ -62,7 +53,7 @@ class Waiting(unittest.TestCase):
     def test_the_end_of_what_is_read(self) -> None:
         self.orders.look(self.relay)
         self.say(b"\n")
-        self.close()
+        self.other.close()
         self.relay.calls[self.number]()
         self.assertEqual((list(self.got), self.relay.calls), ([""], {}))
         self.orders.look(self.relay)
@@ -83,19 +74,16 @@ class Waiting(unittest.TestCase):
         with mock.patch("os.isatty", return_value=True) as isatty, \
                 mock.patch("os.tcgetpgrp") as group:
             group.return_value = os.getpgrp() + 1
-            self.orders.look(self.relay)
-            self.assertEqual(self.relay.calls, {})
-            group.side_effect = OSError
-            self.orders.look(self.relay)
-            self.assertEqual(self.relay.calls, {})
-
+            for fault in (None, OSError):
+                group.side_effect = fault
+                self.orders.look(self.relay)
+                self.assertEqual(self.relay.calls, {})
             group.side_effect, group.return_value = None, os.getpgrp()
             self.orders.look(self.relay)
             self.say(b"one\n")
             group.return_value = os.getpgrp() + 1  # the host has put it into the background
             self.say(b"two\n")
             self.assertEqual((list(self.got), self.relay.calls), (["one"], {}))
-
             group.return_value = os.getpgrp()
             self.orders.look(self.relay)
             self.relay.calls[self.number]()
@@ -109,7 +97,7 @@ class Waiting(unittest.TestCase):
         self.assertEqual(list(self.got), ["one"])
 
 
-class AtOnce(unittest.TestCase):
+class AtOnce(FolderCase):
     """Sources that need no waiting."""
 
     def orders(self, source: Optional[Any], relay: Any) -> "list[str]":
@@ -119,33 +107,21 @@ class AtOnce(unittest.TestCase):
             orders.look(relay)
         return list(got)
 
-    def test_none(self) -> None:
-        relay = mock.Mock()
-        self.assertEqual(self.orders(None, relay), [])
-        closed = io.StringIO("one\n")
+    def test_none_and_a_text_in_memory(self) -> None:
+        relay, closed = mock.Mock(), io.StringIO("one\n")
         closed.close()
-        self.assertEqual(self.orders(closed, relay), [])
         with open(os.devnull, encoding="ascii") as file:
             pass  # a standard input that was closed
-        self.assertEqual(self.orders(file, relay), [])
-        self.assertEqual(relay.method_calls, [])
-
-    def test_a_text_in_memory(self) -> None:
-        relay = mock.Mock()
-        source = io.StringIO("without seat3\n\n  one \n")
-        self.assertEqual(self.orders(source, relay), ["without seat3", "", "one"])
+        for source, due in ((None, []), (closed, []), (file, []), (
+                io.StringIO("without seat3\n\n  one \n"), ["without seat3", "", "one"])):
+            self.assertEqual(self.orders(source, relay), due)
         self.assertEqual(relay.method_calls, [])
 
     def test_a_file_is_read_to_its_end(self) -> None:
-        with tempfile.TemporaryDirectory() as folder:
-            file = Path(folder, "orders")
-            lines = [f"without seat{number}" for number in range(500)]  # more than are read at once
-            file.write_text("".join(f"{line}\n" for line in lines))
-            for fault in (PermissionError, ValueError):
-                relay = mock.Mock(attend=mock.Mock(side_effect=fault))
-                with file.open() as source:
-                    self.assertEqual(self.orders(source, relay), lines)
-
-
-if __name__ == "__main__":
-    unittest.main()
+        file = self.folder / "orders"
+        lines = [f"without seat{number}" for number in range(500)]  # more than are read at once
+        file.write_text("".join(f"{line}\n" for line in lines))
+        for fault in (PermissionError, ValueError):
+            relay = mock.Mock(attend=mock.Mock(side_effect=fault))
+            with file.open() as source:
+                self.assertEqual(self.orders(source, relay), lines)

@@ -2,29 +2,32 @@
 
 import csv
 import importlib.util
+import random
 import re
 import unittest
 from collections import defaultdict
 from dataclasses import replace
 from typing import Any, Dict, List, Optional, Tuple
 
-from geesefuton.experiments import study
-from geesefuton.experiments.kept import games_of, read_kept
-from geesefuton.experiments.runs import read_scores
+from geesefuton.experiments.comparisons import missing_libraries
+from geesefuton.experiments.runs import read_games, read_scores
 from geesefuton.experiments.summary import summarize
 from geesefuton.records.best_plans import best_plan
-from geesefuton.records.games import Client, read_game
+from geesefuton.records.drawing import made_game
+from geesefuton.records.games import GOODS, Client, read_game
 from geesefuton.records.logs import Call, Entry, Trade
 from geesefuton.records.replies import read_entry_reply
 from geesefuton.records.report_page import number
 from geesefuton.records.rules import prices_of
 from tests.package.helpers import cells_of, needs_study, refusal, run, served_game
+from tests.package.test_best_plans import OPTIMA, counted, small_case, tight_case
 from tests.package.test_data import NAMES, TEXTS, Case, numbers
 from tests.package.test_summary import row
 
-if not study.missing("these tests"):
-    from geesefuton.experiments.overview import (PARTS, PREDICTORS, SIDES, figures_of, fills_of,
-                                                 optimum, overview_of, table_of)
+if not missing_libraries("these tests"):
+    from geesefuton.experiments.overview import (PARTS, PREDICTORS, SIDES, best_allocation,
+                                                 figures_of, fills_of, optimum, overview_of,
+                                                 table_of)
     from geesefuton.experiments.overview_page import page, sections
 
 TAKEN, DONE = read_entry_reply("taken 0 0"), read_entry_reply("done")
@@ -48,6 +51,42 @@ class Fills(unittest.TestCase):
                    Entry(5, Call("bid", ((-9, 1),)), read_entry_reply("no closed"))]
         self.assertEqual(fills_of(history), {(5, True): [2, 2], (5, False): [1, 0],
                                              (2, False): [5, 2]})
+
+
+@needs_study
+class Allocations(unittest.TestCase):
+    def test_no_trips_are_worth_more(self) -> None:
+        for seed in range(4):
+            clients, held, prices = small_case(seed)
+            due = counted(clients, held, prices)
+            self.assertEqual(best_allocation(clients, held, prices), (due, due))
+
+    def test_no_trips_are_worth_a_dollar_more(self) -> None:
+        for seed, due in OPTIMA.items():
+            self.assertEqual(best_allocation(*tight_case(seed)), (due, due))
+
+    def test_eight_clients_have_what_the_search_of_plans_finds(self) -> None:
+        draw = random.Random(8)
+        for seed in range(6):
+            clients = made_game(seed).clients[0]
+            held = [draw.choice([0, 0, 1, 2]) for _ in GOODS]
+            prices: List[Optional[int]] = [draw.choice([None, draw.randrange(10, 400)])
+                                           for _ in GOODS]
+            plan = best_plan(clients, held, prices)
+            found = best_allocation(clients, held, prices)
+            self.assertEqual(found.value, found.bound)
+            self.assertTrue(plan.value <= found.value <= plan.bound)
+
+    def test_sixty_four_clients(self) -> None:
+        """The best known allocation is the bound, and more than by looking for better trips one
+        client after the other."""
+        game = made_game(1)
+        clients = [client for clients in game.clients for client in clients]
+        held = [0] * 8 + list(game.rooms) + list(map(sum, zip(*game.endow)))
+        prices = [*(flight.first for flight in game.flights), *[None] * 20]
+        found = best_allocation(clients, held, prices)
+        self.assertEqual(found.value, found.bound)
+        self.assertGreater(found.value, best_plan(clients, held, prices).value)
 
 
 @needs_study
@@ -80,8 +119,7 @@ class Games(Case):
         super().setUp()
         self.rows = read_scores(self.folder).rows
         if not self.figures:
-            for rows in games_of(self.rows):
-                kept = read_kept(self.folder, rows)
+            for kept in read_games(self.folder, self.rows, []):
                 self.figures.append(figures_of(kept, optimum(kept.game)))
         self.overview = overview_of(self.figures)
         self.by_agent = {agent: seats for agent, seats in self.overview.seats.groupby("agent")}
@@ -229,7 +267,3 @@ class Errors(unittest.TestCase):
                          [(40 + 20 + 70) / 3, (50 + 60 + 55) / 3, (30 + 50 + 40) / 3])
         self.assertEqual(errors.shape, (8, 3))
         self.assertEqual(len(SIDES), 4)
-
-
-if __name__ == "__main__":
-    unittest.main()

@@ -2,25 +2,25 @@
 
 import asyncio
 import contextlib
+import functools
 import resource
 import socket
-import tempfile
 import threading
-import unittest
-from pathlib import Path
-from typing import Any, AsyncGenerator, Dict, List, Tuple
+from typing import Any, AsyncGenerator, Awaitable, Callable, Dict, List, Tuple
 from unittest import mock
 
 from geesefuton.network.pages import (FIRST, MOST_BODY, MOST_EACH, MOST_LINKS, SELDOM, Bell, Faults,
                                       PageServer, Request, Response, page_gate, read_page)
+from tests.package import cases
+from tests.package.cases import MOST
 
-MOST = 60.0  # seconds that anything may take, on a machine that is busy with other work
 Answer = Tuple[str, Dict[str, str], bytes]
 Link = Tuple[asyncio.StreamReader, asyncio.StreamWriter]
+OK = "HTTP/1.1 200 OK"
 GET = b"GET %s HTTP/1.1\r\nHost: x\r\n\r\n"
 
 
-class Case(unittest.TestCase):
+class Case(cases.Case):
     """A server on loopback, and browsers of many addresses.
 
     Attributes:
@@ -33,13 +33,11 @@ class Case(unittest.TestCase):
         self.asked: List[Request] = []
         self.beat = 1.0  # seconds between pieces
         for name in ("FIRST", "PATIENCE"):  # a busy machine is no reason to let a link go
-            self.patch(name, MOST)
+            self.set(name, MOST)
 
-    def patch(self, name: str, value: float) -> None:
+    def set(self, name: str, value: float) -> None:
         """A constant is another one."""
-        change = mock.patch(f"geesefuton.network.pages.{name}", value)
-        change.start()
-        self.addCleanup(change.stop)
+        self.patch(f"network.pages.{name}", value)
 
     async def answer(self, request: Request) -> Response:
         """Answers by the path: `/known` shows a token, and `/events` goes on."""
@@ -87,6 +85,12 @@ class Case(unittest.TestCase):
         writer.write(request)
         return answer_of(await reader.read())
 
+    async def known(self, port: int, path: bytes = b"/known", address: str = "127.0.0.1") -> Link:
+        """A link that has shown a token."""
+        link = await self.open(port, address)
+        await asks(link, path)
+        return link
+
     async def hold(self, port: int, count: int, request: bytes, address: str) -> List[Link]:
         """Links that begin something that does not end."""
         links = [await self.open(port, address) for _ in range(count)]
@@ -95,6 +99,21 @@ class Case(unittest.TestCase):
             if b"events" in request:
                 await reader.readuntil(b"piece\n")
         return links
+
+
+def served(work: Callable[[Any, int], Awaitable[None]]) -> Callable[[Any], None]:
+    """A test of what some work does that is given the server's port."""
+    @functools.wraps(work)
+    def test(case: Case) -> None:
+        case.run_it(functools.partial(work, case))
+
+    return test
+
+
+async def asks(link: Link, path: bytes = b"/known", more: bytes = b"") -> None:
+    """A link asks once more, and is answered."""
+    link[1].write(b"GET " + path + b" HTTP/1.1\r\n" + more + b"\r\n")
+    await link[0].readuntil(b"the page")
 
 
 def answer_of(data: bytes) -> Answer:
@@ -115,51 +134,42 @@ class Answering(Case):
         status, heads, body = self.get(b"GET /a/b?c=d HTTP/1.1\r\nhOST:x \r\n\r\n")
         self.assertEqual((status, heads["Content-Type"], heads["Content-Length"], heads["X-More"],
                           heads["Connection"], body),
-                         ("HTTP/1.1 200 OK", "text/plain", "8", "1", "close", b"the page"))
+                         (OK, "text/plain", "8", "1", "close", b"the page"))
         self.assertIn("default-src 'none'", heads["Content-Security-Policy"])
         asked, = self.asked
         self.assertEqual(asked[:4], ("GET", "/a/b", {"host": "x"}, b""))
         for line in (b"GET\r\n\r\n", b"\r\n\r\n"):
-            self.assertEqual(self.get(line)[0], "HTTP/1.1 200 OK")
+            self.assertEqual(self.get(line)[0], OK)
 
     def test_a_body_is_short_and_has_a_length(self) -> None:
         post = b"POST / HTTP/1.1\r\nContent-Length: %s\r\n\r\n"
-        self.assertEqual(self.get(post % b"5" + b"hello")[0], "HTTP/1.1 200 OK")
+        self.assertEqual(self.get(post % b"5" + b"hello")[0], OK)
         self.assertEqual(self.asked[-1].body, b"hello")
         for length in (b"-1", b"x", b"\xb2", b"%d" % (MOST_BODY + 1), b"9" * 5000):
             self.assertEqual(self.get(post % length), ("", {}, b""), length)
         self.assertEqual(self.told, [])
 
-    def test_a_head_with_many_cookies_is_answered(self) -> None:
-        for size, due in ((9, "HTTP/1.1 200 OK"), (60, "HTTP/1.1 200 OK"), (300, "")):
-            head = b"GET / HTTP/1.1\r\nCookie: a=" + b"x" * (size << 10) + b"\r\n\r\n"
+    def test_a_head_of_many_cookies_is_answered_and_one_of_thousands_of_lines_is_not(self) -> None:
+        for lines, is_answered in ((b"Cookie: a=" + b"x" * (9 << 10) + b"\r\n", True),
+                                   (b"Cookie: a=" + b"x" * (60 << 10) + b"\r\n", True),
+                                   (b"Cookie: a=" + b"x" * (300 << 10) + b"\r\n", False),
+                                   (b"a:\r\n" * 97, True), (b"a:\r\n" * 16000, False)):
             with contextlib.suppress(ConnectionError):
-                self.assertEqual(self.get(head)[0], due)
+                self.assertEqual(self.get(b"GET / HTTP/1.1\r\n" + lines + b"\r\n")[0],
+                                 OK * is_answered)
 
-    def test_a_head_of_thousands_of_lines_is_not_split(self) -> None:
-        for lines, due in ((97, "HTTP/1.1 200 OK"), (16000, "")):
-            head = b"GET / HTTP/1.1\r\n" + b"a:\r\n" * lines + b"\r\n"
-            with contextlib.suppress(ConnectionError):
-                self.assertEqual(self.get(head)[0], due)
-
-    def test_a_link_with_a_token_is_kept(self) -> None:
-        async def work(port: int) -> List[bytes]:
-            reader, writer = await self.open(port)
-            got = []
-            for more in (b"", b"", b"Connection: close\r\n"):
-                writer.write(b"GET /known HTTP/1.1\r\n" + more + b"\r\n")
-                await reader.readuntil(b"the page")
-            got.append(await reader.read())
-            return got
-
-        self.assertEqual(self.run_it(work), [b""])
+    @served
+    async def test_a_link_with_a_token_is_kept(self, port: int) -> None:
+        link = await self.known(port)
+        for more in (b"", b"Connection: close\r\n"):
+            await asks(link, more=more)
+        self.assertEqual(await link[0].read(), b"")
         self.assertEqual(len(self.asked), 3)
 
-    def test_one_that_fails_is_told_of_and_no_other_is_hurt(self) -> None:
-        async def work(port: int) -> List[str]:
-            return [(await self.ask(port, GET % path))[0] for path in (b"/fails", b"/")]
-
-        self.assertEqual(self.run_it(work), ["", "HTTP/1.1 200 OK"])
+    @served
+    async def test_one_that_fails_is_told_of_and_no_other_is_hurt(self, port: int) -> None:
+        self.assertEqual([(await self.ask(port, GET % path))[0] for path in (b"/fails", b"/")],
+                         ["", OK])
         self.assertEqual(self.told, ["a page failed: KeyError('no such thing')"])
 
 
@@ -176,118 +186,96 @@ class LettingGo(Case):
             await asyncio.sleep(0.01)
         return await reading
 
-    def test_a_head_has_a_time_for_all_of_it(self) -> None:
+    def test_a_head_a_body_and_the_next_head_of_a_kept_link_have_a_time_for_all_of_it(self) -> None:
         self.assertLessEqual(FIRST, 5.0)
-        self.patch("FIRST", 0.2)
-        for first in (b"", b"GET / HTTP/1.1\r\nA: "):
-            with contextlib.suppress(ConnectionError):
-                self.assertEqual(self.run_it(lambda port, it=first: self.trickle(port, it)), b"")
-        self.assertEqual(self.asked, [])
-
-    def test_so_has_a_body_and_the_next_head_of_a_link_that_is_kept(self) -> None:
-        self.patch("PATIENCE", 0.2)
-        for first, due in ((b"POST / HTTP/1.1\r\nContent-Length: 4000\r\n\r\n", 0),
-                           (b"GET /known HTTP/1.1\r\n\r\nGET", 1)):
-            with contextlib.suppress(ConnectionError):
+        for name, first, due in (
+                ("FIRST", b"", 0), ("FIRST", b"GET / HTTP/1.1\r\nA: ", 0),
+                ("PATIENCE", b"POST / HTTP/1.1\r\nContent-Length: 4000\r\n\r\n", 0),
+                ("PATIENCE", b"GET /known HTTP/1.1\r\n\r\nGET", 1)):
+            self.asked.clear()
+            with mock.patch(f"geesefuton.network.pages.{name}", 0.2), \
+                    contextlib.suppress(ConnectionError):
                 got = self.run_it(lambda port, it=first: self.trickle(port, it))
                 self.assertEqual(got.count(b"the page"), due)
+            self.assertEqual(len(self.asked), due)
 
-    def test_one_that_takes_nothing_is_let_go(self) -> None:
-        self.patch("PATIENCE", 0.1)
-
-        async def work(port: int) -> int:
-            reader, writer = await asyncio.open_connection("127.0.0.1", port, limit=1024)
-            self.opened.append(writer)
-            writer.write(GET % b"/")
-            got = len(await reader.read(1024))
-            await asyncio.sleep(0.3)
-            with contextlib.suppress(ConnectionError):
-                while piece := await reader.read(1 << 20):
-                    got += len(piece)
-            return got
-
-        with mock.patch.object(self, "answer", mock.AsyncMock(
-                return_value=Response("200 OK", "text/plain", b"x" * (32 << 20)))):
-            self.assertLess(self.run_it(work), 32 << 20)
-
-    def test_one_that_takes_a_long_answer_slowly_gets_all_of_it(self) -> None:
+    def taken(self, size: int, first: float, then: float) -> int:
+        """How much a browser gets of an answer of some bytes that pauses after the first of them,
+        and then after each piece."""
         async def work(port: int) -> int:
             reader, writer = await self.open(port)
             writer.write(GET % b"/")
             await reader.readuntil(b"\r\n\r\n")
+            await asyncio.sleep(first)
             got = 0
-            while piece := await reader.read(1 << 20):
-                got += len(piece)
-                await asyncio.sleep(0.01)
+            with contextlib.suppress(ConnectionError):
+                while piece := await reader.read(1 << 20):
+                    got += len(piece)
+                    await asyncio.sleep(then)
             return got
 
         with mock.patch.object(self, "answer", mock.AsyncMock(
-                return_value=Response("200 OK", "text/plain", b"x" * (8 << 20)))):
-            self.assertEqual(self.run_it(work), 8 << 20)
+                return_value=Response("200 OK", "text/plain", b"x" * size))):
+            got: int = self.run_it(work)
+            return got
+
+    def test_one_that_takes_nothing_is_let_go_and_one_that_is_slow_gets_all(self) -> None:
+        self.assertEqual(self.taken(8 << 20, 0.0, 0.01), 8 << 20)
+        self.set("PATIENCE", 0.1)
+        self.assertLess(self.taken(32 << 20, 0.3, 0.0), 32 << 20)
 
 
 class Crowds(Case):
     """Who is served if there are many links."""
 
-    def test_links_that_go_on_from_four_addresses_do_not_keep_a_fifth_out(self) -> None:
-        async def work(port: int) -> List[str]:
-            for number in range(4):
-                await self.hold(port, 50, GET % b"/events", f"127.0.0.{number + 2}")
-            fifth, = await self.hold(port, 1, GET % b"/events", "127.0.1.1")
-            for number in range(4):  # and those that return do not end it
-                await self.hold(port, 5, GET % b"/events", f"127.0.0.{number + 2}")
-            await fifth[0].readuntil(b"piece\n")
-            return [(await self.ask(port, GET % b"/", address))[0]
-                    for address in ("127.0.1.2", "127.0.0.2")]
+    async def check(self, port: int, *addresses: str) -> None:
+        """Links from these addresses are served."""
+        for address in addresses:
+            self.assertEqual((await self.ask(port, GET % b"/", address))[0], OK)
 
-        self.assertEqual(self.run_it(work), ["HTTP/1.1 200 OK"] * 2)
+    @served
+    async def test_links_that_go_on_from_four_addresses_do_not_keep_a_fifth_out(
+            self, port: int) -> None:
+        for number in range(4):
+            await self.hold(port, 50, GET % b"/events", f"127.0.0.{number + 2}")
+        fifth, = await self.hold(port, 1, GET % b"/events", "127.0.1.1")
+        for number in range(4):  # and those that return do not end it
+            await self.hold(port, 5, GET % b"/events", f"127.0.0.{number + 2}")
+        await fifth[0].readuntil(b"piece\n")
+        await self.check(port, "127.0.1.2", "127.0.0.2")
         self.assertEqual((MOST_LINKS, MOST_EACH, self.told), (200, 50, []))
 
-    def test_heads_that_trickle_do_not_keep_a_player_out(self) -> None:
-        async def work(port: int) -> List[str]:
-            for number in range(6):
-                await self.hold(port, 50, b"GET / HTTP/1.1\r\nA: ", f"127.0.0.{number + 2}")
-            reader, writer = await self.open(port, "127.0.0.2")
-            writer.write(GET % b"/known")
-            await reader.readuntil(b"the page")
-            return [(await self.ask(port, GET % b"/", address))[0]
-                    for address in ("127.0.0.2", "127.0.1.1")]
+    @served
+    async def test_heads_that_trickle_do_not_keep_a_player_out(self, port: int) -> None:
+        for number in range(6):
+            await self.hold(port, 50, b"GET / HTTP/1.1\r\nA: ", f"127.0.0.{number + 2}")
+        await self.known(port, address="127.0.0.2")
+        await self.check(port, "127.0.0.2", "127.0.1.1")
 
-        self.assertEqual(self.run_it(work), ["HTTP/1.1 200 OK"] * 2)
-
-    def test_players_behind_one_address_are_all_served(self) -> None:
-        async def work(port: int) -> int:
-            links = []
-            for number in range(8 * 10):  # more than strangers of one address may have
-                reader, writer = await self.open(port)
-                writer.write(GET % b"/known%d" % (number % 8))
-                await reader.readuntil(b"the page")
-                links.append((reader, writer))
-            for reader, writer in links:  # and each of them goes on
-                writer.write(GET % b"/known")
-                await reader.readuntil(b"the page")
-            return len(links)
-
-        self.assertGreater(self.run_it(work), MOST_EACH)
+    @served
+    async def test_players_behind_one_address_are_all_served(self, port: int) -> None:
+        links = [await self.known(port, b"/known%d" % (number % 8))
+                 for number in range(8 * 10)]  # more than strangers of one address may have
+        for link in links:  # and each of them goes on
+            await asks(link)
+        self.assertGreater(len(links), MOST_EACH)
 
     def test_links_that_come_at_once_need_few_files(self) -> None:
-        async def work(port: int) -> str:
+        async def work(port: int) -> None:
             for _ in range(100):  # before any of them is taken
-                link = stack.enter_context(socket.create_connection(("127.0.0.1", port)))
+                link = self.enter(socket.create_connection(("127.0.0.1", port)))
             resource.setrlimit(resource.RLIMIT_NOFILE, (link.fileno() + 60, most[1]))
-            return (await self.ask(port, GET % b"/"))[0]
+            await self.check(port, "127.0.0.1")
 
-        self.patch("MOST_LINKS", 20)
+        self.set("MOST_LINKS", 20)
         most = resource.getrlimit(resource.RLIMIT_NOFILE)
         self.addCleanup(resource.setrlimit, resource.RLIMIT_NOFILE, most)
-        with contextlib.ExitStack() as stack:
-            self.assertEqual(self.run_it(work), "HTTP/1.1 200 OK")
+        self.run_it(work)
         self.assertEqual(self.told, [])
 
-    def test_a_system_without_open_files_is_told_once_and_asked_again(self) -> None:
-        async def work(port: int) -> str:
-            return (await self.ask(port, GET % b"/"))[0]
-
+    @served
+    async def test_a_system_without_open_files_is_told_once_and_asked_again(
+            self, port: int) -> None:
         faults = [OSError(24, "Too many open files")] * 3
         accept = socket.socket.accept
 
@@ -296,9 +284,9 @@ class Crowds(Case):
                 raise faults.pop()
             return accept(listener)
 
-        self.patch("AGAIN", 0.01)
+        self.set("AGAIN", 0.01)
         with mock.patch.object(socket.socket, "accept", refused):
-            self.assertEqual(self.run_it(work), "HTTP/1.1 200 OK")
+            await self.check(port, "127.0.0.1")
         self.assertEqual(self.told, ["cannot accept a browser: Too many open files"])
 
     def test_where_few_files_may_be_open_there_are_few_links(self) -> None:
@@ -310,15 +298,14 @@ class Crowds(Case):
 
 
 class Stopping(Case):
-    def test_a_server_that_is_stopped_as_a_link_comes_ends_without_a_fault(self) -> None:
-        async def work(port: int) -> None:
-            await asyncio.sleep(0)  # it waits for links
-            with socket.create_connection(("127.0.0.1", port)):
-                await asyncio.sleep(0)  # and is about to take this one
-                self.serving.cancel()
-                await asyncio.wait([self.serving])
-
-        self.run_it(work)
+    @served
+    async def test_a_server_that_is_stopped_as_a_link_comes_ends_without_a_fault(
+            self, port: int) -> None:
+        await asyncio.sleep(0)  # it waits for links
+        with socket.create_connection(("127.0.0.1", port)):
+            await asyncio.sleep(0)  # and is about to take this one
+            self.serving.cancel()
+            await asyncio.wait([self.serving])
         self.assertEqual(self.told, [])
 
     def test_a_server_with_links_ends_at_any_moment(self) -> None:
@@ -335,7 +322,7 @@ class Stopping(Case):
             self.assertFalse(page.is_alive(), "it goes on, although it was stopped")
 
 
-class Waking(unittest.TestCase):
+class Parts(cases.FolderCase):
     def test_a_bell_is_rung_in_any_thread(self) -> None:
         async def work() -> int:
             bell, number = Bell(), 0
@@ -356,8 +343,6 @@ class Waking(unittest.TestCase):
 
         self.assertEqual(asyncio.run(asyncio.wait_for(work(), MOST)), 3)
 
-
-class Telling(unittest.TestCase):
     def test_a_fault_that_lasts_is_told_once_in_a_while(self) -> None:
         told: List[str] = []
         faults = Faults(told.append)
@@ -369,16 +354,9 @@ class Telling(unittest.TestCase):
             faults.tell("tick 101", "no disk")
         self.assertEqual(told, ["tick 0: no disk", "tick 100: no file", "tick 101: no disk"])
 
-
-class Style(unittest.TestCase):
     def test_a_page_has_what_all_share_in_it(self) -> None:
-        with tempfile.TemporaryDirectory() as folder:
-            file = Path(folder, "a.html")
-            file.write_text("<title>A</title>")
-            text = read_page(file).decode()
+        file = self.folder / "a.html"
+        file.write_text("<title>A</title>")
+        text = read_page(file).decode()
         self.assertRegex(text, r"(?s)^<!doctype html>\n.*<style>\n:root \{.*\}\n</style>\n"
                                r"<script>\n\"use strict\";\n.*;\n</script>\n<title>A</title>$")
-
-
-if __name__ == "__main__":
-    unittest.main()

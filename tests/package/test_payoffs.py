@@ -6,13 +6,13 @@ import unittest
 from dataclasses import replace
 from typing import Dict, List, Tuple
 
-from geesefuton.experiments import study
+from geesefuton.experiments.comparisons import missing_libraries
 from geesefuton.experiments.reduction import (counts_of, expanded, needed_profiles, profiles_of,
                                               text_of_profile)
 from geesefuton.experiments.results import Outcome, Row
 from tests.package.helpers import needs_study
 
-if not study.missing("these tests"):
+if not missing_libraries("these tests"):
     from geesefuton.experiments.equilibria import find, gains
     from geesefuton.experiments.payoffs import Payoffs
 
@@ -162,7 +162,3 @@ class Tables(unittest.TestCase):
         self.assertEqual(len(found.equilibria), 1)
         for share in found.equilibria[0].mixture:
             self.assertAlmostEqual(share, 1 / 3, places=6)
-
-
-if __name__ == "__main__":
-    unittest.main()

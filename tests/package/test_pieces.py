@@ -2,14 +2,13 @@
 
 import itertools
 import random
-import tempfile
 import unittest
-from pathlib import Path
 from typing import List, Optional, Sequence, Tuple
 
 from geesefuton.hosting.pieces import (Difference, Piece, RecordError, first_difference,
                                        read_piece, stems_of)
 from geesefuton.hosting.server_links import LinkBytes
+from tests.package.cases import FolderCase
 
 WELCOME = b"".join(b"welcome %d\n" % number for number in range(10))
 
@@ -88,18 +87,14 @@ class Joined(unittest.TestCase):
         self.assertGreater(joined, 100)
 
     def test_a_line_that_is_too_long(self) -> None:
-        long = "x" * 700
-        self.assertEqual(self.differ(link(["x" * 513], ["no toolong"]), ([long], ["no toolong"])),
-                         "")
-        self.assertEqual(self.differ(link(["x" * 512], ["no toolong"]), ([long], ["no toolong"])),
-                         "red, line 1")
+        for kept, due in ((513, ""), (512, "red, line 1")):
+            self.assertEqual(self.differ(link(["x" * kept], ["no toolong"]),
+                                         (["x" * 700], ["no toolong"])), due)
 
-    def test_half_lines_are_left_out(self) -> None:
+    def test_half_lines_are_left_out_and_replies_beyond_the_lines_are_not(self) -> None:
         asked, said = link(["a", "b"], ["1"])
         half = [Piece("red", LinkBytes(asked + b"own 2", said + b"@2"))]
         self.assertIsNone(first_difference(half, link(["a", "b"], ["1", "2"]), WELCOME))
-
-    def test_more_replies_than_lines(self) -> None:
         self.assertEqual(self.differ(link("ab", "12"), (["a"], ["1", "2"])), "red, line 2")
 
     def test_a_welcome(self) -> None:
@@ -139,12 +134,7 @@ def plainly(each: Sequence[Tuple[Sequence[str], Sequence[str]]],
     return False
 
 
-class Files(unittest.TestCase):
-    def setUp(self) -> None:
-        place = tempfile.TemporaryDirectory()
-        self.addCleanup(place.cleanup)
-        self.folder = Path(place.name)
-
+class Files(FolderCase):
     def write(self, *names: str) -> None:
         for name in names:
             (self.folder / name).write_bytes(b"hello red7k\n")
@@ -178,7 +168,3 @@ class Files(unittest.TestCase):
     def test_a_greeting_that_is_none(self) -> None:
         for line in (b"hello", b"hello  red", b"hi red", b"hello RED", b"hello red\r", b""):
             self.assertEqual(Piece("x", LinkBytes(line + b"\n", b"")).word, "")
-
-
-if __name__ == "__main__":
-    unittest.main()

@@ -1,30 +1,28 @@
-import os
 import sys
-import tempfile
-import unittest
 from pathlib import Path
 from unittest import mock
 
-from geesefuton.experiments.plan import make_parser, read_plan, text_of
+from geesefuton.experiments.plan import Plan, make_parser, read_plan, text_of
 from geesefuton.experiments.provenance import digest_of, package_digest
-from tests.package.helpers import SERVED_GAME, TOP, fake_program
+from tests.package.run_cases import PlaceCase
+from tests.package.helpers import SERVED_GAME, TOP
 
 
-class Settings(unittest.TestCase):
+def plan_of(*words: object) -> Plan:
+    parser = make_parser("")
+    return read_plan(parser, parser.parse_args([*map(str, words), "sh", "cat"]))
+
+
+class Settings(PlaceCase):
     """What a plan says of what can be compared, with a stand-in for the program."""
 
     def setUp(self) -> None:
-        folder = tempfile.TemporaryDirectory()
-        self.addCleanup(folder.cleanup)
-        self.tac = fake_program(Path(folder.name), f"cat '{SERVED_GAME}'")
-        patch = mock.patch.dict(os.environ, {"TAC": self.tac})
-        patch.start()
-        self.addCleanup(patch.stop)
+        super().setUp()
+        self.tac = self.use_program()
 
     def settings(self, *words: object) -> "dict[str, str]":
-        parser = make_parser("")
-        given = parser.parse_args(["--no-apart", "--out", "x", *map(str, words), "sh", "cat"])
-        return {name: str(value) for name, value in read_plan(parser, given).settings.items()}
+        plan = plan_of("--no-apart", "--out", "x", *words)
+        return {name: str(value) for name, value in plan.settings.items()}
 
     def test_games_by_the_clock_and_in_turns(self) -> None:
         digests = {"tac": digest_of(Path(self.tac))[:12], "package": package_digest()[:12]}
@@ -67,36 +65,28 @@ class Settings(unittest.TestCase):
         first = self.settings("--game", TOP / "examples" / "first.game")
         self.assertEqual(first.keys() & {"game", "rooms", "live"}, {"game"})
         text = SERVED_GAME.read_text()
-        copy = Path(self.tac).with_name("copy.game")
+        copy = self.place / "copy.game"
         copy.write_text(text.replace("words twotrips ", "words onetrip "))
         self.assertEqual(self.settings("--game", copy), self.settings("--game", SERVED_GAME))
         self.assertNotEqual(self.settings("--game", copy), first)
 
     def test_a_folder_has_its_games(self) -> None:
-        parser = make_parser("")
-        plan = read_plan(parser, parser.parse_args(["--out", "runs/1", "--resume", "sh", "cat"]))
+        plan = plan_of("--out", "runs/1", "--resume")
         self.assertEqual((plan.out, plan.is_resumed), (Path("runs/1"), True))
         self.assertEqual(sorted(plan.agents), ["cat", "sh"])
 
     def test_a_run_draws_from_a_secret_of_its_own(self) -> None:
-        parser = make_parser("")
-        rules = [read_plan(parser, parser.parse_args(["--out", "x", "sh", "cat", *words])).rule
+        rules = [plan_of("--out", "x", *words).rule
                  for words in ([], [], ["--seed", "9"], ["--seed", "9"])]
         self.assertEqual([rule.seed for rule in rules], [None, None, 9, 9])
         self.assertNotEqual(rules[0].secret, rules[1].secret)
         self.assertEqual(rules[2], rules[3])
 
     def test_a_plan_is_printed_with_how_equal_it_is(self) -> None:
-        parser = make_parser("")
-        plan = read_plan(parser, parser.parse_args(["--plan", "--games", "4", "sh", "cat"]))
-        lines = text_of(plan).splitlines()
+        lines = text_of(plan_of("--plan", "--games", "4")).splitlines()
         self.assertEqual([line.split()[0] for line in lines[:4]], ["1.0", "1.1", "2.0", "2.1"])
         for line in lines[:4]:
             self.assertEqual(sorted(line.split()[1:]), ["cat"] * 4 + ["sh"] * 4)
         self.assertEqual(lines[4:], [
             "4 games of 2 deals", "games of an agent: 4", "times at each seat: 2",
             "games in which two agents meet: 4", "times that one follows another: 16"])
-
-
-if __name__ == "__main__":
-    unittest.main()

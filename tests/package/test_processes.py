@@ -1,4 +1,3 @@
-import contextlib
 import os
 import resource
 import shutil
@@ -10,11 +9,11 @@ import time
 import unittest
 from concurrent.futures import ThreadPoolExecutor
 from pathlib import Path
-from typing import Any, List
+from typing import Any, Callable, List, Tuple
 from unittest import mock
 
-from geesefuton.processes import Children, Output, Stopped, free_port, tell, why
-from tests.package.helpers import python, variables
+from geesefuton.processes import Children, Output, Stopped, free_port, tell, wait_until, why
+from tests.package.helpers import Case, completed, python, variables
 
 MOST = 60.0  # seconds that anything may take, on a machine that is busy with other work
 
@@ -44,6 +43,14 @@ def is_there(process: int) -> bool:
     return state not in "ZX"
 
 
+def comes(is_so: Callable[[], bool]) -> bool:
+    """Whether something is so in time."""
+    deadline = time.monotonic() + MOST
+    while not is_so() and time.monotonic() < deadline:
+        time.sleep(0.01)
+    return is_so()
+
+
 @unittest.skipUnless(Path("/proc/self").exists(), "processes are looked for in /proc")
 class Ends(unittest.TestCase):
     def test_what_a_process_started_ends_with_it(self) -> None:
@@ -54,18 +61,7 @@ class Ends(unittest.TestCase):
             with first.stdout as told:
                 started = int(told.readline())
             children.end(first)
-            deadline = time.monotonic() + MOST
-            while is_there(started) and time.monotonic() < deadline:
-                time.sleep(0.02)
-            self.assertFalse(is_there(started))
-
-    def is_gone(self, processes: List[int], folder: Path) -> bool:
-        deadline = time.monotonic() + MOST
-        while time.monotonic() < deadline:
-            if not any(map(is_there, processes)) and not folder.parent.parent.exists():
-                return True
-            time.sleep(0.02)
-        return False
+            self.assertTrue(comes(lambda: not is_there(started)))
 
     def end(self, wait: str, number: int = 0) -> int:
         """Runs the script, sends it a signal, and sees that nothing is left. Gives its status."""
@@ -79,7 +75,8 @@ class Ends(unittest.TestCase):
             if number:
                 script.send_signal(number)
             status = script.wait(MOST)
-        self.assertTrue(self.is_gone([int(child), int(grandchild)], Path(folder)))
+        self.assertTrue(comes(lambda: not (is_there(int(child)) or is_there(int(grandchild))
+                                           or Path(folder).parent.parent.exists())))
         return status
 
     def test_a_script_leaves_nothing_however_it_ends(self) -> None:
@@ -92,15 +89,13 @@ class Ends(unittest.TestCase):
         self.assertEqual(got, [status for _, _, status in cases])
 
 
-class Groups(unittest.TestCase):
+class Groups(Case):
     def test_one_process_can_be_ended_before_the_others(self) -> None:
         with Children() as children:
             first = children.start(["sh", "-c", "sleep 300 & wait"])
             second = children.start(["sleep", "300"])
             file = children.groups / str(first.pid)
-            deadline = time.monotonic() + MOST
-            while not file.exists() and time.monotonic() < deadline:
-                time.sleep(0.005)
+            self.assertTrue(comes(file.exists))
             self.assertEqual(children.end(first), -signal.SIGKILL)
             self.assertFalse(file.exists())  # another process may get its number
             self.assertIsNone(second.poll())
@@ -110,23 +105,22 @@ class Groups(unittest.TestCase):
         self.assertEqual(second.wait(5), -signal.SIGTERM)
 
     def test_processes_are_asked_to_end_first(self) -> None:
-        with tempfile.TemporaryDirectory() as place:
-            with Children() as children:
-                code = "trap 'echo bye > $0/file; exit 0' TERM; echo; sleep 300 & wait"
-                child = children.start(["sh", "-c", code, place], stdout=subprocess.PIPE)
-                assert child.stdout is not None
-                with child.stdout as told:
-                    told.readline()
-            self.assertEqual(Path(place, "file").read_text(), "bye\n")
-            self.assertEqual(child.wait(MOST), 0)
+        with Children() as children:
+            code = "trap 'echo bye > $0/file; exit 0' TERM; echo; sleep 300 & wait"
+            child = children.start(["sh", "-c", code, self.place], stdout=subprocess.PIPE)
+            assert child.stdout is not None
+            with child.stdout as told:
+                told.readline()
+        self.assertEqual((self.place / "file").read_text(), "bye\n")
+        self.assertEqual(child.wait(MOST), 0)
 
     def test_how_a_process_is_started_is_said_as_to_popen(self) -> None:
-        with Children() as children, tempfile.TemporaryDirectory() as place:
-            child = children.start([Path("sh"), "-c", "pwd; echo $SOME; exit 3"], cwd=place,
+        with Children() as children:
+            child = children.start([Path("sh"), "-c", "pwd; echo $SOME; exit 3"], cwd=self.place,
                                    stdout=subprocess.PIPE, env={**os.environ, "SOME": "thing"})
             told, _ = child.communicate(timeout=MOST)
-            self.assertEqual((told.decode(), child.returncode),
-                             (f"{os.path.realpath(place)}\nthing\n", 3))
+        self.assertEqual((told.decode(), child.returncode),
+                         (f"{os.path.realpath(self.place)}\nthing\n", 3))
 
     def test_folders_are_new_and_gone_afterwards(self) -> None:
         with Children() as children:
@@ -149,16 +143,11 @@ class Groups(unittest.TestCase):
         self.assertIn(signal.SIGINT, masks[0])
 
     def test_a_folder_that_cannot_be_made_is_told(self) -> None:
-        with tempfile.TemporaryDirectory() as place:
-            missing = os.path.join(place, "none")
-            before = tempfile.tempdir
-            tempfile.tempdir = missing
-            try:
-                with self.assertRaises(OSError) as caught:
-                    Children()
-            finally:
-                tempfile.tempdir = before
-            self.assertEqual(caught.exception.filename, missing)
+        missing = str(self.place / "none")
+        with mock.patch.object(tempfile, "tempdir", missing), \
+                self.assertRaises(OSError) as caught:
+            Children()
+        self.assertEqual(caught.exception.filename, missing)
 
     def test_a_free_port(self) -> None:
         port = free_port()
@@ -166,45 +155,43 @@ class Groups(unittest.TestCase):
         socket.create_server(("127.0.0.1", port)).close()
 
 
-class Outputs(unittest.TestCase):
-    def test_a_file_has_what_was_written(self) -> None:
-        with tempfile.TemporaryDirectory() as folder:
-            file = Path(folder, "out")
-            file.write_text("an old text that is longer")
-            out = Output(file)
-            self.assertTrue(out.write("one\n") and out.write(b"two\n"))
-            out.close()
-            self.assertEqual(file.read_text(), "one\ntwo\n")
-            self.assertIsNone(out.fault)
-            self.assertEqual(out.name, str(file))
+class Outputs(Case):
+    def setUp(self) -> None:
+        super().setUp()
+        self.file = self.place / "out"
 
-    def test_a_text_is_written_in_utf_8_and_at_once(self) -> None:
-        with tempfile.TemporaryDirectory() as folder:
-            out = Output(Path(folder, "out"))
-            self.assertTrue(out.write("1–2\n"))
-            self.assertEqual(Path(folder, "out").read_bytes(), b"1\xe2\x80\x932\n")
+    def piped(self) -> Tuple[int, int]:
+        """The two ends of a pipe."""
+        reading, writing = os.pipe()
+        self.addCleanup(os.close, reading)
+        return reading, writing
+
+    def test_a_file_has_what_was_written_in_utf_8_and_at_once(self) -> None:
+        self.file.write_text("an old text that is longer")
+        out = Output(self.file)
+        self.assertTrue(out.write("one\n") and out.write(b"two\n") and out.write("1–2\n"))
+        self.assertEqual(self.file.read_bytes(), b"one\ntwo\n1\xe2\x80\x932\n")
+        for _ in range(2):
             out.close()
-            out.close()
+        self.assertEqual((out.fault, out.name), (None, str(self.file)))
 
     def test_a_file_that_it_was_given_stays_open(self) -> None:
-        reading, writing = os.pipe()
+        reading, writing = self.piped()
         out = Output(writing, "a pipe")
         out.write("x")
         out.close()
         self.assertTrue(out.write("y"))
         os.close(writing)
         self.assertEqual(os.read(reading, 9), b"xy")
-        os.close(reading)
 
     def test_a_fault_that_comes_when_a_file_is_closed(self) -> None:
-        with tempfile.TemporaryDirectory() as folder:
-            out = Output(Path(folder, "out"))
-            number = out._number
-            with mock.patch("os.close", side_effect=OSError(5, "Input/output error")):
-                out.close()
-            self.assertEqual(out.fault, "Input/output error")
-            assert number is not None
-            os.close(number)
+        out = Output(self.file)
+        number = out._number
+        with mock.patch("os.close", side_effect=OSError(5, "Input/output error")):
+            out.close()
+        self.assertEqual(out.fault, "Input/output error")
+        assert number is not None
+        os.close(number)
 
     def test_a_full_disk_is_told_once_and_nothing_more_is_written(self) -> None:
         out = Output("/dev/full")
@@ -215,41 +202,32 @@ class Outputs(unittest.TestCase):
 
     def test_a_file_that_takes_only_the_beginning_of_a_text(self) -> None:
         limits = resource.getrlimit(resource.RLIMIT_FSIZE)
-        with tempfile.TemporaryDirectory() as folder:
-            out = Output(Path(folder, "out"))
-            resource.setrlimit(resource.RLIMIT_FSIZE, (4, limits[1]))  # the rest is refused
-            try:
-                is_whole = out.write("one two")
-            finally:
-                resource.setrlimit(resource.RLIMIT_FSIZE, limits)
-            self.assertFalse(out.write(" three"))
-            out.close()
-            self.assertEqual((is_whole, out.fault), (False, "File too large"))
-            self.assertEqual(Path(folder, "out").read_text(), "one ")
+        out = Output(self.file)
+        resource.setrlimit(resource.RLIMIT_FSIZE, (4, limits[1]))  # the rest is refused
+        try:
+            is_whole = out.write("one two")
+        finally:
+            resource.setrlimit(resource.RLIMIT_FSIZE, limits)
+        self.assertFalse(out.write(" three"))
+        out.close()
+        self.assertEqual((is_whole, out.fault), (False, "File too large"))
+        self.assertEqual(self.file.read_text(), "one ")
 
-    def test_a_pipe_without_a_reader(self) -> None:
+    def test_names_and_files_that_are_not_there(self) -> None:
+        self.assertEqual(Output(1).name, "standard output")
+        self.assertEqual(Output("/nowhere/out").fault, "No such file or directory")
         reading, writing = os.pipe()
         os.close(reading)
         out = Output(writing, "a pipe")
         self.assertFalse(out.write("x"))
         self.assertEqual((out.name, out.fault), ("a pipe", "its reader has gone"))
         os.close(writing)
-
-    def test_a_file_that_cannot_be_made(self) -> None:
-        self.assertEqual(Output("/nowhere/out").fault, "No such file or directory")
-        reading, writing = os.pipe()
-        os.close(reading)
-        os.close(writing)
         self.assertEqual(Output(writing).fault, "Bad file descriptor")
 
-    def test_standard_output_has_its_name(self) -> None:
-        self.assertEqual(Output(1).name, "standard output")
-
     def test_a_slow_reader_gets_everything(self) -> None:
-        reading, writing = os.pipe()
+        reading, writing = self.piped()
         code = "import sys, time; time.sleep(0.1); print(len(sys.stdin.buffer.read()))"
         child = subprocess.Popen(python(code), stdin=reading, stdout=subprocess.PIPE)
-        os.close(reading)
         self.assertTrue(Output(writing).write("x" * 500_000))
         os.close(writing)
         self.assertEqual(child.communicate(timeout=200)[0], b"500000\n")
@@ -262,8 +240,7 @@ class GivingWay(unittest.TestCase):
 
     def told(self, *before: str, **how: Any) -> List[str]:
         """The priority and the class of a process that gave way, and how nice its session is."""
-        done = subprocess.run([*before, *python(self.CODE)], stdin=subprocess.DEVNULL, text=True,
-                              env=variables(), timeout=MOST, capture_output=True, **how)
+        done = completed(*before, *python(self.CODE), **how)
         return (done.stdout or done.stderr).split()[:2] + done.stdout.split()[-1:]
 
     @unittest.skipUnless(os.path.exists("/proc/self/autogroup"), "there are no shares of sessions")
@@ -287,12 +264,14 @@ class GivingWay(unittest.TestCase):
 
 
 class Commands(unittest.TestCase):
-    def ran(self, body: str, stdout: int = subprocess.PIPE) -> "subprocess.CompletedProcess[str]":
-        code = ("import sys\nfrom geesefuton import processes\nfrom geesefuton.program import "
-                f"ProgramError\ndef main():\n    {body}\n"
-                "sys.exit(processes.command('name', main))")
-        return subprocess.run(python(code), stdin=subprocess.DEVNULL, stdout=stdout, text=True,
-                              stderr=subprocess.PIPE, env=variables(), check=False, timeout=200)
+    def ran(self, body: str, before: str = "", **how: Any) -> Tuple[int, str, str]:
+        """The status, the output and the errors of a command whose body is this line, after what
+        stands before it."""
+        code = ("import os, signal, sys\nfrom geesefuton import processes\n"
+                f"from geesefuton.program import ProgramError\n{before}\n"
+                f"def main():\n    {body}\nsys.exit(processes.command('name', main))")
+        done = completed(*python(code), **how)
+        return done.returncode, done.stdout, done.stderr
 
     def test_errors_are_one_line_and_a_status(self) -> None:
         for body, status, told in (
@@ -304,40 +283,26 @@ class Commands(unittest.TestCase):
                 ("raise OSError(13, 'x', 'my.file')", 1, "name: my.file: x\n"),
                 ("open('/nowhere/x')", 1, "name: /nowhere/x: No such file or directory\n"),
                 ("raise BrokenPipeError(32, 'x')", 1, "name: its reader has gone\n")):
-            done = self.ran(body)
-            self.assertEqual((done.returncode, done.stderr), (status, told), body)
+            self.assertEqual(self.ran(body), (status, "", told), body)
 
     def test_faults_in_words(self) -> None:
         self.assertEqual(str(Stopped(signal.SIGTERM)), "stopped by SIGTERM")
         self.assertEqual([why(OSError(28, "full", "file")), why(OSError("odd"))], ["full", "odd"])
 
     def test_what_python_still_keeps_is_written_or_told(self) -> None:
-        done = self.ran("print('kept'); return 0")
-        self.assertEqual((done.returncode, done.stdout), (0, "kept\n"))
+        self.assertEqual(self.ran("print('kept'); return 0"), (0, "kept\n", ""))
         with open("/dev/full", "wb") as full:
-            done = self.ran("print('kept'); return 0", full.fileno())
-            self.assertEqual(self.ran("print('kept'); return 3", full.fileno()).returncode, 3)
-        self.assertEqual(done.returncode, 1)
-        self.assertEqual(done.stderr, "name: standard output: No space left on device\n")
+            self.assertEqual(self.ran("print('kept'); return 3", stdout=full)[0], 3)
+            self.assertEqual(self.ran("print('kept'); return 0", stdout=full),
+                             (1, None, "name: standard output: No space left on device\n"))
 
     def test_a_closed_standard_error_is_no_error(self) -> None:
-        code = ("import os, sys\nfrom geesefuton import processes\nos.close(2)\n"
-                "sys.exit(processes.command('name', lambda: processes.tell('x') or 0))")
-        with contextlib.closing(open(os.devnull, "rb")) as nothing:
-            done = subprocess.run(python(code), stdin=nothing, stdout=subprocess.PIPE, check=False,
-                                  env=variables(), timeout=200)
-        self.assertEqual((done.returncode, done.stdout), (0, b""))
+        self.assertEqual(self.ran("processes.tell('x'); return 0", "os.close(2)"), (0, "", ""))
 
     def test_an_ignored_hangup_stays_ignored(self) -> None:
-        body = ("import signal, os; os.kill(os.getpid(), signal.SIGHUP); print('went on'); "
-                "return 0")
-        code = ("import signal, sys\nsignal.signal(signal.SIGHUP, signal.SIG_IGN)\n"
-                "from geesefuton import processes\n"
-                f"def main():\n    {body}\nsys.exit(processes.command('name', main))")
-        done = subprocess.run(python(code), stdout=subprocess.PIPE, env=variables(), check=False,
-                              timeout=200)
-        self.assertEqual((done.returncode, done.stdout), (0, b"went on\n"))
-
+        self.assertEqual(
+            self.ran("os.kill(os.getpid(), signal.SIGHUP); print('went on'); return 0",
+                     "signal.signal(signal.SIGHUP, signal.SIG_IGN)"), (0, "went on\n", ""))
 
 
 class Telling(unittest.TestCase):
@@ -354,6 +319,18 @@ class Telling(unittest.TestCase):
                 tell("c")
                 self.assertEqual(b"".join(call[0][1] for call in write.call_args_list).decode(),
                                  due)
+
+    def test_a_wait_is_one_line_with_its_seconds_on_a_terminal(self) -> None:
+        for is_terminal, due in ((True, ["wait", "wait: 1 s", "wait: 2 s", "wait: 2 s"]),
+                                 (False, ["wait"])):
+            told: List[str] = []
+            with mock.patch("geesefuton.processes.os.isatty", return_value=is_terminal), \
+                    mock.patch("geesefuton.processes.time") as clock, \
+                    mock.patch("geesefuton.processes.tell",
+                               lambda text, is_passing=False: told.append(text)):
+                clock.monotonic.side_effect = [0.0, 0.5, 1.0, 2.9]
+                wait_until(mock.Mock(side_effect=[False, False, False, True]), "wait")
+            self.assertEqual(told, due)
 
 
 if __name__ == "__main__":

@@ -4,25 +4,23 @@ import functools
 import json
 import os
 import pickle
+import shutil
 import signal
-import subprocess
 import sys
-import tempfile
-import unittest
 from collections import Counter
 from pathlib import Path
 from typing import Dict, List, Set, Tuple
 from unittest import mock
 
-from geesefuton.experiments import profiles, study
-from geesefuton.experiments.kept import games_of
-from geesefuton.experiments.messages import Result
-from geesefuton.experiments.results import Outcome
-from geesefuton.experiments.runs import read_scores
+from geesefuton.experiments import profiles
+from geesefuton.experiments.comparisons import missing_libraries
+from geesefuton.experiments.results import Outcome, Result
+from geesefuton.experiments.runs import games_of, read_scores
 from geesefuton.processes import Output, Stopped
-from tests.package.helpers import SERVED_GAME, TOP, fake_program, needs_study, refusal, worker
+from tests.package.run_cases import PlaceCase
+from tests.package.helpers import SERVED_GAME, fake_program, needs_study, worker
 
-if not study.missing("these tests"):
+if not missing_libraries("these tests"):
     from geesefuton.experiments import equilibria
 
 # A stand-in for the process of a game of two strategies, whose words begin with `dove` and `hawk`:
@@ -47,13 +45,11 @@ WORDS = ["--games", "3", "--seed", "1", "--files", "*.py", "--out", "study", "--
 
 
 @needs_study
-class Commands(unittest.TestCase):
+class Commands(PlaceCase):
     """The command with a stand-in for games and for the program."""
 
     def setUp(self) -> None:
-        folder = tempfile.TemporaryDirectory()
-        self.addCleanup(folder.cleanup)
-        self.place = Path(folder.name)
+        super().setUp()
         for name in ("dove.py", "hawk.py", "owl.py"):
             (self.place / name).write_text("pass\n")
         for name, end in (("played", Outcome.PLAYED), ("crashed", Outcome.CRASHED)):
@@ -64,8 +60,7 @@ class Commands(unittest.TestCase):
         self.tac = fake_program(
             self.place, f'sed "s/^flight 0 [0-9]*/flight 0 {price}/" {SERVED_GAME}')
         self.out = self.place / "study"
-        back = os.getcwd()
-        self.addCleanup(os.chdir, back)
+        self.addCleanup(os.chdir, os.getcwd())
         os.chdir(self.place)
 
     def run_profiles(self, *words: str, status: int = 0, out: str = "printed",
@@ -106,9 +101,7 @@ class Commands(unittest.TestCase):
         """It is refused in one line, and no file changes."""
         before = self.files()
         with mock.patch.dict(os.environ, {"TAC": self.tac}):
-            status, text = refusal("experiments.profiles", *agents, *WORDS, *words)
-        self.assertEqual((status, text.count("\n")), (2, 1), text)
-        self.assertIn(told, text)
+            self.assert_refused(told, "profiles", *agents, *WORDS, *words)
         self.assertEqual(before, self.files())
 
     def test_a_study_of_two_strategies(self) -> None:
@@ -144,8 +137,7 @@ class Commands(unittest.TestCase):
 
     def test_it_goes_on_where_it_was_stopped(self) -> None:
         text, told = self.run_profiles(status=1, LOSE="2.1")
-        self.assertIn("profiles: 1 deal left out: not every profile was scored",
-                      told)
+        self.assertIn("profiles: 1 deal left out: not every profile was scored", told)
         self.assertIn("2 deals of 4 profiles, reduced to 2 players", text)
         scores = self.out / "part-1-of-1" / "scores.csv"
         scores.write_text(scores.read_text()[:-5])  # the last row is half written
@@ -153,8 +145,7 @@ class Commands(unittest.TestCase):
         joined, told = self.run_profiles("--resume")
         again = sorted(self.begun()[len(before):])
         self.assertEqual((len(again), "2.1" in again), (2, True))
-        self.assertIn("was half written", told)
-        self.assertIn("its game is played again", told)
+        self.assertRegex(told, "(?s)was half written.*its game is played again")
         self.assertIn("3 deals of 4 profiles", joined)
         self.assertEqual(self.run_profiles("--resume")[0], joined)
         self.assertEqual(len(self.begun()), len(before) + 2)
@@ -173,12 +164,8 @@ class Commands(unittest.TestCase):
         text, _ = self.run_profiles()
         self.assertIn("3 deals of 4 profiles", text)
         self.assertEqual((len(self.begun()), len(set(self.begun()))), (12, 12))
-        for file in [*self.out.glob("part-*/*"), *self.out.glob("part-*/.*")]:
-            if file.is_file():
-                file.unlink()
         for folder in self.out.glob("part-*"):
-            (folder / "games").rmdir()
-            folder.rmdir()
+            shutil.rmtree(folder)
         self.assertEqual(self.run_profiles()[0], text)  # in one piece
 
     def test_parts_draw_from_one_secret(self) -> None:
@@ -193,15 +180,12 @@ class Commands(unittest.TestCase):
             "secret"] for part in (1, 2)}
         self.assertEqual(told, {secret.strip()})
 
-    def test_seats_that_did_not_play_are_told(self) -> None:
-        text, told = self.run_profiles(CRASH="1.1")
-        self.assertIn("7 seats of dove did not play to the end", text)
-        self.assertIn("1 seat of hawk did not play to the end", text)
-
-    def test_a_single_deal_tells_no_equilibrium(self) -> None:
-        text, told = self.run_profiles("--games", "1")
-        self.assertIn("NOT KNOWN: a single deal cannot be resampled; play more.", text)
-        self.assertIn("+- ?", text)
+    def test_seats_that_did_not_play_and_a_single_deal_are_told(self) -> None:
+        text, _ = self.run_profiles("--games", "1", CRASH="1.1")
+        for told in ("7 seats of dove did not play to the end", "+- ?",
+                     "1 seat of hawk did not play to the end",
+                     "NOT KNOWN: a single deal cannot be resampled; play more."):
+            self.assertIn(told, text)
 
     def test_what_does_not_belong_together_is_refused(self) -> None:
         self.run_profiles("--part", "1/2")
@@ -289,7 +273,7 @@ class Commands(unittest.TestCase):
         self.assertFalse((self.out / "payoffs.csv").exists())
 
     def test_without_the_libraries_it_tells_how_to_get_them(self) -> None:
-        with mock.patch("geesefuton.experiments.study.find_spec", return_value=None):
+        with mock.patch("geesefuton.experiments.comparisons.find_spec", return_value=None):
             self.refused("payoffs and equilibria need numpy and scipy and pandas: install them by")
 
     def test_words_that_are_refused(self) -> None:
@@ -303,9 +287,8 @@ class Commands(unittest.TestCase):
 
     def test_a_tournament_does_not_sum_it_up(self) -> None:
         self.run_profiles()
-        status, text = refusal("experiments.tournament", "--join", self.out / "part-1-of-1")
-        self.assertEqual(status, 1)
-        self.assertIn("it has the games of profiles", text)
+        self.assert_refused("it has the games of profiles", "tournament", "--join",
+                            self.out / "part-1-of-1", status=1)
 
     def test_what_cannot_be_written_is_told(self) -> None:
         self.run_profiles()
@@ -315,12 +298,3 @@ class Commands(unittest.TestCase):
         self.assertIn("payoffs.csv was not written: ", told)
         text, told = self.run_profiles("--resume", status=1, out="/dev/full")
         self.assertIn("standard output: No space left on device", told)
-
-    def test_it_runs_from_a_clone(self) -> None:
-        done = subprocess.run([str(TOP / "tools" / "profiles"), "--help"], check=False,
-                              stdout=subprocess.PIPE, timeout=200)
-        self.assertEqual(done.returncode, 0)
-
-
-if __name__ == "__main__":
-    unittest.main()

@@ -1,18 +1,16 @@
 import os
 import signal
-import subprocess
-import tempfile
 import threading
 import time
 import unittest
 from pathlib import Path
-from typing import Any, Callable, Dict, List, Tuple
+from typing import Any, Callable, List, Tuple
 from unittest import mock
 
 from geesefuton import program
 from geesefuton.program import ProgramError
-from tests.package.helpers import (SERVED_GAME, SERVED_LOG, fake_program, needs_program, python,
-                           served_game, variables)
+from tests.package.helpers import (SERVED_GAME, SERVED_LOG, TOP, Case, completed, fake_program,
+                                   needs_program, python, served_game)
 
 MOST = 60.0  # seconds that anything may take, on a machine that is busy with other work
 
@@ -21,20 +19,10 @@ class Interrupted(BaseException):
     """What a signal raises."""
 
 
-class Commands(unittest.TestCase):
-    def setUp(self) -> None:
-        folder = tempfile.TemporaryDirectory()
-        self.addCleanup(folder.cleanup)
-        self.place = Path(folder.name)
-
+class Commands(Case):
     def use(self, body: str) -> None:
         """Lets a shell script stand in for the program."""
-        self.set({"TAC": fake_program(self.place, body)})
-
-    def set(self, values: Dict[str, str]) -> None:
-        patch = mock.patch.dict(os.environ, values)
-        patch.start()
-        self.addCleanup(patch.stop)
+        self.set(TAC=fake_program(self.place, body))
 
     def interruptible(self) -> Callable[[int, object], None]:
         """Lets SIGINT raise, and gives its handler."""
@@ -45,9 +33,29 @@ class Commands(unittest.TestCase):
         return interrupt
 
     def refused(self, *words: object) -> ProgramError:
+        """The error of a command."""
         with self.assertRaises(ProgramError) as caught:
             program.run(str(words[0]), *map(str, words[1:]))
         return caught.exception
+
+    def test_a_program_that_is_not_built(self) -> None:
+        self.set(TAC="")
+        build = f"build it by `{program.typed('tac make 42')}`, or "
+        for file, clone, how in (("/bin/rt", self.place, build),
+                                 (None, None, "install the toolchain, Rattle, whose command rt ")):
+            with mock.patch.object(program, "top", return_value=self.place), \
+                    mock.patch("shutil.which", lambda name: file if name == "rt" else None):
+                self.assertEqual(program.to_build(), clone)
+                self.assertIn(f"{self.place}/crates/tacd/out/tacd: {how}",
+                              str(self.refused("make", 1)))
+
+    def test_how_a_command_is_typed(self) -> None:
+        self.addCleanup(os.chdir, os.getcwd())
+        for folder, name in ((TOP, "./geesefuton"), (TOP / "docs", "../geesefuton")):
+            os.chdir(folder)
+            self.assertEqual(program.typed("lobby x"), f"{name} lobby x")
+        with mock.patch.object(program, "__file__", "/usr/lib/python3/geesefuton/program.py"):
+            self.assertEqual(program.typed("lobby x"), "geesefuton lobby x")
 
     def test_calls_give_their_words_and_get_the_output(self) -> None:
         self.use('echo "$@"')
@@ -67,18 +75,23 @@ class Commands(unittest.TestCase):
         self.assertEqual(program.solve(b"an account"), "solve /dev/stdin\nan account")
         self.assertEqual(program.run("show", program.INPUT, given=b"x"), "show /dev/stdin\nx")
         self.assertEqual(program.run("show", program.INPUT), "show /dev/stdin\n")
+        self.use(r"printf 'a\377b\n'")  # bytes that are no text are no error
+        self.assertEqual(program.show("x"), "a\ufffdb\n")
 
-    def test_a_refusal_has_its_status_and_first_line(self) -> None:
+    def test_a_refusal_has_its_status_and_first_line_unless_it_is_allowed(self) -> None:
         self.use("echo game 3 4; echo more; exit 2")
         fault = self.refused("show", "x")
         self.assertEqual((fault.status, fault.line), (2, "game 3 4"))
         self.assertEqual(str(fault), "tac show ended with exit status 2 (the game file is refused: "
                                      "game 3 4)")
 
-    def test_a_status_that_is_allowed_is_no_error(self) -> None:
         self.use("echo some; exit 6")
         self.assertEqual(program.run("make", 1, allowed=(program.OK, program.CLOCK)), "some\n")
         self.assertEqual(self.refused("make", 1).status, program.CLOCK)
+        self.use("kill -9 $$")
+        fault = self.refused("make", 1)
+        self.assertEqual((fault.status, fault.line, str(fault)),
+                         (-9, "", "tac make ended with exit status -9"))
 
     def test_what_the_statuses_mean(self) -> None:
         for status, meaning in ((1, "no command"), (2, "game file"), (3, "missing"),
@@ -105,23 +118,13 @@ class Commands(unittest.TestCase):
             with mock.patch("platform.libc_ver", lambda told=(name, number): told):
                 self.assertEqual(program.make(1), "some\n")
 
-    def test_bytes_that_are_no_text_are_no_error(self) -> None:
-        self.use(r"printf 'a\377b\n'")
-        self.assertEqual(program.show("x"), "a\ufffdb\n")
-
     def test_a_long_output_is_read_whole_and_no_file_stays_open(self) -> None:
         self.use("yes 0123456 | head -n 20000; cat /dev/stdin")
         before = sorted(os.listdir("/dev/fd"))
         self.assertEqual(program.run("make", 1, given=b"given\n"), "0123456\n" * 20000 + "given\n")
-        self.set({"TAC": str(self.place / "none")})
+        self.set(TAC=str(self.place / "none"))
         self.refused("make", 1)
         self.assertEqual(sorted(os.listdir("/dev/fd")), before)
-
-    def test_an_end_without_output(self) -> None:
-        self.use("kill -9 $$")
-        fault = self.refused("make", 1)
-        self.assertEqual((fault.status, fault.line), (-9, ""))
-        self.assertEqual(str(fault), "tac make ended with exit status -9")
 
     def test_an_unsound_log_is_an_answer_and_a_refused_one_is_not(self) -> None:
         self.use("echo unsound score 3; exit 9")
@@ -139,24 +142,20 @@ class Commands(unittest.TestCase):
         with self.assertRaisesRegex(ProgramError, "tac audit took longer than 0.1 seconds"):
             program.audit("g", "l", 0.1)
 
-    def test_a_program_that_is_not_there(self) -> None:
-        self.set({"TAC": str(self.place / "none")})
-        fault = self.refused("make", 1)
-        self.assertIsNone(fault.status)
-        self.assertIn(f"there is no program {self.place / 'none'}", str(fault))
-
-    def test_a_file_that_is_no_program(self) -> None:
-        (self.place / "text").write_text("x")
-        self.set({"TAC": str(self.place / "text")})
-        self.assertIn("is not executable: chmod +x it", str(self.refused("make", 1)))
-
     def test_a_program_that_cannot_be_run(self) -> None:
-        file = self.place / "bad"
-        file.write_bytes(b"\x00\x01\x02")
-        file.chmod(0o755)
-        self.set({"TAC": str(file)})
-        self.assertIn("bad is not a program for this system: tac needs x86-64 Linux",
-                      str(self.refused("make", 1)))
+        for name, data, mode, due in (
+                ("none", None, 0, f"there is no program {self.place / 'none'}"),
+                ("text", b"x", 0o644, "is not executable: chmod +x it"),
+                ("bad", b"\x00\x01\x02", 0o755,
+                 "bad is not a program for this system: tac needs x86-64 Linux")):
+            file = self.place / name
+            if data is not None:
+                file.write_bytes(data)
+                file.chmod(mode)
+            self.set(TAC=str(file))
+            fault = self.refused("make", 1)
+            self.assertIsNone(fault.status)
+            self.assertIn(due, str(fault))
 
     def test_a_signal_while_the_process_is_made_leaves_none_behind(self) -> None:
         interrupt = self.interruptible()
@@ -202,16 +201,16 @@ class Commands(unittest.TestCase):
 
     def test_the_file_is_that_of_the_variable_and_holds_in_any_folder(self) -> None:
         file = fake_program(self.place, "exit")
-        self.set({"TAC": os.path.relpath(file)})
+        self.set(TAC=os.path.relpath(file))
         self.assertEqual(program.find(), file)
         self.assertEqual(program.served_words("g", 7000, 500), [file, "serve", "g", "7000", "500"])
         self.assertEqual(program.served_words(Path("g"), 7000, 500, "json"),
                          [file, "serve", "g", "7000", "500", "json"])
-        self.set({"TAC": "tac", "PATH": str(self.place)})
+        self.set(TAC="tac", PATH=str(self.place))
         self.assertEqual(program.find(), file)  # a name without a slash is looked for
 
     def test_without_the_variable_it_is_that_of_the_clone(self) -> None:
-        self.set({"TAC": ""})
+        self.set(TAC="")
         with mock.patch("geesefuton.program.top", return_value=self.place):
             self.assertIn("tacd/out/tacd", str(self.refused("make", 1)))
             built = self.place / "crates" / "tacd" / "out"
@@ -227,8 +226,7 @@ class Commands(unittest.TestCase):
         code = ("import os, sys, threading, time; from geesefuton import program; "
                 "threading.Thread(target=program.make, args=(1,), daemon=True).start()\n"
                 "while not os.path.exists(sys.argv[1]): time.sleep(0.01)")
-        subprocess.run(python(code, self.place / "number"), env=variables(), check=True,
-                       timeout=MOST)
+        completed(*python(code, self.place / "number"), check=True)
         number, deadline = int((self.place / "number").read_text()), time.monotonic() + MOST / 2
         while True:
             try:
@@ -238,12 +236,10 @@ class Commands(unittest.TestCase):
             self.assertLess(time.monotonic(), deadline, "it still runs")
             time.sleep(0.01)
 
-    def test_the_clone_is_found(self) -> None:
+    def test_the_clone_is_found_and_a_package_that_is_installed_stands_in_none(self) -> None:
         top = program.top()
         assert top is not None
         self.assertTrue((top / "crates" / "tacd").is_dir())
-
-    def test_a_package_that_is_installed_stands_in_no_clone(self) -> None:
         with mock.patch("geesefuton.program.__file__", str(self.place / "a" / "b" / "program.py")):
             self.assertIsNone(program.top())
 
@@ -255,7 +251,3 @@ class Real(unittest.TestCase):
         self.assertEqual(program.show(SERVED_GAME), SERVED_GAME.read_text())
         self.assertEqual(program.show(SERVED_GAME), served_game().text())
         self.assertEqual(program.audit(SERVED_GAME, SERVED_LOG), "sound")
-
-
-if __name__ == "__main__":
-    unittest.main()

@@ -2,23 +2,26 @@
 
 import json
 import random
-import tempfile
 import unittest
 from dataclasses import replace
-from pathlib import Path
 from typing import Any, Dict, List, Optional, Tuple
 from unittest import mock
 
 from geesefuton.hosting.journal import JournalReader
 from geesefuton.hosting.projection import Projection, View, project
-from geesefuton.hosting.recovery import Player, RecoveryError
-from geesefuton.records.accounts import Accounts
+from geesefuton.hosting.recovery import RecoveryError
+from geesefuton.records.books import Books
 from geesefuton.records.games import CLOCK, DRAWS
 from geesefuton.records.logs import read_log
 from geesefuton.records.rules import prices_of
 from geesefuton.records.ticks import ticks_by_log
 from tests.package.helpers import DATA, CountingPlayer, needs_program
-from tests.package.journals import BEGIN, GAME, HEAD, LINES, asked, begun, nights_of, of_text
+from tests.package.journals import (BEGIN, GAME, HEAD, LINES, PlayedCase, asked, begun, nights_of,
+                                    of_text, place_of)
+
+
+TEXT = (DATA / "lobby.log").read_text()
+LOG = read_log(TEXT)
 
 
 class Projecting(unittest.TestCase):
@@ -77,14 +80,10 @@ class Projecting(unittest.TestCase):
         self.assertEqual(self.project(begun(*lines, tick=14)).silent, [1, 2])
 
     def test_trades_of_tickets_have_the_times_of_their_replies(self) -> None:
-        log = read_log((DATA / "lobby.log").read_text())
-        reader = JournalReader()
-        reader.read("\n".join(LINES))
-        text = (DATA / "lobby.log").read_text()
-        made = project(reader, [], mock.Mock(play=mock.Mock(return_value=([], text))))
+        made = project(of_text(LINES), [], mock.Mock(play=mock.Mock(return_value=([], TEXT))))
         times, due = replies_to_bids(), []
         for good in range(16, 28):
-            for position, entry in enumerate(log.histories[good]):
+            for position, entry in enumerate(LOG.histories[good]):
                 due += [[times[good, position], good, trade.buyer, trade.seller, trade.price]
                         for trade in entry.trades]
         self.assertEqual(len(due), 7)
@@ -107,21 +106,18 @@ class Projecting(unittest.TestCase):
 class Plans(unittest.TestCase):
     """What the plans of a kept game are worth, by its log, which goes on to its end."""
 
-    LOG = read_log((DATA / "lobby.log").read_text())
-
     def plans(self, tick: int) -> List[List[int]]:
-        text = (DATA / "lobby.log").read_text()
-        player = mock.Mock(play=mock.Mock(return_value=([], text)))
+        player = mock.Mock(play=mock.Mock(return_value=([], TEXT)))
         return project(begun(tick=tick), [], player).plans
 
     def test_in_the_end_they_are_the_scores(self) -> None:
-        self.assertEqual(self.plans(54), [[row.score, row.cash, 0, 0] for row in self.LOG.scores])
+        self.assertEqual(self.plans(54), [[row.score, row.cash, 0, 0] for row in LOG.scores])
 
     def test_before_it_the_clocks_later_calls_do_not_count(self) -> None:
-        ticks = ticks_by_log(GAME, self.LOG).entries
+        ticks = ticks_by_log(GAME, LOG).entries
         for tick in (0, 30):
-            accounts, cash = Accounts(GAME), [0] * 8
-            for good, history in enumerate(self.LOG.histories):
+            accounts, cash = Books(GAME), [0] * 8
+            for good, history in enumerate(LOG.histories):
                 for at, entry in zip(ticks[good], history):
                     if at > tick and (good < 16 or entry.caller == CLOCK):
                         continue
@@ -165,29 +161,23 @@ class Views(unittest.TestCase):
                              "asks": [night.asks for night in nights_of(begun())],
                              "trades": [], "silent": [], "refused": [], "empty": [], **more})
 
-    def test_before_the_game(self) -> None:
-        reader = JournalReader()
-        for line in (LINES[0], BEGIN):
-            reader.read(line)
-            state = self.state(reader)
+    def test_what_stands_on_any_page(self) -> None:
+        for lines in (LINES[:1], [LINES[0], BEGIN]):
+            state = self.state(of_text(lines))
             self.assertEqual((state["phase"], state["flights"], state["status"], state["shown"]),
                              ("waiting", [], None, None))
             self.assertFalse({"hotels", "asks", "trades"} & set(state))
-
-    def test_what_stands_on_any_page(self) -> None:
         for live in (False, True):
             game = GAME.with_rooms([2] * 8, live)
             state = self.state(begun(tick=4, game=game), late=9)
             self.assertEqual([state[key] for key in ("phase", "tick", "pace", "late", "status",
                                                      "live")], ["running", 4, 100, 9, None, live])
+        for tick, count in ((0, 1), (1, 2), (53, 54), (54, 54)):  # prices so far
+            self.assertEqual(self.state(begun(tick=tick))["flights"],
+                             [prices_of(flight)[:count] for flight in GAME.flights])
         over = begun({"over": 6, "t": 1}, tick=54)
         self.assertEqual((self.state(over)["phase"], self.state(over)["status"]), ("running", 6))
         self.assertEqual(self.state(over, is_final=True)["phase"], "over")
-
-    def test_flights_have_the_prices_so_far(self) -> None:
-        for tick, count in ((0, 1), (1, 2), (53, 54), (54, 54)):
-            self.assertEqual(self.state(begun(tick=tick))["flights"],
-                             [prices_of(flight)[:count] for flight in GAME.flights])
 
     def test_rooms_sold_are_shown_at_once_or_in_the_end(self) -> None:
         bids = [line for good in range(8, 16)
@@ -206,12 +196,17 @@ class Views(unittest.TestCase):
     def test_what_only_one_agent_knows_is_that_of_the_projection(self) -> None:
         trades = [[number / 10, 20, 1, 2, number] for number in range(62)]
         asks = [[[0, 0], [2.5, good]] for good in range(8, 16)]
-        state = self.state(begun(tick=9), secret=self.secret(trades=trades, asks=asks))
+        secret = self.secret(trades=trades, asks=asks, empty=[6])
+        state = self.state(begun(tick=9), secret=secret)
         self.assertEqual(state["shown"], 3)
         self.assertEqual(state["trades"], trades[2:])
         self.assertEqual(state["asks"], asks)
         self.assertEqual([(agent["plan"], agent["score"]) for agent in state["agents"]],
                          [([9, agent, 0, 0], [agent, 0, 0, agent]) for agent in range(8)])
+        self.assertEqual([agent["empty"] for agent in state["agents"]],
+                         [agent == 6 for agent in range(8)])
+        state = self.state(begun(tick=9), secret=replace(secret, scores=[]))
+        self.assertNotIn("score", state["agents"][0])
         plain = self.state(begun(tick=9))
         self.assertEqual([set(agent) for agent in plain["agents"]], [{"name", "here"}] * 8)
         self.assertFalse({"asks", "trades"} & set(plain))
@@ -226,59 +221,22 @@ class Views(unittest.TestCase):
             self.assertEqual([agent.get("doing") for agent in state["agents"]], due)
 
     def test_who_is_there(self) -> None:
-        lines: List[Dict[str, Any]] = [
-            {"here": 0, "from": "10.0.0.7"}, {"end": 1, "why": "hung"},
-            {"end": 2, "why": "refused"}, {"end": 3, "why": "left"}, {"end": 4, "why": "gone"},
-            {"without": 6}]
-        self.assertEqual([agent["here"] for agent in self.state(begun(*lines))["agents"]],
-                         ["here", "hung", "gone", "left", "gone", "gone", "absent", "gone"])
-        reader = JournalReader()
-        reader.read("\n".join(map(json.dumps, [
-            HEAD, {"here": 0, "from": "10.0.0.7"}, {"without": 1}, {"end": 2, "why": "absent"},
-            {"end": 3, "why": "left"}])))
-        self.assertEqual([agent["here"] for agent in self.state(reader)["agents"]],
-                         ["here", "absent", "absent", "absent", *["missing"] * 4])
+        here = {"here": 0, "from": "10.0.0.7"}
+        in_the_game = begun(here, {"end": 1, "why": "hung"}, {"end": 2, "why": "refused"},
+                            {"end": 3, "why": "left"}, {"end": 4, "why": "gone"}, {"without": 6})
+        before = of_text([*map(json.dumps, [HEAD, here, {"without": 1}, {"end": 2, "why": "absent"},
+                                            {"end": 3, "why": "left"}])])
+        for reader, due in (
+                (in_the_game, ["here", "hung", "gone", "left", "gone", "gone", "absent", "gone"]),
+                (before, ["here", "absent", "absent", "absent", *["missing"] * 4])):
+            self.assertEqual([agent["here"] for agent in self.state(reader)["agents"]], due)
 
     def test_words_are_shown_where_the_host_wants_it(self) -> None:
-        words = [agent["name"] for agent in self.state(begun(), by_word=True)["agents"]]
-        self.assertEqual(words, list(GAME.words))
-        stems = [agent["name"] for agent in self.state(begun())["agents"]]
-        self.assertEqual(stems, ["red", "orange", "yellow", "green", "blue", "violet", "brown",
-                                 "grey"])
+        stems = ["red", "orange", "yellow", "green", "blue", "violet", "brown", "grey"]
+        for by_word, due in ((True, list(GAME.words)), (False, stems)):
+            self.assertEqual([agent["name"] for agent in self.state(
+                begun(), by_word=by_word)["agents"]], due)
 
-
-class Showing(unittest.TestCase):
-    def test_what_is_shown_later(self) -> None:
-        reader = of_text(LINES[:next(place for place, line in enumerate(LINES)
-                                     if line.startswith('{"tick":20,'))])
-        nights = nights_of(reader)
-        made = Projection(9, [[4000, -3, 70, 9]] * 8, [], [], [[3.0, 20, 1, 2, 70]] * 401,
-                          [1, 5], [4], [6])
-        early = View(6, False).state(reader, nights, None, False)
-        late = View(6, False).state(reader, nights, made, False)
-        self.assertFalse({"asks", "trades"} & set(early))
-        self.assertFalse({"plan", "doing"} & {
-            key for agent in early["agents"] for key in agent})
-        self.assertEqual((early["phase"], early["tick"], early["shown"], late["shown"]),
-                         ("running", 19, None, 9))
-        self.assertEqual([agent["here"] for agent in early["agents"]],
-                         [{True: "here", False: "gone"}[agent.is_here]
-                          for agent in reader.agents[:5]] + ["missing"] * 3)
-        closed = [night["closed"] for night in early["hotels"] if night["closed"]]
-        self.assertEqual([len(night) for night in closed], [2] * 3)
-        self.assertEqual([len(flight) for flight in early["flights"]], [20] * 8)
-        self.assertEqual(len(late["trades"]), 60)
-        self.assertEqual(late["agents"][4]["doing"], "refused")
-        self.assertEqual(late["agents"][1].get("doing"), "silent" if reader.agents[1].is_here
-                         else None)
-        self.assertEqual(late["agents"][0]["plan"], [4000, -3, 70, 9])
-        self.assertEqual([agent["empty"] for agent in late["agents"]],
-                         [agent == 6 for agent in range(8)])
-        self.assertNotIn("score", late["agents"][0])
-        at_once = View(0, False).state(reader, nights, made, False)
-        self.assertEqual([len(night["closed"]) for night in at_once["hotels"] if night["closed"]],
-                         [3] * 3)
-        self.assertEqual(View(6, False).state(reader, nights, made, True)["phase"], "over")
 
     def test_who_is_here(self) -> None:
         lines, shown = LINES[:1], []
@@ -286,40 +244,26 @@ class Showing(unittest.TestCase):
                      '{"here":2,"from":"10.0.0.7"}', '{"begin":[2]}', '{"gone":2,"t":5}',
                      '{"end":2,"why":"left","t":9}'):
             lines = [*lines, line]
-            shown.append(View(0, False).state(of_text(lines), None, None, False)["agents"][2])
+            shown.append(self.state(of_text(lines))["agents"][2])
         self.assertEqual([agent["here"] for agent in shown],
                          ["absent", "here", "missing", "here", "here", "gone", "left"])
 
     def test_words_are_not_shown(self) -> None:
         for count in (1, 6, 12, 60, len(LINES)):
-            reader = of_text(LINES[:count])
-            nights = nights_of(reader) if reader.has_begun else None
-            text = json.dumps(View(6, False).state(reader, nights, None, False))
+            text = json.dumps(self.state(of_text(LINES[:count])))
             for word in GAME.words:
                 self.assertNotIn(word, text)
 
 
 @needs_program
-class WithTheProgram(unittest.TestCase):
-    def setUp(self) -> None:
-        place = tempfile.TemporaryDirectory()
-        self.addCleanup(place.cleanup)
-        self.folder = Path(place.name)
-        self.player = Player(self.folder)
-
-
+class WithTheProgram(PlayedCase):
     def test_only_an_agent_whose_lines_were_all_refused_counts_as_refused(self) -> None:
-        lines = [LINES[0], BEGIN, '{"tick":0,"t":0}']
-        for agent, line, reply in ((0, "buy", "no syntax"), (0, "cash", "@0 cash 0"),
-                                   (1, "buy", "no syntax")):
-            lines += [f'{{"a":{agent},"q":"{line}"}}', f'{{"a":{agent},"r":"{reply}","t":1}}']
-        shown = project(of_text(lines), [], self.player)
-        self.assertEqual(shown.refused, [1])
+        lines = [*asked(0, "buy", "no syntax", 1), *asked(0, "cash", "@0 cash 0", 1),
+                 *asked(1, "buy", "no syntax", 1)]
+        self.assertEqual(project(begun(*lines), [], self.player).refused, [1])
 
     def test_a_projection_does_not_tell_the_future(self) -> None:
         for tick in (13, 29):
-            place = next(number for number, line in enumerate(LINES)
-                         if line.startswith(f'{{"tick":{tick},'))
             states = set()
             for seed in range(2):
                 dice = random.Random(seed)
@@ -329,13 +273,9 @@ class WithTheProgram(unittest.TestCase):
                 done, rest = GAME.closing[:tick // 6], list(GAME.closing[tick // 6:])
                 dice.shuffle(rest)
                 game = replace(GAME, flights=flights, closing=(*done, *rest))
-                head = json.dumps({**json.loads(LINES[0]), "game": game.text()})
-                reader = of_text([head, *LINES[1:place + 1]])
+                head = json.dumps({**HEAD, "game": game.text()})
+                reader = of_text([head, *LINES[1:place_of(tick) + 1]])
                 nights = nights_of(reader)
                 made = project(reader, nights, self.player)
                 states.add(json.dumps(View(6, False).state(reader, nights, made, False)))
             self.assertEqual(len(states), 1)
-
-
-if __name__ == "__main__":
-    unittest.main()

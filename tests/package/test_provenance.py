@@ -4,25 +4,29 @@ import tempfile
 import unittest
 from dataclasses import replace
 from pathlib import Path
+from typing import Any
 from unittest import mock
 
 from geesefuton.experiments.entrants import EntrantError, read_entrant
-from geesefuton.experiments.provenance import (agent_of, commit, digest_of, machine, names_text,
-                                               package_digest, read_settings, settings_text, unlike)
+from geesefuton.experiments.provenance import (Agent, agent_of, commit, digest_of, machine,
+                                               names_text, package_digest, read_settings,
+                                               settings_text, unlike)
+from tests.package.run_cases import PlaceCase
 
 
-class Agents(unittest.TestCase):
+class Agents(PlaceCase):
     def setUp(self) -> None:
-        folder = tempfile.TemporaryDirectory()
-        self.addCleanup(folder.cleanup)
-        self.place = Path(folder.name)
+        super().setUp()
         for name, text in (("mine.py", "import os\nfrom helper import x\n"),
                            ("helper.py", "import deep\nx = 1\n"), ("deep.py", "\n"),
                            ("other.py", "\n")):
             (self.place / name).write_text(text)
 
+    def agent(self, words: str = "", *more: Any, **how: Any) -> Agent:
+        return agent_of(read_entrant(f"{self.place / 'mine.py'} {words}"), *more, **how)
+
     def digest(self, words: str = "") -> str:
-        return agent_of(read_entrant(f"{self.place / 'mine.py'} {words}")).digest
+        return self.agent(words).digest
 
     def test_files_are_those_of_the_folder_and_those_below(self) -> None:
         for folder, name in (("strategy", "__init__.py"), (".git", "x"), ("__pycache__", "x.pyc"),
@@ -30,15 +34,14 @@ class Agents(unittest.TestCase):
                              ("study", "secret")):
             (self.place / folder).mkdir(parents=True)
             (self.place / folder / name).write_text("1")
-        agent = agent_of(read_entrant(str(self.place / "mine.py")))
+        agent = self.agent()
         self.assertEqual(sorted(agent.files), ["deep.py", "helper.py", "mine.py", "other.py",
                                                "strategy/__init__.py"])
         self.assertEqual(agent.files["deep.py"], digest_of(self.place / "deep.py"))
         self.assertEqual((agent.name, list(agent.words)), ("mine", ["mine.py"]))
         summary = self.place / "s.json"
         summary.write_text("{}")
-        self.assertEqual(agent_of(read_entrant(str(self.place / "mine.py")),
-                                  without=[summary]).digest, agent.digest)
+        self.assertEqual(self.agent(without=[summary]).digest, agent.digest)
 
     def test_each_file_and_each_word_changes_the_digest(self) -> None:
         (self.place / "strategy").mkdir()
@@ -64,23 +67,22 @@ class Agents(unittest.TestCase):
                 before = self.digest(words)
                 (place / file).write_text((place / file).read_text() + "2")
                 self.assertNotEqual(self.digest(words), before, words)
-            agent = agent_of(read_entrant(f"{self.place / 'mine.py'} --model={place / 'model'}"))
-            self.assertEqual(list(agent.words), ["mine.py", "--model=model"])
+            self.assertEqual(list(self.agent(f"--model={place / 'model'}").words),
+                             ["mine.py", "--model=model"])
 
     def test_files_may_be_narrowed_and_widened(self) -> None:
-        entrant = read_entrant(str(self.place / "mine.py"))
         (self.place / "notes.txt").write_text("x")
-        self.assertEqual(sorted(agent_of(entrant, ["h*.py"]).files), ["helper.py", "mine.py"])
+        self.assertEqual(sorted(self.agent("", ["h*.py"]).files), ["helper.py", "mine.py"])
         with tempfile.TemporaryDirectory() as folder:
             (Path(folder) / "more").write_text("1")
-            one = agent_of(entrant, ["*.py"], [Path(folder)]).digest
+            one = self.agent("", ["*.py"], [Path(folder)]).digest
             (Path(folder) / "more").write_text("2")
-            self.assertNotEqual(agent_of(entrant, ["*.py"], [Path(folder)]).digest, one)
+            self.assertNotEqual(self.agent("", ["*.py"], [Path(folder)]).digest, one)
             with self.assertRaisesRegex(EntrantError, "there is no file or folder"):
-                agent_of(entrant, [], [Path(folder, "none")])
+                self.agent("", [], [Path(folder, "none")])
         with mock.patch("geesefuton.experiments.provenance.MOST_FILES", 3), \
                 self.assertRaisesRegex(EntrantError, "more than 3 files"):
-            agent_of(entrant)
+            self.agent()
 
     def test_the_place_of_the_folder_changes_nothing(self) -> None:
         first = self.digest()
@@ -108,13 +110,13 @@ class Agents(unittest.TestCase):
         (self.place / "mine.py").write_text("import numbers_of_pi, os\nfrom . import helper\n")
         with mock.patch("geesefuton.experiments.provenance._installed", lambda: {
                 "numbers_of_pi": [("pi", "3.14")], "unused": [("other", "1")]}):
-            agent = agent_of(read_entrant(str(self.place / "mine.py")))
+            agent = self.agent()
         self.assertEqual(agent.libraries, {"pi": "3.14"})
         self.assertNotEqual(agent.digest, replace(agent, libraries={"pi": "3.15"}).digest)
 
     def test_a_file_that_cannot_be_read_as_python(self) -> None:
         (self.place / "mine.py").write_bytes(b"def \xff(")
-        self.assertIn("mine.py", agent_of(read_entrant(str(self.place / "mine.py"))).files)
+        self.assertIn("mine.py", self.agent().files)
 
 
 class Settings(unittest.TestCase):
@@ -138,7 +140,3 @@ class Settings(unittest.TestCase):
         self.assertEqual(package_digest(), package_digest())
         self.assertRegex(commit(), r"^([0-9a-f]{40}(-dirty)?)?$")
         self.assertEqual(machine()["python"], sys.version.split()[0])
-
-
-if __name__ == "__main__":
-    unittest.main()

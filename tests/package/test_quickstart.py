@@ -3,15 +3,17 @@
 import os
 import sys
 import tempfile
+import time
 import unittest
 from pathlib import Path
-from typing import List, Tuple
+from typing import Callable, List, Tuple
 from unittest import mock
 
 from geesefuton import program, quickstart
 from geesefuton.processes import Children, Output
+from geesefuton.records.logs import Score
 from geesefuton.records.secret_deals import BYTES, deal_seed
-from tests.package.helpers import SERVED_LOG, TOP, fake_program
+from tests.package.helpers import SERVED_LOG, fake_program
 
 # It takes eight links, keeps what each said first, and writes a log.
 SERVER = """
@@ -26,10 +28,9 @@ sys.stdout.write(open(log).read())
 SECRET = bytes(range(BYTES))
 AGENT = """
 import os, socket, sys
-print(os.path.basename(sys.argv[0]), *sys.argv[3:], flush=True)
 try:
     link = socket.create_connection((sys.argv[1], int(sys.argv[2])))
-    link.sendall(f"hello {sys.argv[3]}\\n".encode())
+    link.sendall(f"hello {' '.join([*sys.argv[3:], os.path.basename(sys.argv[0])])}\\n".encode())
     link.recv(1)
 except OSError:
     pass  # the server has ended
@@ -50,47 +51,81 @@ class Playing(unittest.TestCase):
 
     def play(self, serve: str) -> Tuple[int, str, List[str]]:
         """The status, what is written, and what is told, with a server that does this."""
-        game = TOP / "examples" / "first.game"
         self.tac = fake_program(
             self.place, f'echo "$@" >> {self.place}/asked\n'
-            f'if [ "$1" = make ]; then grep -v "^#" {game}; exit; fi\n{serve}')
+            f'if [ "$1" = audit ]; then echo sound; exit; fi\n{serve}')
         file, told = self.place / "written", list[str]()
         with mock.patch.dict(os.environ, {"TAC": self.tac}), Children() as children, \
                 mock.patch("geesefuton.quickstart.tell", told.append), \
+                mock.patch("geesefuton.quickstart.wait_until", self.waited), \
+                mock.patch("geesefuton.quickstart.PAGE", self.place / "page.html"), \
                 mock.patch("geesefuton.quickstart.new_secret", return_value=SECRET):
             out = Output(file)
             status = quickstart.play(children, out)
             out.close()
         return status, file.read_text(), told
 
-    def test_agents_and_scores_are_shown(self) -> None:
+    def waited(self, is_over: Callable[[], bool], what: str) -> None:
+        """Waits until something is over, which is not told."""
+        self.assertTrue(what.startswith("quickstart: "))
+        while not is_over():
+            time.sleep(0.01)
+
+    def served(self) -> str:
+        """What a program does that serves the game of the kept log."""
         server = self.place / "server.py"
         server.write_text(SERVER)
-        status, written, told = self.play(
-            f'exec {sys.executable} {server} "$3" {self.place}/heard {SERVED_LOG}')
+        return f'exec {sys.executable} {server} "$3" {self.place}/heard {SERVED_LOG}'
+
+    def test_who_won_is_said_and_a_page_is_written(self) -> None:
+        status, written, told = self.play(self.served())
         self.assertEqual((status, told), (0, []))
-        first, rest = written.split("The scores (agent, best total, cash, tickets short, score):\n")
+        lines, seed = written.splitlines(), deal_seed(SECRET, 1)
+        self.assertEqual(lines[:3], [
+            "The planner in seat 0 won with 507 dollars, 213 more than the watcher in seat 7.",
+            "    507  the planner in seat 0", "    294  the watcher in seat 7"])
+        self.assertEqual(lines[8:], [
+            "   -726  the planner in seat 1", f"The server was the program {self.tac}.",
+            f"The game is that of `{program.typed(f'tac make {seed}')}`.",
+            "A page with all prices, trades and trips, for a browser:",
+            str(self.place / "page.html")])
+        page = (self.place / "page.html").read_text()
+        self.assertIn("<b>watcher 7</b>", page)
+        self.assertNotIn('class="warning"', page)
         names = ["planner.py"] * 4 + ["trader.py"] * 3 + ["watcher.py"]
-        self.assertEqual(first.splitlines(), [
-            "The agents' output:", *(f"{name} seat{seat} --pause 0.1"
-                                     for seat, name in enumerate(names))])
-        scores = [line for line in SERVED_LOG.read_text().splitlines()
-                  if line.startswith("score ")]
-        self.assertEqual(rest.splitlines()[:8], scores)
-        self.assertIn(f"the program {self.tac}", rest)
-        self.assertEqual((self.place / "heard").read_text(),
-                         "".join(f"hello seat{seat}\n" for seat in range(8)))
-        made, served = (self.place / "asked").read_text().splitlines()
-        self.assertEqual((made, served.split()[0], served.split()[3:]),
-                         (f"make {deal_seed(SECRET, 1)}", "serve", [str(quickstart.PACE)]))
-        self.assertIn(f"`tac {made}`", rest)
+        self.assertEqual((self.place / "heard").read_text(), "".join(
+            f"hello seat{seat} --pause 0.1 {name}\n" for seat, name in enumerate(names)))
+        served, audited = (self.place / "asked").read_text().splitlines()
+        self.assertEqual((served.split()[0], served.split()[3:], audited.split()[0]),
+                         ("serve", [str(quickstart.PACE)], "audit"))
+
+    def test_a_quick_run_says_that_it_proves_nothing(self) -> None:
+        clone = self.place / "clone"
+        (clone / "crates" / "tacd").mkdir(parents=True)
+        os.rename(fake_program(self.place, self.served().replace("$3", "$7")), self.place / "rt")
+        path = f"{self.place}{os.pathsep}{os.environ['PATH']}"
+        with mock.patch.object(program, "to_build", return_value=clone), \
+                mock.patch.dict(os.environ, {"PATH": path}):
+            status, written, told = self.play("exit 9")
+        self.assertEqual((status, told), (0, []))
+        self.assertIn(f"nothing: `{program.typed('tac make 42')}` builds the proved program.\n",
+                      written)
+        self.assertIn("Its log is not audited.", (self.place / "page.html").read_text())
+
+    def test_a_page_that_cannot_be_written(self) -> None:
+        (self.place / "page.html").mkdir()
+        status, written, told = self.play(self.served())
+        self.assertEqual((status, told), (1, [f"quickstart: {self.place / 'page.html'}: Is a "
+                                              "directory"]))
+        self.assertIn(" won with ", written)
+
+    def test_agents_that_share_the_first_place(self) -> None:
+        scores = [Score(agent, 0, 0, 0, 10 * (agent < 2), ()) for agent in range(8)]
+        self.assertEqual(quickstart.standings(scores)[0], "The planner in seat 0 and the planner "
+                         "in seat 1 are ahead with 10 dollars each.")
 
     def test_a_server_that_fails_is_told_with_what_it_said(self) -> None:
         status, written, told = self.play("echo fault links; exit 5")
         self.assertEqual((status, written), (1, ""))
-        self.assertEqual(told, ["fault links", "quickstart: the server ended with exit status 5, "
-                                               "so there are no scores"])
-
-
-if __name__ == "__main__":
-    unittest.main()
+        self.assertEqual(told, ["fault links\nquickstart: the server ended with exit status 5, so "
+                                "there are no scores"])

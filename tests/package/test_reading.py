@@ -1,27 +1,24 @@
 """Tests of docs/reading.py: it finds faults that are planted in definitions and pages."""
 
-import subprocess
 import sys
-import tempfile
-import unittest
 from pathlib import Path
 
-TOP = Path(__file__).resolve().parents[2]
+from tests.package.helpers import TOP, Case, completed
+
+KINDS = "crates/tac_base/specs/Kinds.antt"
 
 
-class PlantedFaults(unittest.TestCase):
+class PlantedFaults(Case):
     """Each test changes a file of a tree that has links to all other files of this one."""
 
     def setUp(self) -> None:
-        folder = tempfile.TemporaryDirectory()
-        self.addCleanup(folder.cleanup)
-        self.root = Path(folder.name)
+        super().setUp()
         for name in ("crates", "docs"):
-            (self.root / name).symlink_to(TOP / name)
+            (self.place / name).symlink_to(TOP / name)
 
     def change(self, name: str, old: str, new: str) -> None:
         """Puts `new` in place of `old`, which stands once in a file."""
-        place = self.root
+        place = self.place
         for part in Path(name).parts:
             place /= part
             if place.is_dir() and place.is_symlink():
@@ -37,13 +34,12 @@ class PlantedFaults(unittest.TestCase):
 
     def run_script(self, *words: str) -> str:
         """What the script prints, its exit status in front."""
-        done = subprocess.run(
-            [sys.executable, str(self.root / "docs" / "reading.py"), *words],
-            stdin=subprocess.DEVNULL, stdout=subprocess.PIPE, check=False, encoding="utf-8",
-        )
+        done = completed(sys.executable, self.place / "docs" / "reading.py", *words,
+                         encoding="utf-8")
         return f"{done.returncode}\n{done.stdout}"
 
     def assert_faults(self, *faults: str) -> None:
+        """The script tells these faults."""
         printed = self.run_script()
         self.assertRegex(printed, r"\A1\n")
         for fault in faults:
@@ -51,7 +47,7 @@ class PlantedFaults(unittest.TestCase):
 
     def test_definitions_are_printed_as_they_stand(self) -> None:
         printed = self.run_script("--print")
-        kinds = (TOP / "crates/tac_base/specs/Kinds.antt").read_text(encoding="utf-8")
+        kinds = (TOP / KINDS).read_text(encoding="utf-8")
         definition = kinds[kinds.index("abbrev pub kind_of"):].strip()
         self.assertEqual(printed.count(definition), 1)
         self.assertLess(printed.index("record Entry "), printed.index("pub record IsLegalHistory"))
@@ -62,26 +58,26 @@ class PlantedFaults(unittest.TestCase):
         self.assertEqual(stated.count("    closed_comes_first : run hotel ((8, Close)"), 1)
 
     def test_a_definition_without_a_rule(self) -> None:
-        kinds = (TOP / "crates/tac_base/specs/Kinds.antt").read_text(encoding="utf-8")
+        kinds = (TOP / KINDS).read_text(encoding="utf-8")
         above = kinds[: kinds.index("abbrev pub kind_of")].rstrip("\n").split("\n")[-1]
         self.assertTrue(above.startswith("-- "))
-        self.change("crates/tac_base/specs/Kinds.antt", above + "\n", "\n")
+        self.change(KINDS, above + "\n", "\n")
         self.assert_faults("kind_of of tac_base.specs.Kinds has no rule")
 
-    def test_a_row_that_does_not_try_its_definition(self) -> None:
-        self.change("crates/tac_base/specs/Kinds.antt", "abbrev pub kind_of",
-                    "-- Row: museum_trip (worked_rows/proofs/Packages.antt)\nabbrev pub kind_of")
-        self.assert_faults("the row museum_trip does not lead to kind_of")
-
-    def test_a_definition_above_one_that_it_uses(self) -> None:
-        self.change("docs/chapters.tsv", "The cash book\ttrade_ledger\n", "")
-        self.change("docs/chapters.tsv", "The headline\t", "The headline\ttrade_ledger ")
-        self.assert_faults("uses trade_ledger.specs.CashHistory, which stands below it")
-
-    def test_a_rule_whose_clauses_lead_to_no_definition_of_it(self) -> None:
+    def test_a_row_and_a_rule_that_do_not_lead_to_their_definition(self) -> None:
+        row = "-- Row: museum_trip (worked_rows/proofs/Packages.antt)\n"
+        self.change(KINDS, "abbrev pub kind_of", f"{row}abbrev pub kind_of")
         self.change("docs/rules.tsv", "bids:Points::new.fault; tac_base/bids:Points::new.variant",
                     "bids:BidDraft::new")
-        self.assert_faults("points and units of a bid: no clause leads to its definition")
+        self.assert_faults("the row museum_trip does not lead to kind_of",
+                           "points and units of a bid: no clause leads to its definition")
+
+    def test_a_definition_above_one_that_it_uses_and_a_table_that_is_old(self) -> None:
+        self.change("docs/chapters.tsv", "The cash book\ttrade_ledger\n", "")
+        self.change("docs/chapters.tsv", "The headline\t", "The headline\ttrade_ledger ")
+        self.change("docs/RULES.md", "| the closing |", "| the end |")
+        self.assert_faults("uses trade_ledger.specs.CashHistory, which stands below it",
+                           "docs/RULES.md is old")
 
     def test_places_that_do_not_exist(self) -> None:
         for old, new in (
@@ -107,11 +103,3 @@ class PlantedFaults(unittest.TestCase):
         self.change("docs/READING.md", " -- IsPosted, due_post ", " -- IsPost, due_post ")
         self.assert_faults("IsNotBehind is not at ../crates/agent_gate/specs/Gates.antt",
                            "the key lacks count_by", "not reach IsPost of the picture")
-
-    def test_a_table_that_is_old(self) -> None:
-        self.change("docs/RULES.md", "| the closing |", "| the end |")
-        self.assert_faults("docs/RULES.md is old")
-
-
-if __name__ == "__main__":
-    unittest.main()

@@ -1,32 +1,29 @@
 """The command that makes a log of a journal: what it tells, and its exit status."""
 
-import os
 import subprocess
-import sys
-import tempfile
-import unittest
-from pathlib import Path
-from typing import List, Sequence, Tuple
+from typing import Any, List, Sequence, Tuple
 from unittest import mock
 
 from geesefuton import program
-from geesefuton.hosting.journal import read_journal
 from geesefuton.hosting.recover_command import _tell_pending
-from geesefuton.hosting.recovery import Player, Recovery
+from geesefuton.hosting.recovery import Recovery
 from geesefuton.processes import Output
 from geesefuton.records.logs import read_log
-from tests.package.helpers import TOP, CountingPlayer, needs_program, refusal
-from tests.package.journals import BEGIN, GAME, LINES, asks, of_text, told
+from tests.package.cases import FolderCase
+from tests.package.helpers import COMMAND, CountingPlayer, needs_program, refusal
+from tests.package.journals import GAME, HEADED, LINES, PlayedCase, asks, of_text, told
 
 
-class Telling(unittest.TestCase):
+class Telling(FolderCase):
     """What the command tells, and its exit status."""
 
     def setUp(self) -> None:
-        place = tempfile.TemporaryDirectory()
-        self.addCleanup(place.cleanup)
-        self.folder = Path(place.name)
+        super().setUp()
         self.log = self.folder / "output"
+
+    def scores(self) -> List[int]:
+        """The scores of the log that was made."""
+        return [row.score for row in read_log(self.log.read_bytes()).scores]
 
     def run_it(self, lines: Sequence[str], *words: object) -> Tuple[int, List[str]]:
         """Runs the command on a journal, and gives its exit status and the lines that it tells."""
@@ -38,7 +35,7 @@ class Telling(unittest.TestCase):
             status, text = refusal("hosting.recover_command", self.folder / "journal", *words)
         return status, text.splitlines()
 
-    HEAD = [LINES[0], BEGIN, '{"tick":0,"t":0}', '{"tick":7,"t":700}',
+    HEAD = [*HEADED, '{"tick":7,"t":700}',
             asks(0, "own 20"), told(0, "@0 own 0 ()", 701), asks(0, "quote 20"),
             told(0, "@1 quote 0 0 open", 702), asks(0, "cash"), told(0, "@0 cash 0", 703),
             asks(0, "hm"), told(0, "no syntax", 704)]
@@ -67,13 +64,11 @@ class Telling(unittest.TestCase):
             f"  without a reply, left out: {fourth}: own 22",
             "  the journal does not show whether those left out were made; with them (--pending) "
             f"scores change: {third} -1"]))
-        self.assertEqual([row.score for row in read_log(self.log.read_bytes()).scores],
-                         [0, -1, 0, -1, 0, 0, 0, 0])
+        self.assertEqual(self.scores(), [0, -1, 0, -1, 0, 0, 0, 0])
         status, text = self.run_it(lines, "--pending")
         self.assertEqual((status, [line.split(": ")[0] for line in text[1:]]),
                          (0, ["  without a reply, in the log"] * 3))
-        self.assertEqual([row.score for row in read_log(self.log.read_bytes()).scores],
-                         [0, -1, 0, -2, 0, 0, 0, 0])
+        self.assertEqual(self.scores(), [0, -1, 0, -2, 0, 0, 0, 0])
         status, text = self.run_it([*self.HEAD, asks(4, "own 22")])
         self.assertTrue(text[-1].endswith("with them (--pending) no score changes"), text)
 
@@ -122,25 +117,18 @@ class Telling(unittest.TestCase):
 
 
 @needs_program
-class WithTheProgram(unittest.TestCase):
-    def setUp(self) -> None:
-        place = tempfile.TemporaryDirectory()
-        self.addCleanup(place.cleanup)
-        self.folder = Path(place.name)
-        self.player = Player(self.folder)
-
-    def audit(self, log: str) -> str:
-        (self.folder / "my.game").write_text(GAME.text())
-        (self.folder / "my.log").write_text(log)
-        return program.audit(self.folder / "my.game", self.folder / "my.log")
+class WithTheProgram(PlayedCase):
+    def recover(self, *words: object, **how: Any) -> "subprocess.CompletedProcess[str]":
+        """The command in a process of its own."""
+        return subprocess.run(
+            [*COMMAND, "recover", *map(str, words)], text=True, check=False,
+            **{"stdout": subprocess.PIPE, **how}, stderr=subprocess.PIPE, cwd=self.folder)
 
     def test_what_requests_without_a_reply_would_change_is_told(self) -> None:
         # A seat alone makes no trip, so it would cost the agent its price. Its game has tick 0
         # alone.
-        reader = of_text([LINES[0], BEGIN, '{"tick":0,"t":0}',
-                          '{"a":1,"q":"bid 0 ((1 10000))"}'])
-        made = Recovery(reader, self.player)
-        told: List[str] = []
+        reader = of_text([*HEADED, asks(1, "bid 0 ((1 10000))")])
+        made, told = Recovery(reader, self.player), list[str]()
         with mock.patch("geesefuton.hosting.recover_command.tell", told.append):
             _tell_pending(reader, made, self.player, made.log()[0])
         self.assertIn(f"scores change: {GAME.words[1]} -{GAME.flights[0].first}", told[-1])
@@ -154,38 +142,17 @@ class WithTheProgram(unittest.TestCase):
         (self.folder / "other").write_text("\n".join([*LINES[:reply], other, *LINES[reply + 1:]])
                                            + "\n")
         told = f"3 own 22: replied @0 own {had + 1} (), and now @0 own {had} ()"
-        log, faults = Recovery(read_journal(self.folder / "other"), self.player).log()
-        self.assertEqual((self.audit(log), faults), ("sound", [told]))
-        done = subprocess.run([sys.executable, str(TOP / "tools/recover"), "other"], text=True,
-                              stdout=subprocess.PIPE, stderr=subprocess.PIPE, check=False,
-                              cwd=self.folder)
-        self.assertEqual((done.returncode, done.stdout), (1, log))
+        done = self.recover("other")
+        self.assertEqual((done.returncode, self.audit(done.stdout)), (1, "sound"))
         self.assertIn(f"! {told}\n", done.stderr)
 
     def test_the_command(self) -> None:
-        tool = [sys.executable, str(TOP / "tools/recover")]
-
-        def run(*words: object) -> "subprocess.CompletedProcess[str]":
-            return subprocess.run([*tool, *map(str, words)], stdout=subprocess.PIPE, text=True,
-                                  stderr=subprocess.PIPE, check=False, cwd=self.folder)
-
         (self.folder / "cut").write_text("\n".join(LINES[:150]) + "\n")
-        done = run("cut", "--script", "my.script", "--game", "other.game")
+        done = self.recover("cut", "--script", "my.script", "--game", "other.game")
         self.assertEqual(done.returncode, 0)
         self.assertIn("nobody asks anything more", done.stderr)
         played = program.play(self.folder / "other.game", self.folder / "my.script")
         self.assertEqual(played[played.index("taclog 1"):], done.stdout)
-        for words, text in ((["nowhere"], "nowhere: No such file"),
-                            (["other.game"], "line 1 is not a journal line"),
-                            (["cut", "--script", "no/where"], "no/where: No such file")):
-            done = run(*words)
-            self.assertEqual((done.returncode, "Traceback" in done.stderr), (1, False))
-            self.assertIn(text, done.stderr)
         with open("/dev/full", "w", encoding="ascii") as full:
-            status = subprocess.run([*tool, "cut"], stdout=full, stderr=subprocess.PIPE,
-                                    check=False, cwd=self.folder, env=os.environ)
-        self.assertEqual(status.returncode, 1)
-        self.assertIn(b"No space left", status.stderr)
-
-if __name__ == "__main__":
-    unittest.main()
+            done = self.recover("cut", stdout=full)
+        self.assertEqual((done.returncode, "No space left" in done.stderr), (1, True))

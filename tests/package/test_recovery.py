@@ -2,20 +2,18 @@
 
 import os
 import random
-import tempfile
 import unittest
 from dataclasses import replace
-from pathlib import Path
-from typing import Any, Dict, List, Sequence, Tuple
+from typing import Any, Dict, List, Optional, Sequence, Tuple
 from unittest import mock
 
-from geesefuton import program
 from geesefuton.hosting.journal import Exchange, JournalReader, Schedule, read_journal
 from geesefuton.hosting.recovery import (KnownHistory, Player, Recovery, RecoveryError, Script,
                                          differences, script_of)
 from geesefuton.records.dialects import Asked, position_of
+from tests.package.cases import FolderCase
 from tests.package.helpers import DATA, CountingPlayer, fake_program, needs_program
-from tests.package.journals import BEGIN, GAME, LINES, asks, of_text, told
+from tests.package.journals import BEGIN, GAME, LINES, PlayedCase, asks, of_text, told
 
 
 def call(good: int, at: int, tick: int = 0, order: int = 0, agent: int = 1) -> Exchange:
@@ -31,21 +29,17 @@ class Placing(unittest.TestCase):
             history.place(call(good, at, tick))
         return [tick for tick, _ in history.items(quotes=True)]
 
-    def test_flights_have_a_clocks_call_at_each_tick(self) -> None:
-        self.assertEqual(self.ticks(0, [(0, 0), (1, 3), (4, 0), (5, 1)]), [0, 0, 2, 2])
-
-    def test_hotels_have_one_at_each_sixth_until_they_close(self) -> None:
-        good = GAME.closing[1]
-        self.assertEqual(self.ticks(good, [(0, 2), (1, 9), (3, 4), (5, 33)]), [2, 5, 6, 33])
-        with self.assertRaisesRegex(RecoveryError, "neither the clock's"):
-            self.ticks(good, [(3, 40)])
-
-    def test_tickets_have_one_at_the_end(self) -> None:
-        self.assertEqual(self.ticks(20, [(0, 7), (1, 3), (2, 9), (4, 54)]), [7, 7, 9, 54])
-
-    def test_two_replies_at_one_position(self) -> None:
-        with self.assertRaisesRegex(RecoveryError, "two replies"):
-            self.ticks(20, [(0, 7), (0, 8)])
+    def test_the_clock_calls_flights_at_each_tick_hotels_at_each_sixth_and_tickets_at_the_end(
+            self) -> None:
+        for good, calls, due in ((0, [(0, 0), (1, 3), (4, 0), (5, 1)], [0, 0, 2, 2]),
+                                 (GAME.closing[1], [(0, 2), (1, 9), (3, 4), (5, 33)],
+                                  [2, 5, 6, 33]),
+                                 (20, [(0, 7), (1, 3), (2, 9), (4, 54)], [7, 7, 9, 54])):
+            self.assertEqual(self.ticks(good, calls), due)
+        for good, calls, fault in ((GAME.closing[1], [(3, 40)], "neither the clock's"),
+                                   (20, [(0, 7), (0, 8)], "two replies")):
+            with self.assertRaisesRegex(RecoveryError, fault):
+                self.ticks(good, calls)
 
     def test_between_two_ticks_the_eldest_is_first(self) -> None:
         items = [(1, call(0, 1, order=9)), (1, call(20, 0, order=5)), (1, call(20, 1, order=12)),
@@ -86,18 +80,14 @@ class Guessing(unittest.TestCase):
             at: one.agent for at, one in history.calls.items() if at not in known}
             for guess in history.guesses(tick))
 
-    def test_none(self) -> None:
+    def test_none_and_some(self) -> None:
         self.assertTrue(self.settle([0, 1, 2], [2, 3], {}))
-
-    def test_some(self) -> None:
         self.assertTrue(self.settle([0, 2], [2, 3], {1: 3}))
         self.assertTrue(self.settle([0, 3], [2, 3], {1: 3, 2: 2}))
         self.assertTrue(self.settle([0, 4], [2, 3, 5], {1: 3, 2: 5, 3: 2}))
         self.assertTrue(self.settle([0, 3], [2, 3], {2: 3}, tick=54))  # the other is the clock's
         self.assertTrue(self.settle([0, 9], [2, 3, 4, 5], {1: 2, 2: 3, 3: 4, 4: 5}, good=0,
                                     tick=4))  # the other four gaps of a flight are the clock's
-
-    def test_none_is_found(self) -> None:
         self.assertFalse(self.settle([0, 2], [2], {7: 7}))
 
     def test_none_stands_before_what_was_known(self) -> None:
@@ -138,8 +128,15 @@ class Making(unittest.TestCase):
         player: Any = self.player
         return Recovery(reader, player, **how)
 
-    def lines(self, recovery: Recovery, quotes: bool = True) -> List[str]:
-        return recovery.script(quotes).text.splitlines()
+    def check(self, recovery: Recovery, made: Sequence[str], left: Sequence[str],
+              lines: Optional[List[str]] = None) -> None:
+        """The requests without a reply that are in a script and those that are not; its lines."""
+        self.assertEqual((asked(recovery.made), asked(recovery.left)), ([*made], [*left]))
+        if lines is not None:
+            self.assertEqual(self.lines(recovery), lines)
+
+    def lines(self, recovery: Recovery) -> List[str]:
+        return recovery.script().text.splitlines()
 
     def test_the_histories_of_a_whole_game_are_those_of_its_log(self) -> None:
         recovery = self.make(read_journal(DATA / "lobby.journal"))
@@ -173,17 +170,13 @@ class Making(unittest.TestCase):
         reader = journal(asks(1, "buy 5"), told(1, "no syntax"), asks(1, "bid 5 ()"),
                          told(1, "no bid 1"), asks(1, "own 20"), told(1, "@0 own 0 ()"),
                          asks(2, "own 21"), told(2, "no spent"), asks(2, "quit"), asks(3, "hm"))
-        recovery = self.make(reader)
-        self.assertEqual((self.lines(recovery), recovery.made, recovery.left),
-                         (["1 own 20"], [], []))
+        self.check(self.make(reader), [], [], ["1 own 20"])
 
     def test_a_request_that_others_replies_show_was_made(self) -> None:
         # Another agent's reply has the second position, so `own 20` of agent 1 had the first one.
         reader = journal(asks(1, "own 20"), asks(3, "own 22"), asks(2, "own 20"),
                          told(2, "@1 own 0 ()"))
-        recovery = self.make(reader)
-        self.assertEqual((asked(recovery.made), asked(recovery.left)), (["1 own 20"], ["3 own 22"]))
-        self.assertEqual(self.lines(recovery), ["1 own 20", "2 own 20"])
+        self.check(self.make(reader), ["1 own 20"], ["3 own 22"], ["1 own 20", "2 own 20"])
 
     def test_what_a_quote_shows_tells_whose_request_was_made(self) -> None:
         bids = [asks(1, "bid 20 ((1 50))"), asks(3, "bid 20 ((1 70))"), asks(2, "quote 20")]
@@ -205,15 +198,11 @@ class Making(unittest.TestCase):
         self.assertEqual(self.lines(self.make(reader)), ["2 own 20", "1 own 20", "3 own 20"])
         reader = journal(asks(3, "own 20"), asks(2, "own 20"), told(2, "@1 own 0 ()"),
                          asks(1, "own 20"))
-        recovery = self.make(reader)
-        self.assertEqual((asked(recovery.made), asked(recovery.left)),
-                         (["3 own 20"], ["1 own 20"]))
+        self.check(self.make(reader), ["3 own 20"], ["1 own 20"])
 
     def test_the_clocks_call_is_the_likelier_one(self) -> None:
         reader = journal(asks(1, "own 20"), asks(2, "own 20"), told(2, "@1 own 0 ()"), tick=54)
-        recovery = self.make(reader)
-        self.assertEqual((recovery.made, asked(recovery.left)), ([], ["1 own 20"]))
-        self.assertEqual(self.lines(recovery), ["tick"] * 54 + ["2 own 20"])
+        self.check(self.make(reader), [], ["1 own 20"], ["tick"] * 54 + ["2 own 20"])
 
     def test_a_clock_that_is_behind(self) -> None:
         # The lobby has not told a tick, and the server has made two: so only one bid was made.
@@ -221,8 +210,7 @@ class Making(unittest.TestCase):
                          told(2, "@1 quote 0 0 open"), asks(1, "bid 0 ((1 50))"),
                          asks(2, "quote 0"), told(2, "@3 quote 50 0 open"))
         recovery = self.make(reader)
-        self.assertEqual((asked(recovery.made), asked(recovery.left)),
-                         (["1 bid 0 ((1 50))"], ["3 bid 0 ((1 70))"]))
+        self.check(recovery, ["1 bid 0 ((1 50))"], ["3 bid 0 ((1 70))"])
         self.assertEqual(recovery.log()[1], [])
 
     def test_replies_of_which_no_request_can_be_the_cause(self) -> None:
@@ -239,21 +227,16 @@ class Making(unittest.TestCase):
         lines += [asks(3, "quote 20"), told(3, "@0 quote 0 0 open"),
                   asks(3, "quote 21"), told(3, "@1 quote 5 0 open"),
                   asks(3, "own 22"), told(3, "@1 own 0 ()")]
-        recovery = self.make(journal(*lines))
-        self.assertEqual((asked(recovery.made), asked(recovery.left)),
-                         (["1 bid 21 ((1 5))", "2 bid 22 ((1 5))"], ["0 bid 20 ((1 5))"]))
+        self.check(self.make(journal(*lines)), ["1 bid 21 ((1 5))", "2 bid 22 ((1 5))"],
+                   ["0 bid 20 ((1 5))"])
 
     def test_pending_requests_are_asked_after_all_others(self) -> None:
         reader = journal(asks(1, "own 0"), asks(2, "own 0"), told(2, "@3 own 0 ()"),
                          asks(3, "own 20"), asks(2, "own 20"), told(2, "@0 own 0 ()"), tick=5)
-        recovery = self.make(reader)
-        self.assertEqual((recovery.made, asked(recovery.left)), ([], ["1 own 0", "3 own 20"]))
-        self.assertEqual(self.lines(recovery), ["tick"] * 3 + ["2 own 0"] + ["tick"] * 2
-                         + ["2 own 20"])
-        recovery = self.make(reader, pending=True)
-        self.assertEqual((recovery.left, asked(recovery.made)), ([], ["1 own 0", "3 own 20"]))
-        self.assertEqual(self.lines(recovery), ["tick"] * 3 + ["2 own 0"] + ["tick"] * 2
-                         + ["1 own 0", "2 own 20", "3 own 20"])
+        begin, pending = ["tick"] * 3 + ["2 own 0"] + ["tick"] * 2, ["1 own 0", "3 own 20"]
+        self.check(self.make(reader), [], pending, [*begin, "2 own 20"])
+        self.check(self.make(reader, pending=True), pending, [],
+                   [*begin, "1 own 0", "2 own 20", "3 own 20"])
         reader = journal(asks(3, "own 20"), asks(1, "own 20"))
         self.assertEqual(self.lines(self.make(reader, pending=True)), ["3 own 20", "1 own 20"])
 
@@ -265,9 +248,8 @@ class Making(unittest.TestCase):
                  asks(4, "own 0"), told(4, "@7 own 0 ()"), asks(4, "quote 0"),
                  told(4, "@8 quote 0 300 open"), asks(4, "quote 26"),
                  told(4, "@1 quote 0 0 open")]
-        recovery = self.make(journal(*lines, tick=4), live=True)
-        self.assertEqual((recovery.made, recovery.left), ([], []))
-        self.assertEqual(self.lines(recovery), ["tick"] * 4 + ["3 own 21", "tick", "3 own 0"])
+        self.check(self.make(journal(*lines, tick=4), live=True), [], [],
+                   ["tick"] * 4 + ["3 own 21", "tick", "3 own 0"])
         recovery = self.make(journal(*lines[:-2], tick=6))
         self.assertEqual(self.lines(recovery)[-2:], ["4 own 0", "4 quote 0"])
 
@@ -293,14 +275,12 @@ class Making(unittest.TestCase):
         self.assertEqual(differences(Script("", calls), replies), [(calls[2], "@2 own 4 ()")])
 
 
-class Playing(unittest.TestCase):
+class Playing(FolderCase):
     """The program that a player runs."""
 
     def play(self, body: str, script: str, longest: float = 60.0) -> Tuple[List[str], str]:
-        with tempfile.TemporaryDirectory() as place:
-            folder = Path(place)
-            with mock.patch.dict(os.environ, {"TAC": fake_program(folder, body)}):
-                return Player(folder, longest).play("the game\n", script)
+        with mock.patch.dict(os.environ, {"TAC": fake_program(self.folder, body)}):
+            return Player(self.folder, longest).play("the game\n", script)
 
     def test_reply_lines_come_before_the_log(self) -> None:
         body = '[ "$1" = play ] && cat "$3" && echo taclog 1 && cat "$2"'
@@ -312,28 +292,15 @@ class Playing(unittest.TestCase):
         self.assertEqual(self.play('od -An -tx1 "$3"; echo taclog 1', "0 \xfc\n"),
                          ([" 30 20 fc 0a"], "taclog 1\n"))
 
-    def test_a_refusal(self) -> None:
-        with self.assertRaisesRegex(RecoveryError, "exit status 8 .*text 1 2"):
-            self.play("echo text 1 2; exit 8", "")
-
-    def test_one_that_takes_too_long(self) -> None:
-        with self.assertRaisesRegex(RecoveryError, "tac play took longer than 0.1 seconds"):
-            self.play("exec sleep 60", "", 0.1)
+    def test_a_refusal_and_one_that_takes_too_long(self) -> None:
+        for body, fault in (("echo text 1 2; exit 8", "exit status 8 .*text 1 2"),
+                            ("exec sleep 60", "tac play took longer than 0.5 seconds")):
+            with self.assertRaisesRegex(RecoveryError, fault):
+                self.play(body, "", 0.5 if "sleep" in body else 60.0)
 
 
 @needs_program
-class WithTheProgram(unittest.TestCase):
-    def setUp(self) -> None:
-        place = tempfile.TemporaryDirectory()
-        self.addCleanup(place.cleanup)
-        self.folder = Path(place.name)
-        self.player = Player(self.folder)
-
-    def audit(self, log: str) -> str:
-        (self.folder / "my.game").write_text(GAME.text())
-        (self.folder / "my.log").write_text(log)
-        return program.audit(self.folder / "my.game", self.folder / "my.log")
-
+class WithTheProgram(PlayedCase):
     def test_a_whole_game(self) -> None:
         log, faults = Recovery(read_journal(DATA / "lobby.journal"), self.player).log()
         served = (DATA / "lobby.log").read_text()
@@ -359,7 +326,3 @@ class WithTheProgram(unittest.TestCase):
             made += len(recovery.made)
             self.assertEqual(Recovery(of_text(part), self.player, pending=True).left, [])
         self.assertGreater(made, 0)
-
-
-if __name__ == "__main__":
-    unittest.main()

@@ -49,7 +49,3 @@ class Counting(unittest.TestCase):
         self.assertEqual([few.add(1.0, "h", text) for text in "abcd"], ["a", "b", None, None])
         self.assertEqual(few.due(11.0), ["2 of h: d"])
         self.assertIsNone(few.add(12.0, "h", "e"))
-
-
-if __name__ == "__main__":
-    unittest.main()

@@ -1,8 +1,6 @@
 """Links of the package that are lost, before the lobby."""
 
-import os
 import socket
-from unittest import mock
 
 from geesefuton.hosting.events import End
 from geesefuton.link import Link, LinkError, Unanswered
@@ -12,9 +10,7 @@ from tests.package.lobbies import MOST, Case, Host
 class Rejoining(Case):
     def setUp(self) -> None:
         super().setUp()
-        patch = mock.patch("geesefuton.link.tell")
-        self.tell = patch.start()
-        self.addCleanup(patch.stop)
+        self.tell = self.patch("link.tell")
 
     def test_a_link_that_was_cut_is_back(self) -> None:
         host = Host(self.folder, start=0.2, pace=1000)
@@ -24,8 +20,7 @@ class Rejoining(Case):
             self.assertEqual(agent.holding(5).at, 5)
             self.assertEqual((agent.agent, len(agent.clients)), (3, 8))
             agent.quit()
-        host.hurry()
-        self.assertIs(host.end()["seat3"], End.LEFT)
+        self.assertIs(host.finish()["seat3"], End.LEFT)
         self.assertEqual(self.asked().count("3 own 5"), 1)
         self.tell.assert_called_once()
 
@@ -38,8 +33,7 @@ class Rejoining(Case):
             agent.stream.settimeout(MOST)
             self.assertEqual(agent.holding(4).at, 4)
             agent.quit()
-        host.hurry()
-        self.assertIs(host.end()["seat3"], End.LEFT)
+        self.assertIs(host.finish()["seat3"], End.LEFT)
         self.tell.assert_called_once()
 
     def test_after_the_game_it_is_told_that_the_link_was_closed(self) -> None:
@@ -50,22 +44,21 @@ class Rejoining(Case):
         self.tell.assert_not_called()
 
     def test_a_server_that_answers_slowly_is_no_lost_link(self) -> None:
-        with mock.patch.dict(os.environ, {"FAKE_SLOW": "0.3"}):
-            host = Host(self.folder, start=0.2, pace=1000)
-            with Link.greet("localhost", host.port, "seat3", limit=20) as agent:
-                self.assertEqual([agent.own(4), agent.own(5)], [0, 0])
-                agent.quit()
-            host.hurry()
-            self.assertIs(host.end()["seat3"], End.LEFT)
+        self.set(FAKE_SLOW="0.3")
+        host = Host(self.folder, start=0.2, pace=1000)
+        with Link.greet("localhost", host.port, "seat3", limit=20) as agent:
+            self.assertEqual([agent.own(4), agent.own(5)], [0, 0])
+            agent.quit()
+        self.assertIs(host.finish()["seat3"], End.LEFT)
         self.tell.assert_not_called()
 
     def test_a_server_that_hangs_is_given_up(self) -> None:
-        with mock.patch.dict(os.environ, {"FAKE_HANG": "own 7"}), \
-                mock.patch("geesefuton.link.REJOIN", 1.0):
-            host = Host(self.folder, start=0.2, pace=1000)
-            with Link.greet("localhost", host.port, "seat3", limit=0.2) as agent:
-                self.assertEqual(agent.own(4), 0)
-                self.assertRaisesRegex(LinkError, "^seat3: no reply within 0.2", agent.own, 7)
-                self.assertRaisesRegex(LinkError, "^seat3: the link was closed$", agent.own, 4)
-            host.lobby.control.stop()
-            host.end()
+        self.set(FAKE_HANG="own 7")
+        self.patch("link.REJOIN", 1.0)
+        host = Host(self.folder, start=0.2, pace=1000)
+        with Link.greet("localhost", host.port, "seat3", limit=0.2) as agent:
+            self.assertEqual(agent.own(4), 0)
+            self.assertRaisesRegex(LinkError, "^seat3: no reply within 0.2", agent.own, 7)
+            self.assertRaisesRegex(LinkError, "^seat3: the link was closed$", agent.own, 4)
+        host.lobby.control.stop()
+        host.end()

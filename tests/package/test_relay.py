@@ -1,13 +1,11 @@
 """The relay by itself, before a server that the test plays."""
 
+import contextlib
 import json
 import socket
 import struct
-import tempfile
 import time
-import unittest
-from pathlib import Path
-from typing import Any, Dict, List, Type
+from typing import Any, Dict, List, Optional, Type
 from unittest import mock
 
 from geesefuton.hosting import events
@@ -19,24 +17,23 @@ from geesefuton.hosting.relay import MOST_EACH, MOST_HELD, NEAR_MOST, UNREAD, Re
 from geesefuton.hosting.seats import Seat, State
 from geesefuton.network.gate import LINE, PARTING
 from geesefuton.records.dialects import MOST_LINE
+from tests.package.cases import MOST, FolderCase
 
 WORDS = [f"seat{number}" for number in range(8)]
-MOST = 60.0  # seconds that anything may take, on a machine that is busy with other work
 WELCOME = b"welcome\nand more\n"
-MUCH = b"x" * (1 << 20)  # more than the system keeps of a link with small buffers
+OWN = b"@0 own 0 ()\n"
+MUCH = b"x" * (8 << 20)  # more than the system keeps
 
 
-class Case(unittest.TestCase):
+class Case(FolderCase):
     """Agents on two seats, whose game has begun."""
 
     def setUp(self) -> None:
-        place = tempfile.TemporaryDirectory()
-        self.addCleanup(place.cleanup)
+        super().setUp()
         both = socket.has_dualstack_ipv6()  # then it is one for IPv4 and IPv6, as the lobby's
-        self.listener = socket.create_server(
-            ("", 0), family=socket.AF_INET6 if both else socket.AF_INET, dualstack_ipv6=both)
-        self.addCleanup(self.listener.close)
-        self.journal = Journal(Path(place.name, "journal"), self.fail)
+        self.listener = self.enter(socket.create_server(
+            ("", 0), family=socket.AF_INET6 if both else socket.AF_INET, dualstack_ipv6=both))
+        self.journal = Journal(self.folder / "journal", self.fail)
         self.addCleanup(self.journal.close)
         self.told: List[Event] = []
         self.relay = Relay(WORDS, [self.listener], self.told.append, self.journal, MOST, MOST)
@@ -45,9 +42,8 @@ class Case(unittest.TestCase):
         while len(self.relay.seats.missing()) > 6:
             self.relay.turn(MOST)
         pairs = [socket.socketpair() for _ in WORDS]
-        self.servers = [server for _, server in pairs]
+        self.servers = [self.enter(server) for _, server in pairs]
         for server in self.servers:
-            self.addCleanup(server.close)
             server.settimeout(MOST)
         self.relay.begin([Session(seat, link, WELCOME)
                           for seat, (link, _) in zip(self.relay.seats.seats, pairs)])
@@ -56,10 +52,16 @@ class Case(unittest.TestCase):
 
     def connect(self, first: bytes, address: str = "127.0.0.1") -> socket.socket:
         """A new link from this address of the machine, which sends something."""
-        link = socket.create_connection((address, self.listener.getsockname()[1]))
-        self.addCleanup(link.close)
+        link: socket.socket = self.enter(
+            socket.create_connection((address, self.listener.getsockname()[1])))
         link.settimeout(MOST)
         link.sendall(first)
+        return link
+
+    def comes(self, first: bytes, answer: bytes = WELCOME) -> socket.socket:
+        """A new link that sends something, and is answered."""
+        link = self.connect(first)
+        self.turn_until(link, answer)
         return link
 
     def turn_until(self, link: socket.socket, text: bytes) -> None:
@@ -70,10 +72,8 @@ class Case(unittest.TestCase):
             self.assertEqual((got, text.startswith(got)), (got, True))
             self.assertLess(time.monotonic(), deadline, (got, text))
             self.relay.turn(0.01)
-            try:
+            with contextlib.suppress(BlockingIOError):
                 got += link.recv(len(text) - len(got))
-            except BlockingIOError:
-                continue
         link.setblocking(True)
 
     def turn_until_told(self, kind: Type[Event], count: int = 1) -> List[Any]:
@@ -88,32 +88,44 @@ class Case(unittest.TestCase):
         for _ in range(8):
             self.relay.turn(0.002)
 
-    def is_sent_nothing(self, link: socket.socket) -> bool:
+    def pass_time(self, seconds: float) -> None:
+        """So many seconds pass."""
+        self.relay.pass_time(time.monotonic() + seconds)
+
+    def received(self, link: socket.socket) -> Optional[bytes]:
+        """What a link is sent now: nothing at its end, and None if it goes on."""
         self.turns()
         link.setblocking(False)
         try:
-            return link.recv(1 << 16) == b""  # it would be sent no more
+            return link.recv(1 << 16)
         except BlockingIOError:
-            return True
+            return None
+        except ConnectionError:
+            return b""
         finally:
             link.setblocking(True)
 
-    def has_ended(self, link: socket.socket) -> bool:
-        self.turns()
-        link.setblocking(False)
-        try:
-            return link.recv(1 << 16) == b""
-        except BlockingIOError:
-            return False
-        except ConnectionError:
-            return True
+    def is_sent_nothing(self, link: socket.socket) -> bool:
+        return not self.received(link)
 
-    def ask(self, number: int, line: bytes, reply: bytes) -> None:
-        """An agent asks, and the server answers."""
-        self.agents[number].sendall(line)
+    def has_ended(self, link: socket.socket) -> bool:
+        return self.received(link) == b""
+
+    def answer(self, number: int, line: bytes, reply: bytes = OWN) -> None:
+        """The server is asked a line, and answers."""
         self.turn_until(self.servers[number], line)
         self.servers[number].sendall(reply)
+
+    def ask(self, number: int, line: bytes, reply: bytes = OWN) -> None:
+        """An agent asks, and the server answers."""
+        self.agents[number].sendall(line)
+        self.answer(number, line, reply)
         self.turn_until(self.agents[number], reply)
+
+    def depart(self, number: int) -> None:
+        """The link of an agent ends."""
+        self.agents[number].close()
+        self.turn_until_told(events.Departed)
 
     def of(self, kind: Type[Event]) -> List[Any]:
         return [event for event in self.told if isinstance(event, kind)]
@@ -124,6 +136,13 @@ class Case(unittest.TestCase):
     def lines(self) -> List[Dict[str, Any]]:
         """The journal's lines."""
         return [json.loads(line) for line in self.journal.file.read_text().splitlines()]
+
+    def hold(self, data: bytes) -> OuterLink:
+        """The first agent is to be sent something more."""
+        link = self.relay.links[0]
+        link.held += data
+        self.relay.loop.watch(link)
+        return link
 
 
 class Passing(Case):
@@ -138,23 +157,20 @@ class Passing(Case):
             write(relay, link)
 
         with mock.patch.object(Relay, "_write", watched):
-            for number, agent in enumerate(self.agents):
-                agent.sendall(b"own 5\n")
-                self.turn_until(self.servers[number], b"own 5\n")
-            for server in self.servers[:2]:
-                server.sendall(b"@0 own 0 ()\n")
             for agent in self.agents:
-                self.turn_until(agent, b"@0 own 0 ()\n")
+                agent.sendall(b"own 5\n")
+            for number in range(2):
+                self.answer(number, b"own 5\n")
+            for agent in self.agents:
+                self.turn_until(agent, OWN)
         self.assertEqual(kept, [0, 0])
 
     def test_and_so_it_is_if_its_agent_had_not_read_what_came_before(self) -> None:
-        agent, server = self.agents[0], self.servers[0]
+        agent = self.agents[0]
         agent.sendall(b"own 5\n")
-        self.turn_until(server, b"own 5\n")
-        link = next(iter(self.relay.links.values()))
-        link.held += b"@4 own 0 ()\n"  # as if the link had taken no more of it until now
-        self.relay.loop.watch(link)
-        server.sendall(b"@5 own 0 ()\n")
+        self.turn_until(self.servers[0], b"own 5\n")
+        self.hold(b"@4 own 0 ()\n")  # as if the link had taken no more of it until now
+        self.servers[0].sendall(OWN)
         # The server is heard before the link is written to.
         ready = sorted(self.relay.loop._select.select(MOST), key=lambda each: each[1])
         self.assertEqual(len(ready), 2)
@@ -164,7 +180,7 @@ class Passing(Case):
             self.relay.turn(MOST)
         agent.setblocking(False)
         self.assertRaises(BlockingIOError, agent.recv, 4096)
-        self.turn_until(agent, b"@4 own 0 ()\n@5 own 0 ()\n")
+        self.turn_until(agent, b"@4 own 0 ()\n" + OWN)
 
     def test_a_line_that_is_too_long_may_come_in_pieces(self) -> None:
         link, lines = next(iter(self.relay.links.values())), list[bytes]()
@@ -182,31 +198,24 @@ class Passing(Case):
         self.agents[0].sendall(b"own 1\nown 2\nown")
         self.turn_until(self.servers[0], b"own 1\n")
         self.assertTrue(self.is_sent_nothing(self.servers[0]))
-        self.servers[0].sendall(b"@0 own 0 ()\n")
+        self.pass_time(0)  # what is not answered is written soon
+        self.assertEqual(self.lines()[-1], {"a": 0, "q": "own 1"})
+        self.servers[0].sendall(OWN)
         self.turn_until(self.servers[0], b"own 2\n")
-        self.turn_until(self.agents[0], b"@0 own 0 ()\n")
+        self.turn_until(self.agents[0], OWN)
         self.servers[0].sendall(b"@1 own 0 ()\n")
         self.assertTrue(self.is_sent_nothing(self.servers[0]))  # the last line has no end
         self.turn_until(self.agents[0], b"@1 own 0 ()\n")
         self.assertTrue(self.is_sent_nothing(self.agents[1]))
 
-    def test_a_line_that_is_not_answered_is_written_soon(self) -> None:
-        self.agents[0].sendall(b"own 5\n")
-        self.turn_until(self.servers[0], b"own 5\n")
-        self.relay.pass_time(time.monotonic())
-        self.assertEqual(self.lines()[-1], {"a": 0, "q": "own 5"})
-
     def test_nothing_is_asked_for_one_that_does_not_read(self) -> None:
-        agent, server = self.agents[0], self.servers[0]
-        link = self.relay.links[0]
-        link.held += b"x" * (8 << 20)  # more than the system keeps
-        self.relay.loop.watch(link)
+        link = self.hold(MUCH)
         self.turns()
         self.assertGreater(len(link.held), MOST_HELD)
-        agent.sendall(b"own 5\n")
-        self.assertTrue(self.is_sent_nothing(server))
-        self.turn_until(agent, b"x" * (8 << 20))
-        self.turn_until(server, b"own 5\n")
+        self.agents[0].sendall(b"own 5\n")
+        self.assertTrue(self.is_sent_nothing(self.servers[0]))
+        self.turn_until(self.agents[0], MUCH)
+        self.turn_until(self.servers[0], b"own 5\n")
 
     def test_one_that_sends_much_is_read_as_it_is_answered(self) -> None:
         line, count = b"y" * 499 + b"\n", 800
@@ -224,17 +233,15 @@ class Passing(Case):
         self.agents[0].sendall(b"bid 8 ((1 1))\nown 8\n")
         self.turn_until(self.servers[0], b"bid 8 ((1 1))\n")
         self.agents[0].setsockopt(socket.SOL_SOCKET, socket.SO_LINGER, struct.pack("ii", 1, 0))
-        self.agents[0].close()
-        self.turn_until_told(events.Departed)
-        again = self.connect(b"hello seat0\nown 9\n")
-        self.turn_until_told(events.Rejoined)
-        self.turn_until(again, WELCOME)
+        self.depart(0)
+        again = self.comes(b"hello seat0\nown 9\n")
+        self.assertEqual(len(self.of(events.Rejoined)), 1)
         self.assertTrue(self.is_sent_nothing(self.servers[0]))  # the bid has no answer yet
         self.servers[0].sendall(b"@3 taken 0 0\n")
         self.turn_until(self.servers[0], b"own 9\n")
         self.assertTrue(self.is_sent_nothing(again))
-        self.servers[0].sendall(b"@0 own 0 ()\n")
-        self.turn_until(again, b"@0 own 0 ()\n")
+        self.servers[0].sendall(OWN)
+        self.turn_until(again, OWN)
 
     def test_one_that_reconnects_and_ends_its_side_is_asked_after_what_is_on_its_way(self) -> None:
         self.agents[0].sendall(b"bid 8 ((1 1))\n")
@@ -247,9 +254,8 @@ class Passing(Case):
         self.turns()
         self.servers[0].sendall(b"@3 taken 0 0\n")
         for line in (b"own 9\n", b"own 10\n"):
-            self.turn_until(self.servers[0], line)
-            self.servers[0].sendall(b"@0 own 0 ()\n")
-        self.turn_until(again, b"@0 own 0 ()\n" * 2)
+            self.answer(0, line)
+        self.turn_until(again, OWN * 2)
 
     def test_one_that_ends_its_side_is_still_answered(self) -> None:
         self.agents[0].sendall(b"own 1\nown 2\nown 3")
@@ -258,31 +264,19 @@ class Passing(Case):
             self.turn_until(self.servers[0], line)
             self.turns()
             self.assertEqual(self.of(events.Departed), [])
-            self.servers[0].sendall(b"@0 own 0 ()\n")
-        self.turn_until(self.agents[0], b"@0 own 0 ()\n" * 2)
+            self.assertEqual(self.relay.loop._select.select(0.0), [])  # its end is heard once
+            self.servers[0].sendall(OWN)
+        self.turn_until(self.agents[0], OWN * 2)
         self.assertEqual(self.turn_until_told(events.Departed)[0].word, "seat0")
         self.assertTrue(self.has_ended(self.agents[0]))
         self.assertTrue(self.is_sent_nothing(self.servers[0]))  # and is not told of an end
 
-    def test_one_that_ends_its_side_is_sent_the_reply_that_is_on_its_way(self) -> None:
-        self.agents[0].sendall(b"own 1\n")
-        self.turn_until(self.servers[0], b"own 1\n")
-        self.agents[0].shutdown(socket.SHUT_WR)
-        self.turns()
-        self.assertEqual(self.relay.loop._select.select(0.0), [])  # its end is heard once
-        self.servers[0].sendall(b"@0 own 0 ()\n")
-        self.turn_until(self.agents[0], b"@0 own 0 ()\n")
-        self.turn_until_told(events.Departed)
-        self.assertTrue(self.has_ended(self.agents[0]))
-
     def test_one_that_ends_its_side_is_sent_all_that_it_has_not_read(self) -> None:
-        link = self.relay.links[0]
-        link.held += b"x" * (8 << 20)  # more than the system keeps
-        self.relay.loop.watch(link)
+        self.hold(MUCH)
         self.turns()
         self.agents[0].shutdown(socket.SHUT_WR)
         self.turns()
-        self.turn_until(self.agents[0], b"x" * (8 << 20))
+        self.turn_until(self.agents[0], MUCH)
         self.turn_until_told(events.Departed)
         self.assertTrue(self.has_ended(self.agents[0]))
 
@@ -291,9 +285,8 @@ class Ends(Case):
     """What is told and written when links and seats come to an end."""
 
     def test_a_game_in_the_journal_and_in_events(self) -> None:
-        self.ask(0, b"own 5\n", b"@0 own 0 ()\n")
-        self.agents[1].close()
-        self.turn_until_told(events.Departed)
+        self.ask(0, b"own 5\n")
+        self.depart(1)
         self.relay.waive(self.relay.seats.seats[7])
         self.ask(0, b"quit\n", b"bye\n")
         self.relay.release()
@@ -319,13 +312,11 @@ class Ends(Case):
 
     def test_a_game_without_a_journal(self) -> None:
         self.relay.journal = Journal(None, self.fail)
-        self.ask(0, b"own 5\n", b"@0 own 0 ()\n")
-        self.agents[1].close()
-        self.turn_until_told(events.Departed)
-        again = self.connect(b"hello seat1\n")
-        self.turn_until(again, WELCOME)
+        self.ask(0, b"own 5\n")
+        self.depart(1)
+        self.comes(b"hello seat1\n")
         self.relay.waive(self.relay.seats.seats[7])
-        self.relay.pass_time(time.monotonic())
+        self.pass_time(0)
         self.relay.release()
         self.ask(0, b"quit\n", b"bye\n")
         self.relay.finish()
@@ -336,10 +327,9 @@ class Ends(Case):
     def test_who_sent_only_lines_that_were_refused(self) -> None:
         self.ask(0, b"hey\n", b"no syntax\n")
         self.ask(1, b"hey\n", b"no syntax\n")
-        self.ask(1, b"own 1\n", b"@0 own 0 ()\n")
+        self.ask(1, b"own 1\n")
         late = self.connect(b"hello seat2\nquit\n")
-        self.turn_until(self.servers[2], b"quit\n")
-        self.servers[2].sendall(b"bye\n")
+        self.answer(2, b"quit\n", b"bye\n")
         self.turn_until(late, WELCOME + b"bye\n")
         for number in range(2):
             self.ask(number, b"quit\n", b"bye\n")
@@ -348,14 +338,11 @@ class Ends(Case):
         self.assertEqual(self.servers[0].recv(9), b"")  # it is told that no more will come
 
     def test_lines_are_counted_over_all_links_of_a_seat(self) -> None:
-        self.ask(0, b"own 1\n", b"@0 own 0 ()\n")
-        self.agents[0].close()
-        self.turn_until_told(events.Departed)
-        self.agents[0] = self.connect(b"hello seat0\nown 2\nown")
-        self.turn_until(self.agents[0], WELCOME)
-        self.turn_until(self.servers[0], b"own 2\n")
-        self.servers[0].sendall(b"@1 own 0 ()\n")
-        self.turn_until(self.agents[0], b"@1 own 0 ()\n")
+        self.ask(0, b"own 1\n")
+        self.depart(0)
+        self.agents[0] = self.comes(b"hello seat0\nown 2\nown")
+        self.answer(0, b"own 2\n")
+        self.turn_until(self.agents[0], OWN)
         self.agents[0].sendall(b" 3\n")
         self.turn_until(self.servers[0], b"own 3\n")
         self.relay.finish()
@@ -363,8 +350,7 @@ class Ends(Case):
 
     def test_nothing_is_asked_after_quit(self) -> None:
         self.agents[0].sendall(b"quit\nown 1\n")
-        self.turn_until(self.servers[0], b"quit\n")
-        self.servers[0].sendall(b"bye\n")
+        self.answer(0, b"quit\n", b"bye\n")
         self.turn_until(self.agents[0], b"bye\n")
         self.agents[0].sendall(b"own 2\n")
         self.turns()
@@ -372,22 +358,19 @@ class Ends(Case):
         self.assertEqual([line["q"] for line in self.lines() if "q" in line], ["quit"])
         self.assertEqual(self.of(events.Warned), [])
 
-    def test_one_that_ends_its_link_after_the_last_tick_has_left(self) -> None:
-        self.relay.release()
-        self.agents[0].close()
-        self.turn_until_told(events.Ended, 7)
-        self.assertEqual((self.ends()["seat0"], self.of(events.Departed)), (End.LEFT, []))
-
-    def test_all_links_are_ended(self) -> None:
+    def test_after_the_last_tick_one_that_ends_its_link_has_left_and_then_all_links_are_ended(
+            self) -> None:
         stranger = self.connect(b"hello")
         self.turns()
         self.relay.release()
         self.assertEqual(set(self.ends()), set(WORDS[2:]))
-        late = self.connect(b"hello seat5\n")
-        self.turn_until(late, b"refused taken\n")  # its session is over
+        late = self.comes(b"hello seat5\n", b"refused taken\n")  # its session is over
+        self.agents[0].close()
+        self.turn_until_told(events.Ended, 7)
         self.relay.finish()
-        self.assertEqual((self.ends()["seat0"], self.ends()["seat1"]), (End.HUNG, End.HUNG))
-        self.assertTrue(all(map(self.has_ended, (stranger, late, *self.agents))))
+        self.assertEqual((self.ends()["seat0"], self.ends()["seat1"]), (End.LEFT, End.HUNG))
+        self.assertEqual(self.of(events.Departed), [])
+        self.assertTrue(all(map(self.has_ended, (stranger, late, self.agents[1]))))
         self.assertFalse(self.relay.is_done())
         for link in (stranger, late, *self.agents, *self.servers):
             link.close()
@@ -396,10 +379,8 @@ class Ends(Case):
         self.assertEqual(len(self.of(events.Ended)), 8)
 
     def test_the_server_ends(self) -> None:
-        self.ask(0, b"own 1\n", b"@0 own 0 ()\n")
-        self.agents[1].close()
-        self.turn_until_told(events.Departed)
-        self.servers[0].sendall(b"")
+        self.ask(0, b"own 1\n")
+        self.depart(1)
         self.servers[0].close()
         self.assertTrue(self.has_ended(self.agents[0]))
         for server in self.servers[1:]:
@@ -421,27 +402,28 @@ class Faults(Case):
         second = self.connect(b"hello seat0\n")
         self.turns()
         self.relay._drop(self.relay.links[0])  # as if its end had been missed
-        self.relay.pass_time(time.monotonic() + MOST + 1)
+        self.pass_time(MOST + 1)
         self.turn_until(second, WELCOME)
         third = self.connect(b"hello seat1\n")
         self.turns()
         heir = self.relay.seats.seats[1].heir
         assert heir is not None
         self.relay._drop(self.relay.links[heir])
-        self.relay.pass_time(time.monotonic() + MOST + 1)
+        self.pass_time(MOST + 1)
         self.assertTrue(self.has_ended(third))
         self.assertIs(self.relay.seats.seats[1].state, State.FREE)
-        again = self.connect(b"hello seat1\n")
-        self.turn_until(again, WELCOME)
+        self.comes(b"hello seat1\n")
 
     def test_the_server_ends_one_session_and_the_others_go_on(self) -> None:
         self.servers[0].close()
         self.turn_until_told(events.Ended)
         self.assertTrue(self.has_ended(self.agents[0]))
-        second = self.connect(b"hello seat0\n")
-        self.turn_until(second, b"refused taken\n")
-        self.relay.pass_time(time.monotonic() + MOST + 1)
-        self.ask(1, b"own 1\n", b"@0 own 0 ()\n")
+        self.comes(b"hello seat0\n", b"refused taken\n")
+        event, = self.of(events.Refused)
+        self.assertEqual((event.answer, event.line), ("taken", "hello seat0"))
+        self.assertEqual(self.of(events.Rejoined), [])
+        self.pass_time(MOST + 1)
+        self.ask(1, b"own 1\n")
         self.assertEqual(self.ends(), {"seat0": End.LEFT})
         self.assertEqual(self.of(events.Warned), [])
 
@@ -456,77 +438,89 @@ class Faults(Case):
             give(relay, seat, *more)
 
         with mock.patch.object(Relay, "_give", fails):
-            self.relay.pass_time(time.monotonic() + MOST + 1)
+            self.pass_time(MOST + 1)
         self.turn_until(seconds[1], WELCOME)
         self.assertIn("a fault", self.of(events.Warned)[0].text)
         self.assertTrue(self.has_ended(seconds[0]))
-        third = self.connect(b"hello seat0\n")
-        self.turn_until(third, WELCOME)
+        self.comes(b"hello seat0\n")
+
+    def test_an_error_about_a_stranger_costs_its_link(self) -> None:
+        with mock.patch.object(self.relay.seats, "admit", side_effect=RuntimeError("a fault")):
+            link = self.connect(b"hello seat2\n")
+            self.assertIn("a fault", self.turn_until_told(events.Warned)[0].text)
+        self.assertTrue(self.has_ended(link))
+        self.ask(0, b"own 1\n")
+
+    def test_a_handler_that_fails_is_told_once_and_tried_again(self) -> None:
+        ours, theirs = map(self.enter, socket.socketpair())
+        calls: List[bytes] = []
+
+        def fails() -> None:
+            calls.append(ours.recv(1))
+            raise RuntimeError("a fault")
+
+        theirs.sendall(b"abc")
+        self.relay.loop.attend(ours, fails)
+        for number in range(1, 4):
+            self.turns()
+            self.assertEqual(len(calls), number)
+            self.pass_time(REST + 0.1)
+        self.relay.loop.forget(ours)
+        warned, = self.of(events.Warned)
+        self.assertIn("a fault", warned.text)
+        self.ask(0, b"own 1\n")
 
 
 class Strangers(Case):
     """Links that have no seat."""
 
-    def test_one_that_is_refused(self) -> None:
-        link = self.connect(b"hello seat9 " + b"z" * 90 + b"\n")
-        self.turn_until(link, b"refused syntax\n")
-        self.assertTrue(self.has_ended(link))
-        event, = self.of(events.Refused)
-        self.assertEqual((event.source, event.answer), ("127.0.0.1", "syntax"))
-        self.assertTrue(event.line.startswith("hello seat9 z") and len(event.line) < 99)
-        link.setblocking(True)
-        link.sendall(b"hello seat2\n")  # it is not read any further
-        self.turns()
-        self.assertEqual((len(self.of(events.Arrived)), len(self.relay.links)), (2, 3))
-        self.relay.pass_time(time.monotonic() + PARTING - 0.5)
-        self.assertEqual(len(self.relay.links), 3)
-        self.relay.pass_time(time.monotonic() + PARTING + 0.1)
-        self.assertEqual(len(self.relay.links), 2)
+    def test_those_that_are_refused(self) -> None:
+        for first, answer in ((b"hello seat9 " + b"z" * 90 + b"\n", "syntax"),
+                              (b"hello seat2\r\n", "syntax"), (b"x" * 600, "syntax"),
+                              (b"GET / HTTP/1.1\n\n", "syntax"), (b"hello seat9\n", "wrongword"),
+                              (b"hello seat9\n" + b"y" * 99999, "wrongword")):
+            link = self.comes(first, f"refused {answer}\n".encode())
+            self.assertTrue(self.has_ended(link))
+            event = self.of(events.Refused)[-1]
+            self.assertEqual((event.source, event.answer), ("127.0.0.1", answer))
+            self.assertTrue(first.decode().startswith(event.line) and 1 <= len(event.line) < 99)
+            if answer == "wrongword":
+                link.close()  # it goes
+                self.pass_time(PARTING + 0.1)
+                self.assertEqual(len(self.relay.links), 2)
+                continue
+            with contextlib.suppress(OSError):
+                link.sendall(b"hello seat2\n")  # it is not read any further
+            self.turns()
+            self.assertEqual((len(self.of(events.Arrived)), len(self.relay.links)), (2, 3))
+            self.pass_time(PARTING - 0.5)
+            self.assertEqual(len(self.relay.links), 3)
+            self.pass_time(PARTING + 0.1)
+            self.assertEqual(len(self.relay.links), 2)
         self.assertEqual(self.of(events.Warned), [])
 
-    def test_one_that_is_refused_and_goes(self) -> None:
-        link = self.connect(b"hello seat9\n")
-        self.turn_until(link, b"refused wrongword\n")
-        link.close()
-        self.turns()
-        self.assertEqual((len(self.relay.links), self.of(events.Warned)), (2, []))
-
     def test_idle_links_at_one_of_several_listeners_take_no_place_of_another(self) -> None:
-        listeners = [socket.create_server(("127.0.0.1", 0)) for _ in range(2)]
+        listeners = [self.enter(socket.create_server(("127.0.0.1", 0))) for _ in range(2)]
         relay = self.relay = Relay(WORDS, listeners, self.told.append, self.journal, MOST, MOST)
         self.addCleanup(relay.close)
-        links = []
-        for listener, count in zip(listeners, (1, MOST_EACH + 9)):
-            self.addCleanup(listener.close)
-            for _ in range(count):
-                links.append(socket.create_connection(listener.getsockname()))
-                self.addCleanup(links[-1].close)
+        links = [self.enter(socket.create_connection(listener.getsockname()))
+                 for listener, count in zip(listeners, (1, MOST_EACH + 9)) for _ in range(count)]
         while len(self.of(events.Lost)) < 9:
             self.relay.turn(MOST)
         self.assertEqual(len(relay.links), 1 + MOST_EACH)
         links[0].sendall(b"hello seat3\n")
         self.assertEqual(self.turn_until_told(events.Arrived, 3)[-1].seat, 3)
 
-    def test_a_word_that_is_taken(self) -> None:
-        self.agents[1].close()
-        self.turn_until_told(events.Departed)
-        self.ask(0, b"quit\n", b"bye\n")
-        link = self.connect(b"hello seat0\n")
-        self.turn_until(link, b"refused taken\n")
-        event, = self.of(events.Refused)
-        self.assertEqual((event.answer, event.line), ("taken", "hello seat0"))
-        self.assertEqual(self.of(events.Rejoined), [])
-
     def test_a_second_link_waits_until_the_first_speaks_or_is_silent(self) -> None:
         second = self.connect(b"hello seat0\nown 4\n")
         self.assertTrue(self.is_sent_nothing(second))
-        self.relay.pass_time(time.monotonic() + MOST - 5)
+        self.pass_time(MOST - 5)
         self.assertTrue(self.is_sent_nothing(second))
-        self.ask(0, b"own 1\n", b"@0 own 0 ()\n")
+        self.ask(0, b"own 1\n")
         self.turn_until(second, b"refused taken\n")
         third = self.connect(b"hello seat0\nown 4\n")
         self.turns()
-        self.relay.pass_time(time.monotonic() + MOST + 1)
+        self.pass_time(MOST + 1)
         self.turn_until(third, WELCOME)
         self.turn_until(self.servers[0], b"own 4\n")
         self.assertTrue(self.has_ended(self.agents[0]))
@@ -543,30 +537,29 @@ class Strangers(Case):
         self.turns()
         waits.close()  # and the first keeps its seat
         self.turns()
-        self.ask(1, b"own 1\n", b"@0 own 0 ()\n")
+        self.ask(1, b"own 1\n")
         waits = self.connect(b"hello seat1\nown 4\n")
         self.turns()
         waits.shutdown(socket.SHUT_WR)  # nor has it the seat if it has asked something
         self.turns()
         self.assertTrue(self.has_ended(waits))
-        self.ask(1, b"own 1\n", b"@0 own 0 ()\n")
+        self.ask(1, b"own 1\n")
         self.assertEqual([event.word for event in self.of(events.Departed)], ["seat0"])
 
-    def test_one_that_says_nothing_is_let_go(self) -> None:
+    def test_one_that_says_nothing_is_let_go_and_one_that_goes_without_a_line_is_told(self) -> None:
         link = self.connect(b"hello seat2")
         self.turns()
-        self.relay.pass_time(time.monotonic() + MOST - 5)
+        self.pass_time(MOST - 5)
         self.assertFalse(self.has_ended(link))
-        self.relay.pass_time(time.monotonic() + MOST + 1)
+        self.pass_time(MOST + 1)
         self.assertTrue(self.has_ended(link))
         event, = self.of(events.Lost)
         self.assertEqual((event.source, event.why),
                          ("127.0.0.1", f"it sent no line for {MOST:g} seconds"))
         self.assertFalse(self.has_ended(self.agents[0]))
-
-    def test_one_that_goes_without_a_line_is_told(self) -> None:
         self.connect(b"hello").close()
-        self.assertEqual(self.turn_until_told(events.Lost)[0].why, "it ended before its first line")
+        self.assertEqual(self.turn_until_told(events.Lost, 2)[1].why,
+                         "it ended before its first line")
         self.assertEqual(self.of(events.Departed), [])
 
     def test_the_eldest_goes_if_there_are_too_many_of_a_network(self) -> None:
@@ -589,17 +582,17 @@ class Strangers(Case):
             self.relay.turn(0.01)
         self.turns()
         self.assertLessEqual(len(self.relay.links), 2 + MOST_EACH)
-        self.ask(0, b"own 1\n", b"@0 own 0 ()\n")
+        self.ask(0, b"own 1\n")
 
     def test_a_right_word_waits_as_long_as_a_wrong_one_after_many_guesses(self) -> None:
         for _ in range(8):
-            self.turn_until(self.connect(b"hello seat9\n"), b"refused wrongword\n")
+            self.comes(b"hello seat9\n", b"refused wrongword\n")
         links = [self.connect(f"hello {word}\n".encode()) for word in ("seat2", "seat0", "no")]
         self.assertTrue(all(map(self.is_sent_nothing, links)))
         self.assertEqual(len(self.of(events.Arrived)), 2)
         links[1].close()  # its word is not looked at any longer
         self.turns()
-        self.relay.pass_time(time.monotonic() + 20 * LINE)
+        self.pass_time(20 * LINE)
         self.turn_until(links[0], WELCOME)
         self.turn_until(links[2], b"refused wrongword\n")
 
@@ -610,54 +603,22 @@ class Strangers(Case):
         self.assertLess(len(self.of(events.Arrived)), 45)
 
     def test_no_link_is_taken_for_a_while_if_no_more_files_may_be_opened(self) -> None:
+        self.relay._accept(self.listener, "")  # as if a link had been there a moment before
         link = self.connect(b"hello seat2\n")
         with mock.patch.object(socket.socket, "accept", side_effect=OSError(24, "Too many files")):
             self.turns()
         self.assertEqual(self.relay.loop._select.select(0.01), [])  # it is not tried all the time
-        self.relay.pass_time(time.monotonic() + REST + 0.1)
+        self.pass_time(REST + 0.1)
         self.turn_until(link, WELCOME)
-
-    def test_a_handler_that_fails_is_told_once_and_tried_again(self) -> None:
-        ours, theirs = socket.socketpair()
-        self.addCleanup(ours.close)
-        self.addCleanup(theirs.close)
-        calls: List[bytes] = []
-
-        def fails() -> None:
-            calls.append(ours.recv(1))
-            raise RuntimeError("a fault")
-
-        theirs.sendall(b"abc")
-        self.relay.loop.attend(ours, fails)
-        for number in range(1, 4):
-            self.turns()
-            self.assertEqual(len(calls), number)
-            self.relay.pass_time(time.monotonic() + REST + 0.1)
-        self.relay.loop.forget(ours)
-        self.assertIn("a fault", self.of(events.Warned)[0].text)
-        self.assertEqual(len(self.of(events.Warned)), 1)
-        self.ask(0, b"own 1\n", b"@0 own 0 ()\n")
-
-    def test_one_that_goes_before_it_is_taken_holds_nobody(self) -> None:
-        self.relay._accept(self.listener, "")  # as if a link had been there a moment before
-        self.ask(0, b"own 1\n", b"@0 own 0 ()\n")
 
     def test_a_word_that_is_changed_is_not_the_heirs(self) -> None:
         heir = self.connect(b"hello seat0\n")
         self.turns()
         self.relay.change_word(self.relay.seats.seats[0], "red7k")
         self.turn_until(heir, b"refused taken\n")
-        self.agents[0].close()
-        self.turn_until_told(events.Departed)
+        self.depart(0)
         self.assertEqual(self.of(events.Rejoined), [])
-        self.turn_until(self.connect(b"hello red7k\n"), WELCOME)
-
-    def test_an_error_costs_one_link(self) -> None:
-        with mock.patch.object(self.relay.seats, "admit", side_effect=RuntimeError("a fault")):
-            link = self.connect(b"hello seat2\n")
-            self.assertIn("a fault", self.turn_until_told(events.Warned)[0].text)
-        self.assertTrue(self.has_ended(link))
-        self.ask(0, b"own 1\n", b"@0 own 0 ()\n")
+        self.comes(b"hello red7k\n")
 
     def test_a_machine_that_has_gone_is_noticed_after_some_ten_seconds(self) -> None:
         link = self.relay.links[0].socket
@@ -667,59 +628,38 @@ class Strangers(Case):
             idle, between, probes = (link.getsockopt(socket.IPPROTO_TCP, getattr(socket, name))
                                      for name in ("TCP_KEEPIDLE", "TCP_KEEPINTVL", "TCP_KEEPCNT"))
             self.assertTrue(8 <= idle + between * probes <= 15)
+        if hasattr(socket, "TCP_USER_TIMEOUT"):  # and so is one with something on its way
+            self.assertTrue(8000 <= link.getsockopt(socket.IPPROTO_TCP, socket.TCP_USER_TIMEOUT)
+                            <= 15000)
 
-    @unittest.skipUnless(hasattr(socket, "TCP_USER_TIMEOUT"), "the system has no such time")
-    def test_and_so_is_one_to_which_something_is_on_its_way(self) -> None:
-        link = self.relay.links[0].socket
-        self.assertTrue(8000 <= link.getsockopt(socket.IPPROTO_TCP, socket.TCP_USER_TIMEOUT)
-                        <= 15000)
-
-    def overfill(self) -> OuterLink:
-        """A link for which more is held than the system keeps, once it takes nothing more."""
+    def test_an_agent_that_does_not_read_is_told_of_once_until_it_has_read_all(self) -> None:
         link = self.relay.links[0]
         for end, buffer in ((link.socket, socket.SO_SNDBUF), (self.agents[0], socket.SO_RCVBUF)):
             end.setsockopt(socket.SOL_SOCKET, buffer, 1 << 16)  # the system does not enlarge it
-        link.held += MUCH
-        self.relay.loop.watch(link)
-        deadline = time.monotonic() + MOST
-        while link.stuck is None:
-            self.assertLess(time.monotonic(), deadline, len(link.held))
+
+        def is_stuck() -> bool:
             self.relay.turn(0.01)
-        return link
+            return link.stuck is not None
 
-    def test_an_agent_that_does_not_read_is_told_of_in_the_game(self) -> None:
-        stuck = self.overfill().stuck or 0.0
-        self.relay.pass_time(stuck + UNREAD - 1)
-        self.assertEqual(self.of(events.Warned), [])
-        for _ in range(2):
-            self.relay.pass_time(time.monotonic() + UNREAD + 1)
-        event, = self.of(events.Warned)
-        self.assertIn("seat0 has not read its replies", event.text)
-
-    def test_one_that_has_read_all_is_not_told_of(self) -> None:
-        self.overfill()
-        self.turn_until(self.agents[0], MUCH)
-        self.relay.pass_time(time.monotonic() + UNREAD + 1)
-        self.assertEqual(self.of(events.Warned), [])
-
-    def test_one_that_stops_reading_again_is_told_of_again(self) -> None:
-        for count in (1, 2):
-            self.overfill()
-            self.relay.pass_time(time.monotonic() + UNREAD + 1)
-            self.relay.pass_time(time.monotonic() + UNREAD + 2)
+        for count in range(3):
+            self.hold(MUCH[:1 << 20])
+            self.until(is_stuck, len(link.held))
+            self.relay.pass_time((link.stuck or 0.0) + UNREAD - 1)
+            self.assertEqual(len(self.of(events.Warned)), max(0, count - 1))
+            for seconds in (1, 2) if count else ():
+                self.pass_time(UNREAD + seconds)
+                self.assertEqual(len(self.of(events.Warned)), count)
+            self.turn_until(self.agents[0], MUCH[:1 << 20])
+            self.pass_time(UNREAD + 1)  # one that has read all is not told of
             self.assertEqual(len(self.of(events.Warned)), count)
-            self.turn_until(self.agents[0], MUCH)
+        self.assertIn("seat0 has not read its replies", self.of(events.Warned)[0].text)
 
     def test_a_seat_is_told_of_before_its_lines_are_used_up(self) -> None:
         self.assertEqual(NEAR_MOST, 60000)
         with mock.patch("geesefuton.hosting.relay.NEAR_MOST", 3):
             for number in range(5):
-                self.ask(0, b"own %d\n" % number, b"@0 own 0 ()\n")
+                self.ask(0, b"own %d\n" % number)
                 self.assertEqual(len(self.of(events.Warned)), int(number >= 2))
-            self.ask(1, b"own 5\n", b"@0 own 0 ()\n")
+            self.ask(1, b"own 5\n")
         event, = self.of(events.Warned)
         self.assertRegex(event.text, "seat0 has sent 3 lines; it gets no replies beyond 65,536")
-
-
-if __name__ == "__main__":
-    unittest.main()

@@ -1,6 +1,7 @@
 import unittest
 
 from geesefuton.records import replies
+from geesefuton.records.dialects import said_in
 from geesefuton.records.replies import (Below, Bye, Cash, Done, No, Own, Quote, ReplyError, Request,
                                         Sold, Taken)
 
@@ -16,36 +17,24 @@ FORMS = [
     (Cash(31, -660), "@31 cash -660", '{"at":31,"cash":-660}'),
     (Quote(9, 70, 0, False), "@9 quote 70 0 open", '{"at":9,"quote":[70,0],"open":true}'),
     (Quote(9, 0, 80, True), "@9 quote 0 80 closed", '{"at":9,"quote":[0,80],"open":false}'),
-    (No(3, "closed"), "@3 no closed", '{"at":3,"no":"closed"}'),
-    (No(3, "wrongcall"), "@3 no wrongcall", '{"at":3,"no":"wrongcall"}'),
-    (No(3, "nobid"), "@3 no nobid", '{"at":3,"no":"nobid"}'),
-    (No(3, "sell"), "@3 no sell", '{"at":3,"no":"sell"}'),
-    (No(3, "selfcross"), "@3 no selfcross", '{"at":3,"no":"selfcross"}'),
+    *((No(3, reason), f"@3 no {reason}", f'{{"at":3,"no":"{reason}"}}')
+      for reason in ("closed", "wrongcall", "nobid", "sell", "selfcross")),
     (No(3, "belowquote", 0, Below(3, 101, 2)), "@3 no belowquote 3 101 2",
      '{"at":3,"no":"belowquote","need":3,"price":101,"offered":2}'),
-    (No(None, "spent"), "no spent", '{"no":"spent"}'),
-    (No(None, "syntax"), "no syntax", '{"no":"syntax"}'),
-    (No(None, "auction"), "no auction", '{"no":"auction"}'),
-    (No(None, "toolong"), "no toolong", '{"no":"toolong"}'),
-    (No(None, "memory"), "no memory", '{"no":"memory"}'),
+    *((No(None, reason), f"no {reason}", f'{{"no":"{reason}"}}')
+      for reason in ("spent", "syntax", "auction", "toolong", "memory")),
     (No(None, "bid", 4), "no bid 4", '{"no":"bid","fault":4}'),
     (Bye(), "bye", '{"bye":true}'),
 ]
 
 
 class Replies(unittest.TestCase):
-    def test_words_are_read_and_written(self) -> None:
-        for reply, words, _ in FORMS:
-            self.assertEqual(replies.read_words(words), reply)
-            self.assertEqual(replies.words_of(reply), words)
-
-    def test_json_is_read(self) -> None:
-        for reply, _, text in FORMS:
-            self.assertEqual(replies.read_json(text), reply)
-
-    def test_json_is_written_in_the_order_of_the_page(self) -> None:
-        for reply, _, text in FORMS:
-            self.assertEqual(replies.reply_json(reply), text)
+    def test_both_forms_are_read_and_written_with_keys_in_the_order_of_the_page(self) -> None:
+        for reply, words, text in FORMS:
+            self.assertEqual((replies.read_words(words), replies.words_of(reply)), (reply, words))
+            self.assertEqual((replies.read_json(text), replies.reply_json(reply)), (reply, text))
+            self.assertEqual((said_in(words.encode(), "words"), said_in(words.encode(), "json")),
+                             (words.encode(), text.encode()))
 
     def test_a_reply_of_an_entry_has_no_position(self) -> None:
         self.assertEqual(replies.read_entry_reply("own 2 ((1 5))"), Own(None, 2, ((1, 5),)))
@@ -123,7 +112,3 @@ class Requests(unittest.TestCase):
                      " cash", "cash\n", "cash 5", "withdraw 5 ()", "own -1", "bid 5 ((1 2)) ",
                      "bid 5 ((1 -2))", "Own 5", "quit5", "own 12345678901"):
             self.assertIsNone(replies.read_request(line))
-
-
-if __name__ == "__main__":
-    unittest.main()

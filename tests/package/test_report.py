@@ -1,23 +1,20 @@
-import csv
-import io
 import os
 import re
-import subprocess
 import tempfile
 import unittest
 from dataclasses import replace
-from pathlib import Path
 from typing import Any
 from unittest import mock
 
 from geesefuton.experiments import report_command as report
 from geesefuton.records import report_page
 from geesefuton.records.logs import Log, read_log
-from geesefuton.records.prices import all_events
 from geesefuton.records.report_page import Heading, ranks, why_nothing
 from geesefuton.records.rules import prices_of
+from geesefuton.records.ticks import all_events
 from tests.package.helpers import (PLAYED, SERVED_GAME, SERVED_LOG, TOP, cells_of, fake_program,
-                           needs_program, refusal, run, served_game, served_log, variables)
+                                   needs_program, refusal, run, served_game, served_log)
+from tests.package.run_cases import PlaceCase, read_csv
 
 
 def text_of(log: Log, warning: str = "") -> str:
@@ -69,7 +66,6 @@ class Page(unittest.TestCase):
         self.text = text_of(served_log())
 
     def table(self, heading: str) -> "list[list[str]]":
-        """The cells of the first table after a heading, without marks."""
         return cells_of(self.text.split(f"<h2>{heading}</h2>")[1])
 
     def test_scores(self) -> None:
@@ -122,13 +118,12 @@ class Page(unittest.TestCase):
                          [getattr(reply, "price") for reply in sold])
 
     def test_bars_of_gains_and_losses(self) -> None:
-        self.assertEqual(report_page.bar(50, -50, 150).count("less"), 0)
-        self.assertIn('class="zero" style="left:25.0%"', report_page.bar(50, -50, 150))
-        self.assertIn('class="fill" style="left:25.0%;width:25.0%"', report_page.bar(50, -50, 150))
-        self.assertIn('class="fill less" style="left:0.0%;width:25.0%"',
-                      report_page.bar(-50, -50, 150))
-        self.assertIn('class="fill less" style="left:12.5%;width:12.5%"',
-                      report_page.bar(-25, -50, 150))
+        for value, part in ((50, 'class="zero" style="left:25.0%"'),
+                            (50, 'class="fill" style="left:25.0%;width:25.0%"'),
+                            (-50, 'class="fill less" style="left:0.0%;width:25.0%"'),
+                            (-25, 'class="fill less" style="left:12.5%;width:12.5%"')):
+            self.assertIn(part, report_page.bar(value, -50, 150))
+        self.assertNotIn("less", report_page.bar(50, -50, 150))
         self.assertEqual(self.text.count('class="bar"'), 8)
         self.assertEqual(self.text.count('"fill less"'), 3)
 
@@ -177,13 +172,11 @@ class Scripts(unittest.TestCase):
         self.assertEqual(report.log_in(b"nothing"), b"nothing")
 
 
-class Command(unittest.TestCase):
+class Command(PlaceCase):
     """The command, with a stand-in for the program."""
 
     def setUp(self) -> None:
-        folder = tempfile.TemporaryDirectory()
-        self.addCleanup(folder.cleanup)
-        self.place = Path(folder.name)
+        super().setUp()
         self.tac = fake_program(self.place, "echo sound")
 
     def ran(self, *words: object, **how: Any) -> "subprocess.CompletedProcess[str]":
@@ -193,10 +186,7 @@ class Command(unittest.TestCase):
         with mock.patch.dict(os.environ, {"TAC": self.tac}), \
                 mock.patch("geesefuton.experiments.forms.Output",
                            side_effect=AssertionError("written")):
-            status, text = refusal("experiments.report_command", *words)
-        self.assertEqual(status, 1)
-        self.assertEqual(text.count("\n"), 1, text)
-        self.assertIn(told, text)
+            self.assert_refused(told, "report_command", *words, status=1)
 
     def test_the_page(self) -> None:
         done = self.ran(SERVED_GAME, SERVED_LOG)
@@ -219,7 +209,7 @@ class Command(unittest.TestCase):
         self.assertIn("<td class=\"t\">agent 7</td>", self.ran(SERVED_GAME, SERVED_LOG).stdout)
 
     def test_the_csv(self) -> None:
-        rows = list(csv.DictReader(io.StringIO(self.ran("--csv", SERVED_GAME, SERVED_LOG).stdout)))
+        rows = read_csv(self.ran("--csv", SERVED_GAME, SERVED_LOG).stdout)
         self.assertEqual(list(rows[0]), ["what", "tick", "good", "position", "agent", "units",
                                          "dollars"])
         flight = served_game().flights[0]
@@ -230,7 +220,7 @@ class Command(unittest.TestCase):
 
     def test_a_log_that_is_not_sound(self) -> None:
         self.tac = fake_program(self.place, "echo unsound score 3; exit 9")
-        self.refused("is not sound by", SERVED_GAME, SERVED_LOG)
+        self.refused("served.log is not sound by", SERVED_GAME, SERVED_LOG)
         self.refused("unsound score 3", SERVED_GAME, SERVED_LOG)
         done = self.ran("--unaudited", SERVED_GAME, SERVED_LOG)
         self.assertEqual(done.returncode, 0)
@@ -278,15 +268,8 @@ class Command(unittest.TestCase):
                          (1, "report: standard output: its reader has gone\n"))
 
     def test_words_that_are_wrong(self) -> None:
-        status, text = refusal("experiments.report_command", "--cs", SERVED_GAME, SERVED_LOG)
-        self.assertEqual(status, 2)
-        self.assertEqual(text, "report: unrecognized arguments: --cs (see --help)\n")
-
-    def test_it_runs_from_a_clone(self) -> None:
-        done = subprocess.run([str(TOP / "tools" / "report"), "--help"], stdout=subprocess.PIPE,
-                              env=variables({"PYTHONPATH": ""}), check=False, timeout=200)
-        self.assertEqual(done.returncode, 0)
-        self.assertIn(b"--unaudited", done.stdout)
+        self.assertEqual(refusal("experiments.report_command", "--cs", SERVED_GAME, SERVED_LOG),
+                         (2, "report: unrecognized arguments: --cs (see --help)\n"))
 
 
 @needs_program
@@ -309,7 +292,3 @@ class Real(unittest.TestCase):
     def test_what_play_writes_is_shown_as_it_is(self) -> None:
         done = run("experiments.report_command", TOP / "examples" / "first.game", PLAYED)
         self.assertEqual((done.returncode, done.stderr), (0, ""))
-
-
-if __name__ == "__main__":
-    unittest.main()

@@ -10,9 +10,9 @@ from geesefuton.records import report_page
 from geesefuton.records.games import FLIGHTS, HOTELS, TICKS, Package
 from geesefuton.records.hindsight import Decision, Moment, Story
 from geesefuton.records.logs import Log, Score
-from geesefuton.records.prices import MarketEvent, all_events
 from geesefuton.records.report_page import Heading
 from geesefuton.records.rules import prices_of
+from geesefuton.records.ticks import MarketEvent, all_events
 from tests.package.helpers import cells_of, served_game, served_log
 
 GAME, LOG = served_game(), served_log()
@@ -257,7 +257,3 @@ class Parts(unittest.TestCase):
         self.assertEqual(re.findall(r"<details( open)?><summary><b>(\w+)</b>", text)[0],
                          (" open", GAME.words[4]))
         self.assertEqual(text.count("<details open>"), 1)
-
-
-if __name__ == "__main__":
-    unittest.main()

@@ -1,4 +1,4 @@
-"""The practice room: its folder, its standings and its teams by themselves, and whole games."""
+"""The practice room: whole games by the real program, at a quick pace."""
 
 import contextlib
 import hashlib
@@ -8,202 +8,18 @@ import signal
 import socket
 import subprocess
 import sys
-import tempfile
 import time
-import unittest
 from fractions import Fraction
-from pathlib import Path
-from typing import Any, Callable, Dict, Iterator, List, Optional, Sequence, Tuple
-from unittest import mock
+from typing import Any, Callable, Dict, Iterator, List, Optional, Sequence
 
 from geesefuton import program
-from geesefuton.hosting.journal import Journal
-from geesefuton.practice import room as room_module
-from geesefuton.practice.board import Board
-from geesefuton.practice.folder import Finished, Folder, FolderError
-from geesefuton.practice.house import HouseServer
-from geesefuton.practice.room import Room
-from geesefuton.practice.standings import standings_of
-from geesefuton.practice.table import TableSettings
-from geesefuton.practice.teams import TeamsError, keep_words, read_teams, slips_of
-from geesefuton.processes import Children, free_port, write_whole
+from geesefuton.practice.folder import Folder, standings_of
+from geesefuton.processes import free_port
 from geesefuton.records.logs import read_scores
-from tests.package.helpers import TOP, needs_program, refusal, variables
+from tests.package.helpers import COMMAND, needs_program, variables
+from tests.package.test_room_folder import Case
 
-FIRST = (TOP / "examples" / "first.game").read_text()
 MOST = 600.0  # seconds that anything may take, on a machine that is busy with other work
-
-
-def game_of(number: int, players: Sequence[str], scores: Sequence[int]) -> Finished:
-    """A finished game of so many seats; the others count for nobody."""
-    free = 8 - len(players)
-    return Finished(number, number, 1000, 1.0, 2.0, (*players, *[""] * free),
-                    {"game": "", "log": ""}, is_judged=True, scores=(*scores, *[0] * free))
-
-
-class Case(unittest.TestCase):
-    def setUp(self) -> None:
-        place = tempfile.TemporaryDirectory()
-        self.addCleanup(place.cleanup)
-        self.place = Path(place.name)
-        self.path = self.place / "room"
-
-    def folder(self, **how: Any) -> Folder:
-        made = Folder(self.path, **how)
-        self.addCleanup(made.close)
-        return made
-
-
-class Folders(Case):
-    def journal(self, folder: Folder, number: int, has_begun: bool) -> None:
-        journal = Journal(folder.file(number, "journal"), self.fail)
-        journal.head(100, "words", FIRST)
-        if has_begun:
-            journal.tell(begin=[])
-            journal.begin_time()
-            journal.tell(tick=0, t=0)
-        journal.close()
-
-    def test_games_are_kept_and_found_again(self) -> None:
-        folder = self.folder(seed=7)
-        games = [game_of(number, ["red", "blue"], [5, -number]) for number in (1, 2)]
-        for game in games:
-            folder.keep(game, b"log")
-            folder.judge(game)
-        folder.close()
-        again = Folder(self.path)
-        self.addCleanup(again.close)
-        self.assertEqual((again.seed, again.finished, again.next_number()), (7, games, (3, [])))
-        self.assertEqual(again.file(2, "log").read_bytes(), b"log")
-
-    def test_a_game_that_had_begun_has_its_number_and_one_that_had_not_has_none(self) -> None:
-        folder = self.folder()
-        folder.keep(game_of(1, ["red"], [5]), b"log")
-        self.journal(folder, 2, has_begun=True)
-        self.journal(folder, 3, has_begun=False)
-        self.assertEqual(folder.next_number(), (3, [2]))
-        self.assertEqual([folder.file(number, "journal").exists() for number in (2, 3)],
-                         [True, False])
-
-    def test_a_folder_of_another_is_refused(self) -> None:
-        folder = self.folder(seed=3)
-        with self.assertRaisesRegex(FolderError, "another room is using"):
-            Folder(self.path)
-        folder.close()
-        with self.assertRaisesRegex(FolderError, "with the first seed 3, not the first seed 4"):
-            Folder(self.path, 4)
-        (self.path / "0001.json").write_text('{"number": 1}')
-        with self.assertRaisesRegex(FolderError, "0001.json is not the manifest"):
-            Folder(self.path)
-        (self.path / "room.json").write_text("runs")
-        with self.assertRaisesRegex(FolderError, "was not written by a room"):
-            Folder(self.path)
-        other = self.place / "other"
-        other.mkdir()
-        (other / "run.json").write_text("{}")
-        with self.assertRaisesRegex(FolderError, "has files, but is not the folder"):
-            Folder(other)
-
-    def test_a_manifest_is_there_whole_or_not_at_all(self) -> None:
-        folder = self.folder()
-        for step in ("fsync", "replace"):
-            with mock.patch(f"os.{step}", side_effect=OSError(28, "No space left on device")), \
-                    self.assertRaises(OSError):
-                folder.keep(game_of(1, ["red"], [5]), b"log")
-            self.assertEqual((sorted(os.listdir(self.path)), folder.unjudged),
-                             (["lock", "room.json", "secret"], {}))
-        folder.keep(game_of(1, ["red"], [5]), b"log")
-        self.assertEqual(len(folder.unjudged), 1)
-
-    def test_a_log_is_on_the_disk_before_the_manifest_that_counts_it(self) -> None:
-        folder, written = self.folder(), list[str]()
-        for fails in ("0001.log", "0001.json", ""):
-            def write(file: Path, data: bytes, fails: str = fails) -> None:
-                if file.name == fails:
-                    raise OSError(28, "No space left on device")
-                written.append(file.name)
-
-            with mock.patch("geesefuton.practice.folder.write_whole", write), \
-                    contextlib.suppress(OSError):
-                folder.keep(game_of(1, ["red"], [5]), b"log")
-            written.append("")
-        self.assertEqual(written, ["", "0001.log", "", "0001.log", "0001.json", ""])
-
-    def test_the_command_refuses_in_a_line(self) -> None:
-        (self.place / "run.json").write_text("{}")
-        tac = self.place / "tac"
-        tac.write_text("#!\n")
-        tac.chmod(0o755)
-        with mock.patch.dict(os.environ, {"TAC": str(tac)}):
-            for words, told in ((["--folder", self.place], "is not the folder of a practice room"),
-                                (["--house", "nobody.py"], "there is no file nobody.py"),
-                                (["--slips", "slips.html"], "--slips needs --teams"),
-                                (["--page", "7000"], "choose another for the page"),
-                                (["--folder", self.path, "--teams", tac], "is not a team")):
-                status, text = refusal("practice.room_command", *words)
-                self.assertEqual((status > 0, text.count("\n")), (True, 1), text)
-                self.assertIn(told, text)
-
-
-class Standings(unittest.TestCase):
-    def test_averages_are_exact_and_ranks_are_those_of_the_table(self) -> None:
-        games = [game_of(1, ["red", "blue", "house", "house"], [10, 10, 1, 2]),
-                 game_of(2, ["blue", "", "red"], [11, 99, 10]), game_of(4, ["blue"], [9])]
-        rows = standings_of(games)
-        self.assertEqual([(row.rank, row.name, row.games, row.average) for row in rows],
-                         [(1, "blue", 3, Fraction(10)), (1, "red", 2, Fraction(10)),
-                          (3, "house", 2, Fraction(3, 2))])
-        self.assertEqual([(row.last, row.best) for row in rows], [(9, 11), (10, 10), (2, 2)])
-        self.assertAlmostEqual(rows[0].half or 0.0, 4.302652729911275 / 3 ** 0.5)
-        self.assertIsNone(rows[2].half)  # two seats of one game
-
-    def test_a_game_that_was_lost_counts_for_nobody(self) -> None:
-        lost = Finished(3, 3, 100, 1.0, 2.0, ("red",) * 8, {}, fault="exit status 7")
-        self.assertEqual(standings_of([lost]), [])
-
-
-class Teams(Case):
-    def read(self, text: str) -> List[Tuple[str, str, str]]:
-        file = self.place / "teams.csv"
-        file.write_text(text)
-        return [(team.name, team.key, team.word) for team in read_teams(file, self.path)]
-
-    def test_words_are_made_and_kept(self) -> None:
-        self.path.mkdir()
-        file = self.place / "teams.csv"
-        file.write_text("name,word\nRed Foxes\nBlau,b4\n\n")
-        teams = read_teams(file, self.path)
-        self.assertEqual([(team.name, team.key) for team in teams],
-                         [("Red Foxes", "redfoxes"), ("Blau", "blau")])
-        self.assertRegex(teams[0].word, "^[a-z2-9]{10}$")
-        keep_words(self.path, teams)
-        self.assertEqual(self.read("Red Foxes\n"), [("Red Foxes", "redfoxes", teams[0].word)])
-        self.assertEqual(self.read("Blau\n"), [("Blau", "blau", "b4")])
-        self.assertEqual(os.stat(self.path / "words.json").st_mode & 0o077, 0)
-
-    def test_what_are_no_teams(self) -> None:
-        for text, told in (("", "0 teams"), ("a\nb\nc\nd\ne\nf\ng\nh\ni\n", "9 teams"),
-                           ("Red\nred\n", "the same name"), ("a,x\nb,x\n", "the same word"),
-                           ("a,Not\n", "is not a team"), ("\u00fc\n", "is not a team"),
-                           ("a,b,c\n", "is not a team")):
-            with self.assertRaisesRegex(TeamsError, told):
-                self.read(text)
-        file = self.place / "teams.csv"
-        file.write_text("".join(f"team {number}\n" for number in range(65)))
-        with self.assertRaisesRegex(TeamsError, "has 65 teams, but a room has 1 to 64"):
-            read_teams(file, self.path, 64)
-
-    def test_slips(self) -> None:
-        file = self.place / "teams.csv"
-        file.write_text("<Red>,r3d\nB & C,b7\n")
-        teams = read_teams(file, self.path)
-        self.assertNotIn("Join", slips_of(teams, "10.0.0.1", 7000, None))
-        page = slips_of(teams, "10.0.0.1", 7000, 7080)
-        self.assertIn("python3 mine.py 10.0.0.1 7000 r3d --again", page)
-        self.assertIn("Join at http://10.0.0.1:7080/join, or run:", page)
-        self.assertEqual((page.count("<section>"), page.count("&lt;Red&gt;"), "<Red>" in page),
-                         (2, 1, False))
-        self.assertIn("<h2>B &amp; C</h2>", page)
 
 
 # An agent of the house: it bids once, for a flight, and quits. Eight of them start for a game, so
@@ -239,8 +55,6 @@ run(__doc__, play)
 
 @needs_program
 class Games(Case):
-    """Whole games by the real program, at a quick pace."""
-
     def setUp(self) -> None:
         super().setUp()
         self.house, self.visitor = self.place / "mine.py", self.place / "visitor.py"
@@ -265,7 +79,7 @@ class Games(Case):
         return process
 
     def room(self, *more: object) -> "subprocess.Popen[bytes]":
-        return self.start([TOP / "tools" / "room", "--port", self.port, "--pace", 10, "--wait", 0.3,
+        return self.start([COMMAND[1], "room", "--port", self.port, "--pace", 10, "--wait", 0.3,
                            "--after", 0.5, "--house", self.house, "--folder", self.path, *more])
 
     def guest(self, word: str, what: str = "") -> "subprocess.Popen[bytes]":
@@ -351,27 +165,6 @@ class Games(Case):
                          ["seat0", "", "house mine", "", "house mine", "", "house mine", ""])
         self.assertIn("bad did not take seat1: no luck", (self.place / "said").read_text())
 
-    def test_a_disk_that_takes_no_more_loses_no_game(self) -> None:
-        told: List[str] = []
-        with contextlib.closing(Folder(self.path)) as folder, Children() as children, \
-                mock.patch("geesefuton.hosting.teller.tell"), \
-                mock.patch.object(room_module, "AGAIN", 0.05):
-            room = Room(TableSettings(self.port, 5, 0.1, 0.2), folder,
-                        Board(children, None, 6, 500, "here", told.append), told.append, games=1)
-            self.guest("seat2")
-            faults = [OSError(28, "No space left on device")] * 3
-
-            def write(file: Path, data: bytes) -> None:
-                if faults:
-                    raise faults.pop()
-                write_whole(file, data)
-
-            with mock.patch("geesefuton.practice.folder.write_whole", write):
-                room.run()
-            self.assertEqual(len(folder.finished), 1)
-        self.assertEqual(len([text for text in told if "cannot keep game" in text]), 1)
-        self.assertEqual(self.manifests()[0]["players"].count("seat2"), 1)
-
     def test_the_page_has_the_standings_then_the_game_and_its_scores_before_the_room_ends(
             self) -> None:
         page = free_port()
@@ -432,16 +225,3 @@ class Games(Case):
         self.until(lambda: room.poll() is not None)
         self.assertEqual(len(self.manifests()), 1)
         self.assertIn("the room closes after this game", (self.place / "said").read_text())
-
-
-class Names(unittest.TestCase):
-    def test_the_house_is_called_by_its_agent(self) -> None:
-        entrants: Any = [mock.Mock(), mock.Mock()]
-        entrants[0].name, entrants[1].name = "planner", "trader"
-        house = HouseServer(entrants)
-        self.assertEqual([house.name_at(seat) for seat in (0, 1, 2)],
-                         ["house planner", "house trader", "house planner"])
-
-
-if __name__ == "__main__":
-    unittest.main()

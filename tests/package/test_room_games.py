@@ -3,26 +3,28 @@ what the host and the page are told, and what fails."""
 
 import hashlib
 import json
-import unittest
+from pathlib import Path
 from types import SimpleNamespace
 from typing import Any, Callable, Dict, List, Optional, Sequence
 from unittest import mock
 
 from geesefuton import program
-from geesefuton.hosting import events
+from geesefuton.hosting import events, teller
 from geesefuton.hosting.control import STOPPED, Phase
 from geesefuton.hosting.events import Event
 from geesefuton.hosting.journal import Journal
 from geesefuton.hosting.lobby import LobbyError
 from geesefuton.hosting.relay import OWN
+from geesefuton.hosting.settings import LobbySettings
 from geesefuton.practice import room, table
 from geesefuton.practice.folder import Finished
 from geesefuton.practice.room import AUDITING, Room
-from geesefuton.practice.table import TableSettings
 from geesefuton.practice.teams import Team
+from geesefuton.processes import write_whole
 from geesefuton.records.games import read_game
 from tests.package.helpers import SERVED_LOG, served_log
-from tests.package.test_room_parts import FIRST, WORDS, Case
+from tests.package.lobbies import WORDS
+from tests.package.test_room_folder import FIRST, FULL, Case
 
 LOG = SERVED_LOG.read_bytes()
 SCORES = tuple(score.score for score in served_log().scores)
@@ -69,6 +71,11 @@ def came(seat: int, at: float = 50.0, source: str = "10.0.0.7") -> Event:
     return events.Arrived(at, seat, f"seat{seat}", source)
 
 
+def begun(seat: int, *happened: Event, **how: Any) -> Plays:
+    """A game that begins with a guest at one seat."""
+    return whole(came(seat), events.Began(60.0, (seat,)), *happened, **how)
+
+
 class Rooms(Case):
     """A room whose lobby is a stand-in. All games are the first of the examples, with the log of
     another one, which nobody compares."""
@@ -79,27 +86,35 @@ class Rooms(Case):
         self.patch(room, "AGAIN", 0.01)
         self.make = self.patch(program, "make", mock.Mock(return_value=FIRST))
         self.audit = self.patch(program, "audit", mock.Mock(return_value="sound"))
-        teller = mock.patch("geesefuton.hosting.teller.tell")
-        teller.start()
-        self.addCleanup(teller.stop)
+        self.patch(teller, "tell", mock.Mock())
         self.kept, self.told = self.folder(seed=7), list[str]()
         self.board = mock.Mock()
 
-    def play(self, *plays: Any, games: int = 0, teams: Sequence[Team] = (), **given: Any) -> Room:
+    def play(self, *plays: Any, games: int = 0, **given: Any) -> Room:
         """Plays these games."""
         self.lobbies.plays = list(plays)
-        made = self.room(games or len(plays), teams, **given)
+        made = self.room(games or len(plays), **given)
         made.run()
         return made
 
-    def room(self, games: Optional[int] = None, teams: Sequence[Team] = (),
-             **given: Any) -> Room:
-        return Room(TableSettings(0, **given), self.kept, self.board, self.told.append, teams,
-                    games)
+    def room(self, games: Optional[int] = None, teams: Sequence[Team] = (), house: Any = (),
+             wait: float = 30.0) -> Room:
+        settings = LobbySettings(Path(), 0, 1000, None, wait=wait, vouches=True)
+        return Room(settings, house, self.kept, self.board, self.told.append, teams, games)
+
+    def start_again(self) -> None:
+        """The room is started again, and plays no game."""
+        self.kept.close()
+        self.kept = self.folder()
+        self.room(games=0).run()
 
     def shown(self) -> List[Dict[str, Any]]:
-        """What the page was told of the room, in turn."""
-        return [call[0][2] for call in self.board.show.call_args_list]
+        """What the page was told, in turn."""
+        return [call[0][0] for call in self.board.show.call_args_list]
+
+    def shown_rooms(self) -> List[Dict[str, Any]]:
+        """What of it is of the room."""
+        return [state["room"] for state in self.shown()]
 
     # For whom seats count.
 
@@ -122,19 +137,19 @@ class Rooms(Case):
             came(3, 100.0), came(4, 108.0), events.Departed(110.0, 3, "seat3"),
             events.Departed(111.0, 4, "seat4"), came(5, 120.0), events.Began(150.0, (5,))),
             wait=30.0)
-        begins = [state["begins"] for state in self.shown()]
+        begins = [room["begins"] for room in self.shown_rooms()]
         self.assertEqual(begins, [None, 130.0, 130.0, 130.0, None, 150.0, 150.0])
-        here = [[seat["here"] for seat in state["seats"]].count(True) for state in self.shown()]
+        here = [[seat["here"] for seat in room["seats"]].count(True) for room in self.shown_rooms()]
         self.assertEqual(here, [0, 1, 2, 1, 0, 1, 1])
-        journals = [call[0][0] for call in self.board.show.call_args_list]
-        self.assertEqual(journals, [None] * 6 + [self.path / "0001.journal"])
+        self.assertEqual([state["journal"] for state in self.shown()],
+                         [None] * 6 + [str(self.path / "0001.journal")])
 
     def test_each_game_has_the_next_seed_and_the_page_has_the_standings(self) -> None:
-        self.play(*[whole(came(seat), events.Began(60.0, (seat,))) for seat in (0, 1, 0)])
+        self.play(*map(begun, (0, 1, 0)))
         self.assertEqual([call[0][0] for call in self.make.call_args_list], [7, 8, 9])
         first, second = SCORES[0], SCORES[1]
         self.assertGreater(first, second)
-        last = self.shown()[-1]
+        last = self.shown_rooms()[-1]
         self.assertEqual((last["game"], last["played"], last["phase"]), (3, 2, "room"))
         self.assertEqual([row[:2] + row[3:] for row in last["table"]],
                          [[1, "seat0", first, None, first, first],
@@ -157,9 +172,8 @@ class Rooms(Case):
     def test_a_game_without_a_sound_log_is_lost_and_told(self) -> None:
         self.audit.side_effect = ["unsound score 0", "sound",
                                   program.ProgramError("refused", program.REFUSED)]
-        plays = [whole(came(0), events.Began(60.0, (0,)), status=status, log=log)
-                 for status, log in ((0, LOG), (7, b""), (0, b"taclog 1\nhey\n"))]
-        self.play(*plays, whole(came(0), events.Began(60.0, (0,)), status=program.CLOCK), games=4)
+        self.play(*(begun(0, status=status, log=log) for status, log in (
+            (0, LOG), (7, b""), (0, b"taclog 1\nhey\n"), (program.CLOCK, LOG))), games=4)
         faults = [game.fault for game in self.kept.finished]
         self.assertEqual(faults[:2], ["the audit says `unsound score 0`", "exit status 7"])
         self.assertTrue(all(fault.startswith("its log: ") for fault in faults[2:]), faults)
@@ -168,7 +182,7 @@ class Rooms(Case):
 
     def test_a_log_that_cannot_be_audited_now_is_kept_and_audited_again(self) -> None:
         self.audit.side_effect = [program.ProgramError("memory was refused", 7), "sound", "sound"]
-        self.play(*[whole(came(seat), events.Began(60.0, (seat,))) for seat in (0, 1)])
+        self.play(begun(0), begun(1))
         self.assertEqual([(game.number, game.scores, game.fault) for game in self.kept.finished],
                          [(1, SCORES, ""), (2, SCORES, "")])
         self.assertEqual(self.told[0], "game 1 does not count yet: memory was refused; its log is "
@@ -177,18 +191,16 @@ class Rooms(Case):
 
     def test_a_game_that_was_not_judged_before_a_stop_is_judged_at_the_next_start(self) -> None:
         self.audit.side_effect = program.ProgramError("no program")
-        self.play(whole(came(0), events.Began(60.0, (0,))))
+        self.play(begun(0))
         self.assertEqual((self.kept.finished, set(self.kept.unjudged)), ([], {1}))
-        self.kept.close()
-        self.kept, self.audit.side_effect = self.folder(), None
-        self.room(games=0).run()
+        self.audit.side_effect = None
+        self.start_again()
         self.assertEqual([game.scores for game in self.kept.finished], [SCORES])
 
     def test_what_is_said_of_links_is_kept_and_a_game_that_is_not_vouched_for_is_lost(self) -> None:
         said = tuple(f"vouched {seat} whole 3" for seat in range(8))
         other = (*said[:7], "unvouched line 4")
-        self.play(*(whole(came(0), events.Began(60.0, (0,)), status=status,
-                          *[events.Finished(70.0, status, None, each)])
+        self.play(*(begun(0, events.Finished(70.0, status, None, each), status=status)
                     for status, each in ((0, said), (9, other), (0, ()))))
         games = self.kept.finished
         self.assertEqual([game.vouched for game in games], [said, other, ()])
@@ -213,9 +225,7 @@ class Rooms(Case):
 
         with self.assertRaises(Killed):
             self.play(killed)
-        self.kept.close()
-        self.kept = self.folder()
-        self.room(games=0).run()
+        self.start_again()
         game, = self.kept.finished
         self.assertEqual((game.number, game.seed, game.scores, game.fault), (1, 7, SCORES, ""))
         self.assertEqual(game.players, ("seat0", "", "", "seat3", "", "", "", ""))
@@ -223,7 +233,7 @@ class Rooms(Case):
         self.assertEqual(self.kept.next_number(), (2, []))
 
     def test_a_game_in_which_ticks_lapsed_counts(self) -> None:
-        self.play(whole(came(0), events.Began(60.0, (0,)), status=program.CLOCK))
+        self.play(begun(0, status=program.CLOCK))
         self.assertEqual((self.kept.finished[0].fault, self.kept.finished[0].scores), ("", SCORES))
 
     def test_a_game_that_was_stopped_does_not_count_and_the_room_goes_on(self) -> None:
@@ -234,8 +244,7 @@ class Rooms(Case):
             journal.close()
             return STOPPED
 
-        self.lobbies.plays = [stopped, whole(), whole()]
-        self.room(games=2).run()
+        self.play(stopped, whole(), whole(), games=2)
         self.assertEqual([game.number for game in self.kept.finished], [2, 3])
         told = [text for text in self.told if "game 1 was stopped, and does not count" in text]
         self.assertEqual(len(told), 1)  # once, and not for each later game
@@ -244,8 +253,7 @@ class Rooms(Case):
     def test_what_fails_after_the_first_game_is_told_and_tried_again(self) -> None:
         faults = [LobbyError("port 7000: Address already in use"),
                   OSError(24, "Too many open files"), program.ProgramError("no program")]
-        self.lobbies.plays = [whole(), *faults, whole()]
-        self.room(games=2).run()
+        self.play(whole(), *faults, whole(), games=2)
         self.assertEqual([game.number for game in self.kept.finished], [1, 2])
         self.assertEqual([text for text in self.told if "trying the next game again" in text], [
             f"{text}; trying the next game again in 0.01 seconds" for text in
@@ -314,12 +322,27 @@ class Rooms(Case):
         made.run()
         self.board.close.assert_called_once()
 
+    def test_a_disk_that_takes_no_more_loses_no_game(self) -> None:
+        faults = [FULL] * 3
+
+        def write(file: Path, data: bytes) -> None:
+            if faults:
+                raise faults.pop()
+            write_whole(file, data)
+
+        with mock.patch("geesefuton.practice.folder.write_whole", write):
+            self.play(whole(came(2), events.Began(60.0, (2,))))
+        self.assertEqual([game.players.index("seat2") for game in self.kept.finished], [2])
+        self.assertEqual(len([text for text in self.told if "cannot keep game" in text]), 1)
+        self.kept.close()
+        self.assertEqual([game.scores for game in self.folder().finished], [SCORES])
+
     def test_a_game_that_no_disk_takes_is_given_up_once_the_room_is_stopped(self) -> None:
         made = self.room()
 
         def keep(game: Finished, log: bytes) -> None:
             made.close(True)
-            raise OSError(28, "No space left on device")
+            raise FULL
 
         self.patch(self.kept, "keep", keep)
         self.lobbies.plays = [whole()]
@@ -329,11 +352,12 @@ class Rooms(Case):
 
     # Teams.
 
-    TEAMS = [("Red Foxes", "redfoxes", "r3d"), ("Blue", "blue", "b7")]
+    @staticmethod
+    def teams() -> List[Team]:
+        return [Team("Red Foxes", "redfoxes", "r3d"), Team("Blue", "blue", "b7")]
 
     def test_teams_move_on_by_a_seat_and_are_seated_by_their_words(self) -> None:
-        teams = [Team(*each) for each in self.TEAMS]
-        self.play(*[whole() for _ in range(9)], teams=teams)
+        self.play(*[whole() for _ in range(9)], teams=self.teams())
         seats = []
         for lobby in self.lobbies.made:
             keys, words = lobby.settings.keys, read_game(lobby.settings.game.read_text()).words
@@ -355,31 +379,26 @@ class Rooms(Case):
             lobby.settings.keys["n3w"] = lobby.settings.keys.pop("r3d")
             return whole()(lobby, take)
 
-        self.play(changed, whole(), teams=[Team(*each) for each in self.TEAMS])
+        self.play(changed, whole(), teams=self.teams())
         self.assertEqual(set(self.lobbies.made[1].settings.keys), {"n3w", "b7"})
         self.assertEqual(json.loads((self.path / "words.json").read_bytes()), {"redfoxes": "n3w"})
 
     def test_teams_are_told_and_shown_by_their_names(self) -> None:
         seat = self.seat_of("redfoxes")
-        self.play(whole(came(seat), events.Began(60.0, (seat,))), whole(),
-                  teams=[Team(*each) for each in self.TEAMS])
+        self.play(begun(seat), whole(), teams=self.teams())
         self.assertEqual(self.kept.finished[0].players[seat], "redfoxes")
         self.assertEqual(self.told[0], "game 1 of `tac make 7` counts; first of 1: Red Foxes")
-        last = self.shown()[-1]
+        last = self.shown_rooms()[-1]
         self.assertEqual(last["table"][0][1], "Red Foxes")
         self.assertIn("Blue", [each["name"] for each in last["seats"]])
-        for call in self.board.show.call_args_list:
-            self.assertNotIn("r3d", json.dumps([call[0][1], call[0][2]]))
+        for state in self.shown():
+            self.assertNotIn("r3d", json.dumps([state["names"], state["room"]]))
 
     def seat_of(self, key: str) -> int:
         """The seat of a team in the first game."""
         with mock.patch.object(self.kept, "keep"):
-            self.play(whole(), teams=[Team(*each) for each in self.TEAMS])
+            self.play(whole(), teams=self.teams())
         words = read_game(self.lobbies.made.pop().settings.game.read_text()).words
         self.told.clear()
         self.board.show.reset_mock()
         return words.index(key)
-
-
-if __name__ == "__main__":
-    unittest.main()

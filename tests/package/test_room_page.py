@@ -3,8 +3,6 @@
 import asyncio
 import json
 import re
-import tempfile
-import unittest
 from pathlib import Path
 from typing import Any, Callable, Dict, List, Optional, Sequence, Tuple
 from unittest import mock
@@ -14,8 +12,9 @@ from geesefuton.hosting.live import PAGE
 from geesefuton.hosting.viewers import Viewers
 from geesefuton.network.pages import Faults, read_page
 from geesefuton.practice import page
-from geesefuton.practice.page import RoomPage, Screens
+from geesefuton.practice.page import RoomPage
 from tests.package.helpers import TOP
+from tests.package.test_room_folder import Case
 
 Step = Tuple[float, Callable[[], None]]
 ROOM, LIVE = read_page(TOP / "python/geesefuton/practice/room.html"), read_page(PAGE)
@@ -58,14 +57,14 @@ class Live:
             await asyncio.sleep(0.1)
 
 
-class Pages(unittest.TestCase):
+class Pages(Case):
     def setUp(self) -> None:
-        place = tempfile.TemporaryDirectory()
-        self.addCleanup(place.cleanup)
-        self.place = Path(place.name)
+        super().setUp()
         self.now, self.told = 1000.0, list[str]()
         self.steps: List[Step] = []
-        self.screens = Screens(b"", 7080, 500)
+        given = {"board": self.place / "board", "page": 7080, "port": 7011, "pace": 500, "late": 6,
+                 "address": "10.0.0.1"}
+        self.page = RoomPage(given, mock.Mock(), Faults(self.told.append))
         self.until, sleep = 0.0, asyncio.sleep
         self.last: List[int] = []  # which states were said to be the last one
         self.shown: List[Tuple[float, Dict[str, Any], bytes]] = []
@@ -80,16 +79,14 @@ class Pages(unittest.TestCase):
             for _ in range(3):
                 await sleep(0)
 
-        async def show(viewers: Screens, state: bytes, is_final: bool) -> None:
+        async def show(viewers: RoomPage, state: bytes, is_final: bool) -> None:
             self.last += [len(self.shown)] * is_final
             self.shown.append((self.now - 1000.0, json.loads(state), viewers.page))
 
         for place_of, name, what in (
                 (page, "Live", Live), (page.asyncio, "sleep", wait), (Viewers, "show", show),
                 (page.time, "monotonic", lambda: self.now), (page.time, "time", lambda: self.now)):
-            change = mock.patch.object(place_of, name, what)
-            change.start()
-            self.addCleanup(change.stop)
+            self.patch(place_of, name, what)
 
     def board(self, journal: Optional[str] = None, names: Sequence[str] = (),
               begins: Optional[float] = None, is_over: bool = False, **room: Any) -> None:
@@ -97,23 +94,17 @@ class Pages(unittest.TestCase):
         file = self.place / (journal or "")
         (self.place / "board").write_text(json.dumps({
             "journal": journal and str(file), "names": names, "is_over": is_over,
-            "words": {"red7k": "red"},
-            "room": {"phase": "room", "begins": begins, "port": 7000, "address": "10.0.0.1",
-                     **room}}))
+            "words": {"red7k": "red"}, "room": {"phase": "room", "begins": begins, **room}}))
 
     def run_it(self, until: float, *steps: Step) -> None:
         """Runs the page for some seconds, in which the steps happen at their times."""
-        self.until, self.steps = until, list(steps)
-        made = RoomPage(self.place / "board", self.screens, mock.Mock(), 6,
-                        Faults(self.told.append))
         with self.assertRaises(asyncio.CancelledError):
-            asyncio.run(made.follow())
+            self.run_to_its_end(*steps, until=until)
 
-    def run_to_its_end(self, *steps: Step) -> None:
+    def run_to_its_end(self, *steps: Step, until: float = 60.0) -> None:
         """Runs the page until it ends by itself, while the steps happen."""
-        self.until, self.steps = 60.0, list(steps)
-        asyncio.run(RoomPage(self.place / "board", self.screens, mock.Mock(), 6,
-                             Faults(self.told.append)).follow())
+        self.until, self.steps = until, list(steps)
+        asyncio.run(self.page.follow())
 
     def journal(self, name: str) -> str:
         (self.place / name).touch()
@@ -134,17 +125,11 @@ class Pages(unittest.TestCase):
         self.assertTrue(2.0 <= self.shown[1][0] <= 2.3)
 
     def test_starters_are_handed_out_with_the_port_of_the_room_in_them(self) -> None:
-        self.board(port=7000)
-        found: List[List[str]] = []
-
-        def look() -> None:
-            assert self.screens.handouts is not None
-            given = self.screens.handouts.answer("/starter.py", "10.0.0.1:7080")
-            assert given is not None
-            found.append(re.findall("(?m)^(?:PORT|AGAIN) = ([a-zA-Z0-9]+)", given.body.decode()))
-
-        self.run_it(5.0, (1.0, look), (2.0, lambda: self.board(port=7011)), (4.0, look))
-        self.assertEqual(found, [["7000", "True"], ["7011", "True"]])
+        assert self.page.handouts is not None
+        given = self.page.handouts.answer("/starter.py", "10.0.0.1:7080")
+        assert given is not None
+        self.assertEqual(re.findall("(?m)^(?:PORT|AGAIN) = ([a-zA-Z0-9]+)", given.body.decode()),
+                         ["7011", "True"])
 
     def test_a_game_is_shown_until_its_scores_have_stayed(self) -> None:
         self.board()
@@ -175,7 +160,7 @@ class Pages(unittest.TestCase):
 
         def send() -> None:
             state = {"phase": "running", "agents": [{"name": "x"}, {"name": "y"}]}
-            sent.append(asyncio.ensure_future(self.screens.show(json.dumps(state).encode(), True)))
+            sent.append(asyncio.ensure_future(self.page.show(json.dumps(state).encode(), True)))
 
         name = self.journal("0001.journal")
         self.board(name, ["red", "house planner"])
@@ -188,41 +173,33 @@ class Pages(unittest.TestCase):
     def test_who_has_played_by_hand_gets_the_scores_once(self) -> None:
         tables = [mock.Mock(results=[], seat=mock.Mock(phase=phase)) for phase in ("over", "idle")]
         tables[0].end.side_effect = lambda results: setattr(tables[0], "results", results)
-        self.screens.site.tables.extend(tables)
+        self.page.site.tables.extend(tables)
         name = self.journal("0001.journal")
         self.board(name, ["red", "house planner"])
         self.run_it(9.0, (3.0, lambda: setattr(Live, "is_done", True)))
         tables[0].end.assert_called_once_with([("red", 700), ("house planner", 300)])
         tables[1].end.assert_not_called()
-        self.assertEqual((self.screens.site.host.port, self.screens.site.host.names),
-                         (7000, {"red7k": "red"}))
+        self.assertEqual((self.page.site.host.port, self.page.site.host.names),
+                         (7011, {"red7k": "red"}))
 
-    def test_a_game_that_cannot_be_shown_is_told_once_and_the_room_is(self) -> None:
-        self.board("none.journal")
-        self.run_it(4.0)
-        self.assertEqual(self.told, [f"room: cannot show {self.place / 'none.journal'}: No "
-                                     "such file or directory"])
-        self.assertEqual([shown for *_, shown in self.shown], [ROOM])
-
-    def test_a_journal_that_is_none_is_told(self) -> None:
-        Live.fault = JournalError("line 1 is not a journal line")
-        self.board(self.journal("0001.journal"))
-        self.run_it(4.0)
-        self.assertEqual(self.told, [f"room: cannot show {self.place / '0001.journal'}: line 1 "
-                                     "is not a journal line"])
-        self.assertEqual([shown for *_, shown in self.shown], [ROOM])
-
-    def test_a_projection_that_fails_is_told_and_the_room_is_shown(self) -> None:
-        Live.fails = True
-        self.board(self.journal("0001.journal"))
-        self.run_it(4.0)
-        self.assertEqual(self.told, [f"room: cannot show {self.place / '0001.journal'}: "
-                                     "'hotel 9'"])
-        self.assertEqual([shown for *_, shown in self.shown], [ROOM])
+    def test_what_cannot_be_shown_of_a_game_is_told_once_and_the_room_is_shown(self) -> None:
+        for name, fault, fails, told in (
+                ("none.journal", None, False, "No such file or directory"),
+                (self.journal("0001.journal"), JournalError("line 1 is not a journal line"), False,
+                 "line 1 is not a journal line"),
+                (self.journal("0002.journal"), None, True, "'hotel 9'")):
+            with self.subTest(name=name):
+                Live.fault, Live.fails = fault, fails
+                self.board(name)
+                self.run_it(4.0 + self.now - 1000.0)
+                self.assertEqual(self.told, [f"room: cannot show {self.place / name}: {told}"])
+                self.assertEqual([shown for *_, shown in self.shown], [ROOM])
+                self.told.clear()
+                self.shown.clear()
 
     def test_once_the_room_is_over_screens_get_the_last_scores_and_the_page_ends(self) -> None:
         async def score() -> None:
-            await self.screens.show(b'{"phase":"over","agents":[]}', True)
+            await self.page.show(b'{"phase":"over","agents":[]}', True)
 
         def over() -> None:
             asyncio.ensure_future(score())
@@ -245,7 +222,3 @@ class Pages(unittest.TestCase):
         self.run_it(3.0, (1.0, self.board))
         self.assertEqual(self.told, ["room: cannot make the page: No such file or directory"])
         self.assertEqual(len(self.shown), 1)
-
-
-if __name__ == "__main__":
-    unittest.main()

@@ -6,21 +6,24 @@ import queue
 import re
 import socket
 import threading
+from pathlib import Path
 from typing import Any, Callable, Dict, List
-from unittest import main, mock
+from unittest import mock
 
 from geesefuton import program
 from geesefuton.hosting import events, teller
 from geesefuton.hosting.control import STOPPED, Phase
 from geesefuton.hosting.events import End, Event
 from geesefuton.hosting.lobby import LobbyError
+from geesefuton.hosting.settings import LobbySettings
 from geesefuton.network.addresses import network_of
 from geesefuton.practice import door, room, table
 from geesefuton.practice.room import Room
-from geesefuton.practice.table import Deal, Table, TableSettings
+from geesefuton.practice.table import HouseServer, Table
 from geesefuton.practice.teams import Team
 from tests.package.helpers import SERVED_LOG
-from tests.package.test_room_parts import FIRST, MOST, Case
+from tests.package.lobbies import MOST, WORDS
+from tests.package.test_room_folder import FIRST, Case, game_of
 
 TEAMS = [Team(f"Team {number}", f"team{number}", f"w{number}") for number in range(20)]
 
@@ -70,9 +73,9 @@ class Tables(Case):
         return made
 
     def start(self, tables: int, games: int = 0, wait: float = 0.0) -> Room:
-        board = mock.Mock(show=lambda *shown: self.shown.put(shown[2]))
-        made = Room(TableSettings(0, wait=wait), self.kept, board, self.told.put, TEAMS,
-                    games or None, tables)
+        board = mock.Mock(show=lambda shown: self.shown.put(shown["room"]))
+        made = Room(LobbySettings(Path(), 0, 1000, None, wait=wait), [], self.kept, board,
+                    self.told.put, TEAMS, games or None, tables)
         thread = threading.Thread(target=made.run)
         thread.start()
         self.addCleanup(thread.join, MOST)
@@ -100,7 +103,15 @@ class Tables(Case):
                 return state
 
     def next_game(self) -> Any:
-        return self.games.get(timeout=MOST)
+        game = self.games.get(timeout=MOST)
+        self.addCleanup(game.ends.set)
+        return game
+
+    def start_game(self) -> Any:
+        """A room of two tables, and a game of one team, number 3, at one of them."""
+        self.made = self.start(2)
+        self.come(3)
+        return self.next_game()
 
     @staticmethod
     def teams(game: Any) -> List[str]:
@@ -133,30 +144,21 @@ class Tables(Case):
         self.assertEqual({game.seed - game.number for game in self.kept.finished}, {6})
 
     def test_a_team_whose_part_in_its_game_is_over_waits_for_the_next(self) -> None:
-        self.start(2)
-        self.come(3)
-        game = self.next_game()
-        self.addCleanup(game.ends.set)
+        game = self.start_game()
         game.take(events.Ended(70.0, game.settings.keys["w3"], "team3", End.LEFT, 9))
         self.come(3)
         other = self.next_game()
-        self.addCleanup(other.ends.set)
         self.assertEqual((self.teams(other), game.over.is_set()), (["w3"], False))
 
     def test_a_word_is_no_part_of_what_the_page_shows(self) -> None:
-        self.start(2)
-        self.come(3)
-        game = self.next_game()
+        self.start_game()
         state = self.until(lambda state: len(state["tables"]) == 1 and not state["waiting"])
         self.assertIn("Team 3", state["tables"][0][1])
         self.assertNotIn("w3", json.dumps(state))
-        game.ends.set()
 
     def test_a_room_that_is_closed_ends_after_its_games_and_at_once_before_them(self) -> None:
-        made = self.start(2)
-        self.come(3)
-        game = self.next_game()
-        self.assertIn("closes after this game", made.close(False))
+        game = self.start_game()
+        self.assertIn("closes after this game", self.made.close(False))
         self.come(4)
         game.ends.set()
         self.thread.join(MOST)
@@ -164,10 +166,8 @@ class Tables(Case):
         self.assertTrue(self.games.empty())
 
     def test_a_room_that_is_stopped_ends_its_games(self) -> None:
-        made = self.start(2)
-        self.come(3)
-        game = self.next_game()
-        made.close(True)
+        game = self.start_game()
+        self.made.close(True)
         self.thread.join(MOST)
         self.assertEqual((game.status, self.kept.finished), (STOPPED, []))
 
@@ -179,16 +179,13 @@ class Tables(Case):
         self.assertEqual(self.told.get(timeout=MOST),
                          "game 1 cannot be played: port 7000: Too many open files")
         self.come(3)
-        self.next_game().ends.set()
+        self.next_game()
 
     def test_the_first_line_of_a_house_agent_leads_to_its_table(self) -> None:
-        made = self.start(2)
-        self.come(3)
-        game = self.next_game()
-        self.addCleanup(game.ends.set)
+        game = self.start_game()
         with mock.patch.object(door.Handed, "put", autospec=True) as put:
-            for each in made._tables:
-                each.house.words = {"hidden": 4} if each.guests.began else {}
+            for each in self.made._tables:
+                each.house.words = {"hidden": 4}
             link = socket.create_connection(("127.0.0.1", self.port))
             self.addCleanup(link.close)
             link.sendall(b"hello hidden\n")
@@ -207,8 +204,8 @@ class Hosted(Case):
         self.patch(program, "show", lambda file: file.read_text())
         self.patch(teller, "tell", mock.Mock())
         self.played: "queue.Queue[Any]" = queue.Queue()
-        self.table = Table(TableSettings(0, wait=0.01), self.folder(seed=7), lambda: None)
-        self.patch(self.table.house, "play", self.stop)
+        self.settings = LobbySettings(Path(), 0, 1000, None, start=0.01)
+        self.kept = self.folder(seed=7)
 
     def stop(self, game: Any) -> int:
         """Plays a game in the house's place."""
@@ -217,11 +214,14 @@ class Hosted(Case):
 
     def play(self, number: int) -> Any:
         """A game to which no link comes."""
-        deal = Deal(number, [f"seat{seat}" for seat in range(8)], {"w3": 3}, door.Handed(7000))
-        thread = threading.Thread(target=self.table.play, args=(deal,))
+        house = HouseServer([])
+        self.patch(house, "play", self.stop)
+        made = Table(game_of(number), WORDS, {"w3": 3}, door.Handed(7000), self.settings, house,
+                     self.kept, lambda: None, lambda: False)
+        thread = threading.Thread(target=made.play)
         thread.start()
         self.addCleanup(thread.join, MOST)
-        self.addCleanup(self.table.close, True)
+        self.addCleanup(made.close, True)
         game = self.played.get(timeout=MOST)
         thread.join(MOST)
         return game

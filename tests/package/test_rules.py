@@ -41,7 +41,3 @@ class Clock(unittest.TestCase):
         self.assertEqual((ticks[first], ticks[last]), ([6], [6, 12, 18, 24, 30, 36, 42, 48]))
         self.assertEqual((ticks[0], ticks[7]), ([*range(1, 55)], [*range(1, 55)]))
         self.assertEqual(ticks[16:], [[54]] * 12)
-
-
-if __name__ == "__main__":
-    unittest.main()

@@ -6,9 +6,7 @@ import random
 import signal
 import socket
 import sys
-import tempfile
 import time
-import unittest
 from dataclasses import replace
 from multiprocessing import get_context
 from multiprocessing.process import BaseProcess
@@ -18,16 +16,16 @@ from unittest import mock
 
 from geesefuton.experiments import tournament
 from geesefuton.experiments.deals import Rule
-from geesefuton.experiments.messages import Result
 from geesefuton.experiments.plan import Plan
 from geesefuton.experiments.provenance import Agent
-from geesefuton.experiments.results import (HEAD, Outcome, ResultsError, Row, read_rows,
+from geesefuton.experiments.results import (HEAD, Outcome, Result, ResultsError, Row, read_rows,
                                             text_of)
 from geesefuton.experiments.runs import (RunError, RunFolder, is_being_written, is_run,
                                          read_scores)
 from geesefuton.experiments.seating import Seating
 from geesefuton.records.tables import csv_of
-from tests.package.helpers import SERVED_GAME, fake_program, refusal, worker
+from tests.package.run_cases import PlaceCase
+from tests.package.helpers import SERVED_GAME, worker
 
 MINE = Agent("mine", "mine.py", ["mine.py"], {"mine.py": "00"})
 
@@ -37,21 +35,12 @@ def rows_of(*games: Tuple[int, int]) -> List[Row]:
                 files="0123", number=number) for number, rotation in games for seat in range(8)]
 
 
-class Folders(unittest.TestCase):
+class Folders(PlaceCase):
     def setUp(self) -> None:
-        folder = tempfile.TemporaryDirectory()
-        self.addCleanup(folder.cleanup)
-        self.place = Path(folder.name)
+        super().setUp()
         self.out = self.place / "runs" / "1"
-        patch = mock.patch.dict(os.environ, {"TAC": fake_program(self.place, "exit 1")})
-        patch.start()
-        self.addCleanup(patch.stop)
-        self.patch("MOST_WAIT", 0.1)
-
-    def patch(self, name: str, value: object) -> None:
-        patch = mock.patch(f"geesefuton.experiments.runs.{name}", value)
-        patch.start()
-        self.addCleanup(patch.stop)
+        self.use_program("exit 1")
+        self.patch("experiments.runs.MOST_WAIT", 0.1)
 
     def plan(self, **more: Any) -> Plan:
         plan = Plan([], Rule(seed=1), 4, 1, 1, 7, 0, 0.1, "words", 1.5, 2.5, self.out,
@@ -65,13 +54,15 @@ class Folders(unittest.TestCase):
         value: Dict[str, Any] = json.loads((self.out / "run.json").read_text())
         return value
 
+    def files(self) -> Dict[Path, bytes]:
+        return {file: file.read_bytes() for file in self.place.rglob("*") if file.is_file()}
+
     def refused(self, told: str, **more: Any) -> None:
-        before = {file: file.read_bytes() for file in self.place.rglob("*") if file.is_file()}
+        before = self.files()
         with self.assertRaises(RunError) as caught:
             self.begin(**more)
         self.assertIn(told, str(caught.exception))
-        self.assertEqual(before, {file: file.read_bytes() for file in self.place.rglob("*")
-                                  if file.is_file()})
+        self.assertEqual(before, self.files())
 
     def test_a_new_run(self) -> None:
         run = self.begin()
@@ -153,14 +144,14 @@ class Folders(unittest.TestCase):
         self.refused("its run began differently: turns is 20, not 40", is_resumed=True,
                      settings={"turns": 20, "rooms": "16..16"})
         other = replace(MINE, files={"mine.py": "01"})
-        self.refused("began differently: the files, libraries or words of mine differ (mine.py)",
-                     is_resumed=True, agents={"mine": other})
-        self.refused("its deals are of the seed 1, not of the seed 1001", is_resumed=True,
-                     rule=Rule(seed=1001))
-        self.refused("its deals are of the seed 1, not of the commitment 6", is_resumed=True,
-                     rule=Rule(bytes(range(32))))
-        self.refused("the files, libraries or words of mine differ", is_resumed=True,
-                     agents={"mine": replace(MINE, libraries={"numpy": "2.0"})})
+        for told, more in (
+                ("began differently: the files, libraries or words of mine differ (mine.py)",
+                 {"agents": {"mine": other}}),
+                ("the files, libraries or words of mine differ",
+                 {"agents": {"mine": replace(MINE, libraries={"numpy": "2.0"})}}),
+                ("of the seed 1, not of the seed 1001", {"rule": Rule(seed=1001)}),
+                ("of the seed 1, not of the commitment 6", {"rule": Rule(bytes(range(32)))})):
+            self.refused(told, is_resumed=True, **more)
         self.refused("turns is 41, not 40; the files, libraries or words of mine differ",
                      is_resumed=True, agents={"mine": replace(MINE, words=["mine.py", "-x"])},
                      settings={"turns": 41, "rooms": "16..16"})
@@ -171,10 +162,9 @@ class Folders(unittest.TestCase):
         for is_resumed in (False, True):
             self.refused("it is not the folder of a tournament: it has thesis.txt",
                          is_resumed=is_resumed)
-        (self.out / "run.json").write_text("{}")
-        self.refused("run.json is not of a tournament of this version", is_resumed=True)
-        (self.out / "run.json").write_text("no JSON")
-        self.refused("run.json is not of a tournament of this version", is_resumed=True)
+        for text in ("{}", "no JSON"):
+            (self.out / "run.json").write_text(text)
+            self.refused("run.json is not of a tournament of this version", is_resumed=True)
         for file in self.out.iterdir():
             file.unlink()
         self.begin().end(0, 0, [])
@@ -253,20 +243,18 @@ give(open(os.environ["RESULT"], "rb").read())
 """)
 
 
-class Killed(unittest.TestCase):
+class Killed(PlaceCase):
     """Runs of the command that are killed, with a stand-in for games and for the program."""
 
     KILLS, GAMES = 20, 120
 
     def setUp(self) -> None:
-        folder = tempfile.TemporaryDirectory()
-        self.addCleanup(folder.cleanup)
-        self.place = Path(folder.name)
+        super().setUp()
         result = Result(tuple(range(8)), (Outcome.PLAYED,) * 8)
         (self.place / "result").write_bytes(pickle.dumps(result))
         self.begun, self.out = self.place / "begun", self.place / "run"
         self.begun.touch()
-        self.tac = fake_program(self.place, f"cat '{SERVED_GAME}'")
+        self.use_program()
 
     def start(self, longest: float) -> BaseProcess:
         """The command, in a copy of this process, which has loaded what it needs.
@@ -285,7 +273,7 @@ class Killed(unittest.TestCase):
         for number in (1, 2):
             os.dup2(printed, number)
         os.chdir(self.place)
-        os.environ.update({"TAC": self.tac, "BEGUN": str(self.begun), "LONGEST": str(longest),
+        os.environ.update({"BEGUN": str(self.begun), "LONGEST": str(longest),
                            "RESULT": str(self.place / "result")})
         sys.argv = ["tournament", "--games", str(self.GAMES), "--at-once", "3", "--out",
                     str(self.out), "--resume", "sh", "cat"]
@@ -345,14 +333,7 @@ class Killed(unittest.TestCase):
         self.assertEqual(texts, [])  # the stand-in writes none
 
     def test_words_that_do_not_go_together(self) -> None:
-        with mock.patch.dict(os.environ, {"TAC": self.tac}):
-            for told, words in (("name a new folder for the run with --out", ["--resume"]),
-                                ("--partial needs --join", ["--partial"]),
-                                ("--pool needs --join", ["--pool"])):
-                status, text = refusal("experiments.tournament", *words, "sh")
-                self.assertEqual((status, text.count("\n")), (2, 1))
-                self.assertIn(told, text)
-
-
-if __name__ == "__main__":
-    unittest.main()
+        for told, word in (("name a new folder for the run with --out", "--resume"),
+                           ("--partial needs --join", "--partial"),
+                           ("--pool needs --join", "--pool")):
+            self.assert_refused(told, "tournament", word, "sh")

@@ -1,8 +1,6 @@
 import queue
 import threading
 import time
-import unittest
-from concurrent.futures import Future
 from typing import Any, Callable, Dict, List
 from unittest import mock
 
@@ -10,29 +8,24 @@ from geesefuton.link import Link
 from geesefuton.playing.answers import Answer
 from geesefuton.playing.seat import Seat, greeting
 from geesefuton.records.replies import Request
+from tests.package import cases
+from tests.package.cases import MOST
 from tests.package.seat_server import SeatServer
 
-MOST = 60.0  # seconds that anything may take, on a machine that is busy with other work
 PACE = 0.08  # seconds from tick to tick
 
 
-class Case(unittest.TestCase):
+class Case(cases.Case):
     """A seat before a stand-in of the server."""
 
     def setUp(self) -> None:
         self.server = SeatServer()
         self.addCleanup(self.server.close)
         self.addCleanup(self.end)
-        for name, value in (("MOST", 0.02), ("LEAST", 0.02)):
-            patch = mock.patch(f"geesefuton.playing.seat.{name}", value)
-            patch.start()
-            self.addCleanup(patch.stop)
-        patch = mock.patch("geesefuton.link.tell")
-        patch.start()
-        self.addCleanup(patch.stop)
+        self.patch("playing.seat.MOST", 0.02)
+        self.patch("playing.seat.LEAST", 0.02)
+        self.patch("link.tell")
         self.seat = Seat(lambda: Link.greet("127.0.0.1", self.server.port, "red", limit=5), PACE)
-        self.changed = threading.Event()
-        self.seat.tell = self.changed.set
 
     def end(self) -> None:
         """All closes, so the seat says `quit`."""
@@ -42,19 +35,29 @@ class Case(unittest.TestCase):
 
     def wait(self, holds: Callable[[Dict[str, Any]], bool]) -> Dict[str, Any]:
         """The first state that is so."""
-        until = time.monotonic() + MOST
-        while time.monotonic() < until:
-            self.changed.clear()
-            state = self.seat.state()
-            if holds(state):
-                return state
-            self.changed.wait(1)
-        raise AssertionError(f"no such state: {state}")
+        states = [self.seat.state()]
+
+        def is_so() -> bool:
+            states.append(self.seat.state())
+            return holds(states[-1])
+
+        self.until(is_so, states)
+        return states[-1]
+
+    def reach(self, phase: str) -> Dict[str, Any]:
+        """The first state of a phase."""
+        return self.wait(lambda state: state["phase"] == phase)
 
     def begin(self) -> Dict[str, Any]:
         """The seat is taken."""
         self.seat.begin()
-        return self.wait(lambda state: state["phase"] == "running")
+        return self.reach("running")
+
+    def look(self, line: str, count: int) -> List[str]:
+        """What the server is asked until it was asked a line more often than so."""
+        looks = len(self.server.heard)
+        self.wait(lambda _: self.server.heard[looks:].count(line) > count)
+        return self.server.heard[looks:]
 
     def bid(self, good: int, *points: Any) -> Answer:
         """A bid, and its answer."""
@@ -84,14 +87,11 @@ class Seats(Case):
         self.assertEqual(state["calls"][0]["what"], "Shoreline Shanties, night 2: buy 2 at 70")
         self.assertEqual(self.seat.state()["goods"][9], [0, ((2, 70),)])
 
-    def test_a_withdrawal(self) -> None:
+    def test_a_withdrawal_and_a_refusal_which_says_what_would_be_right(self) -> None:
         self.begin()
         self.bid(20, (-1, 70))
         self.assertTrue(self.seat.order(Request("withdraw", 20)).result(MOST).is_done)
         self.wait(lambda state: state["goods"][20][1] == ())
-
-    def test_a_refusal_says_what_would_be_right(self) -> None:
-        self.begin()
         self.server.refusals["bid 8"] = "@4 no belowquote 3 101 2"
         answer = self.bid(8, (2, 120))
         self.assertEqual((answer.is_done, answer.fix), (False, (3, 101)))
@@ -101,8 +101,7 @@ class Seats(Case):
         self.begin()
         self.bid(20, (1, 70))
         looks = len(self.server.heard)
-        self.wait(lambda _: self.server.heard[looks:].count("quote 20") > 2)
-        self.assertNotIn("own 20", self.server.heard[looks:])
+        self.assertNotIn("own 20", self.look("quote 20", 2))
         self.server.units[20], self.server.standing[20], self.server.cash = 1, "()", -60
         self.server.call(20)
         state = self.wait(lambda state: state["goods"][20][0] == 1 and state["cash"] == -60)
@@ -112,10 +111,8 @@ class Seats(Case):
     def test_calls_of_a_hotel_are_kept_until_it_closes(self) -> None:
         self.begin()
         self.bid(8, (1, 70))
-        looks = len(self.server.heard)
         self.server.call(8)
-        self.wait(lambda _: self.server.heard[looks:].count("quote 8") > 2)
-        self.assertNotIn("own 8", self.server.heard[looks:])
+        self.assertNotIn("own 8", self.look("quote 8", 2))
         self.server.units[8], self.server.standing[8], self.server.cash = 1, "()", -40
         self.server.call(8)
         self.server.quotes[8][1] = 40
@@ -125,27 +122,20 @@ class Seats(Case):
         # The state counts a tick that is due by then, the clock only those that were seen.
         self.assertEqual((self.seat._clock.tick, state["exact"]), (6, True))
 
-    def test_a_price_that_moves_is_a_tick(self) -> None:
+    def test_a_price_that_moves_is_a_tick_and_one_that_stays_is_none(self) -> None:
         self.begin()
+        self.look("quote 7", 3)
         self.assertEqual(self.seat._clock.tick, 0)
         for tick in (1, 2):
             self.server.quotes[3][1] += 7
             self.wait(lambda _: self.seat._clock.tick >= tick)
 
-    def test_prices_that_stay_are_no_tick(self) -> None:
-        self.begin()
-        looks = len(self.server.heard)
-        self.wait(lambda _: self.server.heard[looks:].count("quote 7") > 3)
-        self.assertEqual(self.seat._clock.tick, 0)
-
     def test_where_nothing_stands_nothing_is_read(self) -> None:
         self.begin()
-        looks = len(self.server.heard)
         for good in (8, 20):
             self.server.call(good)
         self.server.closed.append(8)
-        self.wait(lambda _: self.server.heard[looks:].count("quote 20") > 3)
-        self.assertFalse({"own 8", "own 20", "quote 8"} & set(self.server.heard[looks + 60:]))
+        self.assertFalse({"own 8", "own 20", "quote 8"} & set(self.look("quote 20", 3)[60:]))
 
     def test_how_long_the_server_has_not_answered(self) -> None:
         silent, send = list[float](), Link.send
@@ -179,14 +169,11 @@ class Seats(Case):
                 self.seat._wait(mock.Mock())
                 self.assertAlmostEqual(waits.pop(), due)
 
-    def test_a_lost_link_is_connected_again(self) -> None:
+    def test_a_lost_link_is_connected_again_and_a_bid_on_it_may_have_been_admitted(self) -> None:
         self.begin()
         self.server.refusals["quote 5"] = ""
         self.wait(lambda _: self.server.heard.count("hello red") == 2)
         self.assertTrue(self.bid(0, (1, 400)).is_done)
-
-    def test_a_bid_on_a_lost_link_may_have_been_admitted(self) -> None:
-        self.begin()
         self.server.refusals["bid 9"] = ""
         answer = self.bid(9, (1, 50))
         self.assertFalse(answer.is_done)
@@ -194,20 +181,18 @@ class Seats(Case):
         self.assertEqual(self.seat.phase, "running")
 
     def test_a_refused_word_is_told_and_may_be_tried_again(self) -> None:
-        self.server.refusals["hello"] = "refused wrongword"
-        self.seat.begin()
-        state = self.wait(lambda state: state["phase"] == "failed")
-        self.assertEqual(state["fault"], "red: refused wrongword")
-        self.assertFalse(self.bid(0, (1, 400)).is_done)
-        self.begin()
-
-    def test_it_may_be_taken_again_as_soon_as_its_end_is_told(self) -> None:
-        self.server.refusals["hello"] = "refused wrongword"
         refuse = Seat._refuse_rest
-        with mock.patch.object(Seat, "_refuse_rest", lambda seat: (time.sleep(0.2), refuse(seat))):
-            self.seat.begin()
-            self.wait(lambda state: state["phase"] == "failed")
-            self.begin()
+        for pause, is_asked in ((0.0, True), (0.2, False)):  # as soon as its end is told
+            self.server.refusals["hello"] = "refused wrongword"
+            with mock.patch.object(Seat, "_refuse_rest",
+                                   lambda seat: (time.sleep(pause), refuse(seat))):
+                self.seat.begin()
+                self.assertEqual(self.reach("failed")["fault"], "red: refused wrongword")
+                if is_asked:
+                    self.assertFalse(self.bid(0, (1, 400)).is_done)
+                self.begin()
+            self.end()
+            self.server.closed = []
 
     def test_the_game_ends_with_quit(self) -> None:
         self.begin()
@@ -230,21 +215,18 @@ class Seats(Case):
 
     def test_whatever_ends_the_link_is_told(self) -> None:
         for host in ("a..b", "x" * 70):  # names that the system cannot look up at all
-            seat = Seat(greeting(host, 7000, "red", "words", lambda: True), PACE)
-            self.seat, seat.tell = seat, self.changed.set
-            seat.begin()
-            state = self.wait(lambda state: state["phase"] == "failed")
-            self.assertRegex(state["fault"], "^Unicode\\w*Error: .")
+            self.seat = Seat(greeting(host, 7000, "red", "words", lambda: True), PACE)
+            self.seat.begin()
+            self.assertRegex(self.reach("failed")["fault"], "^Unicode\\w*Error: .")
 
     def test_a_lost_link_is_left_while_no_browser_has_the_page_open(self) -> None:
         is_open = threading.Event()
         self.seat = Seat(greeting("127.0.0.1", self.server.port, "red", "words", is_open.is_set),
                          PACE)
-        self.seat.tell = self.changed.set
         self.server.refusals["hello"] = ""  # the host ends its link before the game
         self.seat.begin()
-        state = self.wait(lambda state: state["phase"] == "failed")
-        self.assertEqual(state["fault"], "red: it was lost while no browser had this page open")
+        self.assertEqual(self.reach("failed")["fault"],
+                         "red: it was lost while no browser had this page open")
         self.assertEqual(self.server.heard, ["hello red"])
         is_open.set()
         self.server.refusals["hello"] = ""
@@ -252,8 +234,4 @@ class Seats(Case):
         self.assertEqual(self.server.heard[:3], ["hello red"] * 3)
         is_open.clear()
         self.server.refusals["quote 5"] = ""
-        self.wait(lambda state: state["phase"] == "failed")
-
-
-if __name__ == "__main__":
-    unittest.main()
+        self.reach("failed")

@@ -13,7 +13,3 @@ class Names(unittest.TestCase):
         numbers = [f"agent {number}" for number in range(8)]
         self.assertEqual(names_of([f"seat{number}" for number in range(8)], False), numbers)
         self.assertEqual(names_of(["red", *words[1:]], False), numbers)
-
-
-if __name__ == "__main__":
-    unittest.main()

@@ -4,43 +4,44 @@ import json
 import re
 import threading
 import unittest
+from concurrent.futures import ThreadPoolExecutor
 from typing import Any, Dict, List, Optional, Tuple
 from unittest import mock
 
 from geesefuton.network.addresses import listen
-from geesefuton.network.gate import Gate, Visit
+from geesefuton.network.gate import Gate
 from geesefuton.network.pages import Faults, PageServer, Request, page_gate
 from geesefuton.playing.seat_page import Host, Pages, Site, Table
 from geesefuton.playing.trip_board import HELD, TripBoard
-from tests.package.test_seat import MOST, Case
+from tests.package import cases
+from tests.package.cases import MOST
+from tests.package.test_seat import Case
 
 TOKEN = "abcdefgh23"
 
 
-class OpenPages(unittest.TestCase):
+class OpenPages(cases.Case):
     def setUp(self) -> None:
-        patch = mock.patch("geesefuton.playing.seat_page.time.monotonic", lambda: self.time)
-        patch.start()
-        self.addCleanup(patch.stop)
+        self.patch("playing.seat_page.time.monotonic", lambda: self.time)
         self.time, self.pages = 100.0, Pages()
+
+    def plays(self, *pages: str) -> List[bool]:
+        """Which of these pages plays."""
+        return [self.pages.plays(page) for page in pages]
 
     def test_the_first_page_plays_and_a_later_one_may_take_over(self) -> None:
         first, later = self.pages.open(""), self.pages.open("")
-        self.assertEqual([self.pages.plays(first), self.pages.plays(later)], [True, False])
+        self.assertEqual(self.plays(first, later), [True, False])
         self.pages.take(later)
-        self.assertEqual([self.pages.plays(first), self.pages.plays(later)], [False, True])
-
-    def test_a_reloaded_page_goes_on_playing_and_its_old_number_is_stale(self) -> None:
-        first = self.pages.open("")
-        again = self.pages.open(first)
-        self.assertEqual([self.pages.plays(again), self.pages.hear(first)], [True, False])
+        self.assertEqual(self.plays(first, later), [False, True])
+        again = self.pages.open(later)  # one that is reloaded goes on playing
+        self.assertEqual([*self.plays(again), self.pages.hear(later)], [True, False])
 
     def test_a_page_that_is_gone_gives_way(self) -> None:
         self.pages.open("")
-        self.time += 8.9
-        self.assertFalse(self.pages.plays(self.pages.open("")))
-        self.time += 0.2
-        self.assertTrue(self.pages.plays(self.pages.open("")))
+        for seconds, due in ((8.9, False), (0.2, True)):
+            self.time += seconds
+            self.assertEqual(self.plays(self.pages.open("")), [due])
 
     def test_whether_one_is_open(self) -> None:
         self.assertFalse(self.pages.is_open())
@@ -92,25 +93,15 @@ class Served(Case):
         ready.wait(MOST)
         self.addCleanup(lambda: self.loop.call_soon_threadsafe(self.ended.set))
 
-    def wait(self, holds: Any) -> Dict[str, Any]:
-        """The first state that is so; the table is told of each."""
-        until = threading.Event()
-        for _ in range(int(MOST / 0.02)):
-            state = self.seat.state()
-            if holds(state):
-                return state
-            until.wait(0.02)
-        raise AssertionError(f"no such state: {state}")
-
     def fetch(self, method: str, path: str, body: Any = None,
               kind: str = "application/json") -> Tuple[int, str]:
-        """The status and the text of an answer."""
+        """The status and the text of an answer, or whither it leads."""
         link = http.client.HTTPConnection("127.0.0.1", self.port, timeout=MOST)
         try:
             text = body if isinstance(body, (bytes, type(None))) else json.dumps(body).encode()
             link.request(method, path, text, {"Content-Type": kind})
             answer = link.getresponse()
-            return answer.status, answer.read().decode()
+            return answer.status, answer.getheader("Location", "") + answer.read().decode()
         finally:
             link.close()
 
@@ -122,8 +113,16 @@ class Served(Case):
     def open(self) -> str:
         """A new page."""
         page: str = self.ask("open")[1]["page"]
-        self.wait(lambda state: state["phase"] == "running")
+        self.reach("running")
         return page
+
+    def playing(self, *pages: str) -> List[bool]:
+        """Which of these pages plays the seat."""
+        return [self.state(page)["plays"] for page in pages]
+
+    def bids(self, page: str) -> Tuple[int, Any]:
+        """The answer to a bid of a page."""
+        return self.ask("bid", page=page, good=9, points=[[1, 70]])
 
     def state(self, page: str) -> Dict[str, Any]:
         """What the page shows."""
@@ -134,14 +133,10 @@ class Served(Case):
         status, text = self.fetch("GET", f"/{TOKEN}/")
         self.assertEqual(status, 200)
         self.assertEqual(re.findall(r"(?:src|href)=\"(?!data:)|https?://(?!www.w3.org)", text), [])
-        link = http.client.HTTPConnection("127.0.0.1", self.port, timeout=MOST)
-        self.addCleanup(link.close)
-        link.request("GET", f"/{TOKEN}")
-        moved = link.getresponse()
-        self.assertEqual((moved.status, moved.getheader("Location")), (308, f"/{TOKEN}/"))
-        for path, due in (("/", 404), ("/wrong/", 403), (f"/{TOKEN}x/", 403), ("/%c3%a9/", 403),
-                          (f"/{TOKEN}/more", 404)):
+        for path, due in ((f"/{TOKEN}", 308), ("/", 404), ("/wrong/", 403), (f"/{TOKEN}x/", 403),
+                          ("/%c3%a9/", 403), (f"/{TOKEN}/more", 404)):
             self.assertEqual(self.fetch("GET", path)[0], due, path)
+        self.assertEqual(self.fetch("GET", f"/{TOKEN}")[1], f"/{TOKEN}/")
         self.assertEqual(self.server.heard, [])
 
     def test_a_page_that_is_opened_takes_the_seat_and_bids(self) -> None:
@@ -169,14 +164,14 @@ class Served(Case):
 
     def test_two_browsers_at_a_seat(self) -> None:
         first, later = self.open(), self.open()
-        self.assertEqual([self.state(first)["plays"], self.state(later)["plays"]], [True, False])
-        status, answer = self.ask("bid", page=later, good=9, points=[[1, 70]])
+        self.assertEqual(self.playing(first, later), [True, False])
+        status, answer = self.bids(later)
         self.assertEqual((status, answer["text"]),
                          (409, "Another browser plays this seat: take it over first."))
         self.ask("take", page=later)
-        self.assertEqual([self.state(first)["plays"], self.state(later)["plays"]], [False, True])
-        self.assertEqual(self.ask("bid", page=first, good=9, points=[[1, 70]])[0], 409)
-        self.assertTrue(self.ask("bid", page=later, good=9, points=[[1, 70]])[1]["done"])
+        self.assertEqual(self.playing(first, later), [False, True])
+        self.assertEqual(self.bids(first)[0], 409)
+        self.assertTrue(self.bids(later)[1]["done"])
 
     def test_requests_that_are_none(self) -> None:
         page, path = self.open(), f"/{TOKEN}/bid"
@@ -185,11 +180,10 @@ class Served(Case):
             status, answer = self.ask("bid", page=page, **given)
             self.assertEqual((status, answer["done"]), (400, False), given)
         self.assertIn("at least 1 unit", self.ask("bid", page=page, good=9, points=[])[1]["text"])
-        self.assertEqual(self.fetch("POST", path, b"[]")[0], 400)
-        self.assertEqual(self.fetch("POST", path, b"{")[0], 400)
-        self.assertEqual(self.fetch("POST", path, b"[" * 4000)[0], 400)
+        for body, kind, due in ((b"[]", "", 400), (b"{", "", 400), (b"[" * 4000, "", 400),
+                                (b"{}", "; charset=utf-8", 409)):
+            self.assertEqual(self.fetch("POST", path, body, "application/json" + kind)[0], due)
         self.assertEqual(self.fetch("POST", path, b"{}", "text/plain")[0], 415)
-        self.assertEqual(self.fetch("POST", path, b"{}", "application/json; charset=utf-8")[0], 409)
 
     def test_news_is_waited_for_by_the_version_that_the_page_has(self) -> None:
         page = self.open()
@@ -216,13 +210,8 @@ class Served(Case):
 
     def test_two_pages_are_shown_the_same_board(self) -> None:
         first, later = self.open(), self.open()
-        threads = [threading.Thread(target=lambda: boards.append(self.state(page)["board"]))
-                   for page in (first, later) * 4]
-        boards: List[Any] = []
-        for thread in threads:
-            thread.start()
-        for thread in threads:
-            thread.join(MOST)
+        with ThreadPoolExecutor(8) as pool:
+            boards = list(pool.map(lambda page: self.state(page)["board"], (first, later) * 4))
         self.assertEqual(boards, [boards[0]] * 8)
 
     def test_after_the_game_the_result_is_told_once_the_host_knows_it(self) -> None:
@@ -236,43 +225,38 @@ class Served(Case):
         self.assertTrue(self.table.is_told)
         page = self.ask("open", page=page)[1]["page"]
         self.assertEqual(self.seat.phase, "over")
-        self.assertFalse(self.ask("bid", page=page, good=9, points=[[1, 70]])[1]["done"])
+        self.assertFalse(self.bids(page)[1]["done"])
 
-    def test_a_page_alone_knows_its_own_score(self) -> None:
+    def test_a_page_alone_knows_its_own_score_and_the_next_game_has_no_result_yet(self) -> None:
         page = self.open()
         self.server.cash = -7
         self.end()
         state = self.state(page)
         self.assertEqual((state["results"], state["board"]["worth"]), ([], -7))
         self.assertTrue(self.table.is_told)
-
-    def test_the_next_game_has_no_result_yet(self) -> None:
-        page = self.open()
-        self.end()
         self.table.end([("agent 0", 1)] * 8)
         self.server.closed = []
         self.ask("again", page=page)
-        self.wait(lambda state: state["phase"] == "running")
+        self.reach("running")
         self.assertEqual(self.state(page)["results"], [])
 
 
 class Sites(unittest.TestCase):
-    def site(self, *seats: Tuple[str, str]) -> Site:
-        host = Host("localhost", 7000, 500, "json", names={"red7k": "red", "blue4": "blue"})
-        return Site(host, seats)
-
-    def join(self, site: Site, word: str, visit: Visit) -> Tuple[str, str]:
-        """The status and the text of the answer to somebody who has a word."""
-        answer = asyncio.run(site.join(Request("POST", "/play", {}, word.encode(), visit)))
-        return answer.status[:3], answer.body.decode()
-
-    def visit(self) -> Visit:
+    def setUp(self) -> None:
+        self.site = Site(Host("localhost", 7000, 500, "json",
+                              names={"red7k": "red", "blue4": "blue"}))
         visit = Gate(lambda: 0.0, 9, 9, 0, 1.0).arrive("10.0.0.7")
         assert visit is not None
-        return visit
+        self.visit = visit
+
+    def join(self, word: str) -> Tuple[str, str]:
+        """The status and the text of the answer to somebody who has a word."""
+        answer = asyncio.run(self.site.join(
+            Request("POST", "/play", {}, word.encode(), self.visit)))
+        return answer.status[:3], answer.body.decode()
 
     def test_each_seat_has_a_table_at_its_token(self) -> None:
-        site = self.site(("red7k", "a"), ("blue4", "b"))
+        site = Site(self.site.host, [("red7k", "a"), ("blue4", "b")])
         self.assertEqual([(table.token, table.name) for table in site.tables],
                          [("a", "red"), ("b", "blue")])
         with mock.patch("geesefuton.playing.seat.Link.greet") as greet:
@@ -281,27 +265,18 @@ class Sites(unittest.TestCase):
         self.assertEqual(site.tables[1].seat._pace, 0.5)
 
     def test_who_has_the_word_of_a_seat_is_told_where_its_page_is(self) -> None:
-        site = self.site(("red7k", "a"))
-        self.assertEqual(self.join(site, "red7k", self.visit()), ("200", "a"))
-        made = self.join(site, "blue4", self.visit())
-        self.assertEqual(made, ("200", site.tables[1].token))
-        self.assertEqual((len(made[1]), site.tables[1].name), (10, "blue"))
-        self.assertEqual(self.join(site, "blue4", self.visit()), made)
-        self.assertEqual(len(site.tables), 2)
+        self.site.add("red7k", "a")
+        self.assertEqual(self.join("red7k"), ("200", "a"))
+        made = self.join("blue4")
+        self.assertEqual(made, ("200", self.site.tables[1].token))
+        self.assertEqual((len(made[1]), self.site.tables[1].name), (10, "blue"))
+        self.assertEqual(self.join("blue4"), made)
+        self.assertEqual(len(self.site.tables), 2)
 
-    def test_a_wrong_word_makes_no_table_and_puts_off_the_next_one(self) -> None:
-        site, visit = self.site(), self.visit()
+    def test_wrong_words_and_too_many_make_no_table_and_put_off_the_next_ones(self) -> None:
         for word in ("", "red", "red7kk", "RED7K", "\u2713"):
-            self.assertEqual(self.join(site, word, visit)[0], "403")
-        self.assertEqual(site.tables, [])
-        self.assertGreater(visit._gate.put_off(visit.network, 0.0), 10.0)
-
-    def test_too_many_words_of_a_network_are_refused(self) -> None:
-        site, visit = self.site(), self.visit()
-        with mock.patch.object(visit, "whole", return_value=None):
-            self.assertEqual(self.join(site, "red7k", visit)[0], "429")
-        self.assertEqual(site.tables, [])
-
-
-if __name__ == "__main__":
-    unittest.main()
+            self.assertEqual(self.join(word)[0], "403")
+        self.assertGreater(self.visit._gate.lines.put_off(self.visit.network, 0.0), 10.0)
+        with mock.patch.object(self.visit, "whole", return_value=None):
+            self.assertEqual(self.join("red7k")[0], "429")
+        self.assertEqual(self.site.tables, [])

@@ -59,7 +59,3 @@ class Plans(unittest.TestCase):
             self.assertEqual(games, [games[0]] * 3)
         self.assertEqual(seating.counts(16), {"games of an agent": (16, 16),
                                               "times at each seat": (2, 2)})
-
-
-if __name__ == "__main__":
-    unittest.main()

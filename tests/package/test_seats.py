@@ -1,7 +1,7 @@
 """Every pair of a seat's state and of what comes."""
 
 import unittest
-from typing import Callable, Dict, List, Tuple
+from typing import Callable, Dict, List, Sequence, Tuple
 
 from geesefuton.hosting.events import End
 from geesefuton.hosting.seats import PROBED, Action, Close, Give, Over, Refuse, Seat, Seats, State
@@ -45,168 +45,128 @@ COMES: Dict[str, Callable[[Seat], List[Action]]] = {
     "finish": lambda seat: seat.finish(),
 }
 
-BEFORE: Dict[State, Dict[str, Outcome]] = {
-    FREE: {"come soon": (HELD, [Give(OTHER, False)]), "come late": (HELD, [Give(OTHER, False)]),
-           "waive": (WAIVED, []), "leave": (OVER, [Over(End.LEFT)]),
-           "release": (OVER, [Over(End.ABSENT)]), "finish": (OVER, [Over(End.ABSENT)])},
-    WAIVED: {"come soon": (HELD, [Give(OTHER, False)]), "come late": (HELD, [Give(OTHER, False)]),
-             "begin": (OVER, [Over(End.ABSENT)]), "leave": (OVER, [Over(End.LEFT)]),
-             "finish": (OVER, [Over(End.ABSENT)])},
-    HELD: {"come soon": (CLAIMED, []), "come late": (CLAIMED, []),
-           "stop": (CLOSING, []), "holder goes": (FREE, []), "leave": (OVER, [Over(End.LEFT)]),
-           "finish": (OVER, [Close(HOLDER), Over(End.HUNG)])},
-    CLOSING: {"come soon": (HELD, [Close(HOLDER), Give(OTHER, False)]),
-              "come late": (HELD, [Close(HOLDER), Give(OTHER, False)]),
-              "holder goes": (FREE, []), "leave": (OVER, [Over(End.LEFT)]),
-              "finish": (OVER, [Close(HOLDER), Over(End.HUNG)])},
-    CLAIMED: {"come soon": (CLAIMED, [Refuse(OTHER)]), "come late": (CLAIMED, [Refuse(OTHER)]),
-              "speak": (HELD, [Refuse(HEIR)]), "stop": (HELD, [Close(HOLDER), Give(HEIR, False)]),
+LEFT: Outcome = (OVER, [Over(End.LEFT)])
+ABSENT: Outcome = (OVER, [Over(End.ABSENT)])
+HUNG: Outcome = (OVER, [Close(HOLDER), Over(End.HUNG)])
+TAKEN: Outcome = (HELD, [Give(OTHER, False)])
+REPLACED: Outcome = (HELD, [Close(HOLDER), Give(OTHER, False)])
+REFUSED: Outcome = (CLAIMED, [Refuse(OTHER)])
+TABLE: Dict[State, Dict[str, Outcome]] = {
+    FREE: {"come soon": TAKEN, "come late": TAKEN, "waive": (WAIVED, []), "leave": LEFT,
+           "release": ABSENT, "finish": ABSENT},
+    WAIVED: {"come soon": TAKEN, "come late": TAKEN, "begin": ABSENT, "leave": LEFT,
+             "finish": ABSENT},
+    HELD: {"come soon": (CLAIMED, []), "come late": (CLAIMED, []), "stop": (CLOSING, []),
+           "holder goes": (FREE, []), "leave": LEFT, "finish": HUNG},
+    CLOSING: {"come soon": REPLACED, "come late": REPLACED, "holder goes": (FREE, []),
+              "leave": LEFT, "finish": HUNG},
+    CLAIMED: {"come soon": REFUSED, "come late": REFUSED, "speak": (HELD, [Refuse(HEIR)]),
+              "stop": (HELD, [Close(HOLDER), Give(HEIR, False)]),
               "holder goes": (HELD, [Give(HEIR, False)]), "heir goes": (HELD, []),
               "leave": (OVER, [Refuse(HEIR), Over(End.LEFT)]),
-              "finish": (OVER, [Refuse(HEIR), Close(HOLDER), Over(End.HUNG)])},
+              "finish": (OVER, [Refuse(HEIR), *HUNG[1]])},
     OVER: {"come soon": (OVER, [Refuse(OTHER)]), "come late": (OVER, [Refuse(OTHER)])},
 }
+# What is otherwise in the game; besides, each agent has had its seat before.
+IN_THE_GAME: Dict[State, Dict[str, Outcome]] = {
+    FREE: {"waive": ABSENT}, HELD: {"come late": REPLACED},
+    CLAIMED: {"wait long": (HELD, [Close(HOLDER), Give(HEIR, False)])}}
 
-PLAYING: Dict[State, Dict[str, Outcome]] = {
-    FREE: {"come soon": (HELD, [Give(OTHER, True)]), "come late": (HELD, [Give(OTHER, True)]),
-           "waive": (OVER, [Over(End.GONE)]), "leave": (OVER, [Over(End.LEFT)]),
-           "release": (OVER, [Over(End.GONE)]), "finish": (OVER, [Over(End.GONE)])},
-    HELD: {"come soon": (CLAIMED, []), "come late": (HELD, [Close(HOLDER), Give(OTHER, True)]),
-           "stop": (CLOSING, []), "holder goes": (FREE, []), "leave": (OVER, [Over(End.LEFT)]),
-           "finish": (OVER, [Close(HOLDER), Over(End.HUNG)])},
-    CLOSING: {"come soon": (HELD, [Close(HOLDER), Give(OTHER, True)]),
-              "come late": (HELD, [Close(HOLDER), Give(OTHER, True)]),
-              "holder goes": (FREE, []), "leave": (OVER, [Over(End.LEFT)]),
-              "finish": (OVER, [Close(HOLDER), Over(End.HUNG)])},
-    CLAIMED: {"come soon": (CLAIMED, [Refuse(OTHER)]), "come late": (CLAIMED, [Refuse(OTHER)]),
-              "speak": (HELD, [Refuse(HEIR)]), "stop": (HELD, [Close(HOLDER), Give(HEIR, True)]),
-              "holder goes": (HELD, [Give(HEIR, True)]), "heir goes": (HELD, []),
-              "wait long": (HELD, [Close(HOLDER), Give(HEIR, True)]),
-              "leave": (OVER, [Refuse(HEIR), Over(End.LEFT)]),
-              "finish": (OVER, [Refuse(HEIR), Close(HOLDER), Over(End.HUNG)])},
-    OVER: {"come soon": (OVER, [Refuse(OTHER)]), "come late": (OVER, [Refuse(OTHER)])},
-}
+
+def again(action: Action) -> Action:
+    """An action about an agent that has had its seat before."""
+    if isinstance(action, Give):
+        return Give(action.link, True)
+    return Over(End.GONE) if action == Over(End.ABSENT) else action
 
 
 class Pairs(unittest.TestCase):
     """What is not in the tables changes nothing."""
 
-    def check(self, table: Dict[State, Dict[str, Outcome]], playing: bool) -> None:
-        for state, row in table.items():
-            for name, come in COMES.items():
-                if name == "begin" and playing:
-                    continue  # a game begins once
-                with self.subTest(state=state.name, comes=name, playing=playing):
-                    seat = seat_in(state, playing)
-                    actions = come(seat)
-                    due = row.get(name, (state, STAYS))
-                    self.assertEqual((seat.state, actions), due)
+    def check(self, seat: Seat, comes: str, due: Outcome) -> None:
+        with self.subTest(state=seat.state.name, comes=comes, playing=seat.playing):
+            actions = COMES[comes](seat)
+            self.assertEqual((seat.state, actions), due)
 
     def test_before_the_game(self) -> None:
-        self.check(BEFORE, playing=False)
+        for state, row in TABLE.items():
+            for comes in COMES:
+                self.check(seat_in(state, False), comes, row.get(comes, (state, STAYS)))
 
     def test_in_the_game(self) -> None:
-        self.check(PLAYING, playing=True)
+        for state, row in TABLE.items():
+            for comes in {*COMES} - {"begin"}:  # a game begins once
+                then, actions = {**row, **IN_THE_GAME.get(state, {})}.get(comes, (state, STAYS))
+                if state is not WAIVED:
+                    self.check(seat_in(state, True), comes, (then, list(map(again, actions))))
+
+
+Steps = Sequence[Tuple[str, Sequence[float], List[Action]]]  # calls of a seat, and their actions
+TAKES_OVER: List[Action] = [Close(HOLDER), Give(OTHER, True)]
+# What comes to a seat whose holder spoke at 100, in the game.
+IN_TURN: Dict[str, Steps] = {
+    "heard counts from the last word": [
+        ("speak", [SOON], []), ("come", [OTHER, LATE], []), ("wait", [SOON + SILENCE - 0.1], []),
+        ("wait", [SOON + SILENCE], TAKES_OVER)],
+    "silence counts anew for a new link, and the old one that ends later changes nothing": [
+        ("come", [OTHER, LATE], TAKES_OVER), ("go", [HOLDER, LATE], []),
+        ("come", [4, LATE + SILENCE - 0.1], []),
+        ("wait", [LATE + SILENCE], [Close(OTHER), Give(4, True)])],
+    "after the last tick an agent leaves for good": [
+        ("release", [], []), ("go", [HOLDER, LATE], [Over(End.LEFT)]),
+        ("come", [OTHER, LATE], [Refuse(OTHER)])],
+    "a link that stays after quit frees nothing": [
+        ("leave", [], [Over(End.LEFT)]), ("go", [HOLDER, LATE], []), ("leave", [], []),
+        ("come", [OTHER, LATE], [Refuse(OTHER)])],
+}
+# And to a new seat, before the game.
+FROM_THE_BEGINNING: Dict[str, Steps] = {
+    "a late agent comes for the first time": [
+        ("begin", [SOON], []), ("come", [OTHER, LATE], [Give(OTHER, False)]),
+        ("go", [OTHER, LATE], []), ("come", [4, LATE], [Give(4, True)])],
+    "silence does not count before the game": [
+        ("come", [HOLDER, SOON], [Give(HOLDER, False)]), ("begin", [SOON + 9 * SILENCE], []),
+        ("come", [OTHER, SOON + 10 * SILENCE - 0.1], []), ("go", [OTHER, LATE], []),
+        ("go", [HOLDER, LATE], [])],
+    "who is here when the game begins has played": [
+        ("come", [HOLDER, SOON], [Give(HOLDER, False)]), ("begin", [SOON], []),
+        ("go", [HOLDER, SOON], []), ("come", [OTHER, LATE], [Give(OTHER, True)]),
+        ("go", [OTHER, LATE], []), ("release", [], [Over(End.GONE)])],
+    "before the game a link that is gone gives way, and one that is live does not": [
+        ("come", [HOLDER, 0.0], [Give(HOLDER, False)]), ("come", [HEIR, LATE], []),
+        ("wait", [LATE + PROBED - 0.1], []),
+        ("go", [HOLDER, LATE + PROBED - 0.1], [Give(HEIR, False)]), ("come", [OTHER, 2 * LATE], []),
+        ("wait", [2 * LATE + PROBED], [Refuse(OTHER)]), ("go", [HEIR, 2 * LATE + PROBED], [])],
+    "one that waits when the game begins waits by the rules of the game": [
+        ("come", [HOLDER, 0.0], [Give(HOLDER, False)]), ("come", [HEIR, LATE], []),
+        ("begin", [LATE + PROBED - 1], []), ("wait", [LATE + PROBED + 1], []),
+        ("wait", [LATE + PROBED - 1 + SILENCE], [Close(HOLDER), Give(HEIR, True)])],
+    "who never came is absent": [
+        ("come", [HOLDER, SOON], [Give(HOLDER, False)]), ("go", [HOLDER, SOON], []),
+        ("begin", [SOON], []), ("release", [], [Over(End.ABSENT)])],
+}
 
 
 class Seating(unittest.TestCase):
-    def test_heard_counts_from_the_last_word(self) -> None:
-        seat = seat_in(HELD, playing=True)
-        seat.speak(SOON)
-        self.assertEqual(seat.come(OTHER, LATE), [])
-        self.assertEqual(seat.wait(SOON + SILENCE - 0.1), [])
-        self.assertEqual(seat.wait(SOON + SILENCE), [Close(HOLDER), Give(OTHER, True)])
-        self.assertEqual((seat.holder, seat.heir), (OTHER, None))
+    def check(self, name: str, seat: Seat, steps: Steps) -> None:
+        for number, (call, given, due) in enumerate(steps):
+            with self.subTest(name=name, step=number, call=call):
+                self.assertEqual(getattr(seat, call)(*given) or [], due)
 
-    def test_silence_counts_anew_for_a_new_link(self) -> None:
-        seat = seat_in(HELD, playing=True)
-        seat.come(OTHER, LATE)
-        self.assertEqual(seat.come(4, LATE + SILENCE - 0.1), [])
-        self.assertEqual(seat.state, CLAIMED)
-
-    def test_the_old_link_that_ends_later_changes_nothing(self) -> None:
-        seat = seat_in(HELD, playing=True)
-        seat.come(OTHER, LATE)
-        self.assertEqual(seat.go(HOLDER, LATE), [])
-        self.assertEqual((seat.state, seat.holder), (HELD, OTHER))
-
-    def test_after_the_last_tick_an_agent_leaves_for_good(self) -> None:
-        seat = seat_in(HELD, playing=True)
-        self.assertEqual(seat.release(), [])
-        self.assertEqual(seat.go(HOLDER, LATE), [Over(End.LEFT)])
-        self.assertEqual(seat.come(OTHER, LATE), [Refuse(OTHER)])
-
-    def test_a_link_that_stays_after_quit_frees_nothing(self) -> None:
-        seat = seat_in(HELD, playing=True)
-        seat.leave()
-        self.assertEqual(seat.go(HOLDER, LATE), [])
-        self.assertEqual(seat.state, OVER)
-        self.assertEqual(seat.leave(), [])
-
-    def test_a_late_agent_comes_for_the_first_time(self) -> None:
-        seat = Seat(0, "red")
-        seat.begin(SOON)
-        self.assertEqual(seat.come(OTHER, LATE), [Give(OTHER, False)])
-        seat.go(OTHER, LATE)
-        self.assertEqual(seat.come(4, LATE), [Give(4, True)])
-
-    def test_silence_does_not_count_before_the_game(self) -> None:
-        seat = Seat(0, "red", SILENCE)
-        seat.come(HOLDER, SOON)
-        seat.begin(SOON + 9 * SILENCE)
-        self.assertEqual(seat.come(OTHER, SOON + 10 * SILENCE - 0.1), [])
-        self.assertEqual((seat.state, seat.holder), (CLAIMED, HOLDER))
-
-    def test_who_is_here_when_the_game_begins_has_played(self) -> None:
-        seat = Seat(0, "red")
-        seat.come(HOLDER, SOON)
-        seat.begin(SOON)
-        seat.go(HOLDER, SOON)
-        self.assertEqual(seat.come(OTHER, LATE), [Give(OTHER, True)])
-        seat.go(OTHER, LATE)
-        self.assertEqual(seat.release(), [Over(End.GONE)])
-
-    def test_a_new_seat_is_free_and_has_not_played(self) -> None:
-        seat = Seat(0, "red")
-        self.assertEqual(seat.come(HOLDER, SOON), [Give(HOLDER, False)])
-
-    def test_before_the_game_a_link_that_is_gone_gives_way_and_one_that_is_live_does_not(
-            self) -> None:
-        seat = Seat(0, "red")
-        seat.come(HOLDER, 0.0)
-        self.assertEqual(seat.come(HEIR, LATE), [])
-        self.assertEqual(seat.wait(LATE + PROBED - 0.1), [])
-        self.assertEqual(seat.go(HOLDER, LATE + PROBED - 0.1), [Give(HEIR, False)])
-        self.assertEqual(seat.come(OTHER, 2 * LATE), [])
-        self.assertEqual(seat.wait(2 * LATE + PROBED), [Refuse(OTHER)])
-        self.assertEqual((seat.state, seat.holder, seat.heir), (HELD, HEIR, None))
-
-    def test_one_that_waits_when_the_game_begins_waits_by_the_rules_of_the_game(self) -> None:
-        seat = Seat(0, "red", SILENCE)
-        seat.come(HOLDER, 0.0)
-        seat.come(HEIR, LATE)
-        seat.begin(LATE + PROBED - 1)
-        self.assertEqual(seat.wait(LATE + PROBED + 1), [])
-        self.assertEqual(seat.wait(LATE + PROBED - 1 + SILENCE), [Close(HOLDER), Give(HEIR, True)])
+    def test_what_comes_one_after_the_other(self) -> None:
+        for name, steps in IN_TURN.items():
+            self.check(name, seat_in(HELD, playing=True), steps)
+        for name, steps in FROM_THE_BEGINNING.items():
+            self.check(name, Seat(0, "red", SILENCE), steps)
 
     def test_a_link_gives_way_after_ten_seconds_unless_told_otherwise(self) -> None:
         for seat, silence in ((Seat(0, "red"), 10), (Seats(["red"]).seats[0], 10),
                               (Seats(["red"], 3.0).seats[0], 3)):
-            seat.come(HOLDER, SOON)
-            seat.begin(SOON)
-            seat.come(OTHER, SOON)
-            self.assertEqual(seat.wait(SOON + silence - 0.1), [])
-            self.assertEqual(seat.wait(SOON + silence), [Close(HOLDER), Give(OTHER, True)])
+            self.check("silence", seat, [
+                ("come", [HOLDER, SOON], [Give(HOLDER, False)]), ("begin", [SOON], []),
+                ("come", [OTHER, SOON], []), ("wait", [SOON + silence - 0.1], []),
+                ("wait", [SOON + silence], TAKES_OVER)])
 
-    def test_who_never_came_is_absent(self) -> None:
-        seat = Seat(0, "red")
-        seat.come(HOLDER, SOON)
-        seat.go(HOLDER, SOON)
-        seat.begin(SOON)
-        self.assertEqual(seat.release(), [Over(End.ABSENT)])
-
-
-class Probing(unittest.TestCase):
     def test_a_link_that_is_gone_has_ended_before_its_heir_is_refused(self) -> None:
         idle, between, probes = KEEPALIVE.values()
         self.assertLess(idle + between * probes, PROBED)
@@ -240,7 +200,3 @@ class Admission(unittest.TestCase):
         self.assertEqual(seats.missing(), list("cdefgh"))
         seats.seats[0].go(HOLDER, SOON)
         self.assertEqual(seats.missing(), ["red", *"cdefgh"])
-
-
-if __name__ == "__main__":
-    unittest.main()

@@ -11,7 +11,7 @@ from typing import Dict
 from unittest import mock
 
 from geesefuton.experiments.deals import Rule, made_deal
-from geesefuton.records.made_games import made_game
+from geesefuton.records.drawing import made_game
 from geesefuton.records.secret_deals import (agent_seed, commitment, deal_seed, new_secret,
                                              read_secret)
 
@@ -77,7 +77,3 @@ class MadeAgain(unittest.TestCase):
         self.assertEqual((done.returncode, done.stdout.split("\n")), (1, [
             "the secret is not the one of the commitment",
             *(f"{number}.0.game is not the game of the secret" for number in (1, 10, 2, 3)), ""]))
-
-
-if __name__ == "__main__":
-    unittest.main()

@@ -32,17 +32,17 @@ HAS_HOLDER = (State.HELD, State.CLOSING, State.CLAIMED)
 
 
 class Wire:
-    """A socket in memory, as its own side sees it; the other side uses its attributes."""
+    """A socket in memory, as its own side sees it; the other side uses its attributes, such as the
+    numbers of the lines that it has asked."""
 
     def __init__(self, first: bytes = b"") -> None:
-        self.inbox, self.outbox = bytearray(first), bytearray()
+        self.inbox, self.outbox, self.asked = bytearray(first), bytearray(), list[int]()
         self.is_ended = self.is_reset = self.is_deaf = self.is_closed = False
 
-    def setblocking(self, flag: bool) -> None:
+    def setblocking(self, *_: int) -> None:
         pass
 
-    def setsockopt(self, *what: int) -> None:
-        pass
+    setsockopt = setblocking
 
     def recv(self, most: int) -> bytes:
         if self.is_reset:
@@ -67,6 +67,12 @@ class Wire:
 
     def close(self) -> None:
         self.is_closed = True
+
+    def take_lines(self) -> List[bytes]:
+        """The whole lines that the other side was sent since."""
+        *lines, rest = bytes(self.outbox).split(b"\n")
+        self.outbox = bytearray(rest)
+        return lines
 
     def ready(self) -> int:
         mask = selectors.EVENT_READ if self.inbox or self.is_ended or self.is_reset else 0
@@ -109,12 +115,8 @@ class Selecting:
         del self.known[file]
 
     def select(self, timeout: float) -> List[Tuple[Any, int]]:
-        found = []
-        for file, (wants, key) in self.known.items():
-            ready = wants & file.ready()
-            if ready:
-                found.append((key, ready))
-        return found
+        return [(key, wants & file.ready()) for file, (wants, key) in self.known.items()
+                if wants & file.ready()]
 
     def close(self) -> None:
         assert not [file for file in self.known if isinstance(file, Wire) and file.is_closed]
@@ -126,8 +128,7 @@ class Play:
     Attributes:
         now: The time, for all that happens, in seconds.
         wires: The agents' sides of the links from outside.
-        asked: The numbers of the lines that each of them sent.
-        read: How many bytes each of them was sent whose lines were looked at, and events likewise.
+        heard: How many events were looked at.
     """
 
     now = 100.0
@@ -140,8 +141,6 @@ class Play:
         self.relay = Relay(WORDS, [listener], self.told.append, Journal(None, print), PATIENCE,
                            SILENCE)
         self.wires: List[Wire] = []
-        self.asked: List[List[int]] = []
-        self.read: List[int] = []
         self.heard = 0
         self.servers: List[Wire] = []
         self.waiting: List[Optional[bytes]] = []  # the line of each seat that has no reply
@@ -164,39 +163,33 @@ class Play:
         first = self.draw.choice(["hello red\n", "hello red\n", "hello blue\n", "hello green\n",
                                   "hello red\nown 0\n", "hel", "", "GET /\n"])
         self.wires.append(Wire(first.encode()))
-        self.asked.append([])
-        self.read.append(0)
         self.door.waiting.append(self.wires[-1])
 
-    def wire(self) -> Optional[int]:
-        return self.draw.randrange(len(self.wires)) if self.wires else None
+    def wire(self) -> Wire:
+        """One of the wires; one that nobody has if there is none."""
+        return self.draw.choice(self.wires or [Wire()])
 
     def say(self) -> None:
-        number = self.wire()
-        if number is not None and not self.wires[number].is_ended:
+        wire = self.wire()
+        if not wire.is_ended:
             self.count += 1
-            self.asked[number].append(self.count)
-            self.wires[number].inbox += b"own %d\n" % self.count
+            wire.asked.append(self.count)
+            wire.inbox += b"own %d\n" % self.count
 
     def quit(self) -> None:
-        number = self.wire()
-        if number is not None and not self.wires[number].is_ended:
-            self.wires[number].inbox += b"quit\n"
+        wire = self.wire()
+        if not wire.is_ended:
+            wire.inbox += b"quit\n"
 
     def stop(self) -> None:
-        number = self.wire()
-        if number is not None:
-            self.wires[number].is_ended = True
+        self.wire().is_ended = True
 
     def reset(self) -> None:
-        number = self.wire()
-        if number is not None:
-            self.wires[number].is_reset = True
+        self.wire().is_reset = True
 
     def read_or_not(self) -> None:
-        number = self.wire()
-        if number is not None:
-            self.wires[number].is_deaf = not self.wires[number].is_deaf
+        wire = self.wire()
+        wire.is_deaf = not wire.is_deaf
 
     def begin(self) -> None:
         if self.servers:
@@ -249,18 +242,13 @@ class Play:
             assert link.is_open
             assert link.seat is None or link.number in (link.seat.holder, link.seat.heir)
         for number, server in enumerate(self.servers):
-            lines = bytes(server.outbox).split(b"\n")
-            server.outbox = bytearray(lines.pop())
-            for line in lines:
+            for line in server.take_lines():
                 assert self.waiting[number] is None, "two lines without a reply"
                 self.waiting[number] = line
-        for number, (wire, asked) in enumerate(zip(self.wires, self.asked)):
-            if len(wire.outbox) > self.read[number]:
-                *lines, rest = bytes(wire.outbox[self.read[number]:]).split(b"\n")
-                self.read[number] = len(wire.outbox) - len(rest)
-                for line in lines:
-                    if line.startswith(b"@"):
-                        assert int(line[1:].split(b" ")[0]) in [0, *asked], "another link's reply"
+        for wire in self.wires:
+            for line in wire.take_lines():
+                if line.startswith(b"@"):
+                    assert int(line[1:].split(b" ")[0]) in [0, *wire.asked], "another link's reply"
         assert not [event for event in self.told[self.heard:]
                     if isinstance(event, events.Warned) and "error" in event.text], self.told
         self.heard = len(self.told)
@@ -298,7 +286,3 @@ class Sequences(unittest.TestCase):
                     play.run()
                 except Exception as fault:
                     raise AssertionError(f"seed {seed}: {fault!r} after {play.steps}") from fault
-
-
-if __name__ == "__main__":
-    unittest.main()

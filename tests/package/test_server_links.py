@@ -1,34 +1,28 @@
 """The bytes of the lobby's own links, by its journal."""
 
 import json
-import tempfile
-import unittest
-from pathlib import Path
 from typing import List, Sequence
 
 from geesefuton.hosting.journal import JournalError
 from geesefuton.hosting.server_links import LinkBytes, server_links
+from tests.package.cases import FolderCase
 from tests.package.helpers import DATA
 from tests.package.journals import BEGIN, GAME, LINES, asks, told
 
 
 def welcome(seat: int) -> bytes:
-    """The ten lines of a seat's agent."""
-    endow = " ".join(map(str, [seat, *GAME.endow[seat]]))
-    lines = [f"welcome {seat}", f"endow {endow}"]
-    for number, client in enumerate(GAME.clients[seat]):
-        numbers = [seat, number, client.arrive, client.depart, client.premium, *client.values]
-        lines.append("client " + " ".join(map(str, numbers)))
-    return "".join(line + "\n" for line in lines).encode()
+    """The ten lines of a seat's agent, as the game's text has them."""
+    lines = [line for line in GAME.text().splitlines()
+             if line.startswith((f"endow {seat} ", f"client {seat} "))]
+    return "".join(line + "\n" for line in [f"welcome {seat}", *lines]).encode()
 
 
-class ServerLinks(unittest.TestCase):
+class ServerLinks(FolderCase):
     def links(self, lines: Sequence[str], end: str = "\n") -> List[LinkBytes]:
         """The links of a journal of these lines."""
-        with tempfile.TemporaryDirectory() as folder:
-            file = Path(folder, "journal")
-            file.write_text("\n".join(lines) + end)
-            return server_links(file)
+        file = self.folder / "journal"
+        file.write_text("\n".join(lines) + end)
+        return server_links(file)
 
     def test_lines_and_replies_are_those_of_each_seat(self) -> None:
         links = self.links([LINES[0], BEGIN, '{"tick":0,"t":0}', asks(2, "own 16"), asks(5, "\xff"),
@@ -64,7 +58,3 @@ class ServerLinks(unittest.TestCase):
 
     def test_what_is_no_journal(self) -> None:
         self.assertRaises(JournalError, self.links, ["x"])
-
-
-if __name__ == "__main__":
-    unittest.main()

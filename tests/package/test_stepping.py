@@ -23,10 +23,11 @@ FIRST = TOP / "examples" / "first.game"
 # line `0 end` with the exit status 8 and `text 2 1`, at `0 die` by a signal.
 ANSWERS = """
 import os, sys
-if sys.argv[2] == "bad":
+game = open(sys.argv[2]).read()
+if game == "bad":
     print("game 1 1")
     sys.exit(2)
-print("begun", sys.argv[1:], file=sys.stderr)
+print("begun", sys.argv[1], game, sys.argv[3:], file=sys.stderr)
 for line in sys.stdin:
     if line == "0 end\\n":
         print("text 2 1")
@@ -37,6 +38,12 @@ for line in sys.stdin:
         print(line.split()[0], "@0 done", "x" * WIDTH, flush=True)
 print("taclog 1")
 """
+
+
+def ask(game: Stepped, *lines: str) -> List[str]:
+    """The reply lines to lines of a script."""
+    text = "".join(line + "\n" for line in lines).encode()
+    return game.exchange(text, sum(line != "tick" for line in lines)).decode().split("\n")[:-1]
 
 
 class Pipes(unittest.TestCase):
@@ -56,58 +63,57 @@ class Pipes(unittest.TestCase):
         self.addCleanup(patch.stop)
 
     def test_lines_are_answered_and_the_log_follows(self) -> None:
-        with Stepped("my.game") as game:
-            self.assertEqual(game.ask(["0 own 8", "tick", "3 cash"]), ["0 @0 done ", "3 @0 done "])
-            self.assertEqual(game.ask(["tick"]), [])
-            self.assertEqual(game.ask([]), [])
+        with Stepped(b"a text") as game:
+            self.assertEqual(ask(game, "0 own 8", "tick", "3 cash"), ["0 @0 done ", "3 @0 done "])
+            self.assertEqual((ask(game, "tick"), ask(game)), ([], []))
             self.assertEqual(game.exchange(b"7 own 1\n", 1), b"7 @0 done \n")
             self.assertEqual(game.finish(), b"taclog 1\n")
         self.assertEqual((self.folder / "told").read_text(),
-                         "begun ['step', 'my.game', '/dev/stdin']\n")
+                         "begun step a text ['/dev/stdin']\n")
 
     def test_full_pipes_stop_nobody(self) -> None:
         self.use(400)
         lines = [f"{number % 8} own {'8' * 400}" for number in range(2000)]  # 800 KB each way
-        with Stepped("my.game") as game:
-            replies = game.ask(lines)
+        with Stepped(b"a text") as game:
+            replies = ask(game, *lines)
             self.assertEqual([reply[0] for reply in replies], [line[0] for line in lines])
             self.assertEqual({len(reply) for reply in replies}, {len("0 @0 done ") + 400})
             self.assertEqual(game.finish(), b"taclog 1\n")
 
     def fault(self, game: Stepped, lines: List[str]) -> ProgramError:
         with self.assertRaises(ProgramError) as caught:
-            game.ask(lines)
+            ask(game, *lines)
         return caught.exception
 
     def test_a_refusal_is_told(self) -> None:
         for lines in (["0 own 8", "0 end"], ["0 end", "0 own 8"], ["0 end"] + ["0 own 8"] * 99_999):
-            with self.subTest(lines=lines[:3]), Stepped("my.game") as game:
+            with self.subTest(lines=lines[:3]), Stepped(b"a text") as game:
                 fault = self.fault(game, lines)
                 self.assertEqual((fault.status, fault.line), (8, "text 2 1"))
                 self.assertRegex(str(fault), "^tac step ended with exit status 8 .*text 2 1")
                 self.assertEqual(str(self.fault(game, ["0 own 8"])), "the game is over")
-        with Stepped("my.game") as game:
+        with Stepped(b"a text") as game:
             game.exchange(b"0 end\n", 0)  # it is told when the log is due
             self.assertRaisesRegex(ProgramError, "text 2 1", game.finish)
-        with Stepped("bad") as game:
+        with Stepped(b"bad") as game:
             self.assertRaisesRegex(ProgramError, "the game file is refused: game 1 1", game.finish)
-        with Stepped("bad") as game:
+        with Stepped(b"bad") as game:
             self.assertEqual(self.fault(game, ["0 own 8"]).status, 2)
 
     def test_a_signal_is_told(self) -> None:
-        with Stepped("my.game") as game:
+        with Stepped(b"a text") as game:
             self.assertEqual(self.fault(game, ["0 die"]).status, -signal.SIGKILL)
 
     def test_after_its_end_there_is_no_game(self) -> None:
-        game = Stepped("my.game")
+        game = Stepped(b"a text")
         game.finish()
         self.assertRaisesRegex(ProgramError, "the game is over", game.finish)
-        self.assertRaisesRegex(ProgramError, "the game is over", game.ask, ["tick"])
+        self.assertRaisesRegex(ProgramError, "the game is over", ask, game, "tick")
         game.close()
         game.close()
-        closed = Stepped("my.game")
+        closed = Stepped(b"a text")
         closed.close()
-        self.assertRaisesRegex(ProgramError, "the game is over", closed.ask, ["0 own 8"])
+        self.assertRaisesRegex(ProgramError, "the game is over", ask, closed, "0 own 8")
 
     def in_a_fork(self, call: Callable[[], Any]) -> None:
         """Runs a call in a forked process, which then ends; fails if the call did."""
@@ -124,24 +130,24 @@ class Pipes(unittest.TestCase):
 
     def test_a_forked_process_leaves_the_game_alone(self) -> None:
         for each in (Stepped.close, Stepped.__del__):
-            with self.subTest(each=each.__name__), Stepped("my.game") as game:
+            with self.subTest(each=each.__name__), Stepped(b"a text") as game:
                 self.in_a_fork(lambda: each(game))
-                self.assertEqual(game.ask(["0 own 8"]), ["0 @0 done "])
+                self.assertEqual(ask(game, "0 own 8"), ["0 @0 done "])
                 self.assertEqual(game.finish(), b"taclog 1\n")
 
     def test_a_forked_process_cannot_play_the_game(self) -> None:
         def play() -> None:
-            for call in (game.finish, lambda: game.ask(["0 own 8"])):
+            for call in (game.finish, lambda: ask(game, "0 own 8")):
                 with self.assertRaisesRegex(ProgramError, "belongs to the process that began it"):
                     call()
 
-        with Stepped("my.game") as game:
+        with Stepped(b"a text") as game:
             self.in_a_fork(play)
-            self.assertEqual(game.ask(["0 own 8"]), ["0 @0 done "])
+            self.assertEqual(ask(game, "0 own 8"), ["0 @0 done "])
 
     def test_a_forked_process_that_goes_on_does_not_hold_the_game_up(self) -> None:
         reading, writing = os.pipe()
-        game = Stepped("my.game")
+        game = Stepped(b"a text")
         child = os.fork()
         if not child:
             os.close(writing)
@@ -161,23 +167,22 @@ class Pipes(unittest.TestCase):
             os.waitpid(child, 0)
 
     def test_a_game_is_not_copied(self) -> None:
-        with Stepped("my.game") as game:
+        with Stepped(b"a text") as game:
             calls: List[Callable[[Any], Any]] = [copy.copy, copy.deepcopy, pickle.dumps]
             for each in calls:
                 with self.assertRaisesRegex(TypeError, "cannot be copied or pickled"):
                     each(game)
-            self.assertEqual(game.ask(["0 own 8"]), ["0 @0 done "])
+            self.assertEqual(ask(game, "0 own 8"), ["0 @0 done "])
 
     @unittest.skipUnless(Path("/proc/self/fd").exists(), "open files are looked for in /proc")
     def test_no_file_and_no_process_is_left(self) -> None:
         Stepped(b"a text").close()  # what is made once stays
         before = os.listdir("/proc/self/fd")
         for _ in range(3):
-            Stepped("my.game").close()
             Stepped(b"a text").close()
-            with Stepped("my.game") as game:
+            with Stepped(b"a text") as game:
                 game.finish()
-            self.fault(Stepped("my.game"), ["0 end"])
+            self.fault(Stepped(b"a text"), ["0 end"])
             with mock.patch.dict(os.environ, {"TAC": str(self.folder)}):
                 self.assertRaises(ProgramError, Stepped, b"a text")
         self.assertEqual(os.listdir("/proc/self/fd"), before)
@@ -188,23 +193,24 @@ class Pipes(unittest.TestCase):
         file.write_bytes(b"\x7fELF")
         file.chmod(0o755)
         with mock.patch.dict(os.environ, {"TAC": str(file)}):
-            self.assertRaisesRegex(ProgramError, "cannot run the file", Stepped, "my.game")
+            self.assertRaisesRegex(ProgramError, "cannot run the file", Stepped, b"")
 
     def test_standard_streams_may_be_closed(self) -> None:
         code = ("import os; os.close(0); os.close(1)\n"
                 "from geesefuton.learning.stepping import Stepped\n"
-                "game = Stepped('my.game'); replies = game.ask(['5 own 8']); log = game.finish()\n"
+                "game = Stepped(b''); replies = game.exchange(b'5 own 8\\n', 1)\n"
+                "log = game.finish()\n"
                 "os.write(2, repr((replies, log)).encode())")
         done = subprocess.run(python(code), stderr=subprocess.PIPE, env=variables(), check=True,
                               timeout=60)
-        self.assertEqual(done.stderr, b"(['5 @0 done '], b'taclog 1\\n')")
+        self.assertEqual(done.stderr, b"(b'5 @0 done \\n', b'taclog 1\\n')")
 
 
 @unittest.skipUnless(Path("/proc/self").exists(), "processes are looked for in /proc")
 class Ends(unittest.TestCase):
     def test_the_process_ends_with_a_script_that_is_killed(self) -> None:
         code = ("import time\nfrom geesefuton.learning.stepping import Stepped\n"
-                "game = Stepped('my.game'); game.ask(['0 own 8'])\n"
+                "game = Stepped(b''); game.exchange(b'0 own 8\\n', 1)\n"
                 "print(game._process.pid, flush=True); time.sleep(300)")
         with tempfile.TemporaryDirectory() as folder:
             body = "while read -r line; do echo \"${line%% *} @0 done\"; done\n"
@@ -231,32 +237,21 @@ class Ends(unittest.TestCase):
 
 @needs_program
 class Games(unittest.TestCase):
-    def test_a_file_and_its_text_are_the_same_game(self) -> None:
-        lines = ["0 bid 0 ((1 800))", "tick", "7 own 16", "0 own 0"]
-        with Stepped(FIRST) as game, Stepped(FIRST.read_bytes()) as other:
-            # One seat was bought, whatever it cost up to the highest price that there is.
-            self.assertEqual(game.ask(lines)[::2], ["0 @0 taken 1 0", "0 @2 own 1 ()"])
-            other.ask(lines)
-            self.assertEqual(game.finish(), other.finish())
-
     def test_the_log_is_that_of_the_whole_script(self) -> None:
         lines = [f"{number % 8} bid {number % 28} ((1 {1 + number}))" for number in range(300)]
-        with tempfile.TemporaryDirectory() as folder, Stepped(FIRST) as game:
+        with tempfile.TemporaryDirectory() as folder, \
+                Stepped(FIRST.read_bytes()) as game:
             script = Path(folder, "script")
             script.write_text("".join(line + "\n" for line in lines))
-            replies = [reply for line in lines for reply in game.ask([line])]
+            replies = [reply for line in lines for reply in ask(game, line)]
             told = "".join(reply + "\n" for reply in replies).encode()
             self.assertEqual(told + game.finish(), program.play(FIRST, script).encode())
 
     def test_a_bad_game_file_and_a_bad_line_are_told(self) -> None:
-        with Stepped(b"tac 3\n") as game:
-            self.assertRaisesRegex(ProgramError, "game 1 1", game.ask, ["0 own 8"])
-        with Stepped("there/is/none") as game:
-            self.assertRaisesRegex(ProgramError, "fault read", game.finish)
-        with Stepped(FIRST) as game:
-            self.assertRaisesRegex(ProgramError, "text 2 1", game.ask, ["0 own 8", "8 own 8"])
-        with Stepped(FIRST) as game:
-            self.assertEqual(game.ask(["0 quit"]), ["0 bye"])
-            self.assertRaisesRegex(ProgramError, "text 2 2", game.ask, ["0 own 8"])
-
-
+        for text, lines, told in ((b"tac 3\n", ["0 own 8"], "game 1 1"),
+                                  (FIRST.read_bytes(), ["0 own 8", "8 own 8"], "text 2 1")):
+            with Stepped(text) as game:
+                self.assertRaisesRegex(ProgramError, told, ask, game, *lines)
+        with Stepped(FIRST.read_bytes()) as game:
+            self.assertEqual(ask(game, "0 quit"), ["0 bye"])
+            self.assertRaisesRegex(ProgramError, "text 2 2", ask, game, "0 own 8")

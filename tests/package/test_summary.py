@@ -3,17 +3,14 @@ import unittest
 from dataclasses import replace
 from typing import Any, List
 
-from geesefuton.experiments import study
-from geesefuton.experiments.comparisons import (bonferroni_halves, estimate, holm, signed_rank_p,
-                                                student_p)
+from geesefuton.experiments.comparisons import (adjusted, bonferroni_halves, estimate, holm,
+                                                signed_rank_p, student_p)
 from geesefuton.experiments.results import (HEAD, Kind, Outcome, ResultsError, Row, read_rows,
                                             text_of)
 from geesefuton.experiments.summary import summarize
 from geesefuton.records.tables import csv_of
 from tests.package.helpers import needs_study
 
-if not study.missing("these tests"):
-    from geesefuton.experiments.study import adjusted
 
 def row(deal: str, rotation: int, seat: int, agent: str, score: int,
         end: Outcome = Outcome.PLAYED, luck: int = 100, kind: Kind = Kind.SERVED) -> Row:
@@ -34,10 +31,10 @@ class Means(unittest.TestCase):
     def test_standings_are_by_deals_the_best_first(self) -> None:
         summary = summarize(SWAPPED)
         self.assertEqual([standing.agent for standing in summary.standings], ["a", "b"])
-        self.assertEqual(summary.standings[0].score, estimate([170.0, 230.0]))
-        self.assertEqual(summary.standings[1].score, estimate([150.0, 170.0]))
-        self.assertEqual((summary.games, summary.deals, summary.partial), (4, 2, 0))
-        self.assertEqual(summary.standings[0].seats, 4)
+        self.assertEqual([standing.score for standing in summary.standings],
+                         [estimate([170.0, 230.0]), estimate([150.0, 170.0])])
+        self.assertEqual((summary.games, summary.deals, summary.partial,
+                          summary.standings[0].seats), (4, 2, 0, 4))
 
     def test_every_seat_counts_and_those_that_played_beside_it(self) -> None:
         rows = [row("1", 0, 0, "a", 500), row("1", 0, 1, "a", -900, Outcome.CRASHED),
@@ -75,9 +72,8 @@ class Means(unittest.TestCase):
 class Differences(unittest.TestCase):
     def test_swapped_seats_are_compared_by_clients(self) -> None:
         pair = summarize(SWAPPED).differences[0]
-        self.assertEqual((pair.first, pair.second), ("a", "b"))
-        self.assertEqual(pair.score, estimate([20.0, 60.0]))
-        self.assertIsNone(pair.adjusted)
+        self.assertEqual((pair.first, pair.second, pair.score, pair.adjusted),
+                         ("a", "b", estimate([20.0, 60.0]), None))
 
     def test_clients_that_one_of_them_did_not_play_count_too(self) -> None:
         rows = list(SWAPPED)
@@ -86,10 +82,9 @@ class Differences(unittest.TestCase):
         self.assertEqual((pair.first, pair.score), ("b", estimate([110.0, -60.0])))
 
     def test_clients_that_one_of_them_did_not_have_are_left_out(self) -> None:
-        self.assertEqual(summarize([*SWAPPED[:3], *SWAPPED[4:]]).differences[0].score,
-                         estimate([10.0, 60.0]))
-        self.assertEqual(summarize([SWAPPED[1], *SWAPPED[3:]]).differences[0].score,
-                         estimate([30.0, 60.0]))
+        for rows, values in (([*SWAPPED[:3], *SWAPPED[4:]], [10.0, 60.0]),
+                             ([SWAPPED[1], *SWAPPED[3:]], [30.0, 60.0])):
+            self.assertEqual(summarize(rows).differences[0].score, estimate(values))
 
     def test_other_games_are_compared_by_their_means(self) -> None:
         rows = [row("1", 0, 0, "a", 100), row("1", 0, 1, "a", 300), row("1", 0, 2, "b", 50),
@@ -135,8 +130,8 @@ class Differences(unittest.TestCase):
     def test_every_pair_is_there_once_the_better_first(self) -> None:
         rows = [row("1", 0, seat, agent, score)
                 for seat, (agent, score) in enumerate([("b", 5), ("c", 1), ("a", 9)])]
-        pairs = [(pair.first, pair.second) for pair in summarize(rows).differences]
-        self.assertEqual(pairs, [("a", "b"), ("a", "c"), ("b", "c")])
+        self.assertEqual([(pair.first, pair.second) for pair in summarize(rows).differences],
+                         [("a", "b"), ("a", "c"), ("b", "c")])
 
     def test_several_pairs_have_what_allows_for_all_of_them(self) -> None:
         scores = {"a": (9, 8, 9, 7), "b": (5, 5, 6, 4), "c": (5, 1, 7, 6)}
@@ -229,23 +224,20 @@ class Draws(unittest.TestCase):
     def test_means_are_adjusted_to_the_draws_of_all_made_games(self) -> None:
         summary = summarize(self.drawn(16, "ab"))
         for standing, due in zip(summary.standings, (2000.0, 1000.0)):
-            assert standing.adjusted is not None and standing.adjusted.half is not None
+            assert standing.adjusted and standing.adjusted.half and standing.score.half
             self.assertAlmostEqual(standing.adjusted.mean, due, delta=2.0)
             self.assertLess(standing.adjusted.half, 2.0)
-            assert standing.score.half is not None
             self.assertGreater(standing.score.half, 50.0)
         pair = summary.differences[0].adjusted
         assert pair is not None and pair.half is not None
         self.assertAlmostEqual(pair.mean, 1000.0, delta=1.0)
 
     def test_other_games_are_adjusted_to_their_own_draws(self) -> None:
-        rows = self.drawn(16, "a", "game=0123")
-        standing = summarize(rows).standings[0]
-        assert standing.adjusted is not None
-        self.assertAlmostEqual(standing.adjusted.mean, standing.score.mean)
-        pooled = summarize(self.drawn(16, "a", "rooms=3..6")).standings[0].adjusted
-        assert pooled is not None
-        self.assertAlmostEqual(pooled.mean, 1000.0, delta=2.0)
+        for settings, delta in (("game=0123", 1e-7), ("rooms=3..6", 2.0)):
+            standing = summarize(self.drawn(16, "a", settings)).standings[0]
+            due = standing.score.mean if "game" in settings else 1000.0
+            assert standing.adjusted is not None
+            self.assertAlmostEqual(standing.adjusted.mean, due, delta=delta)
 
     def test_swapped_pairs_are_adjusted_by_the_draws_that_both_had(self) -> None:
         rows = self.drawn(16, "ab")
@@ -290,7 +282,3 @@ class Rows(unittest.TestCase):
             found = read_rows(head + text)
             self.assertEqual(found.rows, [])
             self.assertIn("line 2 is not a row", found.told[0])
-
-
-if __name__ == "__main__":
-    unittest.main()

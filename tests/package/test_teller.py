@@ -2,8 +2,6 @@
 
 import re
 import threading
-import time
-import unittest
 from datetime import datetime
 from typing import List, Sequence
 from unittest import mock
@@ -12,6 +10,7 @@ from geesefuton import program
 from geesefuton.hosting import events
 from geesefuton.hosting.events import End, Event
 from geesefuton.hosting.teller import Teller
+from tests.package.cases import MOST, Case
 
 WORDS = [f"seat{number}" for number in range(8)]
 PART = re.compile(r"(! )?(\d\d:\d\d:\d\d) (.*)")
@@ -35,28 +34,7 @@ def texts_of(*happened: Event) -> List[str]:
     return [text for _, _, text in parts_of(*happened)]
 
 
-class Held(unittest.TestCase):
-    def test_a_flood_does_not_wait_at_a_terminal_that_is_held(self) -> None:
-        held, told = threading.Event(), list[str]()
-
-        def tell(text: str) -> None:
-            held.wait()
-            told.append(text)
-
-        with mock.patch("geesefuton.hosting.teller.tell", tell):
-            teller = Teller(WORDS)
-            for number in range(5000):
-                teller.tell(events.Refused(0.0, "10.0.0.7", "syntax", "x"))
-                teller.tell(events.Lost(0.0, "10.0.0.8", "it ended"))
-            waiting = teller._told.qsize()
-            teller.tell(events.Warned(0.0, "mind the gap"))
-            held.set()
-            teller.close()
-        self.assertLess(waiting, 2000)
-        self.assertTrue(any("mind the gap" in text for text in told))
-
-
-class Texts(unittest.TestCase):
+class Texts(Case):
     def test_a_game(self) -> None:
         self.assertEqual(texts_of(
             events.Arrived(0.0, 1, "seat1", "10.0.0.7"), events.Departed(0.0, 1, "seat1"),
@@ -119,20 +97,17 @@ class Texts(unittest.TestCase):
              "vouched 6 of 8 (seat0: unvouched welcome; seat7: unvouched line 4)"])
 
     def test_refusals_are_told_once_in_ten_seconds_for_each_address(self) -> None:
-        def refused(at: float, source: str = "h", answer: str = "taken") -> events.Refused:
+        def refused(at: float, source: str, answer: str = "taken") -> events.Refused:
             return events.Refused(at, source, answer, "hello seat1")
 
-        told = texts_of(refused(20), refused(25), refused(26, "i"), refused(27, "h", "syntax"),
-                        refused(29.9), refused(30), events.Lost(31, "k", "it sent no line"),
-                        refused(39), events.Lost(45, "i", "it ended before its first line"))
+        told = texts_of(refused(20, "h"), refused(26, "i"), refused(27, "h", "syntax"),
+                        refused(29.9, "h"), events.Lost(31, "k", "it sent no line"),
+                        refused(39, "h"), events.Lost(45, "i", "it ended before its first line"))
+        due, last = "{} {} as taken: it sent 'hello seat1'", "took no seat; the last:"
         self.assertEqual(told, [
-            "refused h as taken: it sent 'hello seat1'",
-            "refused i as taken: it sent 'hello seat1'",
-            "3 more links from h took no seat; the last: refused h as taken: it sent "
-            "'hello seat1'",
-            "lost a link from k: it sent no line",
-            "2 more links from h took no seat; the last: refused h as taken: it sent "
-            "'hello seat1'",
+            due.format("refused", "h"), due.format("refused", "i"),
+            due.format(f"2 more links from h {last} refused", "h"),
+            "lost a link from k: it sent no line", due.format("refused", "h"),
             "lost a link from i: it ended before its first line"])
 
     def test_a_flood_of_guesses_and_connects_is_a_few_lines(self) -> None:
@@ -156,31 +131,17 @@ class Texts(unittest.TestCase):
         self.assertEqual(told[7], "994 more times seat1 came or went; the last: seat1 lost its "
                                   "link, and may reconnect")
 
-    def test_the_time_of_the_day_may_go_back(self) -> None:
+    def test_what_recurs_is_told_by_a_clock_though_nothing_more_happens(self) -> None:
         told, now = list[str](), [0.0]
-        with mock.patch("geesefuton.hosting.teller.tell", told.append):
-            teller = Teller(WORDS, lambda: now[0])
-            for at in (10_000.0, 6_400.0):
-                teller.tell(events.Lost(at, "h", "it sent no line"))
-                now[0] += 11.0
-            teller.close()
-        self.assertEqual(len(told), 2)
-
-    def test_what_is_counted_is_told_though_nothing_more_happens(self) -> None:
-        told: List[str] = []
-        came = threading.Event()
-        with mock.patch("geesefuton.hosting.teller.tell", told.append), \
-                mock.patch("geesefuton.hosting.teller.LOOK", 0.01):
-            now = [0.0]
-            teller = Teller(WORDS, lambda: now[0])
-            for _ in range(2):
-                teller.tell(events.Lost(0.0, "h", "it sent no line"))
-            now[0] = 20.0
-            deadline = time.monotonic() + 60.0
-            while len(told) < 2 and time.monotonic() < deadline:
-                came.wait(0.01)
-            self.assertEqual([line[:2] for line in told], ["! ", "! "])
-            teller.close()
+        self.patch("hosting.teller.tell", told.append)
+        self.patch("hosting.teller.LOOK", 0.01)
+        teller = Teller(WORDS, lambda: now[0])
+        for at in (10_000.0, 6_400.0):  # the time of the day may go back
+            teller.tell(events.Lost(at, "h", "it sent no line"))
+        now[0] = 20.0
+        self.until(lambda: len(told) == 2)
+        self.assertEqual([line[:2] for line in told], ["! ", "! "])
+        teller.close()
 
     def test_only_faults_are_marked_and_each_line_has_its_time(self) -> None:
         at = 1_700_000_000.0
@@ -196,36 +157,42 @@ class Texts(unittest.TestCase):
         self.assertEqual({told for _, told, _ in parts_of(*faults, *others)}, {clock})
 
 
-class Threads(unittest.TestCase):
-    def test_a_terminal_that_is_held_holds_nobody(self) -> None:
-        told, held = list[str](), threading.Event()
-        with mock.patch("geesefuton.hosting.teller.tell",
-                        lambda line: (held.wait(3.0), told.append(line))):
-            teller = Teller(WORDS)
-            teller.tell(events.Warned(0.0, "mind"))
-            before = datetime.now().strftime("%H:%M:%S")
-            teller.say("the gap")
-            clocks = (before, datetime.now().strftime("%H:%M:%S"))
-            self.assertEqual(told, [])
-            held.set()
-            teller.close()
-        self.assertEqual(len(told), 2)
-        self.assertIn(told[1], [f"{clock} the gap" for clock in clocks])
-        self.assertFalse(teller._thread.is_alive())
+class Threads(Case):
+    """A terminal that is held."""
 
-    def test_nor_is_the_end_held(self) -> None:
-        came, held = threading.Event(), threading.Event()
-        self.addCleanup(held.set)
-        with mock.patch("geesefuton.hosting.teller.tell",
-                           lambda line: (came.set(), held.wait(60.0))):
-            teller = Teller(WORDS)
-            teller.say("mind")
-            self.assertTrue(came.wait(60.0))
-            with mock.patch.object(teller._thread, "join", return_value=None) as join:
-                teller.close()
+    def setUp(self) -> None:
+        self.told, self.came, self.held = list[str](), threading.Event(), threading.Event()
+        self.addCleanup(self.held.set)
+        self.patch("hosting.teller.tell", lambda line: (
+            self.came.set(), self.held.wait(MOST), self.told.append(line)))
+        self.teller = Teller(WORDS)
+
+    def test_it_holds_nobody(self) -> None:
+        self.teller.tell(events.Warned(0.0, "mind"))
+        before = datetime.now().strftime("%H:%M:%S")
+        self.teller.say("the gap")
+        clocks = (before, datetime.now().strftime("%H:%M:%S"))
+        self.assertEqual(self.told, [])
+        self.held.set()
+        self.teller.close()
+        self.assertEqual(len(self.told), 2)
+        self.assertIn(self.told[1], [f"{clock} the gap" for clock in clocks])
+        self.assertFalse(self.teller._thread.is_alive())
+
+    def test_nor_does_it_hold_the_end(self) -> None:
+        self.teller.say("mind")
+        self.assertTrue(self.came.wait(MOST))
+        with mock.patch.object(self.teller._thread, "join", return_value=None) as join:
+            self.teller.close()
         self.assertLessEqual(join.call_args[0][0], 5.0)  # seconds
-        self.assertTrue(teller._thread.daemon)
+        self.assertTrue(self.teller._thread.daemon)
 
-
-if __name__ == "__main__":
-    unittest.main()
+    def test_a_flood_does_not_wait_for_it(self) -> None:
+        for _ in range(5000):
+            self.teller.tell(events.Refused(0.0, "10.0.0.7", "syntax", "x"))
+            self.teller.tell(events.Lost(0.0, "10.0.0.8", "it ended"))
+        self.assertLess(self.teller._told.qsize(), 2000)
+        self.teller.tell(events.Warned(0.0, "mind the gap"))
+        self.held.set()
+        self.teller.close()
+        self.assertTrue(any("mind the gap" in text for text in self.told))

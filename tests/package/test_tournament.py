@@ -6,13 +6,11 @@ import os
 import pickle
 import stat
 import sys
-import tempfile
 import time
-import unittest
 from dataclasses import replace
 from multiprocessing.connection import Pipe
 from pathlib import Path
-from typing import Any, Dict, List, Optional
+from typing import Any, Dict, List, Optional, Tuple
 from unittest import mock
 
 from geesefuton.experiments import tournament
@@ -20,9 +18,9 @@ from geesefuton.experiments.deals import Deal, Rule, Table
 from geesefuton.experiments.entrants import Entrant
 from geesefuton.experiments.forms import as_text
 from geesefuton.experiments.covariates import covariates_of
-from geesefuton.experiments.messages import Message, Note, Result
 from geesefuton.experiments.plan import MARGIN, Plan
-from geesefuton.experiments.results import HEAD, Kind, Outcome, Row, read_rows
+from geesefuton.experiments.results import (HEAD, Kind, Message, Note, Outcome, Result, Row,
+                                            read_rows)
 from geesefuton.experiments.runs import read_scores
 from geesefuton.experiments.seating import Seating
 from geesefuton.experiments.summary import summarize
@@ -32,6 +30,7 @@ from geesefuton.processes import Children, Output, Stopped
 from geesefuton.program import ProgramError
 from geesefuton.records.secret_deals import agent_seed
 from geesefuton.records.tables import csv_of
+from tests.package.run_cases import PlaceCase
 from tests.package.helpers import SERVED_GAME, fake_program, served_game, worker
 
 # A stand-in for the process of a game: seat s of game D.R scores 1000 D + 100 R + s. What FAULT
@@ -91,29 +90,26 @@ def entrants(*names: str) -> List[Entrant]:
     return [Entrant(name, (name,), name, name) for name in names]
 
 
-class Playing(unittest.TestCase):
+def by_place(row: Row) -> Tuple[object, ...]:
+    return row.place, row.seat
+
+
+class Playing(PlaceCase):
     """Tournaments with a stand-in for the processes of games."""
 
     def setUp(self) -> None:
-        folder = tempfile.TemporaryDirectory()
-        self.addCleanup(folder.cleanup)
-        self.place = Path(folder.name, "place")
+        super().setUp()
+        messages(self.place)
+        self.enter(mock.patch.dict(os.environ, {"MESSAGES": str(self.place), "FAULT": "",
+                                              "GAME": ""}))
+        self.place = self.place / "place"
         (self.place / "games").mkdir(parents=True)
-        messages(Path(folder.name))
-        variable = mock.patch.dict(os.environ, {"MESSAGES": folder.name})
-        variable.start()
-        self.addCleanup(variable.stop)
         self.told: List[str] = []
-        self.patch("geesefuton.experiments.tournament.PLAYER", [sys.executable, "-c", WORKER])
-        self.patch("geesefuton.experiments.tournament.tell",
+        self.patch("experiments.tournament.PLAYER", [sys.executable, "-c", WORKER])
+        self.patch("experiments.tournament.tell",
                    lambda line, is_passing=False: self.told.append(line))
-        self.patch("geesefuton.program.make", lambda seed: SERVED_GAME.read_text())
+        self.patch("program.make", lambda seed: SERVED_GAME.read_text())
         self.left = 0
-
-    def patch(self, name: str, value: object) -> None:
-        patch = mock.patch(name, value)
-        patch.start()
-        self.addCleanup(patch.stop)
 
     def plan(self, *names: str, games: int = 2, rotations: int = 2, at_once: int = 2,
              turns: int = 0) -> Plan:
@@ -121,11 +117,18 @@ class Playing(unittest.TestCase):
         return Plan(agents, Rule(seed=1), games, rotations, at_once, 7, turns, 0.1, "json", 1.5,
                     2.5, self.place, Seating(len(agents)))
 
-    def tournament(self, plan: Plan, *how: Any, out: Optional[Output] = None) -> Tournament:
+    def tournament(self, plan: Plan, out: Optional[Output] = None, **more: Any) -> Tournament:
         (self.place / "scores.csv").write_text(csv_of([HEAD]))
         file = os.open(self.place / "scores.csv", os.O_WRONLY | os.O_APPEND)
         self.addCleanup(os.close, file)
-        return Tournament(plan, out or Output(file), *how)
+        return Tournament(plan, mock.Mock(**{"out": out or Output(file), "finished": set(),
+                                             "number": 1, "lock": file, **more}))
+
+    def running(self, connection: Any = None, deadline: float = 0.0,
+                result: Optional[Result] = None, *agents: str) -> Running:
+        """The first game, which one agent, `a`, plays, or eight."""
+        return Running(Table(Deal(1, served_game()), 0), entrants(*(agents or "a" * 8)),
+                       Player(connection or mock.Mock(), mock.Mock()), deadline, result)
 
     def play(self, fault: str = "", game: str = "", out: Optional[Output] = None,
              **more: Any) -> Tournament:
@@ -136,13 +139,12 @@ class Playing(unittest.TestCase):
         return made
 
     def rows(self) -> List[Row]:
-        return sorted(read_rows((self.place / "scores.csv").read_text()).rows,
-                      key=lambda row: (row.place, row.seat))
+        return sorted(read_rows((self.place / "scores.csv").read_text()).rows, key=by_place)
 
     def test_every_game_is_played(self) -> None:
         made = self.play(games=4)
         rows = self.rows()
-        self.assertEqual(rows, sorted(made.rows, key=lambda row: (row.place, row.seat)))
+        self.assertEqual(rows, sorted(made.rows, key=by_place))
         self.assertEqual([(row.number, row.rotation, row.seat) for row in rows],
                          [(deal, rotation, seat) for deal in (1, 2) for rotation in (0, 1)
                           for seat in range(8)])
@@ -160,17 +162,14 @@ class Playing(unittest.TestCase):
                          r"^game 4 of 4 \(deal [12], rotation [01]\): scored; 0:00 left$")
 
     def test_the_time_that_is_left_is_told_in_minutes_and_seconds(self) -> None:
-        plan = self.plan("a", games=3, rotations=1)
-        made = self.tournament(plan)
-        game = Running(Table(Deal(1, served_game()), 0), list(plan.entrants) * 8,
-                       Player(mock.Mock(), mock.Mock()), 0.0, Result(fault="why"))
+        made = self.tournament(self.plan("a", games=3, rotations=1))
         with mock.patch("time.monotonic", return_value=made._began + 29.9):
-            made._finish(game)  # two games more, of 29.9 seconds each
+            made._finish(self.running(result=Result(fault="why")))  # two more, of 29.9 seconds each
         self.assertEqual(self.told[-1], "game 1 of 3 (deal 1, rotation 0): lost; 1:00 left")
 
     def test_a_run_that_goes_on_plays_and_counts_only_what_is_missing(self) -> None:
-        made = self.tournament(self.plan(games=4), {(1, 0), (1, 1), (2, 0)}, 2)
-        with mock.patch.dict(os.environ, {"FAULT": "", "GAME": ""}), Children() as children:
+        made = self.tournament(self.plan(games=4), finished={(1, 0), (1, 1), (2, 0)}, number=2)
+        with Children() as children:
             made.play(children)
         self.assertEqual({(row.place, row.run) for row in self.rows()}, {((2, 1), 2)})
         self.assertEqual(self.told[-1], "game 1 of 1 (deal 2, rotation 1): scored; 0:00 left")
@@ -207,20 +206,18 @@ class Playing(unittest.TestCase):
             self.assertEqual(played.lost, [f"stopped playing games: {told}"])
 
     def test_a_game_that_takes_too_long_is_ended(self) -> None:
-        self.patch("geesefuton.experiments.plan.MARGIN", -3.0)
+        self.patch("experiments.plan.MARGIN", -3.0)
         made = self.play("hang", "1.0", games=2, rotations=1, at_once=1)
         self.assertIn("game 1.0 is lost: it took longer than its ticks and all its waits",
                       made.lost)
 
     def test_a_game_that_has_ended_is_not_late_because_nobody_looked(self) -> None:
         """As after ctrl-Z: its messages came in time, and are read later than it may take."""
-        plan = self.plan("a", games=1, rotations=1)
-        made = self.tournament(plan)
+        made = self.tournament(self.plan("a", games=1, rotations=1))
         ours, theirs = Pipe()
         result = Result(tuple(range(8)), (Outcome.PLAYED,) * 8)
         with ours, theirs:
-            game = Running(Table(Deal(1, served_game()), 0), list(plan.entrants) * 8,
-                           Player(ours, mock.Mock()), deadline=time.monotonic() - 1.0)
+            game = self.running(ours, time.monotonic() - 1.0)
             for message in (events.Ticked(0.0, 54), Note("a note"), result):
                 theirs.send(message)
             while not made._is_over(game):
@@ -232,7 +229,7 @@ class Playing(unittest.TestCase):
         made = self.play(turns=5)
         rows = self.rows()
         self.assertEqual([row.kind for row in rows], [Kind.TURNS] * 8 + [Kind.UNREPEATABLE] * 8)
-        self.assertEqual(rows, sorted(made.rows, key=lambda row: (row.place, row.seat)))
+        self.assertEqual(rows, sorted(made.rows, key=by_place))
 
     def test_a_game_in_turns_may_take_its_time_as_long_as_ticks_come(self) -> None:
         for turns, is_later in ((5, True), (0, False)):
@@ -240,8 +237,7 @@ class Playing(unittest.TestCase):
             ours, theirs = Pipe()
             with ours, theirs:
                 theirs.send(events.Ticked(0.0, 1))
-                game = Running(Table(Deal(1, served_game()), 0), list(plan.entrants) * 8,
-                               Player(ours, mock.Mock()), deadline=0.0)
+                game = self.running(ours)
                 self.tournament(plan)._hear([game])
             self.assertEqual(game.deadline > time.monotonic(), is_later)
             # The start, the turns of eight who are passed over in each, the end, and what is left.
@@ -250,16 +246,13 @@ class Playing(unittest.TestCase):
 
     def test_a_game_whose_rows_are_not_taken_is_lost(self) -> None:
         made = self.play(out=Output("/dev/full"))
-        self.assertEqual(sorted(made.rows, key=lambda row: (row.place, row.seat)), [])
-        self.assertEqual(made.lost[-1].partition(": ")[2],
-                         "/dev/full: No space left on device")
+        self.assertEqual((made.rows, made.lost[-1].partition(": ")[2]),
+                         ([], "/dev/full: No space left on device"))
 
     def test_what_agents_missed_is_in_the_rows(self) -> None:
         made = self.tournament(self.plan())
         result = Result(tuple(range(8)), (Outcome.PLAYED,) * 8, missed=(None, *range(7)))
-        game = Running(Table(Deal(1, served_game()), 0), entrants(*"abababab"),
-                       Player(mock.Mock(), mock.Mock()), 0.0, result)
-        made._finish(game)
+        made._finish(self.running(None, 0.0, result, *"abababab"))
         rows = self.rows()
         self.assertEqual([row.missed for row in rows], [None, *range(7)])
         told = as_text(summarize([replace(row, missed=45) if row.agent == "a" else row
@@ -301,8 +294,7 @@ class Playing(unittest.TestCase):
 
     def test_rows_are_sorted_at_the_end(self) -> None:
         self.assertEqual(self.command("--games", "6", "--at-once", "3"), 0)
-        rows = read_scores(self.place / "run").rows
-        self.assertEqual([(row.place, row.seat) for row in rows],
+        self.assertEqual([by_place(row) for row in read_scores(self.place / "run").rows],
                          [((deal, rotation), seat) for deal in (1, 2, 3) for rotation in (0, 1)
                           for seat in range(8)])
 
@@ -353,7 +345,3 @@ class Playing(unittest.TestCase):
         self.assertIn("tournament: stopped", self.told)
         record = json.loads((self.place / "run" / "run.json").read_text())
         self.assertEqual((record["planned"], record["runs"][0]["status"]), (4, 143))
-
-
-if __name__ == "__main__":
-    unittest.main()

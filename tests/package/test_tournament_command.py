@@ -1,94 +1,70 @@
 """The words of the command, and several tournaments as one."""
 
-import csv
-import io
 import json
 import os
-import tempfile
-import unittest
-from pathlib import Path
-from typing import List
 from unittest import mock
 
 from geesefuton.experiments.deals import Deal, Rule, Table
 from geesefuton.experiments.forms import as_text
 from geesefuton.experiments.plan import Plan, make_parser, read_plan
-from geesefuton.experiments.results import HEAD, Outcome, Row, text_of
+from geesefuton.experiments.results import Outcome, Row
 from geesefuton.experiments.summary import summarize
-from geesefuton.records.tables import csv_of
-from tests.package.helpers import SERVED_GAME, TOP, fake_program, refusal, run, served_game
+from tests.package.run_cases import PlaceCase, read_csv, write_run
+from tests.package.helpers import SERVED_GAME, TOP, refusal, run, served_game
 
 
-class Commands(unittest.TestCase):
+class Commands(PlaceCase):
     """Words that are refused, with a stand-in for the program."""
 
     def setUp(self) -> None:
-        folder = tempfile.TemporaryDirectory()
-        self.addCleanup(folder.cleanup)
-        self.place = Path(folder.name)
-        tac = fake_program(self.place, f"cat '{SERVED_GAME}'")
-        patch = mock.patch.dict(os.environ, {"TAC": tac})
-        patch.start()
-        self.addCleanup(patch.stop)
+        super().setUp()
+        self.use_program()
 
     def refused(self, told: str, *words: object, status: int = 2) -> None:
         out = [] if "--out" in words else ["--out", self.place / "run"]
-        got, text = refusal("experiments.tournament", *out, *words)
+        self.assert_refused(told, "tournament", *out, *words, status=status)
         self.assertFalse((self.place / "run").exists())
-        self.assertEqual(got, status, text)
-        self.assertEqual(text.count("\n"), 1, text)
-        self.assertRegex(text, "^tournament: ")
-        self.assertIn(told, text)
 
-    def test_agents(self) -> None:
-        self.refused("there is no file none.py", "none.py")
-        self.refused("no closing quotation", "sh 'x")
-        self.refused("not an empty word", "")
+    def test_words_that_are_refused(self) -> None:
+        for told, *words in (
+                ("tournament: there is no file none.py", "none.py"),
+                ("no closing quotation", "sh 'x"), ("not an empty word", ""),
+                ("seeds are at most", "--seed", "18446744073709551613", "sh"),  # of four deals
+                ("--pace is for games with a clock", "--turns", "5", "--pace", "100", "sh"),
+                ("--patience needs --turns", "--patience", "3", "sh"),
+                ("expected rooms", "--rooms", "0..3"),
+                ("/nowhere/my.game: No such file", "--game", "/nowhere/my.game"),
+                ("line 3: expected a line `tac`", "--game", TOP / "README.md"),
+                ("for made games", "--game", SERVED_GAME, "--live"),
+                ("for made games", "--game", SERVED_GAME, "--rooms", "4"),
+                ("unrecognized arguments: --gam", "--gam", "4"),  # words are not abbreviated
+                ("unrecognized arguments: --sum", "--sum", "x.txt"),
+                ("expected a name ending in", "--summary", "x.html", "sh"),
+                ("sh and sh are the same agent: name each once", "sh", "sh"),
+                ("65 agents: at most 64", *(f"sh {number}" for number in range(65)))):
+            self.refused(told, *words)
+        self.refused("Not a directory", "--out", SERVED_GAME / "x", "sh", status=1)
 
     def test_numbers(self) -> None:
         for words in (["--games", "0"], ["--games", "x"], ["--at-once", "0"], ["--pace", "60001"],
                       ["--seed", "-1"], ["--seed", "18446744073709551616"], ["--games", "1.5"],
                       ["--seed", "18446744073709551615"]):
             self.refused("18446744073709551615" if "--seed" in words else "a number", *words, "sh")
-        self.refused("seeds are at most", "--seed", "18446744073709551613", "sh")  # of four deals
         for words in (["--start", "x"], ["--after", "-1"], ["--start", "nan"],
                       ["--patience", "x"]):
             self.refused("expected a number of seconds", *words)
-
-    def test_turns(self) -> None:
         for turns in ("0", "1001", "x"):
             self.refused("a number", "--turns", turns, "sh")
-        self.refused("--pace is for games with a clock", "--turns", "5", "--pace", "100", "sh")
-        self.refused("--patience needs --turns", "--patience", "3", "sh")
-
-    def test_deals(self) -> None:
-        self.refused("expected rooms", "--rooms", "0..3")
-        self.refused("/nowhere/my.game: No such file", "--game", "/nowhere/my.game")
-        self.refused("line 3: expected a line `tac`", "--game", TOP / "README.md")
-        self.refused("for made games", "--game", SERVED_GAME, "--live")
-        self.refused("for made games", "--game", SERVED_GAME, "--rooms", "4")
-
-    def test_words_are_not_abbreviated(self) -> None:
-        self.refused("unrecognized arguments: --gam", "--gam", "4")
-        self.refused("unrecognized arguments: --sum", "--sum", "x.txt")
 
     def test_no_program(self) -> None:
         with mock.patch.dict(os.environ, {"TAC": "/nowhere/tac"}):
             self.refused("there is no program /nowhere/tac", "sh")
 
     def test_agents_that_cannot_be_told_apart(self) -> None:
-        self.refused("sh and sh are the same agent: name each once", "sh", "sh")
         for name in ("NA.py", "x\u2028y.py"):
             (self.place / name).write_text("")
         self.refused("an agent called NA reads as missing", self.place / "NA.py")
         self.refused("characters that cannot be printed", f"'{self.place}/x\u2028y.py'")
-        self.refused("65 agents: at most 64", *(f"sh {number}" for number in range(65)))
-
-    def test_a_folder_that_cannot_be_made(self) -> None:
-        self.refused("Not a directory", "--out", SERVED_GAME / "x", "sh", status=1)
-
-    def test_summaries(self) -> None:
-        self.refused("expected a name ending in", "--summary", "x.html", "sh")
 
     def test_a_plan(self) -> None:
         parser = make_parser("")
@@ -153,52 +129,36 @@ class Commands(unittest.TestCase):
         self.assertEqual(done.stderr, "tournament: standard output: No space left on device\n")
 
 
-class Joining(unittest.TestCase):
+class Joining(PlaceCase):
     def setUp(self) -> None:
-        folder = tempfile.TemporaryDirectory()
-        self.addCleanup(folder.cleanup)
-        self.place = Path(folder.name)
+        super().setUp()
         self.rows = [Row(str(deal), 0, seat, "ab"[seat % 2], 100 * deal + seat, Outcome.PLAYED,
                          deal, number=deal) for deal in range(4) for seat in range(8)]
-        for number, part in enumerate((self.rows[:16], self.rows[16:])):
-            run_folder = self.place / str(number)
-            run_folder.mkdir()
-            (run_folder / "scores.csv").write_text(csv_of([HEAD]) + text_of(part))
-            (run_folder / "run.json").write_text(json.dumps({
-                "tournament": 2, "settings": {}, "deals": {"seed": 1}, "agents": [], "runs": [],
-                "planned": 2}))
-
-    def folders(self) -> List[Path]:
-        return [self.place / "0", self.place / "1"]
+        self.folders = [write_run(self.place / str(number), part, planned=2) for number, part in
+                        enumerate((self.rows[:16], self.rows[16:]))]
 
     def test_several_tournaments_are_summarized_as_one(self) -> None:
         done = run("experiments.tournament", "--summary", self.place / "s.json", "--summary",
                    self.place / "s.csv", "--join", "--summary", self.place / "s.txt",
-                   *self.folders())
+                   *self.folders)
         self.assertEqual((done.returncode, done.stderr), (0, ""))
         summary = summarize(self.rows)
         self.assertEqual(done.stdout, as_text(summary))
         self.assertEqual((self.place / "s.txt").read_text(), done.stdout)
         self.assertEqual(json.loads((self.place / "s.json").read_text())["deals"], 4)
-        self.assertEqual(len(list(csv.reader(io.StringIO((self.place / "s.csv").read_text())))), 4)
+        self.assertEqual(len(read_csv((self.place / "s.csv").read_text())), 3)
 
     def test_what_fails_is_told(self) -> None:
-        for words, told in ((["--join", self.place / "none"], "is not the folder of a tournament"),
-                            (["--join", TOP / "README.md"], "is not the folder of a tournament")):
-            status, text = refusal("experiments.tournament", *words)
-            self.assertEqual((status, text.count("\n")), (1, 1))
-            self.assertIn(told, text)
+        for path in (self.place / "none", TOP / "README.md"):
+            self.assert_refused("is not the folder of a tournament", "tournament", "--join", path,
+                                status=1)
         self.assertEqual(refusal("experiments.tournament", "--join")[0], 2)
         done = run("experiments.tournament", "--summary", "/nowhere/s.txt", "--join",
-                   *self.folders())
+                   *self.folders)
         self.assertEqual((done.returncode, done.stderr),
                          (1, "tournament: the summary was not written to /nowhere/s.txt: No such "
                              "file or directory\n"))
         with open("/dev/full", "wb") as full:
-            done = run("experiments.tournament", "--join", *self.folders(), stdout=full)
+            done = run("experiments.tournament", "--join", *self.folders, stdout=full)
         self.assertEqual(done.returncode, 1)
         self.assertIn("standard output: No space left on device", done.stderr)
-
-
-if __name__ == "__main__":
-    unittest.main()

@@ -2,14 +2,11 @@
 
 import json
 import re
-import subprocess
-import tempfile
-import unittest
-from pathlib import Path
 
 from geesefuton.experiments.results import Outcome
 from geesefuton.experiments.runs import read_scores
-from tests.package.helpers import PACKAGE, TOP, needs_program, needs_step, run
+from tests.package.run_cases import PlaceCase
+from tests.package.helpers import needs_program, needs_step, run
 
 # An agent that buys the trip of its first client, and one that fails in another of four ways each
 # time that it is started.
@@ -71,72 +68,55 @@ ask("quit")
 
 
 @needs_step
-class InTurns(unittest.TestCase):
+class InTurns(PlaceCase):
     def test_an_agent_gains_nothing_by_failing_where_it_does_badly(self) -> None:
-        with tempfile.TemporaryDirectory() as folder:
-            names = ("agents/plays.py", "agents/quits.py")
-            (Path(folder) / "agents").mkdir()
-            for name in names:
-                (Path(folder) / name).write_text(SEAT_BUYER.replace("{dear}", "325"))
-            done = run("experiments.tournament", *names, "--games", "4", "--turns", "2", "--seed",
-                       "1", "--out", "run", "--summary", "s.json", cwd=folder)
-            self.assertEqual(done.returncode, 0, done.stderr)
-            value = json.loads((Path(folder) / "s.json").read_text())
-        by_name = {agent["agent"]: agent for agent in value["agents"]}
-        self.assertGreater(by_name["quits"]["ends"]["crashed"], 0)
-        self.assertGreater(by_name["quits"]["ends"]["played"], 0)
-        self.assertEqual(by_name["quits"]["score"], by_name["plays"]["score"])
-        self.assertGreater(by_name["quits"]["played"]["mean"], by_name["plays"]["played"]["mean"])
+        names = ("agents/plays.py", "agents/quits.py")
+        (self.place / "agents").mkdir()
+        for name in names:
+            (self.place / name).write_text(SEAT_BUYER.replace("{dear}", "325"))
+        done = run("experiments.tournament", *names, "--games", "4", "--turns", "2", "--seed", "1",
+                   "--out", "run", "--summary", "s.json", cwd=self.place)
+        self.assertEqual(done.returncode, 0, done.stderr)
+        value = json.loads((self.place / "s.json").read_text())
+        plays, quits = sorted(value["agents"], key=lambda agent: agent["agent"])
+        for end in ("crashed", "played"):
+            self.assertGreater(quits["ends"][end], 0)
+        self.assertEqual(quits["score"], plays["score"])
+        self.assertGreater(quits["played"]["mean"], plays["played"]["mean"])
         self.assertEqual(value["differences"][0]["score"], {"mean": 0.0, "half": 0.0, "count": 2})
 
 
 @needs_program
-class Real(unittest.TestCase):
+class Real(PlaceCase):
     def test_a_game_with_agents_that_fail(self) -> None:
-        with tempfile.TemporaryDirectory() as folder:
-            place = Path(folder)
-            (place / "buyer.py").write_text(BUYER)
-            (place / "failing.py").write_text(FAILING)
-            # Each of two has four seats. Not kept apart, the failing ones count themselves.
-            done = run("experiments.tournament", "failing.py", "buyer.py", "--no-apart", "--games",
-                       "2", "--pace", "25", "--start", "4", "--after", "0.5", "--out", "run",
-                       "--summary", "s.json", cwd=folder)
-            self.assertEqual(done.returncode, 0, done.stderr)
-            rows = read_scores(place / "run").rows
-            ends = sorted(row.end.value for row in rows if row.agent == "failing")
-            self.assertEqual(ends, sorted(2 * ["absent", "crashed", "crashed", "refused"]),
-                             done.stderr)
-            for row in rows:
-                if row.agent == "buyer":
-                    self.assertIs(row.end, Outcome.PLAYED)
-                    self.assertNotEqual(row.score, 0)
-            value = json.loads((place / "s.json").read_text())
-            self.assertEqual(value["agents"][0]["agent"], "buyer")
-            self.assertEqual(value["agents"][1]["ends"], {"absent": 2, "crashed": 4, "refused": 2})
-            log = place / "run" / "games" / "1.0.log"
-            self.assertTrue(log.read_text().startswith("taclog 1\n"))
-            self.assertTrue(re.search("failing at seat [0-7] .failing[b-d]?. counts as crashed: "
-                                      "ended with status 1; its last line: ValueError: "
-                                      "before the game",
-                                      done.stderr))
-            made = run("experiments.deals_command", place / "run")
-            self.assertEqual((made.returncode, made.stdout, made.stderr),
-                             (0, "2 of 2 games are those of the secret\n", ""))
-            game = place / "run" / "games" / "1.1.game"
-            text = game.read_text()
-            first = next(line for line in text.split("\n") if line.startswith("endow 3"))
-            game.write_text(text.replace(first, f"endow 3 {'0 ' * 11}1"))
-            made = run("experiments.deals_command", place / "run")
+        (self.place / "buyer.py").write_text(BUYER)
+        (self.place / "failing.py").write_text(FAILING)
+        # Each of two has four seats. Not kept apart, the failing ones count themselves.
+        done = run("experiments.tournament", "failing.py", "buyer.py", "--no-apart", "--games", "2",
+                   "--pace", "25", "--start", "4", "--after", "0.5", "--out", "run", "--summary",
+                   "s.json", cwd=self.place)
+        self.assertEqual(done.returncode, 0, done.stderr)
+        rows = read_scores(self.place / "run").rows
+        ends = sorted(row.end.value for row in rows if row.agent == "failing")
+        self.assertEqual(ends, sorted(2 * ["absent", "crashed", "crashed", "refused"]), done.stderr)
+        for row in rows:
+            if row.agent == "buyer":
+                self.assertIs(row.end, Outcome.PLAYED)
+                self.assertNotEqual(row.score, 0)
+        first, second = json.loads((self.place / "s.json").read_text())["agents"]
+        self.assertEqual((first["agent"], second["ends"]),
+                         ("buyer", {"absent": 2, "crashed": 4, "refused": 2}))
+        games = self.place / "run" / "games"
+        self.assertTrue((games / "1.0.log").read_text().startswith("taclog 1\n"))
+        self.assertTrue(re.search("failing at seat [0-7] .failing[b-d]?. counts as crashed: ended "
+                                  "with status 1; its last line: ValueError: before the game",
+                                  done.stderr))
+        game = games / "1.1.game"
+        for status, count, told in ((0, 2, ""), (1, 1, f"deals: {game}: it is not the game of the "
+                                                       "secret\n")):
+            made = run("experiments.deals_command", self.place / "run")
             self.assertEqual((made.returncode, made.stdout, made.stderr), (
-                1, "1 of 2 games are those of the secret\n",
-                f"deals: {game}: it is not the game of the secret\n"))
-
-    def test_it_runs_from_a_clone(self) -> None:
-        done = subprocess.run([str(TOP / "tools" / "tournament"), "--help"], check=False,
-                              stdout=subprocess.PIPE, timeout=200)
-        self.assertEqual(done.returncode, 0)
-        self.assertTrue(PACKAGE.is_dir())
-
-
-if __name__ == "__main__":
-    unittest.main()
+                status, f"{count} of 2 games are those of the secret\n", told))
+            text = game.read_text()
+            line = next(line for line in text.split("\n") if line.startswith("endow 3"))
+            game.write_text(text.replace(line, f"endow 3 {'0 ' * 11}1"))

@@ -24,8 +24,14 @@ class Case(unittest.TestCase):
         for good in goods:
             self.quotes[good] = [0, self.quotes[good][1], True]
 
-    def hold(self, *goods: int) -> None:
-        """The seat has a unit more of each."""
+    def raise_to(self, price: int, *goods: int) -> None:
+        """What is asked for each of these is so many dollars now."""
+        for good in goods:
+            self.quotes[good][1] = price
+
+    def hold(self, *goods: int, paid: int = 0) -> None:
+        """The seat has a unit more of each, for so many dollars in all."""
+        self.cash -= paid
         for good in goods:
             self.units[good] += 1
 
@@ -43,7 +49,7 @@ class Case(unittest.TestCase):
 
 class Shown(Case):
     def test_a_trip_that_is_still_to_be_bought(self) -> None:
-        self.quotes[room(1, 1)][1] = 40
+        self.raise_to(40, room(1, 1))
         trip = self.look()["trips"][0]
         self.assertEqual((trip["planned"], trip["hotel"], trip["worth"], trip["cost"]),
                          (True, 0, 1000, 600))
@@ -66,17 +72,15 @@ class Shown(Case):
 
     def test_a_night_that_is_closed_in_both_hotels_is_impossible(self) -> None:
         self.close(room(0, 1), room(1, 1))
-        for good in (inbound(2), outbound(3)):
-            self.quotes[good][1] = FAR
+        self.raise_to(FAR, inbound(2), outbound(3))
         self.assertEqual(self.parts(0)[room(1, 1)], (NONE, None))
         self.assertFalse(self.look()["trips"][0]["planned"])
 
-    def test_a_client_takes_the_hotel_that_is_open(self) -> None:
+    def test_a_client_takes_the_hotel_that_is_open_and_rooms_of_both_count_for_the_same(
+            self) -> None:
         self.close(room(1, 3))
         self.assertEqual({trip["hotel"] for trip in self.look()["trips"][2:]}, {0})
         self.assertEqual([self.look()["need"][room(hotel, 3)] for hotel in (0, 1)], [6, 0])
-
-    def test_rooms_of_both_hotels_count_for_the_same_clients(self) -> None:
         self.units[room(0, 1)] = self.units[room(1, 1)] = 2
         self.close(room(0, 1), room(1, 1))
         need = self.look()["need"]
@@ -85,8 +89,7 @@ class Shown(Case):
     def test_flights_to_a_night_that_is_closed_are_of_no_use(self) -> None:
         self.hold(inbound(1), outbound(2))
         self.close(room(0, 1), room(1, 1))
-        for good in (inbound(2), outbound(3), inbound(3), inbound(4), outbound(4)):
-            self.quotes[good][1] = FAR
+        self.raise_to(FAR, inbound(2), outbound(3), inbound(3), inbound(4), outbound(4))
         shown = self.look()
         self.assertEqual((shown["need"][inbound(1)], shown["need"][outbound(2)]), (0, 0))
         self.assertEqual(self.parts(0)[inbound(1)], (HELD, None))  # by nobody used, but there
@@ -94,20 +97,17 @@ class Shown(Case):
     def test_a_ticket_that_only_the_seat_itself_offers_cannot_be_had(self) -> None:
         board, clients = TripBoard(True), [[1, 2, 0, 150, 0, 0]] * 8
         self.hold(inbound(1), outbound(2), room(0, 1))
-        for good in [*range(8), *range(8, 16)]:
-            self.close(good)
+        self.close(*range(16))
         self.quotes[ticket(0, 1)][1] = 50
-        told = {"clients": clients, "quotes": self.quotes, "cash": 0, "settled": True, "tick": 1,
-                "goods": [[units, ()] for units in self.units]}
-        self.assertEqual(board.follow(told)["worth"], 1100)
-        told["goods"] = [[units, ((-1, 50),) if good == ticket(0, 1) else ()]
-                         for good, units in enumerate(self.units)]
-        self.assertEqual(board.follow(told)["worth"], 1000)
+        for offered, due in (((), 1100), (((-1, 50),), 1000)):
+            told = {"clients": clients, "quotes": self.quotes, "cash": 0, "settled": True,
+                    "tick": 1, "goods": [[units, offered if good == ticket(0, 1) else ()]
+                                         for good, units in enumerate(self.units)]}
+            self.assertEqual(board.follow(told)["worth"], due)
 
     def test_without_a_plan_each_client_has_its_own_days(self) -> None:
         self.board = TripBoard(False)
-        for good in (inbound(1), outbound(5)):
-            self.quotes[good][1] = FAR
+        self.raise_to(FAR, inbound(1), outbound(5))
         shown = self.look()
         self.assertEqual([trip["planned"] for trip in shown["trips"]], [False] * 8)
         self.assertEqual(self.parts(0)[inbound(1)], (OPEN, FAR))
@@ -134,13 +134,11 @@ class Costs(Case):
     def test_rooms_that_were_not_won(self) -> None:
         self.look()
         self.tick = 6
-        for good in (inbound(2), outbound(3), outbound(4), outbound(5)):
-            self.quotes[good][1] = FAR
+        self.raise_to(FAR, inbound(2), outbound(3), outbound(4), outbound(5))
         self.look()
         self.quotes[room(0, 1)][1], self.quotes[room(1, 1)][1] = 60, 50
         self.close(room(0, 1), room(1, 1))
-        self.hold(room(1, 1))
-        self.cash = -50
+        self.hold(room(1, 1), paid=50)
         (cost, text), = [each for each in self.look()["costs"] if "closed at" in each[1]]
         self.assertEqual(cost, 350)  # a trip for 400, which a room for 50 would have made
         self.assertEqual(text, "Tick 6: Shoreline Shanties, night 1 closed at 60, you won 0 and "
@@ -170,15 +168,17 @@ class Costs(Case):
 
     def test_what_was_bought_for_less_than_it_is_worth(self) -> None:
         self.look()
-        self.hold(inbound(4), inbound(4))
-        self.cash = -600
+        self.hold(inbound(4), inbound(4), paid=600)
         # They serve clients who want to come a day earlier, for 100 dollars less each.
         self.assertEqual(self.cost(), [(200, "Tick 1: you bought 2 of Flights in, day 4")])
 
-    def test_a_flight_that_is_wanted_costs_nothing(self) -> None:
+    def test_a_flight_that_is_wanted_costs_nothing_nor_does_cash_that_is_read_later(self) -> None:
         self.look()
+        self.hold(inbound(3), paid=300)
+        self.assertEqual(self.cost(), [])
+        self.cash -= 300
+        self.look(settled=False)
         self.hold(inbound(3))
-        self.cash = -300
         self.assertEqual(self.cost(), [])
 
     def test_waiting_for_flights(self) -> None:
@@ -192,30 +192,17 @@ class Costs(Case):
     def test_the_dearest_are_told_first_and_three_of_them(self) -> None:
         self.look()
         for count in range(1, 6):
-            self.hold(*[inbound(4)] * count)
-            self.cash -= 300 * count
+            self.hold(*[inbound(4)] * count, paid=300 * count)
             self.look()
         # Six of them serve clients who want to come a day earlier, for 100 dollars less each.
         self.assertEqual([cost for cost, _ in self.cost()], [1500, 1200, 300])
 
-    def test_cash_that_is_read_later_costs_nothing(self) -> None:
-        self.look()
-        self.cash = -300
-        self.look(settled=False)
-        self.hold(inbound(3))
-        self.assertEqual(self.cost(), [])
-
     def test_another_game_begins_anew(self) -> None:
         self.look()
-        self.hold(inbound(4))
-        self.cash = -300
+        self.hold(inbound(4), paid=300)
         self.assertEqual(len(self.cost()), 1)
         self.units, self.cash = [0] * 28, 0
         other = self.board.follow({
             "clients": [*CLIENTS[:7], [1, 5, 0, 0, 0, 0]], "quotes": self.quotes, "cash": 0,
             "goods": [[0, ()]] * 28, "settled": True, "tick": 0})
         self.assertEqual(other["costs"], [])
-
-
-if __name__ == "__main__":
-    unittest.main()

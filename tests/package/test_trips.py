@@ -43,7 +43,3 @@ class Chosen(unittest.TestCase):
         made = chosen([CLIENT], prices, [0] * 28)
         self.assertEqual(made.worth, 1000 - 100 + 60 - 2 * 100 - 50)
         self.assertEqual(made.wanted[outbound(3)], 1)
-
-
-if __name__ == "__main__":
-    unittest.main()

@@ -1,16 +1,12 @@
 """Games in turns, before a program that answers by no rules, and before the real one."""
 
-import csv
-import io
 import os
 import random
 import socket
-import tempfile
 import threading
 import time
-import unittest
 from pathlib import Path
-from typing import Any, List, Sequence, Type
+from typing import Any, List, Sequence, Tuple, Type
 from unittest import mock
 
 from geesefuton import program
@@ -23,6 +19,7 @@ from geesefuton.hosting.settings import LobbySettings
 from geesefuton.link import Link
 from geesefuton.records.games import TICKS, read_game
 from geesefuton.records.order import first_seat, order_of_turn
+from tests.package.run_cases import PlaceCase, read_csv
 from tests.package.helpers import TOP, needs_step, run
 
 GAME = TOP / "examples" / "first.game"
@@ -96,24 +93,25 @@ class Host:
         return self.log.read_text("latin-1").split("\n")[1:-2]
 
 
-class Case(unittest.TestCase):
+class Case(PlaceCase):
     def setUp(self) -> None:
-        place = tempfile.TemporaryDirectory()
-        self.addCleanup(place.cleanup)
-        self.folder = Path(place.name)
-        self.patch(mock.patch.dict(os.environ, {"TAC": str(FAKE)}))
-        # Agents here keep their links.
-        self.patch(mock.patch("geesefuton.hosting.lobby.ENDING", 0.05))
-
-    def patch(self, patch: Any) -> None:
-        patch.start()
-        self.addCleanup(patch.stop)
+        super().setUp()
+        self.enter(mock.patch.dict(os.environ, {"TAC": str(FAKE)}))
+        self.patch("hosting.lobby.ENDING", 0.05)  # agents here keep their links
 
     def agents(self, host: Host, *lines: Sequence[str]) -> List[Agent]:
         """An agent for each seat, in an order of their own, with the lines that it sends."""
         agents = [Agent(host.port, WORDS[seat], *lines[seat]) for seat in (3, 1, 0, 7, 6, 2, 5, 4)]
         self.addCleanup(lambda: [agent.close() for agent in agents])
         return [agents[place] for place in (2, 1, 5, 0, 7, 6, 4, 3)]
+
+    def played(self, *lines: Sequence[str], first: End = End.LEFT, **more: Any
+               ) -> Tuple[Host, List[Agent]]:
+        """A game of such agents that is over, in which all have left but perhaps the first."""
+        host = Host(self.place, **more)
+        agents = self.agents(host, *lines)
+        self.assertEqual(host.end(), [first] + [End.LEFT] * 7)
+        return host, agents
 
 
 def due(count: int, *lines: Sequence[str]) -> List[str]:
@@ -132,9 +130,7 @@ def due(count: int, *lines: Sequence[str]) -> List[str]:
 
 class Turns(Case):
     def test_each_turn_begins_one_seat_later(self) -> None:
-        host = Host(self.folder, 2)
-        self.agents(host, *[["own 1"] * 4 + ["quit"]] * 8)
-        self.assertEqual(host.end(), [End.LEFT] * 8)
+        host, _ = self.played(*[["own 1"] * 4 + ["quit"]] * 8, count=2)
         asked = " ".join(line.split(" ")[0] for line in host.asked()[:34])
         self.assertEqual(FIRST, 7)
         self.assertEqual(asked, "7 0 1 2 3 4 5 6 0 1 2 3 4 5 6 7 tick "
@@ -144,9 +140,7 @@ class Turns(Case):
         for count in (1, 3):
             own = [[f"own {(seat + place) % 28}" for place in range(5 * seat)] + ["quit"]
                    for seat in range(8)]
-            host = Host(self.folder, count)
-            agents = self.agents(host, *own)
-            self.assertEqual(host.end(), [End.LEFT] * 8)
+            host, agents = self.played(*own, count=count)
             self.assertEqual(host.asked(), due(count, *own))
             script = b"".join(host.server.script).decode("ascii").splitlines()
             self.assertEqual(script, host.asked())
@@ -158,16 +152,14 @@ class Turns(Case):
                                              for line in own[seat][:-1]] + ["bye"])
 
     def test_the_welcome_is_that_of_the_game_file(self) -> None:
-        host = Host(self.folder)
-        agents = self.agents(host, *[["quit"]] * 8)
-        host.end()
+        _, agents = self.played(*[["quit"]] * 8)
         lines = GAME.read_text().split("\n")
         own = ["welcome 5", *(line for line in lines if line.startswith("endow 5 ")),
                *(line for line in lines if line.startswith("client 5 ")), "bye"]
         self.assertEqual((agents[5].rest(), len(own)), (own, 11))
 
     def test_an_agent_that_takes_its_time_is_waited_for(self) -> None:
-        host = Host(self.folder, 2)
+        host = Host(self.place, 2)
         lines = [["own 1", "own 2", "own 3", "quit"]] * 8
         agents = self.agents(host, *[[] if seat in (2, 7) else lines[seat] for seat in range(8)])
         for line in lines[0]:
@@ -178,16 +170,14 @@ class Turns(Case):
         self.assertEqual((host.asked(), host.server.passed), (due(2, *lines), [0] * 8))
 
     def test_ticks_tell_how_many_lines_each_has_sent(self) -> None:
-        host = Host(self.folder, 2)
-        self.agents(host, ["own 1"] * 7 + ["quit"], *[["own 0", "quit"]] * 7)
-        host.end()
+        host, _ = self.played(["own 1"] * 7 + ["quit"], *[["own 0", "quit"]] * 7, count=2)
         ticks = host.of(events.Ticked)
         self.assertEqual([event.tick for event in ticks], list(range(1, TICKS + 1)))
         self.assertEqual([event.lines[0] for event in ticks[:6]], [2, 4, 6, 8, 8, 8])
         self.assertEqual(ticks[-1].lines, (8,) + (2,) * 7)
 
     def test_who_says_nothing_is_passed_over_until_it_speaks(self) -> None:
-        host = Host(self.folder, patience=0.1)
+        host = Host(self.place, patience=0.1)
         agents = self.agents(host, ["own 1"] * 900 + ["quit"], [], *[["quit"]] * 6)
         for _ in range(10):
             agents[1].line()  # the welcome
@@ -204,7 +194,7 @@ class Turns(Case):
 
     def test_a_silent_agent_costs_its_patience_once(self) -> None:
         began = time.monotonic()
-        host = Host(self.folder, 5, patience=0.3)
+        host = Host(self.place, 5, patience=0.3)
         self.agents(host, *[[]] * 8)
         self.assertEqual(host.end(), [End.HUNG] * 8)
         self.assertEqual(host.server.passed, [5 * TICKS + 1] * 8)
@@ -214,9 +204,7 @@ class Turns(Case):
     def test_lines_that_are_refused_take_a_turn(self) -> None:
         lines = [["x" * 513, "hey", "z" * 512, "h\xe9y", "y" * 600, "own 3", "quit", "own 4"],
                  *[["own 1", "quit"]] * 7]
-        host = Host(self.folder)
-        agents = self.agents(host, *lines)
-        self.assertEqual(host.end(), [End.LEFT] * 8)
+        host, agents = self.played(*lines)
         self.assertEqual(agents[0].rest()[10:], ["no toolong", "no syntax", "no syntax",
                                                  "no syntax", "no toolong", "@3 own 0 ()", "bye"])
         # One that is too long is no line of a script.
@@ -242,10 +230,8 @@ class Turns(Case):
             self.assertEqual((turner.asked, turner.passed), (2, 2))
 
     def test_json(self) -> None:
-        host = Host(self.folder, form="json")
         lines = ['{"do":"own","auction":3}', '{"auction":4,"do":"own"}', "own 3", '{"do":"quit"}']
-        agents = self.agents(host, lines, *[['{"do":"quit"}']] * 7)
-        self.assertEqual(host.end(), [End.LEFT] * 8)
+        host, agents = self.played(lines, *[['{"do":"quit"}']] * 7, form="json")
         self.assertEqual(agents[0].rest()[10:], [
             '{"at":3,"own":0,"points":[]}', '{"at":4,"own":0,"points":[]}', '{"no":"syntax"}',
             '{"bye":true}'])
@@ -256,7 +242,7 @@ class Ends(Case):
     def test_agents_that_leave_crash_and_come_again(self) -> None:
         orders, writing = os.pipe()
         with open(orders, encoding="ascii") as reading, open(writing, "wb", 0) as orders_file:
-            host = Host(self.folder, orders=reading)
+            host = Host(self.place, orders=reading)
             agents = self.agents(host, ["own 1"], ["own 2"], *[["own 0", "quit"]] * 6)
             self.addCleanup(host.lobby.control.stop)
             agents[0].close()
@@ -272,7 +258,7 @@ class Ends(Case):
                                            *[["own 0", "quit"]] * 6))
 
     def test_seats_that_nobody_takes(self) -> None:
-        host = Host(self.folder, patience=0.05, start=0.1)
+        host = Host(self.place, patience=0.05, start=0.1)
         agent = Agent(host.port, "seat4", *["own 1"] * 3, "quit")
         self.addCleanup(agent.close)
         reasons = host.end()
@@ -282,22 +268,18 @@ class Ends(Case):
 
     def test_an_agent_that_never_quits(self) -> None:
         self.assertEqual((turns.MOST_TURNS, turns.LAST_TURNS), (1000, 1024))
-        self.patch(mock.patch.object(turns, "LAST_TURNS", 20))
-        host = Host(self.folder)
-        self.agents(host, ["own 1"] * 90, *[["quit"]] * 7)
-        self.assertEqual(host.end(), [End.HUNG] + [End.LEFT] * 7)
+        self.enter(mock.patch.object(turns, "LAST_TURNS", 20))
+        host, _ = self.played(["own 1"] * 90, *[["quit"]] * 7, first=End.HUNG)
         self.assertEqual(host.asked().count("0 own 1"), TICKS + 20)
         self.assertEqual(host.server.passed, [0] * 8)
 
     def test_after_the_last_tick_nobody_is_waited_for_longer_than_asked(self) -> None:
-        host = Host(self.folder, linger=0.1)
-        agents = self.agents(host, ["own 1"] * TICKS, *[["quit"]] * 7)
-        self.assertEqual(host.end(), [End.HUNG] + [End.LEFT] * 7)
+        host, agents = self.played(["own 1"] * TICKS, *[["quit"]] * 7, first=End.HUNG, linger=0.1)
         self.assertEqual(host.server.passed, [1] + [0] * 7)
         self.assertEqual(len(agents[0].rest()), 10 + TICKS)
 
     def test_one_that_goes_after_the_last_tick_has_left(self) -> None:
-        host = Host(self.folder)
+        host = Host(self.place)
         agents = self.agents(host, ["own 1"] * (TICKS + 1), *[["quit"]] * 7)
         host.wait(events.Ticked, TICKS)
         agents[0].close()
@@ -305,7 +287,7 @@ class Ends(Case):
 
     def test_a_program_that_ends_before_the_game(self) -> None:
         with mock.patch.dict(os.environ, {"FAKE_EARLY": "7"}):
-            host = Host(self.folder)
+            host = Host(self.place)
             agents = self.agents(host, *[["own 1"]] * 8)
             host.end()
         self.assertIn("exit status 7 (memory was refused)", host.fault)
@@ -313,7 +295,7 @@ class Ends(Case):
         self.assertFalse(host.log.exists())
 
     def test_an_interrupt(self) -> None:
-        host = Host(self.folder)
+        host = Host(self.place)
         agents = self.agents(host, *[["own 1"] if seat == FIRST else [] for seat in range(8)])
         self.assertEqual([agents[FIRST].line() for _ in range(11)][10], "@1 own 0 ()")
         host.lobby.control.stop()
@@ -347,17 +329,12 @@ class Wanderer(threading.Thread):
 
 
 @needs_step
-class Real(unittest.TestCase):
+class Real(PlaceCase):
     """Games with the program."""
-
-    def setUp(self) -> None:
-        place = tempfile.TemporaryDirectory()
-        self.addCleanup(place.cleanup)
-        self.folder = Path(place.name)
 
     def play(self, form: str, hurry: int) -> bytes:
         """The log of a game with eight wanderers."""
-        host = Host(self.folder, form=form)
+        host = Host(self.place, form=form)
         agents = [Wanderer(host, seat, form, random.Random(hurry + seat)) for seat in range(8)]
         self.assertEqual((host.end(), host.server.passed), ([End.LEFT] * 8, [0] * 8), host.fault)
         for agent in agents:
@@ -379,13 +356,9 @@ class Real(unittest.TestCase):
         words = ["--seed", "1", "--games", "1", "--turns", "2", *agents]
         played = []
         for number, more in enumerate(([], ["--patience", "99"])):
-            out = self.folder / str(number)
+            out = self.place / str(number)
             done = run("experiments.tournament", "--out", out, *more, *words)
             self.assertEqual(done.returncode, 0, done.stderr)
-            played.append(list(csv.DictReader(io.StringIO((out / "scores.csv").read_text()))))
+            played.append(read_csv((out / "scores.csv").read_text()))
         self.assertEqual(played[0], played[1])
         self.assertEqual({(row["end"], row["kind"]) for row in played[0]}, {("played", "turns2")})
-
-
-if __name__ == "__main__":
-    unittest.main()

@@ -10,7 +10,8 @@ from geesefuton.hosting.handouts import Handouts
 from geesefuton.hosting.viewers import Viewers
 from geesefuton.network.gate import Gate
 from geesefuton.network.pages import Request
-from tests.package.test_pages import GET, MOST, Case
+from tests.package.cases import MOST
+from tests.package.test_pages import GET, Case, served
 
 
 class Answering(unittest.TestCase):
@@ -54,9 +55,7 @@ class Following(Case):
     def setUp(self) -> None:
         super().setUp()
         self.viewers = Viewers(b"the page")
-        change = mock.patch.object(self, "answer", self.viewers.answer)
-        change.start()
-        self.addCleanup(change.stop)
+        self.enter(mock.patch.object(self, "answer", self.viewers.answer))
 
     async def follow(self, port: int) -> Any:
         """A screen that has been sent nothing yet."""
@@ -65,53 +64,40 @@ class Following(Case):
         await reader.readuntil(b"retry: 1000\n\n")
         return reader
 
-    def test_each_state_is_sent_until_the_last(self) -> None:
-        async def work(port: int) -> List[bytes]:
-            reader, parts = await self.follow(port), list[bytes]()
-            for number in range(3):
-                await self.viewers.show(b'{"a":%d}' % number, number == 2)
-                parts.append(await reader.readuntil(b"\n\n"))
-            return [*parts, await reader.read(), await (await self.follow(port)).read()]
-
-        last = b"event: end\ndata: over\n\n"
-        with mock.patch("geesefuton.hosting.viewers.BEAT", MOST):  # a state does not wait for it
-            parts = self.run_it(work)
-        self.assertEqual(parts, [b'data: {"a":0}\n\n', b'data: {"a":1}\n\n', b'data: {"a":2}\n\n',
-                                 last, b'data: {"a":2}\n\n' + last])
+    @served
+    async def test_each_state_is_sent_until_the_last(self, port: int) -> None:
+        self.patch("hosting.viewers.BEAT", MOST)  # a state does not wait for it
+        reader, last = await self.follow(port), b"event: end\ndata: over\n\n"
+        for number in range(3):
+            await self.viewers.show(b'{"a":%d}' % number, number == 2)
+            self.assertEqual(await reader.readuntil(b"\n\n"), b'data: {"a":%d}\n\n' % number)
+        self.assertEqual(await reader.read(), last)
+        self.assertEqual(await (await self.follow(port)).read(), b'data: {"a":2}\n\n' + last)
         self.assertEqual(self.viewers.count, 0)
 
-    def test_one_that_reads_slowly_misses_states_and_gets_the_newest(self) -> None:
-        async def work(port: int) -> List[int]:
-            reader = await self.follow(port)
-            for number in range(50):
-                await self.viewers.show(b"%d " % number + b"x" * (1 << 20), number == 49)
-                await asyncio.sleep(0.001)
-            return list(map(int, re.findall(rb"data: (\d+) x", await reader.read())))
-
-        numbers = self.run_it(work)
+    @served
+    async def test_one_that_reads_slowly_misses_states_and_gets_the_newest(
+            self, port: int) -> None:
+        reader = await self.follow(port)
+        for number in range(50):
+            await self.viewers.show(b"%d " % number + b"x" * (1 << 20), number == 49)
+            await asyncio.sleep(0.001)
+        numbers = list(map(int, re.findall(rb"data: (\d+) x", await reader.read())))
         self.assertEqual((numbers, numbers[-1]), (sorted(set(numbers)), 49))
         self.assertLess(len(numbers), 25)
 
-    def test_one_that_reads_no_more_states_is_let_go(self) -> None:
-        async def work(port: int) -> None:
-            await self.follow(port)
-            while self.viewers.count:
-                await self.viewers.show(b"x" * (1 << 20), False)
-                await asyncio.sleep(0.01)
+    @served
+    async def test_one_that_reads_no_more_states_is_let_go(self, port: int) -> None:
+        self.set("PATIENCE", 0.1)
+        await self.follow(port)
+        while self.viewers.count:
+            await self.viewers.show(b"x" * (1 << 20), False)
+            await asyncio.sleep(0.01)
 
-        self.patch("PATIENCE", 0.1)
-        self.run_it(work)
-
-    def test_a_screen_hears_that_the_page_goes_on(self) -> None:
-        async def work(port: int) -> List[bytes]:
-            reader = await self.follow(port)
-            await self.viewers.show(b"{}", False)
-            return [await reader.readuntil(b"\n\n") for _ in range(3)]
-
-        with mock.patch("geesefuton.hosting.viewers.BEAT", 0.05):
-            self.assertEqual(self.run_it(work),
-                             [b"data: {}\n\n", *[b"event: here\ndata: still\n\n"] * 2])
-
-
-if __name__ == "__main__":
-    unittest.main()
+    @served
+    async def test_a_screen_hears_that_the_page_goes_on(self, port: int) -> None:
+        self.patch("hosting.viewers.BEAT", 0.05)
+        reader = await self.follow(port)
+        await self.viewers.show(b"{}", False)
+        self.assertEqual([await reader.readuntil(b"\n\n") for _ in range(3)],
+                         [b"data: {}\n\n", *[b"event: here\ndata: still\n\n"] * 2])

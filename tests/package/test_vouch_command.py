@@ -4,18 +4,17 @@ status; by a stand-in for the program."""
 import json
 import os
 import subprocess
-import sys
-import tempfile
 import unittest
 from pathlib import Path
-from typing import Dict, List, Sequence, Tuple
+from typing import List, Sequence, Tuple
 from unittest import mock
 
 from geesefuton import program
 from geesefuton.processes import Output
 from geesefuton.records.games import welcome
-from tests.package.helpers import DATA, TOP, refusal, variables
-from tests.package.journals import BEGIN, GAME, HEAD, asks, told
+from tests.package.cases import FolderCase
+from tests.package.helpers import COMMAND, DATA, refusal, variables
+from tests.package.journals import GAME, HEAD, HEADED, asks, told
 
 FAKE = Path(__file__).resolve().parent / "fake_tac.py"
 WORDS = GAME.words
@@ -24,55 +23,53 @@ LINES = ["own 16", "quote 8", "cash"]
 REPLIES = ["@0 own 1 ()", "@0 quote 0 0 open", "@0 cash 0"]
 
 
-class Others:
-    """What is said of the links of some seats, and the forms in which links were judged."""
+class Case(FolderCase):
+    """A game, a log, and a journal in which one agent asks some lines.
 
-    def __init__(self) -> None:
-        self.said: Dict[int, str] = {8: "unvouched seat"}
-        self.forms: List[str] = []
-
-
-class Case(unittest.TestCase):
-    """A game, a log, and a journal in which one agent asks some lines."""
+    Attributes:
+        said: What is said of the links of some seats.
+        forms: The forms in which links were judged.
+    """
 
     def setUp(self) -> None:
-        place = tempfile.TemporaryDirectory()
-        self.addCleanup(place.cleanup)
-        self.folder = Path(place.name)
+        super().setUp()
         self.game, self.log = self.folder / "my.game", self.folder / "my.log"
         self.mine, self.output = self.folder / "mine", self.folder / "output"
         self.game.write_text("# a comment\n" + GAME.text())
         self.log.write_text("a log")
         self.journal = self.folder / "my.journal"
         self.write_journal(LINES, REPLIES)
-        self.audit, self.others = "sound", Others()
-        for name, stand_in in (("show", lambda game: GAME.text()),
-                               ("audit", lambda game, log: self.audit), ("vouch", self.stand_in)):
-            patch = mock.patch.object(program, name, stand_in)
-            patch.start()
-            self.addCleanup(patch.stop)
+        self.audit, self.said, self.forms = "sound", {8: "unvouched seat"}, list[str]()
+        self.patch("program.show", lambda game: GAME.text())
+        self.patch("program.audit", lambda game, log: self.audit)
+        self.patch("program.vouch", self.stand_in)
 
     def stand_in(self, game: Path, log: Path, asked: Path, said: Path, form: str,
                  timeout: None) -> str:
-        """Stands for `tac vouch`: it vouches for each link whose seat is not among the others."""
+        """Stands for `tac vouch`: it vouches for each link whose seat is not in `said`."""
         lines, replies = (file.read_bytes().split(b"\n")[:-1] for file in (asked, said))
         word = lines[0].decode()[6:]
         seat = WORDS.index(word) if word in WORDS else 8
         counts = len(lines) - 1, len(replies) - 10
-        self.others.forms.append(form)
-        if seat in self.others.said:
-            return self.others.said[seat]
+        self.forms.append(form)
+        if seat in self.said:
+            return self.said[seat]
         kind = "whole" if counts[0] == counts[1] else "cut"
         return f"vouched {seat} {kind} {counts[1]}" + " 0" * (kind == "cut")
 
     def write_journal(self, lines: Sequence[str], replies: Sequence[str], form: str = "words",
                       text: str = GAME.text()) -> None:
         """A journal in which the agent of seat 3 asks lines, and gets replies."""
-        told_of = [json.dumps({**HEAD, "game": text, "form": form}), BEGIN, '{"tick":0,"t":0}']
+        told_of = [json.dumps({**HEAD, "game": text, "form": form}), *HEADED[1:]]
         for number, line in enumerate(lines):
             told_of.append(asks(3, line))
             told_of += [told(3, replies[number])] if number < len(replies) else []
         self.journal.write_text("".join(f"{line}\n" for line in told_of))
+
+    def record_pieces(self, name: str = "red7k", word: str = RED) -> None:
+        """Writes two records, of which none has the whole session."""
+        self.record(name, LINES[:2], REPLIES[:1], word)
+        self.record(f"{name}.2", LINES[2:], REPLIES[2:], word)
 
     def record(self, name: str, lines: Sequence[str], replies: Sequence[str],
                word: str = RED) -> None:
@@ -99,9 +96,7 @@ class Printed(Case):
     def test_the_links_of_a_journal(self) -> None:
         self.assertEqual(self.vouch("--journal", self.journal),
                          (0, [*self.EACH, "vouched: 8 of 8"], ""))
-
-    def test_a_link_that_is_not_vouched_for(self) -> None:
-        self.others.said[5] = "unvouched line 7"
+        self.said[5] = "unvouched line 7"
         status, printed, text = self.vouch("--journal", self.journal)
         self.assertEqual((status, printed[5], printed[-1], text),
                          (1, f"{WORDS[5]}: unvouched line 7", "vouched: 7 of 8", ""))
@@ -124,61 +119,52 @@ class Printed(Case):
             for more in ([], ["--journal", self.journal]):
                 self.assertEqual(self.vouch(mine, *more),
                                  (0, ["red7k: vouched 3 cut 2 0", "vouched: 1 of 1"], ""))
-        self.others.said[3] = "unvouched welcome"
+        self.said[3] = "unvouched welcome"
         self.assertEqual(self.vouch(self.mine),
                          (1, ["red7k: unvouched welcome", "vouched: 0 of 1"], ""))
+        self.record("b", [], [], WORDS[4])  # and those of several seats
+        self.assertEqual(self.vouch(self.mine)[1], ["b: vouched 4 whole 0",
+                                                    "red7k: unvouched welcome", "vouched: 1 of 2"])
 
     def test_pieces_are_joined(self) -> None:
-        self.record("red7k", LINES[:2], REPLIES[:1])
-        self.record("red7k.2", LINES[2:], REPLIES[2:])
+        self.record_pieces()
+        self.assertEqual(self.vouch(self.mine), (1, [], (
+            f"vouch: {RED} has 2 records, none of the whole session: add --published FOLDER or "
+            "--journal J\n")))
         published = self.folder / "published"
         self.vouch("--journal", self.journal, "--publish", published)
         for words in (["--journal", self.journal], ["--published", published]):
             self.assertEqual(self.vouch(self.mine, *words),
                              (0, [f"{RED}: vouched 3 whole 3, 2 records", "vouched: 1 of 1"], ""))
-        self.others.said[3] = "unvouched cash 5"
+        self.said[3] = "unvouched cash 5"
         self.assertEqual(self.vouch(self.mine, "--journal", self.journal),
                          (1, [f"{RED}: the seat's link: unvouched cash 5", "vouched: 0 of 1"], ""))
-        del self.others.said[3]
+        del self.said[3]
         self.write_journal(["own 16", "quote 8", "own 5"], REPLIES)
         self.assertEqual(self.vouch(self.mine, "--journal", self.journal), (1, [
             f"{RED}: unvouched: red7k.2, line 1: the agent sent 'cash', the seat's link has "
             "'own 5'", "vouched: 0 of 1"], ""))
 
-    def test_pieces_alone_are_not_enough(self) -> None:
-        self.record("red7k", LINES[:2], REPLIES[:1])
-        self.record("red7k.2", LINES[2:], REPLIES[2:])
-        self.assertEqual(self.vouch(self.mine), (1, [], (
-            f"vouch: {RED} has 2 records, none of the whole session: add --published FOLDER or "
-            "--journal J\n")))
-
-    def test_records_of_several_seats_and_of_none(self) -> None:
-        self.record("a", LINES, REPLIES)
-        self.record("b", [], [], WORDS[4])
-        status, printed, _ = self.vouch(self.mine)
-        self.assertEqual(printed, ["a: vouched 3 whole 3", "b: vouched 4 whole 0",
-                                   "vouched: 2 of 2"])
-
     def test_a_word_that_the_host_has_changed(self) -> None:
-        self.record("secret", LINES[:2], REPLIES[:1], "secret")
-        self.record("secret.2", LINES[2:], REPLIES[2:], "secret")
-        status, printed, _ = self.vouch(self.mine, "--journal", self.journal, "--seat", RED)
-        self.assertEqual((status, printed), (
-            0, [f"{RED}: vouched 3 whole 3, 2 records", "vouched: 1 of 1"]))
-        status, printed, _ = self.vouch(self.mine, "--journal", self.journal)
-        self.assertEqual((status, printed), (1, ["secret: unvouched seat", "vouched: 0 of 1"]))
-        status, printed, _ = self.vouch(self.mine / "secret", "--seat", RED)
-        self.assertEqual((status, printed[0]), (0, "secret: vouched 3 cut 1 0"))
+        self.record_pieces("secret", "secret")
+        for words, due, printed in (
+                ([self.mine, "--journal", self.journal, "--seat", RED], 0,
+                 [f"{RED}: vouched 3 whole 3, 2 records", "vouched: 1 of 1"]),
+                ([self.mine, "--journal", self.journal], 1,
+                 ["secret: unvouched seat", "vouched: 0 of 1"]),
+                ([self.mine / "secret", "--seat", RED], 0,
+                 ["secret: vouched 3 cut 1 0", "vouched: 1 of 1"])):
+            self.assertEqual(self.vouch(*words), (due, printed, ""))
 
     def test_lines_of_json(self) -> None:
         self.write_journal(['{"do":"cash"}'], ['{"at":0,"cash":0}'], "json")
-        self.others.said[3] = "unvouched line 1"
+        self.said[3] = "unvouched line 1"
         self.assertEqual(self.vouch("--journal", self.journal)[2], "")
         self.record("red7k", ['{"do":"cash"}'], ['{"at":0,"cash":0}'])
         self.assertEqual(self.vouch(self.mine, "--json")[2], "")
         self.assertEqual(self.vouch(self.mine)[2],
                          "vouch: the lines look like JSON objects: try --json\n")
-        self.assertEqual(self.others.forms, ["json"] * 9 + ["words"])
+        self.assertEqual(self.forms, ["json"] * 9 + ["words"])
 
 
 class BadInput(Case):
@@ -201,16 +187,16 @@ class BadInput(Case):
     def test_files_that_are_not_there(self) -> None:
         absent = "No such file or directory"
         self.record("red7k", LINES, REPLIES)
-        self.assertEqual(self.refused(self.folder / "none"), f"none.asked: {absent}")
-        self.assertEqual(self.refused("--journal", self.folder / "none"), f"none: {absent}")
-        self.assertEqual(self.refused("--published", self.folder / "none"),
-                         f"none/{WORDS[0]}.asked: {absent}")
-        (self.mine / "red7k.said").unlink()
-        self.assertEqual(self.refused(self.mine), f"mine/red7k.said: {absent}")
-        self.log.unlink()
-        self.assertEqual(self.refused("--journal", self.journal), f"my.log: {absent}")
-        self.game.unlink()
-        self.assertEqual(self.refused("--journal", self.journal), f"my.game: {absent}")
+        none, said = self.folder / "none", self.mine / "red7k.said"
+        for gone, words, due in (
+                (None, [none], "none.asked"), (None, ["--journal", none], "none"),
+                (None, ["--published", none], f"none/{WORDS[0]}.asked"),
+                (said, [self.mine], "mine/red7k.said"),
+                (self.log, ["--journal", self.journal], "my.log"),
+                (self.game, ["--journal", self.journal], "my.game")):
+            if gone:
+                gone.unlink()
+            self.assertEqual(self.refused(*words), f"{due}: {absent}")
 
     def test_journals(self) -> None:
         self.write_journal(LINES, REPLIES, text=GAME.named([f"x{at}" for at in range(8)]).text())
@@ -234,24 +220,20 @@ class BadInput(Case):
             self.assertEqual(self.refused(self.mine), f"mine/red7k.{side} has no complete line, "
                              "so it is not a record of a link")
 
-    def test_seats_that_are_not_there(self) -> None:
+    def test_seats_that_are_not_there_and_a_folder_that_has_files(self) -> None:
         self.record("red7k", LINES, REPLIES)
         self.assertEqual(self.refused(self.mine, "--seat", "none"), "my.game has no seat none")
+        self.assertEqual(self.refused("--journal", self.journal, "--publish", self.mine),
+                         "mine is not empty: name a new folder")
 
-    def test_a_log_that_is_not_sound(self) -> None:
+    def test_a_log_that_is_not_sound_and_a_program_that_fails(self) -> None:
         self.audit = "unsound score 0"
         self.assertEqual(self.refused("--journal", self.journal),
                          "my.log: the audit says `unsound score 0`")
-
-    def test_a_program_that_fails(self) -> None:
-        with mock.patch.object(program, "vouch", side_effect=program.ended("vouch", 7, "memory")):
-            self.assertEqual(self.refused("--journal", self.journal),
-                             "tac vouch ended with exit status 7 (memory was refused: memory)")
-
-    def test_a_folder_that_has_files(self) -> None:
-        self.record("red7k", LINES, REPLIES)
-        self.assertEqual(self.refused("--journal", self.journal, "--publish", self.mine),
-                         "mine is not empty: name a new folder")
+        self.audit = "sound"
+        self.patch("program.vouch", side_effect=program.ended("vouch", 7, "memory"))
+        self.assertEqual(self.refused("--journal", self.journal),
+                         "tac vouch ended with exit status 7 (memory was refused: memory)")
 
     @unittest.skipUnless(os.path.exists("/dev/full"), "there is no file that takes nothing")
     def test_full_disks(self) -> None:
@@ -264,26 +246,19 @@ class BadInput(Case):
             self.assertEqual((status, text), (1, "vouch: /dev/full: No space left on device\n"))
 
 
-class Whole(unittest.TestCase):
+class Whole(FolderCase):
     def test_the_kept_journal(self) -> None:
         """By the command in a process of its own, which leaves nothing behind."""
-        with tempfile.TemporaryDirectory() as place:
-            game = Path(place, "my.game")
-            game.write_text(GAME.text())
-            words = [game, game, "--journal", DATA / "lobby.journal"]
-            done = subprocess.run([sys.executable, TOP / "tools/vouch", *words], check=False,
-                                  capture_output=True, text=True,
-                                  env=variables({"TAC": str(FAKE), "TMPDIR": place}))
-            self.assertEqual((done.returncode, done.stderr), (0, ""))
-            self.assertEqual(done.stdout.splitlines()[-1], "vouched: 8 of 8")
-            self.assertEqual([file.name for file in Path(place).iterdir()], ["my.game"])
-            with open("/dev/full", "w", encoding="ascii") as full:
-                done = subprocess.run([sys.executable, TOP / "tools/vouch", *words], stdout=full,
-                                      stderr=subprocess.PIPE, check=False, text=True,
-                                      env=variables({"TAC": str(FAKE), "TMPDIR": place}))
-            self.assertEqual((done.returncode, done.stderr),
-                             (1, "vouch: standard output: No space left on device\n"))
-
-
-if __name__ == "__main__":
-    unittest.main()
+        game = self.folder / "my.game"
+        game.write_text(GAME.text())
+        with open("/dev/full", "w", encoding="ascii") as full:
+            for output, due in ((subprocess.PIPE, (0, "")), (full, (
+                    1, "vouch: standard output: No space left on device\n"))):
+                done = subprocess.run(
+                    [*COMMAND, "vouch", game, game, "--journal",
+                     DATA / "lobby.journal"], check=False, stdout=output, stderr=subprocess.PIPE,
+                    text=True, env=variables({"TAC": str(FAKE), "TMPDIR": str(self.folder)}))
+                self.assertEqual((done.returncode, done.stderr), due)
+                self.assertEqual([*self.folder.iterdir()], [game])
+                if done.stdout:
+                    self.assertEqual(done.stdout.splitlines()[-1], "vouched: 8 of 8")

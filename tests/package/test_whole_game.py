@@ -4,14 +4,10 @@ reconnects, the journal, the bytes of the links, the page, the recovery and the 
 import contextlib
 import json
 import subprocess
-import sys
-import tempfile
 import threading
 import time
-import unittest
 import urllib.request
 from dataclasses import dataclass, field
-from pathlib import Path
 from typing import Any, Dict, List, Tuple
 from unittest import mock
 
@@ -24,14 +20,14 @@ from geesefuton.records.dialects import position_of
 from geesefuton.records.games import FLIGHTS, HOTELS, TICKETS, read_game
 from geesefuton.records.logs import Log, read_log
 from geesefuton.records.replies import entry_words
-from tests.package.helpers import TOP, needs_program
+from tests.package.cases import MOST, FolderCase, is_listening
+from tests.package.helpers import COMMAND, needs_program
 from tests.support import vouching as reading
 
 WORDS = ["red7k", "orange3x", "yellow9m", "green4", "blue77", "violet5", "brown8q", "grey0"]
 NAMES = ["red", "orange", "yellow", "green", "blue", "violet", "brown", "grey"]
 PACE = 150  # milliseconds a tick, so that the game takes some eight seconds
 PAUSE = 0.03  # seconds between an agent's requests
-MOST = 60.0  # seconds that anything may take
 
 
 @dataclass
@@ -82,11 +78,9 @@ class Agent:
 
 
 @needs_program
-class WholeGame(unittest.TestCase):
+class WholeGame(FolderCase):
     def setUp(self) -> None:
-        place = tempfile.TemporaryDirectory()
-        self.addCleanup(place.cleanup)
-        self.folder = Path(place.name)
+        super().setUp()
         self.game, self.log = self.folder / "my.game", self.folder / "my.log"
         self.game.write_text(read_game(program.make(7)).named(WORDS).text())
         self.journal, self.mine = self.folder / "my.journal", self.folder / "mine"
@@ -116,21 +110,23 @@ class WholeGame(unittest.TestCase):
                  "--after", 5]
         with self.log.open("wb") as log, self.told.open("wb") as told:
             lobby = subprocess.Popen(
-                [sys.executable, str(TOP / "tools/lobby"), *map(str, words)],
+                [*COMMAND, "lobby", *map(str, words)],
                 stdin=subprocess.PIPE, stdout=log, stderr=told)
         with contextlib.ExitStack() as stack:
             stack.callback(lobby.wait)
             stack.callback(lobby.kill)
             assert lobby.stdin is not None
             stack.callback(lobby.stdin.close)
+            self.until(lambda: is_listening(self.page))
             states = [self.state()]
             threads = [threading.Thread(target=agent.play, daemon=True) for agent in agents]
             for thread in threads:
                 thread.start()
-            self.wait_for_agents(len(agents))
+            self.until(lambda: [agent["here"] for agent in self.state()["agents"]].count("here")
+                       == len(agents))
             lobby.stdin.write(b"\n")  # begin without those who are missing
             lobby.stdin.flush()
-            with self.events() as stream:
+            with self.opened("events") as stream:  # which ends with the game
                 states += [json.loads(line[6:]) for line in stream if line.startswith(b"data: {")]
             for thread in threads:
                 thread.join(MOST)
@@ -139,26 +135,13 @@ class WholeGame(unittest.TestCase):
 
     def state(self) -> Dict[str, Any]:
         """What the page shows now."""
-        deadline = time.monotonic() + MOST
-        while True:
-            try:
-                address = f"http://127.0.0.1:{self.page}/state"
-                with urllib.request.urlopen(address, timeout=MOST) as got:
-                    state: Dict[str, Any] = json.loads(got.read())
-                    return state
-            except OSError:
-                self.assertLess(time.monotonic(), deadline)
-                time.sleep(0.05)
+        with self.opened("state") as got:
+            state: Dict[str, Any] = json.loads(got.read())
+            return state
 
-    def events(self) -> Any:
-        """The page's stream, which ends with the game."""
-        return urllib.request.urlopen(f"http://127.0.0.1:{self.page}/events", timeout=MOST)
-
-    def wait_for_agents(self, count: int) -> None:
-        deadline = time.monotonic() + MOST
-        while [agent["here"] for agent in self.state()["agents"]].count("here") < count:
-            self.assertLess(time.monotonic(), deadline)
-            time.sleep(0.05)
+    def opened(self, name: str) -> Any:
+        """What the page has by a name."""
+        return urllib.request.urlopen(f"http://127.0.0.1:{self.page}/{name}", timeout=MOST)
 
     # What each part has of the game.
 
@@ -247,12 +230,8 @@ class WholeGame(unittest.TestCase):
 
     def run_tool(self, name: str, *words: object) -> str:
         """What a command of the package writes."""
-        done = subprocess.run([sys.executable, str(TOP / "tools" / name), *map(str, words)],
+        done = subprocess.run([*COMMAND, name, *map(str, words)],
                               stdout=subprocess.PIPE, stderr=subprocess.PIPE, text=True,
                               timeout=MOST, check=False)
         self.assertEqual(done.returncode, 0, done.stderr)
         return done.stdout
-
-
-if __name__ == "__main__":
-    unittest.main()

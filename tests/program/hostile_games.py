@@ -12,7 +12,7 @@ from typing import Awaitable, List, NamedTuple, Tuple
 
 from geesefuton import program
 from geesefuton.processes import Children, free_port
-from geesefuton.records.games import SEATS, TICKS, Game, read_game
+from geesefuton.records.games import SEATS, TICKS, read_game
 from tests.support.recording import Relay, Streams
 from tests.support.wild_agent import MODES, WildAgent
 
@@ -29,12 +29,10 @@ class Served(NamedTuple):
     """A game that was served.
 
     Attributes:
-        game: The game.
-        file, log: The files of it and of its log.
+        file, log: The files of the game and of its log.
         form: What agents spoke.
     """
 
-    game: Game
     file: Path
     log: Path
     form: str = "words"
@@ -50,7 +48,7 @@ async def play_hostile(children: Children, seed: int, folder: Path) -> Tuple[Ser
     dice, game = random.Random(seed), read_game(program.make(seed))
     if seed % 2:
         game = game.with_rooms([dice.randint(1, 8) for _ in range(8)], dice.random() < 0.5)
-    served = Served(game, folder / "game", folder / "log", "words" if seed % 3 else "json")
+    served = Served(folder / "game", folder / "log", "words" if seed % 3 else "json")
     pace, relay = dice.randint(4, 12), Relay(free_port())
     served.file.write_text(game.text())
     with served.log.open("wb") as log:

@@ -19,7 +19,6 @@ minutes. It ends with 0 if each run ended as it has to, and with 1 if one did no
 compiler.
 """
 
-import contextlib
 import os
 import re
 import resource
@@ -33,8 +32,9 @@ from typing import Dict, Iterator, List, NamedTuple, Optional, Sequence
 
 from geesefuton.arguments import Parser, whole
 from geesefuton.processes import command, free_port
-from geesefuton.program import INPUT, ProgramError, find
-from tests.support.trying import MOST, TOP, LinesInOrder
+from geesefuton.program import ProgramError, audit, find
+from tests.support.judging import answer
+from tests.support.trying import MOST, TOP, lines_in_order
 
 EXAMPLES = TOP / "examples"
 GAME, ACCOUNT = str(EXAMPLES / "first.game"), str(EXAMPLES / "one_seat.account")
@@ -44,72 +44,48 @@ TESTS = TOP / "crates" / "tacd" / "out" / "tacd_tests"
 MARK = "76543"  # bytes of the two growths between which a test has its run of `tac`
 TELL = "1"  # the word of one byte for which a test tells how that run ended
 
+
+def text_of(*texts: str) -> str:
+    """A text of these lines."""
+    return "".join(f"{text}\n" for text in texts)
+
+
 # A whole game: agent 0 takes two seats, a room and a ticket, agent 1 sells two tickets that it does
 # not have, and agent 2 keeps one. The replies and scores are those of the rules.
-WHOLE_GAME = """\
-0 bid 0 ((1 300))
-0 bid 4 ((1 300))
-0 bid 8 ((1 50))
-1 bid 24 ((-2 60))
-0 bid 24 ((1 70))
-2 bid 24 ((1 70))
-1 own 24
-0 cash
-0 quote 8
-"""
-WHOLE_REPLIES = """\
-0 @0 taken 1 0
-0 @0 taken 1 0
-0 @0 taken 0 0
-1 @0 taken 0 0
-0 @1 taken 1 0
-2 @2 taken 1 0
-1 @3 own -2 ()
-0 @4 cash -660
-0 @1 quote 0 0 open
-taclog 1
-play
-auction 0 55
-"""
-WHOLE_SCORES = [
+WHOLE_GAME = [("0 bid 0 ((1 300))", "0 @0 taken 1 0"), ("0 bid 4 ((1 300))", "0 @0 taken 1 0"),
+              ("0 bid 8 ((1 50))", "0 @0 taken 0 0"), ("1 bid 24 ((-2 60))", "1 @0 taken 0 0"),
+              ("0 bid 24 ((1 70))", "0 @1 taken 1 0"), ("2 bid 24 ((1 70))", "2 @2 taken 1 0"),
+              ("1 own 24", "1 @3 own -2 ()"), ("0 cash", "0 @4 cash -660"),
+              ("0 quote 8", "0 @1 quote 0 0 open")]
+WHOLE_DUE = [
+    text_of(*(reply for _, reply in WHOLE_GAME), "taclog 1", "play", "auction 0 55"),
     "score 0 1100 -660 0 440", "score 1 0 120 2 -280", "score 2 0 -60 0 -60",
     *(f"score {agent} 0 0 0 0" for agent in range(3, 8))]
 
 # The most links that are heard before a game: one takes a seat and leaves, the rest are refused.
 MANY_LINKS = ["hello seat0\nquit\n", "hello nobody\n", "hello seat0\n"] + ["hi\n"] * 61
-MANY_HEAD = "\n".join(
-    ["taclog 1", "serve", "link 0 seated 0", "link 1 wrongword", "link 2 taken",
-     *(f"link {number} syntax" for number in range(3, 64)), "end 0 quit", "missed 0",
-     "auction 0 54\n"])
+SEATED = ["taclog 1", "serve", "link 0 seated 0", "link 1 wrongword", "link 2 taken"]
+ENDED = ["end 0 quit", "missed 0", "auction 0 54"]
+MANY_HEAD = text_of(*SEATED, *(f"link {number} syntax" for number in range(3, 64)), *ENDED)
 
 # Of the first test one link in memory is seated, and three are refused. Of the second eight are
 # seated: agent 0 asks once agent 1 has its reply, and agent 1 leaves once agent 0 has its own. If
 # the two come one after the other, one of them gives up, and the log tells that its read failed.
-FOUR_HEAD = """\
-taclog 1
-serve
-link 0 seated 0
-link 1 wrongword
-link 2 taken
-link 3 syntax
-end 0 quit
-missed 0
-auction 0 54
-"""
-EIGHT_HEAD = "\n".join(["taclog 1", "serve", *(f"link {seat} seated {seat}" for seat in range(8)),
-                        *(f"end {seat} quit" for seat in range(8)), "missed 0\n"])
+FOUR_HEAD = text_of(*SEATED, "link 3 syntax", *ENDED)
+EIGHT_HEAD = text_of("taclog 1", "serve", *(f"link {seat} seated {seat}" for seat in range(8)),
+                     *(f"end {seat} quit" for seat in range(8)), "missed 0")
 OWNS = [r"@\d+ own 0 \(\)", "bye"]
 
 
 def plain_game() -> str:
     """A game whose flights stay at 300 dollars, whose agents have no tickets, and whose clients all
     want days 1 to 2, for 100 dollars more in the better hotel and 100 for a museum."""
-    lines = ["tac 1", "words " + " ".join(f"seat{seat}" for seat in range(8))]
-    lines += [f"flight {good} 300" + " 10" * 54 for good in range(8)]
-    lines += ["close 8 9 10 11 12 13 14 15"]
-    lines += [f"endow {agent}" + " 0" * 12 for agent in range(8)]
-    lines += [f"client {number // 8} {number % 8} 1 2 100 0 0 100" for number in range(64)]
-    return "\n".join([*lines, "end", ""])
+    return text_of("tac 1", "words " + " ".join(f"seat{seat}" for seat in range(8)),
+                   *(f"flight {good} 300" + " 10" * 54 for good in range(8)),
+                   "close 8 9 10 11 12 13 14 15",
+                   *(f"endow {agent}" + " 0" * 12 for agent in range(8)),
+                   *(f"client {number // 8} {number % 8} 1 2 100 0 0 100" for number in range(64)),
+                   "end")
 
 
 class Ran(NamedTuple):
@@ -148,23 +124,18 @@ def cases(program: str, tests: Optional[str], folder: Path) -> Iterator[Case]:
     """The commands, and tests if there is a program of them, with their files in a folder."""
     plain, script, log = (folder / name for name in ("plain.game", "whole_game.script", "log"))
     plain.write_text(plain_game())
-    script.write_text(WHOLE_GAME)
+    script.write_text(text_of(*(line for line, _ in WHOLE_GAME)))
     played = subprocess.run([program, "play", plain, script], stdout=subprocess.PIPE, check=False)
     log.write_bytes(played.stdout[played.stdout.find(b"taclog 1\n"):])
-    yield Case("hotel", ["hotel", str(EXAMPLES / "one_hotel.script")])
-    yield Case("show", ["show", GAME])
-    yield Case("upgrade", ["upgrade", GAME])
-    yield Case("make", ["make", "42"])
-    yield Case("trial", ["trial", "7", "500"])
-    yield Case("solve", ["solve", ACCOUNT])
-    yield Case("worth", ["worth", ACCOUNT])
+    for words in (["hotel", str(EXAMPLES / "one_hotel.script")], ["show", GAME], ["upgrade", GAME],
+                  ["make", "42"], ["trial", "7", "500"], ["solve", ACCOUNT], ["worth", ACCOUNT]):
+        yield Case(words[0], words)
     yield Case("audit", ["audit", str(plain), str(log)], due=["sound\n"])
     yield Case("table", ["table", *[str(plain), str(log)] * 2], due=["table 2\n"])
     yield Case("play, three agents", ["play", GAME, str(EXAMPLES / "three_agents.script")], GAME)
-    yield Case("play, a whole game", ["play", str(plain), str(script)], str(plain),
-               due=[WHOLE_REPLIES, *WHOLE_SCORES])
-    yield Case("step, a whole game", ["step", str(plain), str(script)], str(plain),
-               due=[WHOLE_REPLIES, *WHOLE_SCORES])
+    for name in ("play", "step"):
+        yield Case(f"{name}, a whole game", [name, str(plain), str(script)], str(plain),
+                   due=WHOLE_DUE)
     yield Case("serve, 64 links", ["serve", str(plain), "PORT", PACE], str(plain), MANY_LINKS,
                due=[MANY_HEAD])
     asked = [f"hello seat{seat}\nbid {16 + seat} ((1 70))\ncash\nquit\n" for seat in range(8)]
@@ -222,8 +193,7 @@ class Trial:
         """
         port = free_port() if self.case.links else 0
         words = [word if word != "PORT" else str(port) for word in self.case.words]
-        links = LinesInOrder(port, self.case.links) if port else None
-        with links or contextlib.nullcontext():
+        with lines_in_order(port, self.case.links) as sent:
             try:
                 done = subprocess.run(
                     [self.case.tests or self.program, *words], timeout=MOST,
@@ -234,7 +204,7 @@ class Trial:
                 raise ProgramError(f"{self.case.name}: longer than {MOST} seconds") from None
         if self.case.tests and b"\f" in done.stdout:
             return told(done.stdout)
-        return Ran(done.returncode, done.stdout, links.sent if links else [])
+        return Ran(done.returncode, done.stdout, sent)
 
     def is_right(self, ran: Ran) -> bool:
         """Whether a run ended as it has to, with memory or without."""
@@ -251,7 +221,7 @@ class Trial:
             text = first + b"".join(sheet[1:])[1:]
         if self.case.heard is None:
             return text == self.usual.text
-        verdict = self.audit(text)
+        verdict = answer(lambda: audit(str(self.case.game), text))
         # Where a bid was not taken, the usual sheet is another game's.
         return verdict == "sound" or (ran.status == 7 and verdict.startswith("unsound score ")
                                       and not self.case.tests
@@ -274,12 +244,6 @@ class Trial:
                     for form, line in zip(forms, replies)):
                 return False
         return True
-
-    def audit(self, log: bytes) -> str:
-        """What the audit says of a log."""
-        done = subprocess.run([self.program, "audit", str(self.case.game), INPUT], input=log,
-                              stdout=subprocess.PIPE, timeout=MOST, check=False)
-        return done.stdout.decode("latin-1").strip()
 
     def refuse(self, most: int, at_once: int, after: str) -> int:
         """Refuses growths in turn. Returns how many runs ended wrongly.

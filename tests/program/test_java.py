@@ -12,20 +12,19 @@ import subprocess
 import sys
 import unittest
 from pathlib import Path
-from typing import ClassVar, Dict, Iterator, List, Sequence
+from typing import Dict, Iterator, List, Sequence
 
 from geesefuton import program
 from geesefuton.processes import Children, free_port
 from geesefuton.records.games import read_game
 from geesefuton.records.logs import read_log
+from tests.package.helpers import JVM, compiled
 from tests.support.trying import MOST, TOP, needs_program
 from tests.support.vouching import Boards, vouching
 
 LAYER, TESTS = TOP / "examples" / "java", TOP / "tests" / "program" / "java"
 PACE = 250  # milliseconds
 SLOW_PACE = 750  # of the layer's test, which asks much before the first auctions close
-NO_FILE = "-XX:-UsePerfData"  # otherwise a JVM leaves a file in the folder of temporary ones
-JVM = ["-Xmx64m", "-XX:+UseSerialGC", "-XX:TieredStopAtLevel=1", NO_FILE]  # eight on one machine
 PYTHON = ("planner", "trader", "planner", "trader")  # at the odd seats
 PURPOSE = "thrown on purpose"  # of an exception by which the test tries the layer
 
@@ -33,8 +32,10 @@ PURPOSE = "thrown on purpose"  # of an exception by which the test tries the lay
 class Game:
     """A served game, whose files are in a folder of its own."""
 
-    def __init__(self, children: Children, classes: Path, game: Path, pace: int) -> None:
-        self.children, self.classes, self.game = children, classes, game
+    def __init__(self, children: Children, game: Path, pace: int) -> None:
+        self.children, self.game = children, game
+        self.classes = compiled("-sourcepath", str(LAYER), str(LAYER / "TripAgent.java"),
+                                *map(str, sorted(TESTS.glob("*.java"))))
         self.place = children.folder("game")
         self.log, self.links = self.place / "log", self.place / "links"
         self.port = free_port()
@@ -50,7 +51,7 @@ class Game:
                 env={**os.environ, "AGENT_RECORD": str(self.links)})
 
     def start_java(self, seat: int, name: str) -> None:
-        self.start(seat, ["java", *JVM, "-cp", str(self.classes), "se.sics.tac.aw.TACAgent",
+        self.start(seat, ["java", *JVM, "-Xmx64m", "-cp", self.classes, "se.sics.tac.aw.TACAgent",
                           "-agentimpl", name, "-host", "localhost", "-port", str(self.port),
                           "-agent", f"seat{seat}"])
 
@@ -97,22 +98,15 @@ class Game:
 @needs_program
 @unittest.skipUnless(shutil.which("javac") and shutil.which("java"), "there is no JDK")
 class Java(unittest.TestCase):
-    children: ClassVar[Children]
-    classes: ClassVar[Path]
-    made: ClassVar[Path]
-
-    @classmethod
-    def setUpClass(cls) -> None:
-        cls.children = Children()
-        cls.addClassCleanup(cls.children.close)
-        cls.classes, cls.made = cls.children.folder("classes"), cls.children.folder() / "made.game"
-        cls.made.write_text(program.make(42))
-        sources = [LAYER / "TripAgent.java", *sorted(TESTS.glob("*.java"))]
-        subprocess.run(["javac", f"-J{NO_FILE}", "-d", cls.classes, "-sourcepath", LAYER, *sources],
-                       stdin=subprocess.DEVNULL, check=True)
+    def setUp(self) -> None:
+        self.children = Children()
+        self.addCleanup(self.children.close)
+        self.made = self.children.folder() / "made.game"
+        self.made.write_text(program.make(42))
 
     def game(self, file: Path, pace: int = PACE) -> Game:
-        return Game(self.children, self.classes, file, pace)
+        """A served game."""
+        return Game(self.children, file, pace)
 
     def test_eight_java_agents(self) -> None:
         game = self.game(self.made)

@@ -6,13 +6,11 @@ that says so without cause meets its contracts; these runs have enough memory, a
 each.
 """
 
-import tempfile
-import unittest
-from pathlib import Path
 from typing import Tuple
 
 from geesefuton.processes import free_port
-from tests.support.trying import TOP, LinesInOrder, needs_program, ran
+from tests.package.helpers import Case
+from tests.support.trying import TOP, lines_in_order, needs_program, ran
 
 GAME = TOP / "examples" / "first.game"
 GAME_BYTES = 1_048_576  # that a game file may have
@@ -33,12 +31,10 @@ def lines_of(seat: int) -> str:
 
 
 @needs_program
-class LargeRuns(unittest.TestCase):
+class LargeRuns(Case):
     def setUp(self) -> None:
-        folder = tempfile.TemporaryDirectory()
-        self.addCleanup(folder.cleanup)
-        self.script, self.log, self.file = (Path(folder.name, name)
-                                            for name in ("script", "log", "file"))
+        super().setUp()
+        self.script, self.log, self.file = (self.place / name for name in ("script", "log", "file"))
 
     def ran(self, *words: object) -> Tuple[int, bytes]:
         """The exit status of a run, and what it writes."""
@@ -66,17 +62,17 @@ class LargeRuns(unittest.TestCase):
         self.file.write_bytes(self.ran("upgrade", GAME)[1].replace(b"\nquotes minute\n",
                                                                    b"\nquotes live\n"))
         port = free_port()
-        with LinesInOrder(port, [lines_of(seat) for seat in range(8)]) as agents:
+        with lines_in_order(port, [lines_of(seat) for seat in range(8)]) as sent:
             status, text = self.ran("serve", self.file, port, 5)
         self.assertEqual(status, 0)
-        self.assertTrue(all(sent.endswith(b"bye\n") for sent in agents.sent))
+        self.assertTrue(all(sent.endswith(b"bye\n") for sent in sent))
         self.log.write_bytes(text)
         self.assertEqual(self.ran("audit", self.file, self.log), (0, b"sound\n"))
         said = self.log.with_name("said")
         # What stands behind the last line end of a file of a link is not compared.
         for size, due in ((TEXT_BYTES, (0, b"vouched 0 cut 17 0\n")),
                           (TEXT_BYTES + 1, (8, b"text too long\n"))):
-            for file, data in ((self.script, lines_of(0).encode("ascii")), (said, agents.sent[0])):
+            for file, data in ((self.script, lines_of(0).encode("ascii")), (said, sent[0])):
                 file.write_bytes(data.ljust(size, b"x"))
             self.assertEqual(self.ran("vouch", self.file, self.log, self.script, said), due)
 

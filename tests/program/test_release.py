@@ -9,7 +9,6 @@ release.
 
 import os
 import shutil
-import subprocess
 import sys
 import tarfile
 import tempfile
@@ -18,7 +17,7 @@ import zipfile
 from pathlib import Path
 from typing import ClassVar, Iterator, Tuple
 
-from tests.support.trying import TOP
+from tests.package.helpers import TOP, completed
 
 sys.path.insert(0, str(TOP / "packaging"))
 
@@ -34,8 +33,8 @@ case "$*" in
 esac
 """
 BROKEN = "#!/bin/sh\n[ $1 = version ] || { echo proving; echo 'no proof of main'; exit 3; } >&2\n"
-PARTS = ("README.md", "LICENSE", "CHANGELOG.md", "CITATION.cff", ".gitignore", "quickstart",
-         "tools", "examples", "docs", "python/geesefuton", "python/README.md",
+PARTS = ("README.md", "LICENSE", "CHANGELOG.md", "CITATION.cff", ".gitignore", "geesefuton",
+         "examples", "docs", "python/geesefuton", "python/README.md",
          "python/pyproject.toml", "packaging")
 WORK = "handles allowed: Net; must-fail edits: 1 refused; every proof was done in this run"
 PASSED = f"rt: ok; {WORK}\n3 passed, 0 failed\n"
@@ -45,8 +44,7 @@ TIMES = "\nreal\t2m30.000s\nuser\t5m0.500s\nsys\t0m29.500s\n"  # 2.5 minutes, an
 def git(place: Path, *words: str) -> str:
     """Runs git in a folder, as somebody, and gives what it prints."""
     name = ["-c", "user.name=somebody", "-c", "user.email=somebody@example.invalid"]
-    return subprocess.run(["git", "-C", str(place), *name, *words], check=True, text=True,
-                          stdin=subprocess.DEVNULL, stdout=subprocess.PIPE).stdout
+    return str(completed("git", "-C", place, *name, *words, check=True).stdout)
 
 
 def clones(place: Path) -> Tuple[Path, Path]:
@@ -57,9 +55,7 @@ def clones(place: Path) -> Tuple[Path, Path]:
         if (TOP / name).is_file():
             (first / name).parent.mkdir(parents=True, exist_ok=True)
             shutil.copy2(TOP / name, first / name)
-    (first / SOURCE).parent.mkdir(parents=True)
-    (first / SOURCE).write_text(STANDIN)
-    (first / SOURCE).chmod(0o755)
+    script((first / SOURCE).parent, "source", STANDIN)
     git(first, "init", "--quiet")
     git(first, "add", "--all")
     git(first, "commit", "--quiet", "--message", "A commit")
@@ -67,20 +63,23 @@ def clones(place: Path) -> Tuple[Path, Path]:
     return first, second
 
 
+def script(folder: Path, name: str, text: str) -> Path:
+    """A script in a new folder, which is given."""
+    folder.mkdir(parents=True)
+    (folder / name).write_text(text)
+    (folder / name).chmod(0o755)
+    return folder
+
+
 def release(clone: Path, *words: object, path: str = "") -> "subprocess.CompletedProcess[str]":
-    """Runs tools/release of a clone, with another PATH if one is given."""
-    return subprocess.run([sys.executable, clone / "tools" / "release", *map(str, words)],
-                          check=False, text=True, stdin=subprocess.DEVNULL,
-                          env={**os.environ, "PATH": path or os.environ["PATH"]},
-                          stdout=subprocess.PIPE, stderr=subprocess.PIPE)
+    """Makes a release of a clone, with another PATH if one is given."""
+    return completed(sys.executable, clone / "packaging" / "release.py", *words,
+                     env={"PATH": path or os.environ["PATH"], "PYTHONPATH": ""})
 
 
 def toolchain(place: Path, text: str) -> str:
     """A PATH with a stand-in for rt before all else."""
-    place.mkdir()
-    (place / "rt").write_text(text)
-    (place / "rt").chmod(0o755)
-    return f"{place}{os.pathsep}{os.environ['PATH']}"
+    return f"{script(place, 'rt', text)}{os.pathsep}{os.environ['PATH']}"
 
 
 def git_alone(place: Path) -> str:
@@ -105,10 +104,8 @@ def refused_logs(commit: str) -> Iterator[Tuple[str, str]]:
 
 def run(top: Path, *words: str) -> "subprocess.CompletedProcess[str]":
     """Runs the command `geesefuton` of an unpacked archive."""
-    environment = {key: value for key, value in os.environ.items() if key != "TAC"}
-    return subprocess.run([sys.executable, "-m", "geesefuton", *words], check=False, text=True,
-                          cwd=top / "python", env=environment, stdin=subprocess.DEVNULL,
-                          stdout=subprocess.PIPE, stderr=subprocess.PIPE)
+    return completed(sys.executable, "-m", "geesefuton", *words, cwd=top / "python",
+                     env={"TAC": "", "PYTHONPATH": ""})
 
 
 class Release(unittest.TestCase):

@@ -6,12 +6,12 @@ import os
 import pty
 import select
 import subprocess
-import unittest
 from pathlib import Path
-from typing import IO, Iterator, Tuple
+from typing import Tuple
 
 from geesefuton import program
 from geesefuton.processes import Children
+from tests.package.helpers import Case
 from tests.support.trying import MOST, needs_program, ran
 
 TEXT_BYTES = 67_108_864  # of a script, at most
@@ -38,12 +38,11 @@ def read_some(stream: "IO[bytes]", count: int) -> bytes:
 
 
 @needs_program
-class Stepping(unittest.TestCase):
+class Stepping(Case):
     def setUp(self) -> None:
-        self.children = Children()
-        self.addCleanup(self.children.close)
-        self.folder = self.children.folder("stepping")
-        self.game = self.folder / "game"
+        super().setUp()
+        self.children = self.enter(Children())
+        self.game = self.place / "game"
         self.game.write_bytes(ran("make", 7).stdout)
 
     def step(self, *parts: bytes) -> Tuple[int, bytes]:
@@ -53,10 +52,9 @@ class Stepping(unittest.TestCase):
 
     def script(self, *parts: bytes) -> Path:
         """A file with these bytes."""
-        path = self.folder / "script"
-        with open(path, "wb") as file:
-            file.writelines(parts)
-        return path
+        file = self.place / "script"
+        file.write_bytes(b"".join(parts))
+        return file
 
     @contextlib.contextmanager
     def game_at(self, stdin: int, stdout: int = subprocess.PIPE
@@ -64,13 +62,11 @@ class Stepping(unittest.TestCase):
         """A game whose script is standard input."""
         child = self.children.start([program.find(), "step", self.game, "/dev/stdin"],
                                     stdin=stdin, stdout=stdout)
-        try:
+        with contextlib.ExitStack() as stack:
+            for stream in filter(None, (child.stdin, child.stdout)):
+                stack.enter_context(stream)
+            stack.callback(self.children.end, child)
             yield child
-        finally:
-            self.children.end(child)
-            for stream in (child.stdin, child.stdout):
-                if stream is not None:
-                    stream.close()
 
     def test_each_line_in_a_pipe_is_answered_before_the_next_is_written(self) -> None:
         with self.game_at(subprocess.PIPE) as child:

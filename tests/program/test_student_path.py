@@ -1,7 +1,7 @@
 """The commands of docs/PROTOCOL.md, "A record of a link", as a student types them.
 
 The lines are those of the page's section from `tac make` on, run by bash in a folder with the
-clone's `tools` and `examples`, at a free port in place of 7000.
+clone's `geesefuton` and `examples`, at a free port in place of 7000.
 """
 
 import re
@@ -32,18 +32,17 @@ class StudentPath(unittest.TestCase):
         self.addCleanup(self.children.close)
         self.folder = self.children.folder("student")
         (self.folder / "tac").symlink_to(program.find())
-        for name in ("tools", "examples"):
+        for name in ("geesefuton", "examples"):
             (self.folder / name).symlink_to(TOP / name)
 
     def typed(self, lines: List[str]) -> Tuple[int, str]:
         """The status of bash, which stops at the first line that fails, and the last line that is
         written."""
         written = self.folder / "written"
-        words = ["bash", "-ec", f"cd '{self.folder}'\nPATH='{self.folder}':$PATH\n"
-                 + "\n".join(lines)]
+        text = "\n".join([f"cd '{self.folder}'", f"PATH='{self.folder}':$PATH", *lines])
         with written.open("wb") as out, (self.folder / "told").open("wb") as told:
-            status = self.children.start(words, stdin=subprocess.DEVNULL, stdout=out,
-                                         stderr=told).wait(MOST)
+            status = self.children.start(["bash", "-ec", text], stdin=subprocess.DEVNULL,
+                                         stdout=out, stderr=told).wait(MOST)
         return status, (written.read_text().splitlines() or [""])[-1]
 
     def test_the_lines_end_with_a_vouched_record_and_a_changed_byte_is_found(self) -> None:

@@ -1,4 +1,4 @@
-"""The tables that `tools/data` writes of a tournament: scores, trades and cash are those of the
+"""The tables that `data` writes of a tournament: scores, trades and cash are those of the
 logs to the dollar, each seat and each call alone.
 
 The logs are read here once more, by their lines alone. Each script is also played again by
@@ -6,30 +6,19 @@ The logs are read here once more, by their lines alone. Each script is also play
 """
 
 import csv
-import subprocess
-import sys
-import tempfile
-import unittest
 from collections import Counter, defaultdict
-from pathlib import Path
-from typing import Counter as CounterOf
-from typing import Dict, List, Tuple
+from typing import Counter as CounterOf, Dict, List, Tuple
 
 from geesefuton.records.data import read_data
-from tests.support.trying import MOST, TOP, needs_program, ran
+from tests.package.helpers import TOP, Case, completed, needs_program
+from tests.support.trying import COMMAND, ran
 
 AGENTS = [TOP / "examples" / "agents" / f"{name}.py" for name in ("planner", "baseline")]
 Rows = Dict[str, List[Dict[str, object]]]
 
 
-def run(*words: object) -> None:
-    """Runs a command of the package."""
-    subprocess.run([sys.executable, *map(str, words)], check=True, timeout=MOST,
-                   stdin=subprocess.DEVNULL, stdout=subprocess.DEVNULL)
-
-
 @needs_program
-class Tables(unittest.TestCase):
+class Tables(Case):
     def test_a_tournament_in_turns(self) -> None:
         self.compare("--games", 2, "--turns", 40)
 
@@ -38,27 +27,26 @@ class Tables(unittest.TestCase):
 
     def compare(self, *words: object) -> None:
         """Plays a tournament, and compares its tables with its logs."""
-        with tempfile.TemporaryDirectory() as place:
-            folder, out = Path(place, "run"), Path(place, "out")
-            run(TOP / "tools" / "tournament", "--out", folder, *words, *AGENTS)
-            run(TOP / "tools" / "data", folder, out)
-            tables = read_data(out)
-            with open(folder / "scores.csv", encoding="utf-8", newline="") as text:
-                names = {(row["deal"], row["rotation"], row["seat"]): (row["agent"], row["score"])
-                         for row in csv.DictReader(text)}
-            for game in tables["games"]:
-                of_game = {name: [row for row in rows if row.get("game") == game["game"]]
-                           for name, rows in tables.items()}
-                log = folder / "games" / f"{game['name']}.log"
-                self.compare_game(log.read_text("ascii"), of_game)
-                for row in of_game["scores"]:
-                    key = game["deal"], str(game["rotation"]), str(row["seat"])
-                    self.assertEqual((row["agent"], str(row["score"])), names[key])
-                if "--turns" in words:
-                    again = ran("play", log.with_suffix(".game"), log.with_suffix(".script")).stdout
-                    self.assertEqual(again[again.index(b"taclog"):], log.read_bytes())
-            self.assertEqual(len(tables["scores"]), len(names))
-            self.assertEqual(len(names), 8 * len(tables["games"]))
+        folder, out = self.place / "run", self.place / "out"
+        for tool in (["tournament", "--out", folder, *words, *AGENTS], ["data", folder, out]):
+            completed(*COMMAND, *tool, check=True)
+        tables = read_data(out)
+        with open(folder / "scores.csv", encoding="utf-8", newline="") as text:
+            names = {(row["deal"], row["rotation"], row["seat"]): (row["agent"], row["score"])
+                     for row in csv.DictReader(text)}
+        for game in tables["games"]:
+            of_game = {name: [row for row in rows if row.get("game") == game["game"]]
+                       for name, rows in tables.items()}
+            log = folder / "games" / f"{game['name']}.log"
+            self.compare_game(log.read_text("ascii"), of_game)
+            for row in of_game["scores"]:
+                key = game["deal"], str(game["rotation"]), str(row["seat"])
+                self.assertEqual((row["agent"], str(row["score"])), names[key])
+            if "--turns" in words:
+                again = ran("play", log.with_suffix(".game"), log.with_suffix(".script")).stdout
+                self.assertEqual(again[again.index(b"taclog"):], log.read_bytes())
+        self.assertEqual(len(tables["scores"]), len(names))
+        self.assertEqual(len(names), 8 * len(tables["games"]))
 
     def compare_game(self, log: str, tables: Rows) -> None:
         """Compares the rows of a game with its log."""

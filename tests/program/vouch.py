@@ -22,125 +22,75 @@ import shutil
 import sys
 from collections import Counter
 from pathlib import Path
-from typing import Callable, Counter as CounterOf, Dict, List, Optional, Tuple
+from typing import Callable, Counter as CounterOf, Dict, Iterator, List, Optional
 
 from geesefuton import program
 from geesefuton.arguments import Parser, whole
 from geesefuton.processes import Children, command
-from geesefuton.records.games import Game, read_game
-from geesefuton.records.logs import read_log
 from tests.program.hostile_games import play_hostile
-from tests.support import vouching as reading
-from tests.support.made_records import KINDS, WAYS, Changes, text_of
-from tests.support.made_records import meddled as meddled_game
+from tests.support import made_records as records
+from tests.support.judging import Judge
+from tests.support.made_records import KINDS, Changes, text_of
+from tests.support.vouching import is_vouched
 
 OF_GAME = 20  # changed records of a game
 TOLD = 50  # after so many games it is told how many there were
 Counts = CounterOf[str]
 
 
-class Judge:
-    """Says of links what both readings say.
-
-    Args:
-        file: The game's file.
-        game: The game.
-        log: The log.
-        form: What agents speak.
-
-    Attributes:
-        wrong: What is wrong, a line for each.
-    """
-
-    def __init__(self, file: Path, game: Game, log: bytes, form: str) -> None:
-        self.file, self.log, self.form, self.wrong = file, log, form, list[str]()
-        self.verdict = answer(lambda: program.audit(file, log))
-        self._boards = (reading.Boards(game, read_log(log)) if self.verdict == "sound" else None)
-
-    def said_of(self, asked: bytes, said: bytes, name: str) -> str:
-        """What `tac vouch` says of a link, which is what has to be said."""
-        files = self.file.with_name("asked"), self.file.with_name("said")
-        for place, data in zip(files, (asked, said)):
-            place.write_bytes(data)
-        told = answer(lambda: program.vouch(self.file, self.log, *files, self.form))
-        due = self.verdict
-        if self._boards is not None:
-            due = reading.vouching(self._boards, asked, said, self.form)
-        if told != due:
-            self.wrong.append(f"{name}: `{told}`, and by the plain reading `{due}`")
-        return told
-
-
-def answer(ask: Callable[[], str]) -> str:
-    """What the program answers, also where it refuses a log."""
-    try:
-        return ask()
-    except program.ProgramError as fault:
-        if fault.status != reading.TEXT_REFUSED:
-            raise
-        return fault.line
-
-
-def served(children: Children, seed: int, folder: Path) -> Tuple[Counts, List[str]]:
-    """What was said of the links of a game with hostile agents, and what is wrong."""
+def served(children: Children, seed: int, folder: Path, counts: Counts) -> Iterator[str]:
+    """What is wrong with what is said of the links of a game with hostile agents."""
     game, relay = asyncio.run(play_hostile(children, seed, folder))
-    judge = Judge(game.file, game.game, game.log.read_bytes(), game.form)
-    counts = Counter[str]()
+    judge = Judge(game.file, game.log.read_bytes(), game.form)
     for number, link in enumerate(relay.links):
         said = judge.said_of(bytes(link.asked), bytes(link.said), f"link {number}")
-        if reading.is_vouched(said) != link.is_welcome():
-            judge.wrong.append(f"link {number}: {said}")
+        if is_vouched(said) != link.is_welcome():
+            yield f"link {number}: {said}"
         else:
-            kind = said.split(" ")[2] if link.is_welcome() else "without a seat or a welcome"
-            counts[kind] += 1
-    return counts, judge.wrong
+            counts[said.split(" ")[2] if link.is_welcome() else "without a seat or a welcome"] += 1
+    yield from judge.wrong
 
 
-def meddled(_: Children, seed: int, folder: Path) -> Tuple[Counts, List[str]]:
-    """What was said of agents with whose requests a relay meddled, and what is wrong."""
-    counts, wrong = Counter[str](), list[str]()
-    for way in WAYS:
-        played, agent = meddled_game(random.Random(f"{seed} {way}"), folder, way)
-        judge = Judge(folder / "game", read_game(played.game), played.log.encode(), "words")
+def meddled(_: Children, seed: int, folder: Path, counts: Counts) -> Iterator[str]:
+    """What is wrong with what is said of agents with whose requests a relay meddled."""
+    for way in records.WAYS:
+        played, agent = records.meddled(random.Random(f"{seed} {way}"), folder, way)
+        judge = Judge(folder / "game", played.log.encode(), "words")
         for each, (asked, said) in enumerate(zip(played.asked, played.said)):
             told = judge.said_of(text_of(asked), text_of(said), f"{way}, agent {each}")
-            if reading.is_vouched(told) == (each == agent):
-                judge.wrong.append(f"a relay {way} a request of {agent}, and {each} is {told}")
+            if is_vouched(told) == (each == agent):
+                yield f"a relay {way} a request of {agent}, and {each} is {told}"
             counts[f"{way}: {' '.join(told.split()[:2])}"] += each == agent
-        wrong += judge.wrong
-    return counts, wrong
+        yield from judge.wrong
 
 
-def changed(_: Children, seed: int, folder: Path) -> Tuple[Counts, List[str]]:
-    """What was said of changed records, and what is wrong."""
-    counts, wrong = Counter[str](), list[str]()
+def changed(_: Children, seed: int, folder: Path, counts: Counts) -> Iterator[str]:
+    """What is wrong with what is said of changed records."""
     changes = Changes(random.Random(seed), folder)
-    game = read_game(changes.played.game)
     for number in range(seed * OF_GAME, (seed + 1) * OF_GAME):
         kind, form = list(KINDS)[number % len(KINDS)], ("words", "json")[number // len(KINDS) % 2]
         record = changes.drawn(kind, form)
-        judge = Judge(folder / "game", game, "\n".join(record.log).encode("latin-1"), form)
+        judge = Judge(folder / "game", "\n".join(record.log).encode("latin-1"), form)
         said = judge.said_of(text_of(record.asked), text_of(record.said), f"{number}, {kind}")
         counts[f"{kind}: {said.split(' ')[0]}"] += 1
-        wrong += judge.wrong
-    return counts, wrong
+        yield from judge.wrong
 
 
-MODES: Dict[str, Callable[[Children, int, Path], Tuple[Counts, List[str]]]] = {
+MODES: Dict[str, Callable[[Children, int, Path, Counts], Iterator[str]]] = {
     each.__name__: each for each in (served, changed, meddled)}
 
 
-def play(mode: str, keep: Optional[Path], seed: int) -> Tuple[Counts, List[str]]:
-    """Plays a game, and judges it. Its files are kept if it is wrong."""
+def play(mode: str, keep: Optional[Path], seed: int, counts: Counts) -> List[str]:
+    """What is wrong with a game. Its files are kept then."""
     with Children() as children:
         folder = children.folder(mode)
         try:
-            counts, wrong = MODES[mode](children, seed, folder)
+            wrong = list(MODES[mode](children, seed, folder, counts))
         except program.ProgramError as fault:
-            counts, wrong = Counter[str](), [str(fault)]
+            wrong = [str(fault)]
         if wrong and keep is not None:
             shutil.copytree(folder, keep / f"{mode}{seed}", dirs_exist_ok=True)
-    return counts, [f"game {seed}: WRONG: {line}" for line in wrong]
+    return [f"game {seed}: WRONG: {line}" for line in wrong]
 
 
 def main() -> int:
@@ -153,8 +103,7 @@ def main() -> int:
     given, counts, wrong = parser.parse_args(), Counter[str](), 0
     program.find()
     for seed in range(given.first, given.first + given.games):
-        found, lines = play(given.mode, given.keep, seed)
-        counts += found
+        lines = play(given.mode, given.keep, seed, counts)
         wrong += len(lines)
         print(*lines, sep="\n", end="\n" * bool(lines), flush=True)
         if (seed - given.first) % TOLD == TOLD - 1:

@@ -1,5 +1,5 @@
-"""A game of eight seats by hand: headless Chromium joins eight times at the page of `tools/lobby`,
-and only what a person sees there is tapped.
+"""A game of eight seats by hand: headless Chromium joins eight times at the page of a lobby, and
+only what a person sees there is tapped.
 
     python3 -m tests.soak.by_hand SEED
 
@@ -10,31 +10,23 @@ whose bytes the journal has. It takes some four minutes.
 """
 
 import contextlib
-import subprocess
-import sys
 import time
 from pathlib import Path
 from typing import Dict, Iterator, List
 
-from geesefuton import program
 from geesefuton.hosting.server_links import server_links
-from geesefuton.processes import Children, command, free_port
+from geesefuton.processes import Children
 from geesefuton.records.games import SEATS, TICKS
 from geesefuton.records.logs import Log, read_log
 from geesefuton.records.replies import Taken
 from tests.support import soaking
-from tests.support.browser import Browser, BrowserError, Tab, is_seen
-from tests.support.trying import TOP
+from tests.support.browser import Browser, BrowserError, Tab, is_seen, wait_for
 
 PACE = 3000  # milliseconds from tick to tick
 LIMIT = 600.0  # seconds that all of it may take besides its ticks, on a busy machine
 SOON = 30.0  # seconds that an answer may take, on a busy machine
 DUE = ("a ticket is offered", "an offer is taken back", "a refusal says why",
        "the rank is shown")  # what each seat has to see
-
-
-class ByHandError(Exception):
-    """The game could not be played by hand."""
 
 
 def bid(tab: Tab, tile: str, button: str, sell: bool = False, kind: str = "button.tile") -> bool:
@@ -93,28 +85,28 @@ class Player:
 
 def joined(browser: Browser, port: int, number: int) -> Tab:
     """The page of a seat, which is joined by its word."""
-    tab, until = Tab(browser, "about:blank"), time.monotonic() + LIMIT
-    while not tab.sees("Join the game"):
-        if time.monotonic() > until:
-            raise ByHandError("there is no page on which to join")
+    tab = Tab(browser, "about:blank")
+
+    def is_there() -> bool:
         tab.call("Page.navigate", url=f"http://127.0.0.1:{port}/join")
         time.sleep(0.3)
+        return tab.sees("Join the game")
+
+    wait_for("a page on which to join", is_there, LIMIT)
     tab.tap("input", "")
     tab.call("Input.insertText", text=f"seat{number}")
     tab.tap("button", "Play in this browser")
     return tab
 
 
-def play(children: Children, browser: Browser, folder: Path, seed: int) -> List[Player]:
-    """Plays a game in a folder: `by_hand.game` gives `by_hand.log`."""
-    game, port, page = folder / "by_hand.game", free_port(), free_port()
-    game.write_text(program.make(seed))
-    with (folder / "by_hand.log").open("wb") as log:
-        lobby = children.start([sys.executable, str(TOP / "tools" / "lobby"), str(game), str(port),
-                                str(PACE), "--journal", str(folder / "by_hand.journal"),
-                                "--page", str(page)],
-                               stdin=subprocess.DEVNULL, stdout=log, stderr=subprocess.DEVNULL)
-    players = [Player(joined(browser, page, number), number) for number in range(SEATS)]
+def play(game: soaking.Hosted, browser: Browser) -> List[Player]:
+    """Plays a game.
+
+    Raises:
+        BrowserError: It could not be played by hand.
+    """
+    lobby = game.start(PACE, "--page", game.page)
+    players = [Player(joined(browser, game.page, number), number) for number in range(SEATS)]
     until, is_over = time.monotonic() + LIMIT + TICKS * PACE / 1000, False
     while not is_over and time.monotonic() < until:
         is_over = lobby.poll() is not None  # the pages are looked at once more then
@@ -125,7 +117,7 @@ def play(children: Children, browser: Browser, folder: Path, seed: int) -> List[
                 player.seen["the rank is shown"] = player.tab.sees("agent [0-7]: [1-8][a-z]+ of 8")
         time.sleep(0.1)
     if not is_over:
-        raise ByHandError("the game did not end")
+        raise BrowserError("the game did not end")
     return players
 
 
@@ -139,32 +131,23 @@ def faults_of(players: List[Player], log: Log) -> Iterator[str]:
             yield f"seat{number}: only {taken} bids were admitted"
 
 
-def link_faults(folder: Path) -> Iterator[str]:
-    """What `tac vouch` says of the seats' links if it does not vouch for the whole of them."""
-    for number, link in enumerate(server_links(folder / "by_hand.journal")):
-        game, log, asked, said = (folder / name for name in (
-            "by_hand.game", "by_hand.log", "asked", "said"))
-        asked.write_bytes(link.asked)
-        said.write_bytes(link.said)
-        verdict = program.vouch(game, log, asked, said)
-        if not verdict.startswith(f"vouched {number} whole "):
-            yield f"seat{number}: {verdict}"
-
-
 def soak(seed: int, folder: Path, children: Children) -> Iterator[str]:
-    """Plays a game, and looks at its log."""
+    """Plays a game, and looks at its log and at the seats' links."""
+    game = soaking.Hosted(children, folder, seed)
     try:
         with contextlib.closing(Browser(children)) as browser:
-            players = play(children, browser, folder, seed)
-    except (BrowserError, ByHandError) as fault:
+            players = play(game, browser)
+    except BrowserError as fault:
         yield str(fault)
         return
-    text = (folder / "by_hand.log").read_bytes()
-    verdict = program.audit(folder / "by_hand.game", text)
-    yield from [] if verdict == "sound" else [verdict]
-    yield from faults_of(players, read_log(text))
-    yield from link_faults(folder)
+    yield from game.unsound()
+    yield from faults_of(players, read_log(game.log.read_bytes()))
+    for number, link in enumerate(server_links(game.journal)):
+        asked, said = folder / "asked", folder / "said"
+        asked.write_bytes(link.asked)
+        said.write_bytes(link.said)
+        yield from game.not_whole(number, asked, said)
 
 
 if __name__ == "__main__":
-    sys.exit(command("by_hand", lambda: soaking.run("by_hand", __doc__, soak)))
+    soaking.main("by_hand", __doc__, soak)

@@ -1,8 +1,7 @@
-#!/usr/bin/env python3
 """Plays all eight seats of a hosted game until tickets are closed: seven each over a link of its
 own, and one by hand, as a browser does on the seat's page.
 
-    tests/soak/eight_players.py PORT SEED FOLDER
+    python3 -m tests.soak.eight_players PORT PAGE SEED FOLDER
 
 Each seat's requests are drawn from the seed. What it sent and was sent is written to SEAT.asked and
 SEAT.said in the folder. The page's address is in its file `told`, which the lobby writes. The
@@ -16,11 +15,12 @@ import random
 import sys
 import time
 from pathlib import Path
-from typing import Any, Dict, List, Optional, Tuple
+from typing import Any, List, Tuple
+
+from tests.support.hand import FAULTS, Hand
 
 SEATS, PAUSE = 8, 0.5  # and the seconds that a player waits at most between two requests
 BY_HAND = SEATS - 1
-Links = Tuple[asyncio.StreamReader, asyncio.StreamWriter]
 
 
 class Players:
@@ -35,8 +35,7 @@ class Players:
 
     def __init__(self, port: int, page: int, seed: int, folder: Path) -> None:
         self.port, self.page, self.seed, self.folder = port, page, seed, folder
-        self.longest, self._token = 0.0, ""  # and that of the seat's page, once it is joined
-        self._page: Optional[Links] = None  # the browser's link
+        self.longest = 0.0
         self.by_hand: List[float] = []  # seconds that each bid by hand took
         self.wrong: List[str] = []
 
@@ -64,78 +63,45 @@ class Players:
         (self.folder / f"{seat}.asked").write_bytes(asked)
         (self.folder / f"{seat}.said").write_bytes(said)
 
-    async def play_by_hand(self) -> None:
+    def play_by_hand(self) -> None:
         """Plays the last seat on its page. Whatever befalls the page, it is opened again."""
         dice, page, state = random.Random(f"{self.seed} page"), "", dict[str, Any]()
+        hand = Hand(self.page, f"seat{BY_HAND}", address_of(BY_HAND))
         while state.get("phase") != "over":
             told = (self.folder / "told").read_text(errors="replace")
             if "the game is over" in told and (not page or state.get("phase") == "failed"):
                 break
-            await asyncio.sleep(dice.random() * PAUSE)
+            time.sleep(dice.random() * PAUSE)
             try:
-                page = page or (await self._post("open", page=""))["page"]
+                page = page or hand.ask("open", page="")["page"]
                 begun = time.monotonic()
                 if state.get("phase") == "failed":
-                    await self._post("again", page=page)
+                    hand.ask("again", page=page)
                 elif state.get("phase") == "running":
-                    await self._post("bid", page=page, good=dice.randrange(28),
-                                     points=[[1, dice.randint(1, 400)]])
+                    hand.ask("bid", page=page, good=dice.randrange(28),
+                             points=[[1, dice.randint(1, 400)]])
                     self.by_hand.append(round(time.monotonic() - begun, 2))
-                state = await self._post("state", page=page, after=state.get("version"))
-            except (EOFError, OSError, KeyError, ValueError):
+                state = hand.ask("state", page=page, after=state.get("version"))
+            except (KeyError, *FAULTS):
                 page = ""
         if state.get("phase") != "over":
             self.wrong.append(f"by hand: {state.get('phase')} {state.get('fault')}")
 
-    async def _post(self, what: str, **given: Any) -> Dict[str, Any]:
-        """The answer of the seat's page, which is joined by its word.
-
-        Raises:
-            EOFError, OSError: It is not there.
-            ValueError: The answer is none.
-        """
-        if not self._token:
-            status, token = await self._sent("/play", f"seat{BY_HAND}")
-            self._leave()  # what has shown no token ends with its answer
-            if status != 200:
-                raise ValueError(token)
-            self._token = token
-        _, text = await self._sent(f"/{self._token}/{what}", json.dumps(given))
-        answer: Dict[str, Any] = json.loads(text)
-        return answer
-
-    async def _sent(self, path: str, body: str) -> Tuple[int, str]:
-        """The status and the body of an answer."""
-        if self._page is None:
-            self._page = await asyncio.open_connection(
-                "127.0.0.1", self.page, local_addr=(f"127.1.0.{2 + BY_HAND // 4}", 0))
-        reader, writer = self._page
-        try:
-            writer.write(f"POST {path} HTTP/1.1\r\nContent-Type: application/json\r\n"
-                         f"Content-Length: {len(body)}\r\n\r\n{body}".encode())
-            head = (await reader.readuntil(b"\r\n\r\n")).decode()
-            length = int(head.partition("Content-Length: ")[2].split("\r\n")[0])
-            return int(head.split()[1]), (await reader.readexactly(length)).decode()
-        except (EOFError, OSError, ValueError):
-            self._leave()
-            raise
-
-    def _leave(self) -> None:
-        """Ends the link to the page."""
-        if self._page is not None:
-            self._page[1].close()
-            self._page = None
-
-    async def _seated(self, seat: int) -> Links:
-        """A link that has greeted. Four players have one address, as behind a router."""
+    async def _seated(self, seat: int) -> Tuple[asyncio.StreamReader, asyncio.StreamWriter]:
+        """A link that has greeted."""
         while True:
             try:
                 reader, writer = await asyncio.open_connection(
-                    "127.0.0.1", self.port, local_addr=(f"127.1.0.{2 + seat // 4}", 0))
+                    "127.0.0.1", self.port, local_addr=(address_of(seat), 0))
                 writer.write(f"hello seat{seat}\n".encode())
                 return reader, writer
             except OSError:
                 await asyncio.sleep(0.05)
+
+
+def address_of(seat: int) -> str:
+    """A player's address: four have the same, as behind a router."""
+    return f"127.1.0.{2 + seat // 4}"
 
 
 def _request(dice: random.Random) -> bytes:
@@ -145,7 +111,8 @@ def _request(dice: random.Random) -> bytes:
 
 
 async def _play(players: Players) -> None:
-    await asyncio.gather(players.play_by_hand(), *map(players.play, range(BY_HAND)))
+    await asyncio.gather(asyncio.to_thread(players.play_by_hand),
+                         *map(players.play, range(BY_HAND)))
 
 
 def main() -> int:

@@ -23,13 +23,12 @@ from pathlib import Path
 from typing import Dict, Iterator, List, Optional, Sequence, Tuple
 
 from geesefuton import program
-from geesefuton.processes import Children, command, free_port
+from geesefuton.processes import Children
 from geesefuton.records.dialects import asked_by, reply_of
 from tests.support import soaking
-from tests.support.trying import TOP
+from tests.support.soaking import AGENTS, Hosted, example
+from tests.support.trying import COMMAND, descendants, of_process
 
-LOBBY, RECOVER = TOP / "tools/lobby", TOP / "tools/recover"
-AGENTS = TOP / "examples/agents"
 PACE = 80  # milliseconds from tick to tick
 MOST = 300.0  # seconds that a served game may take
 CUTS = 4  # of a journal
@@ -37,17 +36,14 @@ SERVED = ["calm", "pipe", "crash", "vanish", "hang", "flood", "deaf", "back", "b
 KILLED = ["calm", "pipe", "pipe", "flood", "flood", "deaf", "back"]
 
 
-class Game:
+class Game(Hosted):
     """A game of a seed: every third speaks JSON, every second is of version 2, of these every
     second has live quotes."""
 
-    def __init__(self, seed: int, folder: Path) -> None:
-        self.seed, self.folder = seed, folder
-        folder.mkdir()
-        self.form = "json" if seed % 3 == 0 else "words"
+    def __init__(self, children: Children, seed: int, folder: Path) -> None:
+        super().__init__(children, folder, seed)
+        self.seed, self.form = seed, "words" if seed % 3 else "json"
         self.dice = random.Random(seed)
-        self.file = folder / "my.game"
-        self.file.write_text(program.make(seed))
         if seed % 2:
             rooms = " ".join(str(self.dice.randint(1, 8)) for _ in range(8))
             lines = program.upgrade(self.file).split("\n")
@@ -55,34 +51,22 @@ class Game:
             lines[12] = "quotes live" if seed % 4 == 1 else "quotes minute"
             self.file.write_text("\n".join(lines))
 
-    def start(self, children: Children, kinds: Sequence[Optional[str]],
+    def begin(self, kinds: Sequence[Optional[str]],
               goods: Sequence[int]) -> "subprocess.Popen[bytes]":
         """Starts the lobby, and an agent of each kind."""
-        port = free_port()
-        words = [str(self.file), str(port), str(PACE)]
-        words += ["json"] if self.form == "json" else []
-        with (self.folder / "log").open("wb") as log, (self.folder / "told").open("wb") as told:
-            lobby = children.start(
-                [sys.executable, str(LOBBY), *words, "--start", "4", "--after", "1.5", "--silence",
-                 "0.7", "--journal", str(self.folder / "journal")],
-                stdin=subprocess.DEVNULL, stdout=log, stderr=told)
+        lobby = self.start(PACE, *["json"] * (self.form == "json"), "--start", 4, "--after", 1.5,
+                           "--silence", 0.7)
         for seat, kind in enumerate(kinds):
-            if kind is not None:
-                with (self.folder / f"out{seat}").open("wb") as out:
-                    children.start(self.words_of(seat, kind, port, goods), stdout=out, cwd=TOP,
-                                   stderr=subprocess.STDOUT, stdin=subprocess.DEVNULL)
+            if kind == "asker":
+                self.join(seat, ["node", str(AGENTS / "asker.mjs")], PACE / 1000)
+            elif kind in ("planner", "trader", "watcher"):
+                self.join(seat, example(kind), PACE / 1000)
+            elif kind is not None:
+                self.join(seat, [sys.executable, "-m", "tests.support.wild_agent"], PACE / 1000,
+                          "--mode", kind, "--form", self.form, "--out",
+                          str(self.folder / f"said{seat}"), "--seed", str(self.seed * 8 + seat),
+                          "--goods", ",".join(map(str, goods)))
         return lobby
-
-    def words_of(self, seat: int, kind: str, port: int, goods: Sequence[int]) -> List[str]:
-        """The command of an agent."""
-        where = ["localhost", str(port), f"seat{seat}", "--pause", str(PACE / 1000)]
-        if kind == "asker":
-            return ["node", str(AGENTS / "asker.mjs"), *where]
-        if kind in ("planner", "trader", "watcher"):
-            return [sys.executable, str(AGENTS / f"{kind}.py"), *where]
-        return [sys.executable, "-m", "tests.support.wild_agent", *where, "--mode", kind, "--form",
-                self.form, "--out", str(self.folder / f"said{seat}"), "--seed",
-                str(self.seed * 8 + seat), "--goods", ",".join(map(str, goods))]
 
     def tame(self, count: int) -> List[str]:
         """So many agents that play in earnest."""
@@ -92,18 +76,16 @@ class Game:
         return [kinds[number % len(kinds)] for number in range(count)]
 
     def recover(self, journal: Path, to: str) -> "subprocess.CompletedProcess[str]":
-        """Recovers a journal into a file."""
+        """Ends the agents, and recovers a journal into a file."""
+        self.children.close()
         with (self.folder / to).open("wb") as log:
-            return subprocess.run([sys.executable, RECOVER, journal], stdout=log,
+            return subprocess.run([*COMMAND, "recover", journal], stdout=log,
                                   stderr=subprocess.PIPE, text=True, check=False)
 
     def faults(self, done: "subprocess.CompletedProcess[str]", log: str) -> Iterator[str]:
         """What is wrong with a recovery and its log, and what agents noted as wrong."""
-        try:
-            verdict = program.audit(self.file, self.folder / log)
-        except program.ProgramError as fault:
-            verdict = str(fault)
-        if done.returncode or verdict != "sound":
+        verdict = "; ".join(self.unsound(log))
+        if done.returncode or verdict:
             yield f"recovered with {done.returncode}, {verdict}: {done.stderr[-300:]}"
         for said in self.folder.glob("said*"):
             yield from (line for line in said.read_text().splitlines() if line.startswith("wrong"))
@@ -136,9 +118,8 @@ def serve(game: Game) -> Iterator[str]:
     game.dice.shuffle(kinds)
     if game.seed % 5 == 0:
         kinds[3] = None
-    with Children() as children:
-        status = game.start(children, kinds, range(28)).wait(MOST)
-    done = game.recover(game.folder / "journal", "recovered")
+    status = game.begin(kinds, range(28)).wait(MOST)
+    done = game.recover(game.journal, "recovered")
     yield from game.faults(done, "recovered")
     here, there = ((game.folder / name).read_text() for name in ("log", "recovered"))
     print(f"served in {game.form} to {' '.join(map(str, kinds))}: {here.count(' = ')} entries, "
@@ -150,37 +131,24 @@ def serve(game: Game) -> Iterator[str]:
     yield from (f"{name} differ" for name in ours if ours[name] != theirs[name])
 
 
-def server_of(lobby: int) -> Optional[int]:
-    """The process of the server that a lobby started."""
-    for place in Path("/proc").glob("[0-9]*"):
-        try:
-            parent = (place / "stat").read_text().rsplit(")", 1)[1].split()[1]
-            if int(parent) == lobby and b"serve" in (place / "cmdline").read_bytes().split(b"\0"):
-                return int(place.name)
-        except OSError:
-            pass  # it has ended
-    return None
-
-
 def kill(game: Game) -> Iterator[str]:
     """Kills a game. What agents were told has to be in the recovered log."""
     tame = game.tame(2)
     kinds = [game.dice.choice(KILLED + tame) for _ in range(8)]
     goods = range(28) if game.seed % 2 else game.dice.sample(range(28), 3)
-    with Children() as children:
-        lobby = game.start(children, kinds, goods)
-        while "begins" not in (game.folder / "told").read_text():
-            if lobby.poll() is not None:
-                yield f"the lobby ended with {lobby.returncode}"
-                return
-            time.sleep(0.01)
-        time.sleep(game.dice.random() * 0.9 * 54 * PACE / 1000)
-        numbers = [lobby.pid, server_of(lobby.pid)]
-        for number in numbers if game.seed % 2 else reversed(numbers):
-            if number is not None:
-                os.kill(number, signal.SIGKILL)
-        time.sleep(0.3)
-    done = game.recover(game.folder / "journal", "recovered")
+    lobby = game.begin(kinds, goods)
+    while "begins" not in game.told():
+        if lobby.poll() is not None:
+            yield f"the lobby ended with {lobby.returncode}"
+            return
+        time.sleep(0.01)
+    time.sleep(game.dice.random() * 0.9 * 54 * PACE / 1000)
+    numbers = [lobby.pid, *(process for process in descendants(lobby.pid)
+                            if b"serve" in of_process(process, "cmdline").split(b"\0"))]
+    for number in numbers if game.seed % 2 else reversed(numbers):
+        os.kill(number, signal.SIGKILL)
+    time.sleep(0.3)
+    done = game.recover(game.journal, "recovered")
     yield from game.faults(done, "recovered")
     noted, missing = check_notes(game) if not done.returncode else (0, 0)
     told = done.stderr.split("\n")
@@ -215,7 +183,7 @@ def check_notes(game: Game) -> Tuple[int, int]:
 
 def cut(game: Game) -> Iterator[str]:
     """Cuts a journal at random places, and recovers each."""
-    lines = (game.folder / "journal").read_text().split("\n")[:-1]
+    lines = game.journal.read_text().split("\n")[:-1]
     first = next((place for place, line in enumerate(lines) if '"r":' in line), None)
     made = 0
     for number in range(CUTS if first is not None else 0):
@@ -238,11 +206,13 @@ def soak(seed: int, folder: Path, _: Children) -> Iterator[str]:
     """Serves and kills a game, and cuts the journal of the served one."""
     if not shutil.which("node"):
         print("left out: agents in JavaScript: there is no Node")
-    game = Game(seed, folder / "served")
-    yield from serve(game)
-    yield from cut(game)
-    yield from kill(Game(seed, folder / "killed"))
+    with Children() as children:
+        game = Game(children, seed, folder / "served")
+        yield from serve(game)
+        yield from cut(game)
+    with Children() as children:
+        yield from kill(Game(children, seed, folder / "killed"))
 
 
 if __name__ == "__main__":
-    sys.exit(command("journals", lambda: soaking.run("journals", __doc__, soak)))
+    soaking.main("journals", __doc__, soak)

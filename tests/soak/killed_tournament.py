@@ -11,20 +11,19 @@ import os
 import random
 import signal
 import subprocess
-import sys
 import time
 from pathlib import Path
 from typing import Dict, Iterator, List, Tuple
 
 from geesefuton import program
 from geesefuton.experiments.runs import read_scores
-from geesefuton.processes import Children, command
+from geesefuton.processes import Children
 from geesefuton.records.logs import read_scores as read_log_scores
 from tests.support import soaking
-from tests.support.trying import MARK, TOP, what_is_left
+from tests.support.soaking import AGENTS
+from tests.support.trying import COMMAND, Place
 
 GAMES, KILLS = 24, 8
-AGENTS = ("planner.py", "watcher.py")
 MOST = 600.0  # seconds that the last run may take, and a tenth of it a game
 Games = Dict[str, Tuple[int, int]]  # by name: the number of the run, and when the log was written
 
@@ -32,14 +31,12 @@ Games = Dict[str, Tuple[int, int]]  # by name: the number of the run, and when t
 class Killed:
     """A tournament that is killed and gone on with."""
 
-    def __init__(self, place: Path) -> None:
-        self.out, self.temporary, self.mark = place / "run", place / "temporary", place.name
-        self.temporary.mkdir()
-        self.words = [sys.executable, str(TOP / "tools" / "tournament"), "--turns", "4",
-                      "--games", str(GAMES), "--at-once", "2", "--out", str(self.out), "--resume",
-                      *(str(TOP / "examples" / "agents" / name) for name in AGENTS)]
-        self.variables = {**os.environ, MARK: self.mark, "TMPDIR": str(self.temporary),
-                          "TAC": program.find()}
+    def __init__(self, folder: Path) -> None:
+        self.out, self.place = folder / "run", Place(folder / "temporary")
+        self.words = [*COMMAND, "tournament", "--turns", "4", "--games",
+                      str(GAMES), "--at-once", "2", "--out", str(self.out), "--resume",
+                      *(str(AGENTS / f"{name}.py") for name in ("planner", "watcher"))]
+        self.variables = {**os.environ, **self.place.variables, "TAC": program.find()}
         self.faults: List[str] = []
 
     def start(self) -> "subprocess.Popen[bytes]":
@@ -50,8 +47,15 @@ class Killed:
     def finished(self) -> Games:
         """The games that have all their rows."""
         rows = read_scores(self.out).rows if self.out.exists() else []
-        return {f"{row.number}.{row.rotation}": (row.run, self.log(f"{row.number}.{row.rotation}")
-                                               .stat().st_mtime_ns) for row in rows}
+        found = {f"{row.number}.{row.rotation}": row.run for row in rows}
+        return {name: (run, self.log(name).stat().st_mtime_ns) for name, run in found.items()}
+
+    def compare(self, before: Games) -> Games:
+        """The games that are finished now. One that was finished before has to be as it was."""
+        now = self.finished()
+        self.faults += [f"game {name} was lost or played again" for name, game in before.items()
+                        if now.get(name) != game]
+        return now
 
     def log(self, game: str) -> Path:
         """The file of a game's log."""
@@ -68,14 +72,10 @@ class Killed:
         time.sleep(after)
         process.send_signal(signal.SIGKILL)
         told = process.communicate()[1].decode(errors="replace")
-        for left in what_is_left(self.mark, self.temporary):
-            self.faults.append(f"a killed run left {left}")
-        now = self.finished()
+        self.faults += [f"a killed run: {left}" for left in self.place.left()]
         if process.returncode != -signal.SIGKILL:
             self.faults.append(f"a run ended by itself: {told[-300:]}")
-        self.faults += [f"game {name} was lost or played again" for name, game in before.items()
-                        if now.get(name) != game]
-        return len(now)
+        return len(self.compare(before))
 
     def end(self) -> None:
         """Plays what is missing, and looks at every game."""
@@ -83,12 +83,10 @@ class Killed:
         told = process.communicate(timeout=MOST)[1].decode(errors="replace")
         if process.returncode:
             self.faults.append(f"the last run ended with {process.returncode}: {told[-300:]}")
-        found, now = read_scores(self.out), self.finished()
+        found, now = read_scores(self.out), self.compare(before)
         due = {f"{deal}.{rotation}" for deal in range(1, GAMES // 2 + 1) for rotation in (0, 1)}
         if set(now) != due or len(found.rows) != 8 * GAMES or found.told:
             self.faults.append(f"{len(now)} of {GAMES} games, {len(found.rows)} rows: {found.told}")
-        self.faults += [f"game {name} was lost or played again at last" for name, game in
-                        before.items() if now.get(name) != game]
         scores: Dict[str, List[int]] = {}
         for row in sorted(found.rows, key=lambda row: row.seat):
             scores.setdefault(f"{row.number}.{row.rotation}", []).append(row.score)
@@ -112,5 +110,4 @@ def soak(seed: int, folder: Path, _: Children) -> Iterator[str]:
 
 
 if __name__ == "__main__":
-    sys.exit(command("killed_tournament",
-                     lambda: soaking.run("killed_tournament", __doc__, soak)))
+    soaking.main("killed_tournament", __doc__, soak)

@@ -22,9 +22,9 @@ from pathlib import Path
 from typing import Any, Dict, Iterator, List, NamedTuple, Optional
 
 from geesefuton import program
-from geesefuton.processes import Children, command, free_port
+from geesefuton.processes import Children, free_port
 from tests.support import soaking
-from tests.support.trying import MARK, TOP, what_is_left
+from tests.support.trying import TOP, Place
 
 PARTS = 4  # of all runs
 AT_ONCE = 2
@@ -40,26 +40,8 @@ link.sendall(f"hello {sys.argv[3]}\\n".encode())
 while True:
     time.sleep(1)
 """
-# A browser: it joins at the page of a port by a word, and stays until the game is over.
-BROWSER = """import json, sys, time, urllib.request
-place = f"http://127.0.0.1:{sys.argv[1]}/"
-def sent(what, body):
-    request = urllib.request.Request(place + what, body, {"Content-Type": "application/json"})
-    with urllib.request.urlopen(request) as answer:
-        return answer.read().decode()
-def ask(what, given):
-    return json.loads(sent(f"{token}/{what}", json.dumps(given).encode()))
-token = ""
-while not token:
-    try:
-        token = sent("play", b"seat0")
-    except OSError:
-        time.sleep(0.1)
-page, phase = ask("open", {})["page"], ""
-while phase not in ("over", "failed"):
-    phase = ask("state", {"page": page})["phase"]
-    time.sleep(0.2)
-"""
+
+GEESEFUTON = "python/geesefuton"  # the command, as a script
 
 
 class Script(NamedTuple):
@@ -93,40 +75,39 @@ class Run(NamedTuple):
         return f"{self.number.name} after {self.moment:g} s"
 
 
-def scripts(hanger: str, browser: str, record: str) -> Iterator[Script]:
+def scripts(hanger: str, record: str) -> Iterator[Script]:
     """Each script; the lobby comes four times: waiting for its agents, running a game, showing one
     on a page, and letting it be played by hand there.
 
     Args:
         hanger: The file of an agent that hangs.
-        browser: The file of the browser.
         record: The stem of an agent's record of its link.
     """
     data = TOP / "tests" / "package" / "data"
-    journal = str(data / "lobby.journal")
-    game = str(TOP / "examples" / "first.game")
+    journal, game = str(data / "lobby.journal"), str(TOP / "examples" / "first.game")
     planner = "examples/agents/planner.py"
-    lobby = ["tools/lobby", game, "PORT", "100", "--after", "1"]
-    yield Script("quick start", ["tools/quickstart"])
-    yield Script("tournament", ["tools/tournament", "--games", "3", "--pace", "40", "--after", "1",
-                                "--out", "clock", hanger, str(TOP / planner)])
-    yield Script("tournament in turns", ["tools/tournament", "--games", "3", "--turns", "10",
-                                         "--patience", "1", "--after", "1", "--out", "turns",
-                                         hanger, str(TOP / planner)])
-    yield Script("profiles", ["tools/profiles", "--games", "1", "--turns", "10", "--patience", "1",
-                              "--after", "1", "--out", "study", hanger, str(TOP / planner)])
+    agents = [hanger, str(TOP / planner)]
+    in_turns = ["--turns", "10", "--patience", "1", "--after", "1"]
+    lobby = [GEESEFUTON, "lobby", game, "PORT", "100", "--after", "1"]
+    yield Script("quick start", [GEESEFUTON, "quickstart"])
+    yield Script("tournament", [GEESEFUTON, "tournament", "--games", "3", "--pace", "40", "--after",
+                                "1", "--out", "clock", *agents])
+    yield Script("tournament in turns", [GEESEFUTON, "tournament", "--games", "3", *in_turns,
+                                         "--out", "turns", *agents])
+    yield Script("profiles", [GEESEFUTON, "profiles", "--games", "1", *in_turns, "--out", "study",
+                              *agents])
     yield Script("lobby, waiting", [*lobby, "--start", "4"])
     yield Script("lobby, game", [*lobby, "--start", "0.1"])
     yield Script("lobby, page", [*lobby, "--start", "0.1", "--page", "PAGE"])
-    yield Script("live page", ["tools/live", journal, "PORT"], stays=True)
-    yield Script("recovery", ["tools/recover", journal])
-    yield Script("vouching", ["tools/vouch", str(data / "served.game"), str(data / "served.log"),
-                              record])
-    yield Script("room", ["tools/room", "--port", "PORT", "--page", "PAGE", "--pace", "50",
+    yield Script("live page", [GEESEFUTON, "live", journal, "PORT"], stays=True)
+    yield Script("recovery", [GEESEFUTON, "recover", journal])
+    yield Script("vouching", [GEESEFUTON, "vouch", str(data / "served.game"),
+                              str(data / "served.log"), record])
+    yield Script("room", [GEESEFUTON, "room", "--port", "PORT", "--page", "PAGE", "--pace", "50",
                           "--wait", "0.3", "--after", "1", "--games", "1"],
                  [planner, "localhost", "PORT", "seat0", "--pause", "0.05", "--again"])
     yield Script("lobby, by hand", [*lobby, "--start", "1.5", "--page", "PAGE"],
-                 [browser, "PAGE"])
+                 ["tests/support/hand.py", "PAGE"])
     yield Script("learner", ["examples/learner.py", "--rounds", "2", "--games", "2", "--unseen",
                              "10"])
     yield Script("game in steps", ["examples/step.py"])
@@ -134,10 +115,8 @@ def scripts(hanger: str, browser: str, record: str) -> Iterator[Script]:
 
 def tell(script: "subprocess.Popen[bytes]", number: signal.Signals) -> None:
     """Sends a signal to a script that may have ended."""
-    try:
+    with contextlib.suppress(ProcessLookupError):
         script.send_signal(number)
-    except ProcessLookupError:
-        pass
 
 
 def end(script: "subprocess.Popen[bytes]", number: Optional[signal.Signals]) -> None:
@@ -158,53 +137,53 @@ def tried(run: Run, children: Children) -> List[str]:
         run: The script, and how it ends.
         children: By which a folder is made, and what stands beside the script is started.
     """
-    script, place = run.script, children.folder("run")
-    mark, temporary = place.name, place / "temporary"
-    temporary.mkdir()
+    script, folder = run.script, children.folder("run")
+    place = Place(folder / "temporary")
     ports = {name: str(free_port()) for name in ("PORT", "PAGE")}
 
     def words_of(words: List[str]) -> List[str]:
         return [sys.executable, str(TOP / words[0]), *(ports.get(word, word) for word in words[1:])]
 
     variables = {**os.environ, "TAC": program.find()}
-    quiet: Dict[str, Any] = {"stdout": subprocess.DEVNULL, "stderr": subprocess.DEVNULL}
-    beside = []
-    if script.beside:
-        beside.append(children.start(words_of(script.beside), env=variables, cwd=place,
-                                     stdin=subprocess.DEVNULL, **quiet))
-    with subprocess.Popen(
-            words_of(script.words), cwd=place, stdin=subprocess.DEVNULL, start_new_session=True,
-            env={**variables, MARK: mark, "TMPDIR": str(temporary)}, **quiet) as process:
+    how: Dict[str, Any] = {"cwd": folder, "stdin": subprocess.DEVNULL,
+                           "stdout": subprocess.DEVNULL, "stderr": subprocess.DEVNULL}
+    with contextlib.ExitStack() as stack:
+        if script.beside:
+            beside = children.start(words_of(script.beside), env=variables, **how)
+            stack.callback(stop, beside, children)
+        process = stack.enter_context(subprocess.Popen(
+            words_of(script.words), start_new_session=True,
+            env={**variables, **place.variables}, **how))
         time.sleep(run.moment)
-        try:
+        with contextlib.suppress(subprocess.TimeoutExpired):  # it is among what is left then
             end(process, run.number)
-        except subprocess.TimeoutExpired:
-            pass  # it is among the processes that are left
-        left = what_is_left(mark, temporary)
-    for other in beside:
-        tell(other, signal.SIGTERM)
-        with contextlib.suppress(subprocess.TimeoutExpired):
-            other.wait(ENDING)
-        children.end(other)
+        left = place.left()
     return left
+
+
+def stop(beside: "subprocess.Popen[bytes]", children: Children) -> None:
+    """Stops what stands beside a script."""
+    tell(beside, signal.SIGTERM)
+    with contextlib.suppress(subprocess.TimeoutExpired):
+        beside.wait(ENDING)
+    children.end(beside)
 
 
 def soak(seed: int, folder: Path, children: Children) -> Iterator[str]:
     """Ends the scripts, some at a time."""
-    hanger, browser = folder / "hanger.py", folder / "browser.py"
+    hanger = folder / "hanger.py"
     hanger.write_text(HANGER)
-    browser.write_text(BROWSER)
     for side, line in (("asked", "hello twotrips\n"), ("said", "welcome 0\n")):
         (folder / f"twotrips.{side}").write_text(line)
     runs = [Run(script, number, moment)
-            for script in scripts(str(hanger), str(browser), str(folder / "twotrips"))
+            for script in scripts(str(hanger), str(folder / "twotrips"))
             for number in ENDS[script.stays:] for moment in (MOMENTS if number else (0.0,))]
     runs = runs[seed % PARTS::PARTS]
     with ThreadPoolExecutor(AT_ONCE) as pool:
         for run, rest in zip(runs, pool.map(lambda run: tried(run, children), runs)):
-            yield from (f"{run.script.name}, {run.how}: left: {what}" for what in rest)
+            yield from (f"{run.script.name}, {run.how}: {what}" for what in rest)
     print(f"{len(runs)} scripts were ended")
 
 
 if __name__ == "__main__":
-    sys.exit(command("left_over", lambda: soaking.run("left_over", __doc__, soak)))
+    soaking.main("left_over", __doc__, soak)

@@ -14,31 +14,27 @@ import contextlib
 import re
 import socket
 import subprocess
-import sys
 import time
 from pathlib import Path
-from typing import Callable, Iterator, List, NamedTuple
+from typing import Iterator, NamedTuple
 
-from geesefuton import program
 from geesefuton.hosting.page_process import PageProcess
 from geesefuton.hosting.settings import LobbySettings
-from geesefuton.processes import Children, command, free_port
+from geesefuton.processes import Children, free_port
 from geesefuton.records.games import TICKS
 from tests.package.seat_server import SeatServer
 from tests.support import soaking
-from tests.support.browser import Browser, BrowserError, Tab, is_seen
-from tests.support.trying import TOP
+from tests.support.browser import MOST, Browser, BrowserError, Tab, wait_for
+from tests.support.soaking import Hosted, example
+from tests.support.trying import COMMAND, TOP
 
 PACE = 2000  # milliseconds from tick to tick
-MOST = 120.0  # seconds that a page may take to show something, on a busy machine
 USED = ("button", "spinbutton", "checkbox", "radio", "link", "textbox", "dialog")
 AGENTS = ("planner", "trader", "baseline", "planner", "trader", "baseline", "planner", "watcher")
 JOURNAL = TOP / "tests" / "package" / "data" / "lobby.journal"
 SETTLED = 1.0  # seconds after which the rows of the standings are in their places
 LEAST, LARGE = 18.0, 24.0  # px of 720: of all texts, and of those that matter
 MATTERS = "#tick, .left div, .row .name, .row .score, .event p:first-child, .join p"
-FOCUSED = "document.activeElement.getAttribute('aria-label') || document.activeElement.innerText " \
-    "|| document.activeElement.id"
 # The smallest text that is seen, in CSS pixels, and what it says.
 SMALLEST = """(() => {
   const walk = document.createTreeWalker(document.body, NodeFilter.SHOW_TEXT);
@@ -76,16 +72,6 @@ LOOKS = [Look(width, height, theme) for width, height in ((1280, 720), (390, 844
 NARROW = Look(320, 700, "light")
 
 
-def wait_for(what: str, is_there: Callable[[], bool], most: float = MOST) -> None:
-    """Waits until something is seen, for so many seconds at most.
-
-    Raises:
-        BrowserError: It is not.
-    """
-    if not is_seen(is_there, most):
-        raise BrowserError(f"not seen: {what}")
-
-
 def asked(server: SeatServer, line: str) -> None:
     """Waits until the server was asked a line."""
     wait_for(f"`{line}`, of {server.heard[-3:]}", lambda: line in server.heard)
@@ -105,47 +91,9 @@ def seat(children: Children, server: SeatServer) -> Iterator[str]:
         pages.end()
 
 
-class Keyboard:
-    """Somebody who has only keys.
-
-    Args:
-        tab: The page.
-    """
-
-    def __init__(self, tab: Tab) -> None:
-        self.tab = tab
-
-    def focused(self) -> str:
-        """What has the focus."""
-        return str(self.tab.value(FOCUSED) or "")
-
-    def press(self, *keys: str, shift: bool = False) -> None:
-        """Presses keys, one after the other."""
-        for key in keys:
-            self.tab.press(key, shift)
-
-    def reach(self, pattern: str, key: str = "Tab", shift: bool = False, most: int = 40) -> None:
-        """Goes on by a key until something has the focus.
-
-        Raises:
-            BrowserError: It never has.
-        """
-        for _ in range(most):
-            if re.search(pattern, self.focused()):
-                return
-            self.press(key, shift=shift)
-        raise BrowserError(f"the key {key} does not lead to {pattern}; it is at {self.focused()}")
-
-    def write(self, text: str) -> None:
-        """Replaces the number in a field."""
-        self.tab.value("document.activeElement.select()")
-        self.press(*text)
-
-
-def play_by_keys(tab: Tab, server: SeatServer) -> None:
+def play_by_keys(keys: Tab, server: SeatServer) -> None:
     """Bids, is refused, sells and withdraws, by the keyboard alone."""
-    keys = Keyboard(tab)
-    wait_for("the market", lambda: tab.sees("Flights in"))
+    wait_for("the market", lambda: keys.sees("Flights in"))
     keys.reach("^Client 1: Flights in, day 1")
     keys.press("Enter")
     keys.reach("^(Bid to b|B)uy ")
@@ -156,7 +104,8 @@ def play_by_keys(tab: Tab, server: SeatServer) -> None:
     keys.press("Enter")
     keys.reach("^Bid to buy 1$")
     keys.reach("^price$", shift=True)
-    keys.write("77")
+    keys.value("document.activeElement.select()")
+    keys.press(*"77")
     keys.press("Enter")
     asked(server, "bid 8 ((1 77))")
     wait_for("the bid at its price", lambda: "your bid: buy 1 at 77" in keys.focused())
@@ -164,17 +113,18 @@ def play_by_keys(tab: Tab, server: SeatServer) -> None:
     keys.press("Enter")
     keys.reach("^(Bid to b|B)uy 1$")
     keys.press("Enter")
-    wait_for("why it is refused", lambda: tab.sees("Too low: a new bid has to offer 2 rooms at 78"))
+    wait_for("why it is refused",
+             lambda: keys.sees("Too low: a new bid has to offer 2 rooms at 78"))
     wait_for("the button again", lambda: re.search("uy 2$", keys.focused()) is not None)
     keys.press("Escape")
     wait_for("the price again", lambda: "Shanties, night 1" in keys.focused())
     server.closed = [8]  # what has the focus closes
-    wait_for("the closing", lambda: tab.sees("closed"))
+    wait_for("the closing", lambda: keys.sees("closed"))
     keys.reach("^Alligator wrestling, night 1", "ArrowDown")
     keys.press("Enter")
     keys.reach("^(Bid to b|B)uy 1$")
     for _ in range(12):  # the two sides are one stop, without a text of their own
-        if tab.value("document.activeElement.name") == "side":
+        if keys.value("document.activeElement.name") == "side":
             break
         keys.press("Tab", shift=True)
     keys.press("ArrowRight")
@@ -188,10 +138,14 @@ def play_by_keys(tab: Tab, server: SeatServer) -> None:
     wait_for("the price without an offer", lambda: "your bid" not in keys.focused())
 
 
-def nameless(tab: Tab) -> List[str]:
-    """The things that can be used and have no name for a screen reader."""
-    return [each["role"] for each in tab.nodes()
-            if each["role"] in USED and not each["name"].strip()]
+def faults_of(tab: Tab, name: str) -> Iterator[str]:
+    """What is wrong with any page: things that can be used and have no name for a screen reader,
+    and what is wider than the screen."""
+    for each in tab.nodes():
+        if each["role"] in USED and not each["name"].strip():
+            yield f"{name}: no name: {each['role']}"
+    if tab.value(OVERFLOWS):
+        yield f"{name}: it is wider than the screen"
 
 
 def look_at_seats(children: Children, browser: Browser, folder: Path) -> Iterator[str]:
@@ -204,9 +158,7 @@ def look_at_seats(children: Children, browser: Browser, folder: Path) -> Iterato
                 play_by_keys(tab, server)
             except BrowserError as fault:
                 yield f"seat {look}: {fault}"
-            yield from (f"seat {look}: no name: {role}" for role in nameless(tab))
-            if tab.value(OVERFLOWS):
-                yield f"seat {look}: it is wider than the screen"
+            yield from faults_of(tab, f"seat {look}")
             tab.picture(folder / f"seat-{look}.png")
             tab.close()
 
@@ -242,7 +194,7 @@ def look_at_a_lost_screen(children: Children, browser: Browser) -> Iterator[str]
     part = folder / "part.journal"
     lines = JOURNAL.read_bytes().split(b"\n")
     part.write_bytes(b"\n".join(lines[:len(lines) // 3]) + b"\n")
-    words = [sys.executable, str(TOP / "tools" / "live"), str(part), str(port)]
+    words = [*COMMAND, "live", str(part), str(port)]
 
     def start() -> "subprocess.Popen[bytes]":
         return children.start(words, stdin=subprocess.DEVNULL, stderr=subprocess.DEVNULL)
@@ -285,22 +237,19 @@ def look_at_starters(children: Children, browser: Browser, port: int) -> Iterato
         tab = look.tab(browser, f"http://127.0.0.1:{port}/join")
         wait_for("the page of starters", lambda: tab.sees("Or let an agent play"))
         tab.call("Page.setDownloadBehavior", behavior="allow", downloadPath=str(folder))
-        keys = Keyboard(tab)
-        keys.reach("^Download starter.py$")
-        keys.press("Enter")
+        tab.reach("^Download starter.py$")
+        tab.press("Enter")
         wait_for("that a word is needed", lambda: tab.sees("Type the word of your seat first"))
-        keys.press(*"red7k")
-        keys.reach("^Download starter.py$")
-        keys.press("Enter")
+        tab.press(*"red7k")
+        tab.reach("^Download starter.py$")
+        tab.press("Enter")
         wait_for("the starter", lambda: any(folder.glob("starter*.py")))
         time.sleep(0.5)
         file = next(folder.glob("starter*.py"))
         if 'WORD = "red7k"' not in file.read_text():
             yield f"join {look}: the word is not in the file"
         file.unlink()
-        yield from (f"join {look}: no name: {role}" for role in nameless(tab))
-        if tab.value(OVERFLOWS):
-            yield f"join {look}: it is wider than the screen"
+        yield from faults_of(tab, f"join {look}")
         tab.close()
 
 
@@ -315,14 +264,10 @@ class Board:
     """
 
     def __init__(self, children: Children, browser: Browser, folder: Path, seed: int) -> None:
-        self._children, self._folder = children, folder
-        self.port, self._agents, place = free_port(), free_port(), children.folder("board")
-        game = place / "game"
-        game.write_text(program.make(seed))
-        children.start(
-            [sys.executable, str(TOP / "tools" / "lobby"), str(game), str(self._agents), str(PACE),
-             "--page", str(self.port), "--journal", str(place / "journal")],
-            stdin=subprocess.DEVNULL, stdout=subprocess.DEVNULL, stderr=subprocess.DEVNULL)
+        self._folder = folder
+        self._game = Hosted(children, children.folder("board"), seed)
+        self._game.start(PACE, "--page", self._game.page)
+        self.port = self._game.page
         wait_for("the page's port", lambda: _listens(self.port))
         self._tabs = {look: look.tab(browser, f"http://127.0.0.1:{self.port}/") for look in LOOKS}
 
@@ -345,10 +290,7 @@ class Board:
         """Plays the game, and looks at it."""
         yield from self.look("waiting", "Waiting for agents")
         for seat_number, name in enumerate(AGENTS):
-            self._children.start(
-                [sys.executable, str(TOP / "examples" / "agents" / f"{name}.py"), "localhost",
-                 str(self._agents), f"seat{seat_number}", "--pause", str(PACE / 1000)],
-                stdin=subprocess.DEVNULL, stdout=subprocess.DEVNULL, stderr=subprocess.DEVNULL)
+            self._game.join(seat_number, example(name), PACE / 1000)
         for tick in (14, 36):
             yield from self.look(f"tick{tick}", f"Tick {tick} of 54|Tick {tick + 1} of 54")
         yield from self.look("tick54", "All is closed|The game is over")
@@ -373,4 +315,4 @@ def soak(seed: int, folder: Path, children: Children) -> Iterator[str]:
 
 
 if __name__ == "__main__":
-    sys.exit(command("pages", lambda: soaking.run("pages", __doc__, soak)))
+    soaking.main("pages", __doc__, soak)

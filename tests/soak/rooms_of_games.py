@@ -22,12 +22,11 @@ from pathlib import Path
 from typing import Any, Dict, Iterator, Sequence
 
 from geesefuton import program
-from geesefuton.practice.folder import Folder
-from geesefuton.practice.standings import standings_of
-from geesefuton.processes import Children, command, free_port
+from geesefuton.practice.folder import Folder, standings_of
+from geesefuton.processes import Children, free_port
 from geesefuton.records.logs import read_scores
 from tests.support import soaking
-from tests.support.trying import MARK, TOP, what_is_left
+from tests.support.trying import COMMAND, TOP, Place
 
 GAMES, KILLS = 16, 2
 PACE = 20  # milliseconds from tick to tick
@@ -58,28 +57,24 @@ class Trial:
     Attributes:
         kills: How often the room was killed.
         room: The room's folder.
-        temporary: The folder for temporary files.
+        place: Where its temporary files are.
     """
 
     def __init__(self, folder: Path) -> None:
-        self.room, self._port, self.mark = folder / "room", free_port(), folder.name
-        self.kills = 0
+        self.room, self.place, self.kills = folder / "room", Place(folder / "temporary"), 0
+        self._port, self._said = free_port(), (folder / "said").open("wb")
         self._files = {kind: folder / f"{kind}.py" for kind in ("stay", "crash", "hang")}
         for file in self._files.values():
             file.write_text(AGENT)
-        self._said = (folder / "said").open("wb")
-        self.temporary = folder / "temporary"
-        self.temporary.mkdir()
         self._agents: Dict[int, "subprocess.Popen[bytes]"] = {}
         path = os.pathsep.join([str(TOP / "python"), os.environ.get("PYTHONPATH", "")])
-        self._variables = {**os.environ, "PYTHONPATH": path, MARK: self.mark,
-                           "TMPDIR": str(self.temporary)}
+        self._variables = {**os.environ, **self.place.variables, "PYTHONPATH": path}
 
     def start(self, games: int) -> "subprocess.Popen[bytes]":
         """Starts the room, which is to play so many games more."""
-        return self._run([TOP / "tools" / "room", "--port", self._port, "--pace", PACE,
-                          "--wait", 0.5, "--after", 1, "--house", self._files["stay"], "--folder",
-                          self.room, "--games", games])
+        return self._run([COMMAND[1], "room", "--port", self._port, "--pace", PACE, "--wait", 0.5,
+                          "--after", 1, "--house", self._files["stay"], "--folder", self.room,
+                          "--games", games])
 
     def stir(self, source: random.Random) -> None:
         """Lets an agent come or go. The one of seat 0 stays."""
@@ -88,9 +83,7 @@ class Trial:
                 del self._agents[seat]
         seat = source.randrange(1, 6) if 0 in self._agents else 0
         if seat in self._agents:
-            agent = self._agents.pop(seat)
-            agent.kill()
-            agent.wait()
+            kill(self._agents.pop(seat))
             return
         kind = "stay" if not seat else source.choice(list(self._files))
         self._agents[seat] = self._run([self._files[kind], "localhost", self._port, f"seat{seat}",
@@ -99,8 +92,7 @@ class Trial:
     def close(self) -> None:
         """Ends the agents."""
         for agent in self._agents.values():
-            agent.kill()
-            agent.wait()
+            kill(agent)
         self._said.close()
 
     def _run(self, words: Sequence[object]) -> "subprocess.Popen[bytes]":
@@ -118,6 +110,12 @@ class Trial:
             return len(folder.finished) + len(folder.unjudged)
 
 
+def kill(process: "subprocess.Popen[bytes]") -> int:
+    """Kills a process, and gives its exit status; it may have ended."""
+    process.kill()
+    return process.wait()
+
+
 def play(trial: Trial, source: random.Random) -> Iterator[str]:
     """Plays the games, and yields what goes wrong."""
     due = [GAMES * (number + 1) // (KILLS + 1) for number in range(KILLS)]
@@ -130,8 +128,7 @@ def play(trial: Trial, source: random.Random) -> Iterator[str]:
             yield f"a finished game is lost or changed after {len(known)} games"
         known = now
         if status is not None or time.monotonic() > heard + MOST:
-            room.kill()
-            if room.wait() or len(now) != GAMES:
+            if kill(room) or len(now) != GAMES:
                 yield f"the room has stopped after {len(now)} games"
             return
         trial.stir(source)
@@ -139,8 +136,7 @@ def play(trial: Trial, source: random.Random) -> Iterator[str]:
         if due and len(now) >= due[0]:
             del due[0]
             trial.kills += 1
-            room.kill()
-            room.wait()
+            kill(room)
             room = trial.start(GAMES - trial.begun())
 
 
@@ -168,16 +164,11 @@ def compare(trial: Trial) -> Iterator[str]:
         yield "the averages are not those of a plain script"
     if any(row.rank != 1 + sum(other > row.average for other in plain.values()) for row in rows):
         yield "the ranks are not those of a plain script"
-    words = {word: Fraction(sum(own), len(own)) for word, own in by_word.items()}
-    if pairs and table_of(program.table(pairs)) != words:
+    lines = [line.split() for line in program.table(pairs).splitlines()] if pairs else []
+    if {words[1]: Fraction(words[4]) for words in lines if words[0] == "team"} != {
+            word: Fraction(sum(own), len(own)) for word, own in by_word.items()}:
         yield "the averages of seats are not those of `tac table`"
     print(*(f"{row.rank} {row.name} {row.games} {row.average}" for row in rows), sep="\n")
-
-
-def table_of(text: str) -> Dict[str, Fraction]:
-    """The averages of `tac table`, by seat word."""
-    lines = [line.split() for line in text.splitlines() if line.startswith("team ")]
-    return {words[1]: Fraction(words[4]) for words in lines}
 
 
 def soak(seed: int, folder: Path, _: Children) -> Iterator[str]:
@@ -188,9 +179,9 @@ def soak(seed: int, folder: Path, _: Children) -> Iterator[str]:
     finally:
         trial.close()
     yield from compare(trial)
-    yield from (f"there is left: {left}" for left in what_is_left(trial.mark, trial.temporary))
+    yield from trial.place.left()
     print(f"{len(trial.manifests())} games, {trial.kills} times killed")
 
 
 if __name__ == "__main__":
-    sys.exit(command("rooms_of_games", lambda: soaking.run("rooms_of_games", __doc__, soak)))
+    soaking.main("rooms_of_games", __doc__, soak)

@@ -17,7 +17,10 @@ from geesefuton.processes import Children
 KEYS = {"Tab": (9, ""), "Enter": (13, "\r"), "Escape": (27, ""), "Space": (32, " "),
         "ArrowLeft": (37, ""), "ArrowUp": (38, ""), "ArrowRight": (39, ""), "ArrowDown": (40, "")}
 SHIFT = 8  # as the protocol has it
+MOST = 120.0  # seconds that a page may take to show something, on a busy machine
 ENDING = 30.0  # seconds that Chromium may take to end, on a busy machine
+FOCUSED = "document.activeElement.getAttribute('aria-label') || document.activeElement.innerText " \
+    "|| document.activeElement.id"
 # The middle of the first element of some kind that is seen and has a text; null if there is none.
 FIND = """(() => {
   const says = each => each.getAttribute("aria-label") || each.innerText;
@@ -45,6 +48,16 @@ def is_seen(is_there: Callable[[], bool], most: float) -> bool:
             return False
         time.sleep(0.05)
     return True
+
+
+def wait_for(what: str, is_there: Callable[[], bool], most: float = MOST) -> None:
+    """Waits until something is seen, for so many seconds at most.
+
+    Raises:
+        BrowserError: It is not.
+    """
+    if not is_seen(is_there, most):
+        raise BrowserError(f"not seen: {what}")
 
 
 class Browser:
@@ -143,15 +156,32 @@ class Tab:
                       button="left", clickCount=1)
         return True
 
-    def press(self, key: str, shift: bool = False) -> None:
-        """Presses a key of `KEYS`, or one that types a letter or a digit."""
-        code, text = KEYS.get(key, (ord(key[0].upper()), key))
-        name = " " if key == "Space" else key
-        words: Dict[str, Any] = {"key": name, "code": key, "windowsVirtualKeyCode": code,
-                                 "modifiers": SHIFT if shift else 0}
-        self.call("Input.dispatchKeyEvent", type="keyDown" if text else "rawKeyDown",
-                  **words, **({"text": text} if text else {}))
-        self.call("Input.dispatchKeyEvent", type="keyUp", **words)
+    def press(self, *keys: str, shift: bool = False) -> None:
+        """Presses keys, one after the other: of `KEYS`, or that type a letter or a digit."""
+        for key in keys:
+            code, text = KEYS.get(key, (ord(key[0].upper()), key))
+            words: Dict[str, Any] = {"key": " " if key == "Space" else key, "code": key,
+                                     "windowsVirtualKeyCode": code,
+                                     "modifiers": SHIFT if shift else 0}
+            self.call("Input.dispatchKeyEvent", type="keyDown" if text else "rawKeyDown",
+                      **words, **({"text": text} if text else {}))
+            self.call("Input.dispatchKeyEvent", type="keyUp", **words)
+
+    def focused(self) -> str:
+        """What has the focus."""
+        return str(self.value(FOCUSED) or "")
+
+    def reach(self, pattern: str, key: str = "Tab", shift: bool = False) -> None:
+        """Goes on by a key until something has the focus.
+
+        Raises:
+            BrowserError: It never has.
+        """
+        for _ in range(40):
+            if re.search(pattern, self.focused()):
+                return
+            self.press(key, shift=shift)
+        raise BrowserError(f"the key {key} does not lead to {pattern}; it is at {self.focused()}")
 
     def nodes(self) -> List[Dict[str, str]]:
         """What a screen reader is given: the role, the name and the value of each thing."""

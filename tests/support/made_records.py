@@ -11,7 +11,6 @@ from geesefuton.records.dialects import said_in
 from geesefuton.records.games import FLIGHTS, GOODS, TICKETS, read_game
 from geesefuton.records.replies import read_request, request_json
 
-LINES = 160  # of a drawn script
 WELCOME = 10
 CAUSES = ("quit", "end", "readfault", "writefault", "budget")
 ENTRY = r"[0-8] (bid|own|withdraw|update|publish|close)\b"
@@ -131,11 +130,12 @@ def drawn_line(dice: random.Random, goods: Sequence[int]) -> str:
     return "cash" if word == "cash" else f"{word} {good}{bid * (word == 'bid')}"
 
 
-def drawn_script(dice: random.Random) -> List[str]:
-    """A script of eight agents that meet at a few goods."""
-    goods = dice.sample(list(GOODS), 5)
-    script = [f"{dice.randrange(8)} {drawn_line(dice, goods)}" for _ in range(LINES)]
-    for _ in range(30):
+def drawn_script(dice: random.Random, lines: int = 160, ticks: int = 30, goods: int = 5
+                 ) -> List[str]:
+    """A script of eight agents that meet at some goods."""
+    met = dice.sample(list(GOODS), goods)
+    script = [f"{dice.randrange(8)} {drawn_line(dice, met)}" for _ in range(lines)]
+    for _ in range(ticks):
         script.insert(dice.randrange(len(script)), "tick")
     return script
 

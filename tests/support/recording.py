@@ -5,7 +5,7 @@ import asyncio
 import contextlib
 import socket
 import struct
-from typing import List, NamedTuple, Optional, Set
+from typing import List, NamedTuple, Optional
 
 PIECE = 1 << 16  # bytes that are read at once
 TRIES, BETWEEN = 2000, 0.005  # tries to reach a server that does not listen yet, and seconds
@@ -35,18 +35,32 @@ class Streams(NamedTuple):
         self.writer.transport.abort()
 
 
+async def reach(host: str, port: int, tries: int = TRIES, between: float = BETWEEN) -> Streams:
+    """A connection to a server that may not listen yet.
+
+    Raises:
+        OSError: It does not listen after so many tries, with so many seconds between them.
+    """
+    for _ in range(tries):
+        with contextlib.suppress(OSError):
+            return Streams(*await asyncio.open_connection(host, port))
+        await asyncio.sleep(between)
+    raise ConnectionRefusedError
+
+
 class KeptLink:
     """A link and its bytes at the server's side.
 
     Attributes:
         asked: What was given to the server.
         said: What the server sent.
+        agent: The connection to the agent.
         server: The connection to the server, once there is one.
         has_ended: Whether the server has ended its side.
     """
 
-    def __init__(self) -> None:
-        self.asked, self.said = bytearray(), bytearray()
+    def __init__(self, agent: Streams) -> None:
+        self.asked, self.said, self.agent = bytearray(), bytearray(), agent
         self.server: Optional[Streams] = None
         self.has_ended = False
 
@@ -90,16 +104,7 @@ class Relay:
         """The links whose server has not ended them."""
         return [link for link in self.links if link.server and not link.has_ended]
 
-    async def pass_on(self, link: KeptLink, agent: Streams, server: Streams) -> None:
-        """Passes on what comes on a link, in both directions, until both have ended."""
-        await asyncio.gather(self.pump(agent, server, link.asked), self.hear(link, agent, server))
-
-    async def hear(self, link: KeptLink, agent: Streams, server: Streams) -> None:
-        """Passes on what the server sends."""
-        await self.pump(server, agent, link.said)
-        link.has_ended = True
-
-    async def pump(self, source: Streams, target: Streams, kept: bytearray) -> None:
+    async def _pump(self, source: Streams, target: Streams, kept: bytearray) -> None:
         """Passes on one direction, and keeps its bytes before they are sent."""
         try:
             while True:
@@ -116,29 +121,22 @@ class Relay:
         except RuntimeError:
             pass  # its side was ended, so nothing more is sent
 
-    async def reach(self) -> Streams:
-        """A connection to the server.
-
-        Raises:
-            OSError: It does not listen.
-        """
-        for _ in range(TRIES):
-            with contextlib.suppress(ConnectionRefusedError):
-                return Streams(*await asyncio.open_connection("127.0.0.1", self.port))
-            await asyncio.sleep(BETWEEN)
-        raise ConnectionRefusedError
-
     def _take(self, reader: asyncio.StreamReader, writer: asyncio.StreamWriter) -> None:
         task = asyncio.ensure_future(self._serve(Streams(reader, writer)))
         self._tasks.add(task)
         task.add_done_callback(self._tasks.discard)
 
     async def _serve(self, agent: Streams) -> None:
-        link = KeptLink()
+        link = KeptLink(agent)
         self.links.append(link)
+
+        async def hear(server: Streams) -> None:
+            await self._pump(server, agent, link.said)
+            link.has_ended = True
+
         try:
-            link.server = await self.reach()
-            await self.pass_on(link, agent, link.server)
+            link.server = await reach("127.0.0.1", self.port)
+            await asyncio.gather(self._pump(agent, link.server, link.asked), hear(link.server))
         except OSError:
             pass  # the server has ended
         finally:

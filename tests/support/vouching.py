@@ -33,7 +33,7 @@ import re
 import sys
 from collections import deque
 from pathlib import Path
-from typing import Deque, Iterator, List, Optional, Sequence, Tuple, Union
+from typing import Deque, Dict, List, Optional, Sequence, Tuple, Union
 
 from geesefuton import program
 from geesefuton.arguments import Parser
@@ -97,27 +97,22 @@ def asked_by(line: bytes, form: str) -> Union[Request, str]:
 # What quotes show.
 
 
-def boards_of(game: Game, good: int, history: Sequence[Entry]) -> Iterator[Board]:
-    """The board of each prefix of a good's history, the empty one first."""
-    books = Books(game)
-    yield books.boards[good]
-    for entry in history:
-        books.take(good, entry)
-        yield books.boards[good]
-
-
 class Boards:
     """The boards of all prefixes of a log's histories; those of a good are made when they are first
     asked for."""
 
     def __init__(self, game: Game, log: Log) -> None:
         self.game, self.log = game, log
-        self._made: List[List[Board]] = [[] for _ in GOODS]
+        self._made: Dict[int, List[Board]] = {}
 
     def of(self, good: int) -> List[Board]:
-        """The board of each prefix of a good's history."""
-        if not self._made[good]:
-            self._made[good] = list(boards_of(self.game, good, self.log.histories[good]))
+        """The board of each prefix of a good's history, the empty one first."""
+        if good not in self._made:
+            books = Books(self.game)
+            self._made[good] = [books.boards[good]]
+            for entry in self.log.histories[good]:
+                books.take(good, entry)
+                self._made[good].append(books.boards[good])
         return self._made[good]
 
 
@@ -317,20 +312,17 @@ def main() -> int:
         return program.UNSOUND
     game = read_game(given.game.read_text(encoding="latin-1"))
     boards = Boards(game, read_log(given.log.read_bytes()))
-    texts = []
-    for file in (given.asked, given.said):
-        try:
-            with file.open("rb") as stream:
-                texts.append(stream.read(MOST_BYTES + 1))
-        except OSError:
-            print("fault read")
-            return READ_FAULT
-        if len(texts[-1]) > MOST_BYTES:
-            print("text too long")
-            return TEXT_REFUSED
-    said = vouching(boards, texts[0], texts[1], given.form)
-    print(said)
-    return program.OK if is_vouched(said) else program.UNSOUND
+    try:
+        asked, said = given.asked.read_bytes(), given.said.read_bytes()
+    except OSError:
+        print("fault read")
+        return READ_FAULT
+    if max(len(asked), len(said)) > MOST_BYTES:
+        print("text too long")
+        return TEXT_REFUSED
+    told = vouching(boards, asked, said, given.form)
+    print(told)
+    return program.OK if is_vouched(told) else program.UNSOUND
 
 
 if __name__ == "__main__":

@@ -20,7 +20,7 @@ from typing import Any, Dict, List, Optional, TextIO, Tuple
 from geesefuton.arguments import Parser, seconds, whole
 from geesefuton.processes import command
 from geesefuton.records.games import GOODS
-from tests.support.recording import Streams
+from tests.support.recording import Streams, reach
 
 MODES = ("calm", "pipe", "quits", "crash", "vanish", "gone", "hang", "flood", "deaf", "half",
          "garbage", "spend", "early", "back")
@@ -72,13 +72,7 @@ class WildAgent:
 
     async def connect(self, tries: int = 400) -> bool:
         """Takes the seat. Whether it was given."""
-        for _ in range(tries):
-            with contextlib.suppress(OSError):
-                self.streams = Streams(*await asyncio.open_connection(*self.address))
-                break
-            await asyncio.sleep(0.05)
-        else:
-            raise Gone
+        self.streams = await reach(*self.address, tries, 0.05)
         await self.send([f"hello {self.word}"])
         if self.mode == "gone":
             return True

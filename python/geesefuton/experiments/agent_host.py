@@ -4,11 +4,10 @@
 
 It is started once for an agent and a run, inside its sandbox if it has one, and told over a
 connection what to run. For each game it forks. If the agent is a Python file, the child runs it,
-and so pays neither for the start of Python nor for its imports; otherwise it executes its words. No
-code of the agent runs in the host itself, and nothing is left of a game: what the agent has started
-is killed. In a sandbox, where there are no GROUPS, each game has its own processes, network and
-temporary files (`seclude`), and does not see the host. Without words, the host only tries whether
-games can have these here.
+and so pays neither for the start of Python nor for its imports. No code of the agent runs in the
+host itself, and what the agent has started is killed with its game. In a sandbox, where there are
+no GROUPS, each game has its own processes, network and temporary files (`seclude`). Without words,
+the host only tries whether games can have these here.
 
 It uses the standard library alone, and no module of the package, so that it starts quickly.
 """
@@ -49,8 +48,7 @@ CAPABILITIES, SET_FLAGS, UP = 0x20080522, 0x8914, 0x41
 
 
 class Messages:
-    """Messages over a connection, each a line of JSON, and files, which `files` has once they have
-    come."""
+    """Messages over a connection, each a line of JSON, and the `files` that have come with them."""
 
     def __init__(self, connection: socket.socket) -> None:
         self.connection = connection
@@ -173,9 +171,9 @@ class Host:
 
 
 def seclude() -> None:
-    """Goes on in a process that sees no other one and no network, without rights beyond its user's.
-    It can write temporary files, and they are gone with it, as is all else that it leaves, such as
-    shared memory; it has no keys. SIGTERM to this process, which waits for it, kills all of them.
+    """Goes on in a process that sees no other one, no network and no keys. It can write temporary
+    files, and they are gone with it, as is all else that it leaves, such as shared memory. SIGTERM
+    to this process, which waits for it, kills all of them.
 
     Raises:
         OSError: The system does not allow it.

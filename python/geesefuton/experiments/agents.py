@@ -1,28 +1,135 @@
-"""The processes of a run's agents, each played by a host that outlives its games."""
+"""The processes of a run's agents, each played by a host that outlives its games, and what an agent
+sees of this machine if it is kept apart, by Debian's `bubblewrap`.
+
+An agent that is kept apart sees the system's programs, Python, this package and the file of `tac`,
+and its own folder, all of which it cannot change. It does not see the folder of the run, other
+agents' folders, the home folder, or a network. In each game it has processes, a network and
+temporary files of its own, which its host makes in this sandbox (`agent_host.py`).
+"""
 
 from __future__ import annotations
 
 import contextlib
+import os
+import shutil
 import socket
 import subprocess
 import sys
 from collections import Counter
+from dataclasses import dataclass
 from pathlib import Path
-from typing import IO, Any, Dict, List, NoReturn, Optional, Sequence, Tuple
+from typing import IO, Any, Dict, List, NamedTuple, NoReturn, Optional, Sequence, Tuple
 
 from geesefuton import program
 from geesefuton.experiments.agent_host import Messages
-from geesefuton.experiments.apart import HOST, sandbox
-from geesefuton.experiments.entrants import Entrant, environment
-from geesefuton.experiments.messages import Job
+from geesefuton.experiments.entrants import PACKAGE, Entrant, environment
 from geesefuton.processes import Children
 
+HOST = str(Path(__file__).with_name("agent_host.py"))
+NAMESPACES = ["--unshare-all", "--uid", "65534", "--gid", "65534", "--die-with-parent",
+              "--new-session", "--cap-drop", "ALL", "--hostname", "agent"]
+SYSTEM = ("/usr", "/bin", "/sbin", "/lib", "/lib32", "/lib64", "/libx32")
+SETTINGS = ("/etc/alternatives", "/etc/hosts", "/etc/ld.so.cache", "/etc/localtime",
+            "/etc/nsswitch.conf", "/etc/python3", "/etc/java-17-openjdk", "/etc/java-21-openjdk")
+START = 10.0  # seconds that a sandbox has to start
 KILLED = 10.0  # seconds until an agent has to have ended that was killed
+PATIENCE = 30.0  # seconds for the first line of a link, and in turns for each line
+
+
+class Limits(NamedTuple):
+    """What an agent may use in a game."""
+
+    memory: int = 1 << 30  # bytes of data, for each of its processes
+    processes: int = 64  # how many there may be of them at a time
+    seconds: int = 600  # of a processor, for each of them
+
+    def by_name(self) -> Dict[str, int]:
+        """By the names of the module `resource`, without `RLIMIT_`."""
+        return {"DATA": self.memory, "NPROC": self.processes, "CPU": self.seconds, "CORE": 0}
+
+
+@dataclass(frozen=True)
+class Job:
+    """A game that is to be played."""
+
+    name: str  # the name of its files
+    # where they are written: NAME.game, NAME.log, NAME.events, NAME.out.WORD with what an agent
+    # printed, and NAME.script in turns or NAME.journal by the clock
+    folder: Path
+    game: str  # the text of the game file
+    entrants: Tuple[Entrant, ...]  # the agents of the eight seats
+    words: Tuple[str, ...]  # their seat words
+    seeds: Tuple[int, ...]  # what they draw from in a game in turns
+    keys: Tuple[str, ...]  # the words that they say for their seats
+    limits: Optional[Limits] = None  # what each may use; None if agents are not kept apart
+    form: str = "words"  # what they speak, `words` or `json`
+    pace: int = 100  # the milliseconds from tick to tick
+    start: float = 20.0  # the seconds that the game waits for its agents
+    linger: float = 5.0  # the seconds after the last tick until the links that are left are ended
+    turns: int = 0  # how many turns each agent has between two ticks; 0 for a game by the clock
+    # in turns: the seconds without a word after which an agent is passed over
+    patience: float = PATIENCE
+
+
+def why_not() -> str:
+    """Why agents cannot be kept apart here, in a few words; "" if they can."""
+    program = shutil.which("bwrap")
+    if program is None:
+        return "there is no `bwrap`: install Debian's `bubblewrap`"
+    try:
+        tried = subprocess.run([program, *NAMESPACES, "--dev-bind", "/", "/", sys.executable,
+                                HOST],
+                               stdin=subprocess.DEVNULL, stdout=subprocess.DEVNULL,
+                               stderr=subprocess.PIPE, timeout=START, check=False)
+    except (OSError, subprocess.TimeoutExpired) as fault:
+        return f"`bwrap` cannot be run: {fault}"
+    said = tried.stderr.decode("utf-8", "replace").strip().split("\n")[-1]
+    return f"a sandbox says `{said}`" if tried.returncode else ""
+
+
+def own_files(entrant: Entrant) -> List[Path]:
+    """The files that an agent's words name, but for those of the system."""
+    found = [Path(word).resolve() for word in entrant.words if os.path.isfile(word)]
+    return [file for file in found if file != Path(sys.executable).resolve()
+            and not any(file.is_relative_to(folder) for folder in SYSTEM)]
+
+
+def folder_of(entrant: Entrant, secret: Sequence[Path]) -> Optional[Path]:
+    """The folder that an agent sees as its own, that of its first file; None if it has none. Raises
+    ValueError where the folder holds one of these, or the home folder."""
+    files = own_files(entrant)
+    if not files:
+        return None
+    folder = files[0].parent
+    for other in [Path.home(), *secret]:
+        other = other.resolve()
+        if other == folder or folder in other.parents:
+            raise ValueError(f"{entrant.command} stands in {folder}, which has {other} in it: put "
+                             "it into a folder of its own")
+    return folder
+
+
+def sandbox(entrant: Entrant, tac: str, secret: Sequence[Path]) -> List[str]:
+    """The words before a command that let it run in an agent's sandbox, in its folder. Raises
+    ValueError where that holds one of the secret folders, such as that of the run."""
+    own, folder = own_files(entrant), folder_of(entrant, secret)
+    words = ["bwrap", *NAMESPACES, "--bind", "/proc", "/proc", "--dev", "/dev", "--dir", "/tmp"]
+    for place in SYSTEM:
+        if os.path.islink(place):
+            words += ["--symlink", os.readlink(place), place]
+        elif os.path.isdir(place):
+            words += ["--ro-bind", place, place]
+    shown = [*SETTINGS, sys.base_prefix, sys.prefix, str(PACKAGE / "geesefuton"),
+             os.path.realpath(tac), *([str(folder)] if folder else []), *map(str, own)]
+    for place in dict.fromkeys(shown):
+        if os.path.exists(place) and not any(Path(place).is_relative_to(each) for each in SYSTEM):
+            words += ["--ro-bind", place, place]
+    return [*words, "--chdir", str(folder or "/tmp"), "--"]
 
 
 class AgentProcess:
-    """An agent's process, in one game after another, by a host that is started with these
-    variables, and with the words of its sandbox before, if it has one."""
+    """An agent's process, in one game after another, by a host with these variables, and with the
+    words of its sandbox before, if it has one."""
 
     def __init__(self, children: Children, entrant: Entrant, variables: Dict[str, str],
                  before: Sequence[str] = ()) -> None:
@@ -63,11 +170,6 @@ class AgentProcess:
         with contextlib.suppress(OSError):  # it has ended, which is seen when it is heard
             self._messages.say(message, files)
 
-    @property
-    def number(self) -> int:
-        """The number of its host's process."""
-        return self._host.pid
-
     def begin(self, words: Sequence[str], variables: Dict[str, str], limits: Dict[str, int],
               out: IO[bytes]) -> None:
         """Begins a game: the words after the agent's own, and where its output goes."""
@@ -76,14 +178,13 @@ class AgentProcess:
                    "limits": limits}, [out.fileno()])
 
     def poll(self) -> Optional[int]:
-        """The exit status of the agent in this game, negative for a signal; None if it runs. A
-        host that has ended was killed. What signal ended an agent in a sandbox is told by 128 more
-        than its number: nobody else can have sent it."""
+        """The exit status of the agent in this game, negative for a signal; None if it runs. For a
+        signal in a sandbox, which nobody else can have sent, it is 128 more than its number."""
         if self._status is None:
             message = self._messages.hear(0)
             if message is not None:
                 self._status = int(message["status"])
-            elif self.has_ended():
+            elif self.has_ended():  # its host was killed
                 self._status = -9
         return self._status
 
@@ -119,10 +220,13 @@ class Agents:
         self._running: Dict[Tuple[Entrant, int], AgentProcess] = {}
 
     def seated(self, job: Job) -> List[AgentProcess]:
-        """The processes for the seats of a game. An agent with several seats has as many. Raises
-        ProgramError where there is no file of `tac`, and ValueError where an agent's folder holds
-        what it may not see."""
-        counts: "Counter[Entrant]" = Counter()
+        """The processes for the seats of a game, where an agent with several seats has as many.
+        Raises ProgramError where there is no file of `tac`, and ValueError as `sandbox` does."""
+        tac, is_apart = program.find(), job.limits is not None
+        variables = environment(tac, Path("/tmp"), is_apart)
+        if job.turns:
+            variables["PYTHONHASHSEED"] = "0"  # holds from the start of a Python on
+        counts: Counter[Entrant] = Counter()
         seated = []
         for entrant in job.entrants:
             key = entrant, counts[entrant]
@@ -131,19 +235,13 @@ class Agents:
             if found is None or found.has_ended():
                 if found is not None:
                     found.close()
-                found = self._running[key] = self._started(entrant, job)
+                found = AgentProcess(self._children, entrant, variables, sandbox(
+                    entrant, tac, [job.folder.parent]) if is_apart else ())
+                self._running[key] = found
             seated.append(found)
         for process in seated:
             process.wait()
         return seated
-
-    def _started(self, entrant: Entrant, job: Job) -> AgentProcess:
-        tac, is_apart = program.find(), job.limits is not None
-        variables = environment(tac, Path("/tmp"), is_apart)
-        if job.turns:
-            variables["PYTHONHASHSEED"] = "0"  # holds from the start of a Python on
-        return AgentProcess(self._children, entrant, variables,
-                            sandbox(entrant, tac, [job.folder.parent]) if is_apart else ())
 
     def close(self) -> None:
         """Ends all of them."""

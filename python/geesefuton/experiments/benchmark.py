@@ -1,15 +1,16 @@
-"""Plays a benchmark: an agent and the reference agents, each alone among the same pool of agents.
+"""Plays a benchmark: an agent and the reference agents, each alone among the same
+pool of agents.
 
-    benchmark --out FOLDER classic mine.py
+    geesefuton benchmark --out FOLDER classic mine.py
 
-The lists of deals are in examples/benchmarks. Games are in turns, so they are the same on any
-machine with the same program, package and minor version of Python. Their seeds are known: compare
-agents that were not made for these deals.
-
-FOLDER keeps the games like a tournament's --out. At the end it has benchmark.json, which tells
-nothing of the machine: the list and its SHA-256, how the games were played, each agent's digest and
-its mean, and how much more the agent has than each reference agent, paired by deals, with 95 %
-intervals. The command prints these figures; its exit status is that of `tournament`.
+The deals of a list are known: compare agents that were not made for them.
+Games are in turns, so they are the same on any machine with the same program,
+package and minor version of Python. FOLDER keeps the games like a
+tournament's, and benchmark.json, which tells nothing of the machine: the list
+and its SHA-256, how the games were played, each agent's digest and mean, and
+how much more the agent has than each reference agent, paired by deals, with 95
+% intervals. The command prints these figures; its exit status is that of
+`tournament`.
 """
 
 import hashlib
@@ -26,7 +27,7 @@ from geesefuton.experiments.comparisons import Estimate
 from geesefuton.experiments.forms import columns, count_text, number_text, printed, shown
 from geesefuton.experiments.plan import Plan, make_parser, read_plan
 from geesefuton.experiments.results import Row
-from geesefuton.experiments.summary import Difference, summarize
+from geesefuton.experiments.summary import summarize
 from geesefuton.experiments.tournament import play_in_folder
 from geesefuton.processes import Output, command, tell
 
@@ -53,20 +54,12 @@ def _words(name: str, agent: str, deals: int) -> List[str]:
             agent, *(shlex.quote(str(file)) for file in others)]
 
 
-def _against(agent: str, pair: Difference) -> Difference:
-    """A difference as that of an agent less another."""
-    if pair.second != agent or pair.score is None:
-        return pair
-    score = replace(pair.score, mean=-pair.score.mean)
-    return replace(pair, first=agent, second=pair.first, score=score)
-
-
 def _written(plan: Plan, name: str, rows: List[Row]) -> str:
     """Writes what the games came to into the plan's folder, and gives it as text."""
     agent, known = plan.entrants[0].name, plan.agents
     summary = summarize([row for row in rows if not row.agent.endswith(" (pool)")])
-    pairs = {pair.second: pair for pair in (_against(agent, each) for each in summary.differences)
-             if pair.first == agent}
+    pairs = {({pair.first, pair.second} - {agent}).pop(): pair for pair in summary.differences
+             if agent in (pair.first, pair.second)}
 
     def rounded(value: Estimate) -> object:
         return {key: each and round(each, 2) for key, each in asdict(value).items()}
@@ -75,6 +68,8 @@ def _written(plan: Plan, name: str, rows: List[Row]) -> str:
     for place, standing in enumerate(summary.standings, 1):
         pair = pairs.get(standing.agent)
         less = pair.score if pair else None
+        if pair and less and pair.second == agent:
+            less = replace(less, mean=-less.mean)
         agents.append({"agent": standing.agent, "digest": known[standing.agent].digest,
                        "score": rounded(standing.score), "less": less and rounded(less),
                        "student_p": pair and pair.student and round(pair.student, 6)})
@@ -106,7 +101,8 @@ def _main() -> int:
     more = ["--resume"] if given.resume else []
     plan = read_plan(parser, make_parser(None).parse_args(
         [*words, *more, f"--out={given.out}"]))
-    if any("/" in entrant.name for entrant in plan.entrants):
+    if any(entrant.name.replace(" (pool)", "") != Path(entrant.words[1]).stem
+           for entrant in plan.entrants[1:]):
         parser.error(f"{given.agent}: a reference agent has this name: give it another one")
     status, rows, _ = play_in_folder(parser, plan)
     return status or printed("benchmark", _written(plan, given.list, rows))

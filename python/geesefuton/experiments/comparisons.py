@@ -1,19 +1,27 @@
-"""Means and differences with 95 % intervals, tests, and what many comparisons at once show.
+"""Means and differences with 95 % intervals, tests, what many comparisons at once show, and, with
+the libraries of the extra `study`, adjusted means and how many deals a study needs.
 
 Intervals are Student's: they take values to be independent and approximately normal, as means over
 many seats are. Few values make a wide interval. Wilcoxon's signed-rank test assumes that values are
 symmetric about their middle, but not that they are normal, so a few outliers weigh no more than
-other values.
+other values. A command that needs the libraries asks first whether they are there.
 """
 
 import functools
 import math
-from collections import Counter
+from bisect import bisect_left, bisect_right
 from dataclasses import dataclass
+from importlib.util import find_spec
+from statistics import fmean
 from typing import FrozenSet, List, Optional, Sequence, Set
 
 LEVEL = 0.95
 POWER = 0.8  # how often a difference is to be told that is there
+LIBRARIES = ("numpy", "scipy", "pandas")
+HOW = ("install them by `apt-get install python3-numpy python3-scipy python3-pandas`, for "
+       "/usr/bin/python3, or by `pip install numpy scipy pandas`")
+UNITS = 4  # that there have to be for each covariate but the first
+FAR = 40.0  # standard errors, by which a difference is told for sure
 MOST_EXACT = 50  # values of Wilcoxon's test; above, the normal distribution is close enough
 
 
@@ -56,14 +64,9 @@ def student_quantile(freedom: int, level: float = LEVEL) -> float:
     return high
 
 
-def mean_of(values: Sequence[float]) -> float:
-    """The mean of one or more values."""
-    return math.fsum(values) / len(values)
-
-
 def estimate(values: Sequence[float]) -> Estimate:
     """The mean of one or more values, with its interval from two values on."""
-    count, mean = len(values), mean_of(values)
+    count, mean = len(values), fmean(values)
     if count < 2:
         return Estimate(mean, None, count)
     variance = math.fsum((value - mean) ** 2 for value in values) / (count - 1)
@@ -84,8 +87,7 @@ def student_p(value: Estimate) -> Optional[float]:
 
 def holm(chances: Sequence[Optional[float]]) -> List[Optional[float]]:
     """The probabilities of several comparisons, made larger so that all together show a difference
-    that is not there, by one below 5 %, in at most 5 % of experiments (Holm's procedure). None is
-    left out of the count."""
+    that is not there, by one below 5 %, in at most 5 % of experiments (Holm)."""
     places = sorted((place for place, chance in enumerate(chances) if chance is not None),
                     key=lambda place: chances[place] or 0.0)
     larger: List[Optional[float]] = [None] * len(chances)
@@ -98,7 +100,7 @@ def holm(chances: Sequence[Optional[float]]) -> List[Optional[float]]:
 
 def bonferroni_halves(values: Sequence[Optional[Estimate]]) -> List[Optional[float]]:
     """Half the widths of intervals that all together have their true values in at least 95 % of
-    experiments. None, or no interval, is left out of the count."""
+    experiments (Bonferroni)."""
     count = sum(value is not None and value.half is not None for value in values)
     return [None if value is None or value.half is None else
             value.half * student_quantile(value.count - 1, 1.0 - (1.0 - LEVEL) / count)
@@ -122,7 +124,9 @@ def signed_rank_p(values: Sequence[float]) -> Optional[float]:
     values = [value for value in values if value != 0.0]
     if not values:
         return None
-    ranks = _doubled_ranks([abs(value) for value in values])
+    sizes = sorted(abs(value) for value in values)
+    ranks = [bisect_left(sizes, abs(value)) + 1 + bisect_right(sizes, abs(value))  # doubled
+             for value in values]
     above = sum(rank for rank, value in zip(ranks, values) if value > 0.0)
     if len(values) > MOST_EXACT:
         deviation = math.sqrt(sum(rank * rank for rank in ranks)) / 2.0
@@ -136,10 +140,69 @@ def signed_rank_p(values: Sequence[float]) -> Optional[float]:
     return min(1.0, 2 * sum(ways[:least + 1]) / sum(ways))
 
 
-def _doubled_ranks(sizes: Sequence[float]) -> List[int]:
-    """Twice the rank of each size, from 2 for the least; equal sizes share their mean."""
-    counts, below, doubled = Counter(sizes), 0, {}
-    for size in sorted(counts):
-        doubled[size] = 2 * below + counts[size] + 1
-        below += counts[size]
-    return [doubled[size] for size in sizes]
+def missing_libraries(what: str) -> str:
+    """Why something cannot be had, and how to get it, in a line; "" if all libraries are there."""
+    absent = [name for name in LIBRARIES if find_spec(name) is None]
+    return f"{what} need {' and '.join(absent)}: {HOW}" if absent else ""
+
+
+def adjusted(values: Sequence[float], covariates: Sequence[Sequence[float]],
+             at: Sequence[float]) -> Optional[Estimate]:
+    """What the mean of the values of units, such as deals, would be if covariates, the most telling
+    first, were as given, by a plane of least squares; None for fewer than three values, or where no
+    covariate is left. One that is the same in all units, or a sum of multiples of those before it,
+    is left out, and so are the last ones where there are fewer than four units for each."""
+    import numpy as np
+    count = len(values)
+    if count < 3:
+        return None
+    columns, point = np.ones((count, 1)), [1.0]
+    for covariate, place in zip(covariates, at):
+        more = np.column_stack([columns, covariate])
+        if np.linalg.matrix_rank(more) > len(point) and len(point) <= max(1, count // UNITS):
+            columns, point = more, [*point, place]
+    if len(point) == 1:
+        return None
+    directions, triangle = np.linalg.qr(columns)
+    slopes = np.linalg.solve(triangle, directions.T @ values)
+    rest = np.asarray(values) - columns @ slopes
+    freedom = count - len(point)
+    error = np.sqrt(rest @ rest / freedom) * np.linalg.norm(np.linalg.solve(triangle.T, point))
+    return Estimate(float(slopes @ point), float(student_quantile(freedom) * error), count)
+
+
+def power(deals: int, errors: float) -> float:
+    """How often the 95 % interval of a mean of values excludes 0, where the true mean is so many
+    standard deviations of a value."""
+    import numpy as np
+    from scipy import stats
+    shift, bound = errors * math.sqrt(deals), stats.t.isf((1.0 - LEVEL) / 2.0, deals - 1)
+    if shift > FAR * bound:
+        return 1.0
+    with np.errstate(all="ignore"):  # scipy may warn of numbers that it handles
+        return float(stats.ncf.sf(bound * bound, 1, deals - 1, shift * shift))
+
+
+def deals_to_detect(value: Estimate, difference: float) -> Optional[int]:
+    """How many values it takes to tell a true difference, above 0, in 80 % of experiments; None
+    where the estimate has no interval. The spread of few values may by chance be far too small, so
+    it is taken at the upper limit that is above the true variance for 80 % of pilots."""
+    if value.half is None:
+        return None
+    from scipy import stats
+    freedom = value.count - 1
+    variance = (value.half / student_quantile(freedom)) ** 2 * value.count
+    limit = math.sqrt(variance * freedom / stats.chi2.ppf(1.0 - POWER, freedom))
+    if limit == 0.0:
+        return 2
+    high = 2
+    while power(high, difference / limit) < POWER:
+        high *= 2
+    low = high // 2
+    while high - low > 1:
+        middle = (low + high) // 2
+        if power(middle, difference / limit) < POWER:
+            low = middle
+        else:
+            high = middle
+    return high

@@ -7,9 +7,9 @@ not counted: among small agents, which hardly trade them, they foretold nothing 
 """
 
 from dataclasses import dataclass
+from statistics import fmean
 from typing import List, Tuple
 
-from geesefuton.experiments.comparisons import mean_of
 from geesefuton.records.games import FLIGHTS, PACKAGES, TICKETS, Client, Game
 
 # Dollars a unit: about what small agents pay in games of 16 rooms.
@@ -39,7 +39,7 @@ def best_trip(client: Client) -> int:
 
 def covariates_of(game: Game) -> List[Covariates]:
     """Those of each of the eight seats."""
-    first_price = mean_of([flight.first for flight in game.flights])
+    first_price = fmean(flight.first for flight in game.flights)
     return [Covariates(sum(map(best_trip, clients)),
-                       mean_of([len(client.nights()) for client in clients]), first_price)
+                       fmean(len(client.nights()) for client in clients), first_price)
             for clients in game.clients]

@@ -1,11 +1,11 @@
-"""Writes the games of a tournament as CSV tables (docs/FORMATS.md, "The tables of a tournament").
+"""Writes the games of a tournament as CSV tables: `games`, `deals`, `goods`,
+`quotes`, `bids`, `trades`, `cash`, `scores` and `trips`.
 
-    data runs/1 tables
+    geesefuton data runs/1 tables
 
-FOLDER is the folder of a run (`tournament --out`), and OUT a new folder, for the tables `games`,
-`deals`, `goods`, `quotes`, `bids`, `trades`, `cash`, `scores` and `trips`. The command reports a
-game whose files are missing or do not belong together, and goes on with the others. The exit status
-is 0 if it wrote all games.
+FOLDER is the folder of a run (`tournament --out`). The command reports a game
+whose files are missing or do not belong together, and goes on with the others.
+The exit status is 0 if it wrote all games.
 """
 
 import os
@@ -15,12 +15,11 @@ from typing import Iterable, Iterator, List, Sequence, Set, Tuple
 
 from geesefuton.arguments import Parser
 from geesefuton.experiments.joining import read_source
-from geesefuton.experiments.kept import KeptGame, read_games
+from geesefuton.experiments.runs import KeptGame, read_games
 from geesefuton.processes import Output, command, tell, why
-from geesefuton.records.accounts import gains_of
 from geesefuton.records.data import SCHEMA, TABLES, file_of, schema_text
-from geesefuton.records.games import AUCTIONS, CLOCK, FLIGHTS, GOODS, HOTELS, HOUSE, TICKETS
-from geesefuton.records.logs import Entry, Post
+from geesefuton.records.games import AUCTIONS, CLOCK, FLIGHTS, GOODS, HOTELS, HOUSE, TICKETS, Game
+from geesefuton.records.logs import Entry, Post, gains_of
 from geesefuton.records.replies import No, entry_words
 from geesefuton.records.rules import PENALTY
 from geesefuton.records.tables import csv_of
@@ -29,50 +28,36 @@ from geesefuton.records.ticks import boards_by_tick
 Cells = Sequence[object]
 
 
-class Tables:
-    """The files of the tables, in a new or empty folder."""
-
-    def __init__(self, folder: Path) -> None:
-        self._folder = folder
-        self._files = {table: Output(file_of(folder, table)) for table in TABLES}
-        self._deals: Set[str] = set()
-        self._games = 0
-        for table, columns in TABLES.items():
-            self._put(table, [list(columns)])
-
-    def write(self, kept: KeptGame) -> None:
-        """Writes a game."""
-        self._games += 1
-        if kept.rows[0].deal not in self._deals:
-            self._deals.add(kept.rows[0].deal)
-            self._put("deals", _clients(kept))
-            self._put("goods", _goods(kept))
+def _write(folder: Path, games: Iterable[KeptGame]) -> List[str]:
+    """Writes the tables of games, and their schema, to a new or empty folder; gives what failed."""
+    files = {table: Output(file_of(folder, table)) for table in TABLES}
+    for table, columns in TABLES.items():
+        files[table].write(csv_of([list(columns)]))
+    deals: Set[str] = set()
+    for number, kept in enumerate(games, 1):
+        deal = kept.rows[0].deal
+        if deal not in deals:
+            deals.add(deal)
+            for table, of_game in DEALS.items():
+                files[table].write(csv_of((deal, *row) for row in of_game(kept.game)))
         for table, rows in ROWS.items():
-            self._put(table, ((self._games, *row) for row in rows(kept)))
-
-    def end(self) -> List[str]:
-        """Writes the schema and closes all; gives what failed."""
-        files = list(self._files.values())
-        if all(file.fault is None for file in files):
-            files.append(Output(self._folder / SCHEMA))
-            files[-1].write(schema_text())
-        for file in files:
-            file.close()
-        return [f"{file.name}: {file.fault}" for file in files if file.fault is not None][:1]
-
-    def _put(self, table: str, rows: Iterable[Cells]) -> None:
-        self._files[table].write(csv_of(rows))
+            files[table].write(csv_of((number, *row) for row in rows(kept)))
+    written = list(files.values())
+    if all(file.fault is None for file in written):
+        written.append(Output(folder / SCHEMA))
+        written[-1].write(schema_text())
+    for file in written:
+        file.close()
+    return [f"{file.name}: {file.fault}" for file in written if file.fault is not None][:1]
 
 
-def _clients(kept: KeptGame) -> Iterator[Cells]:
-    for seat, clients in enumerate(kept.game.clients):
+def _clients(game: Game) -> Iterator[Cells]:
+    for seat, clients in enumerate(game.clients):
         for number, client in enumerate(clients):
-            yield (kept.rows[0].deal, seat, number, client.premium, client.arrive, client.depart,
-                   *client.values)
+            yield seat, number, client.premium, client.arrive, client.depart, *client.values
 
 
-def _goods(kept: KeptGame) -> Iterator[Cells]:
-    game = kept.game
+def _goods(game: Game) -> Iterator[Cells]:
     for good, group, day, _ in AUCTIONS:
         first = bound = rooms = ""
         closes, endow = 54, [0] * 8
@@ -83,12 +68,12 @@ def _goods(kept: KeptGame) -> Iterator[Cells]:
             rooms, closes = str(night.rooms), night.closes
         else:
             endow = [units[good - TICKETS.start] for units in game.endow]
-        yield (kept.rows[0].deal, good, group, day, first, bound, rooms, closes, *endow)
+        yield good, group, day, first, bound, rooms, closes, *endow
 
 
 def _game(kept: KeptGame) -> Iterator[Cells]:
     row = kept.rows[0]
-    yield (kept.name, row.deal, row.rotation, row.kind.value, kept.source, kept.log.missed,
+    yield (row.game_name, row.deal, row.rotation, row.kind.value, kept.source, kept.log.missed,
            int(kept.game.live), row.run, row.settings)
 
 
@@ -152,6 +137,7 @@ def _trips(kept: KeptGame) -> Iterator[Cells]:
             yield (score.agent, kept.agents[score.agent], number, *trip, client.worth(package))
 
 
+DEALS = {"deals": _clients, "goods": _goods}  # a table with rows of each deal
 ROWS = {"games": _game, "quotes": _quotes, "bids": _bids, "trades": _trades, "cash": _cash,
         "scores": _scores, "trips": _trips}
 
@@ -172,10 +158,7 @@ def _main() -> int:
             parser.error(f"{given.out}: {why(fault)}")
         if names:
             parser.error(f"{given.out} is not empty (it has {names[0]}): name a new folder")
-        tables = Tables(given.out)
-        for kept in read_games(given.folder, source.rows, told):
-            tables.write(kept)
-        told += tables.end()
+        told += _write(given.out, read_games(given.folder, source.rows, told))
     for text in told:
         tell(f"data: {text}")
     return 1 if told else 0

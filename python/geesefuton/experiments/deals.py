@@ -1,10 +1,9 @@
-"""The deals of a tournament: what is fixed before a game, which are clients, tickets, flights, and
-the order of the hotels.
-
-A run draws its deals from a secret (`records.secret_deals`), or from seeds that are known, or it
-has the one deal of a game file. Deals with the same text are the same deal, in whatever run.
+"""The deals of a tournament: clients, tickets, flights and the order of hotels, before a game. They
+are drawn from a secret (`records.secret_deals`) or known seeds, or a game file has the
+one deal. Deals with the same text are the same deal, in whatever run.
 """
 
+import argparse
 import contextlib
 import hashlib
 import json
@@ -24,7 +23,7 @@ SHORT = 12  # digits of a digest in a row
 RUN, SECRET = "run.json", "secret"  # files in the folder of a run
 
 
-class DealError(program.CommandError):
+class DealError(program.CommandError, argparse.ArgumentTypeError):
     """A deal that cannot be made, or words that name none."""
 
 
@@ -92,8 +91,7 @@ def read_rooms(text: str) -> Tuple[int, int]:
 
 
 def made_deal(rule: Rule, number: int) -> Deal:
-    """The deal of a number, from 1. Raises DealError where the file cannot be read, or is no game
-    file, and ProgramError where `tac make` refused."""
+    """The deal of a number, from 1. Raises DealError for the file, and ProgramError for `tac`."""
     if rule.file is not None:
         try:
             return Deal(number, read_game(rule.file.read_bytes().decode("latin-1")))
@@ -105,15 +103,13 @@ def made_deal(rule: Rule, number: int) -> Deal:
 
 
 def place_of(rule: Rule, number: int, rotations: int) -> Tuple[int, int]:
-    """The number of the deal, and the rotation, of the game of a number, from 0. All games of a
-    file are of one deal."""
+    """The number of the deal, and the rotation, of the game of a number, from 0."""
     return (1, number) if rule.file else (number // rotations + 1, number % rotations)
 
 
 def tables(rule: Rule, games: int, rotations: int,
            finished: Container[Tuple[int, int]] = ()) -> Iterator[Table]:
-    """The games of a tournament in order, all games of a deal one after the other, without those
-    that are finished."""
+    """The games of a tournament in order, without those that are finished."""
     deal: Optional[Deal] = None
     for game in range(games):
         number, rotation = place_of(rule, game, rotations)
@@ -136,8 +132,8 @@ def write_whole(file: Path, text: str, mode: int = 0o666) -> None:
 
 
 def shared_secret(file: Path, secret: bytes) -> bytes:
-    """The secret that a file has, which nobody else can read; where there is none it gets this one.
-    Raises DealError where the file has something else."""
+    """The secret of a private file, which gets this one if it is not there. Raises DealError where
+    it has something else."""
     file.parent.mkdir(parents=True, exist_ok=True)
     new = file.with_name(f".{file.name}.{os.getpid()}")
     write_whole(new, secret.hex() + "\n", 0o600)

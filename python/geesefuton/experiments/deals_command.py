@@ -1,19 +1,18 @@
-"""Makes the games of a run again from its secret, and compares them byte for byte.
+"""Makes the games of a run again from its secret, and compares them byte for
+byte.
 
-    deals FOLDER
-
-FOLDER is the folder of a run (`tournament --out`) that is over. The secret in its run.json has to
-be the one of the commitment that the run began with. The exit status is 0 if all games are those of
-the secret.
+FOLDER is the folder of a run (`tournament --out`) that is over. The secret in
+its run.json has to be the one of the commitment that the run began with. The
+exit status is 0 if all games are those of the secret.
 """
 
 from functools import partial
 from pathlib import Path
 
 from geesefuton.arguments import Parser
-from geesefuton.experiments.deals import Rule, made_deal, read_rooms
+from geesefuton.experiments.deals import RUN, SECRET, Rule, kept_secret, made_deal, read_rooms
 from geesefuton.experiments.forms import printed
-from geesefuton.experiments.runs import GAMES, RunError, read_record, secret_of
+from geesefuton.experiments.runs import GAMES, RunError, read_record
 from geesefuton.processes import command
 from geesefuton.records.games import GameError, read_game
 
@@ -21,12 +20,22 @@ from geesefuton.records.games import GameError, read_game
 def _main() -> int:
     parser = Parser("deals", __doc__)
     parser.add_argument("folder", type=Path, metavar="FOLDER", help="the folder of a run")
-    folder = parser.parse_args().folder
-    settings = read_record(folder)["settings"]
+    folder: Path = parser.parse_args().folder
+    record = read_record(folder)
+    settings, deals = record["settings"], record["deals"]
     if "game" in settings:
         raise RunError(f"{folder}: its games are those of a file")
-    rule = Rule(secret_of(folder), rooms=read_rooms(str(settings["rooms"])),
+    if "commitment" not in deals:
+        raise RunError(f"{folder}: its deals are of the seed {deals.get('seed')}")
+    if SECRET not in deals:
+        raise RunError(f"{folder}: its secret is told when all of its games are scored")
+    secret = kept_secret(folder)
+    if secret is None:
+        raise RunError(f"{folder / RUN}: its secret is none")
+    rule = Rule(secret, rooms=read_rooms(str(settings["rooms"])),
                 live=settings["live"] == "true", is_clumped="endow" in settings)
+    if rule.drawn != {"commitment": deals["commitment"]}:
+        raise RunError(f"{folder / RUN}: its secret is not the one of its commitment")
     flaws, files = [], sorted((folder / GAMES).glob("*.game"))
     for file in files:
         try:

@@ -9,7 +9,7 @@ from collections import Counter
 from dataclasses import dataclass, replace
 from pathlib import Path
 from string import ascii_lowercase
-from typing import Dict, List, Sequence, Tuple
+from typing import Dict, List, Optional, Sequence, Tuple
 
 from geesefuton.program import CommandError
 
@@ -67,20 +67,27 @@ def _words(command: str) -> List[str]:
     return [command] if os.path.isfile(command) else shlex.split(command)
 
 
-def _variant(entrant: Entrant) -> str:
-    """The name of a Python file's agent with the words after the file; else its command."""
+def _variant(entrant: Entrant, is_by_folder: Optional[bool]) -> str:
+    """The name of a Python file's agent, or of the file's folder, with the words after the file; by
+    None, or for another agent, its command."""
     first, *words = _words(entrant.command)
-    return " ".join([entrant.name, *words]) if first.endswith(".py") else entrant.command
+    if is_by_folder is None or not first.endswith(".py"):
+        return entrant.command
+    name = is_by_folder and Path(first).resolve().parent.name or entrant.name
+    return " ".join([name, *words])
 
 
 def read_entrants(commands: Sequence[str]) -> List[Entrant]:
     """Reads the agents' commands. Different agents of one name get the words after their file added
-    to it, and their commands as names where these are the same. Raises EntrantError where one of
-    them cannot be run, or a table would not read its name as a name."""
+    to it, then the names of their folders instead, and last their commands. Raises EntrantError
+    where one cannot be run, or a table would not read its name as a name."""
     entrants = [read_entrant(command) for command in commands]
     different = {entrant.command: entrant for entrant in entrants}  # one may be given twice
-    names = Counter(entrant.name for entrant in different.values())
-    variants = Counter(map(_variant, different.values()))
+    names = {command: entrant.name for command, entrant in different.items()}
+    for is_by_folder in (False, True, None):
+        counts = Counter(names.values())
+        names = {command: _variant(different[command], is_by_folder) if counts[name] > 1 else name
+                 for command, name in names.items()}
     roots: Dict[str, List[str]] = {}
     for entrant in different.values():
         roots.setdefault(entrant.root, []).append(entrant.command)
@@ -88,10 +95,7 @@ def read_entrants(commands: Sequence[str]) -> List[Entrant]:
     for entrant in entrants:
         alike = roots[entrant.root]
         root = entrant.root + (str(alike.index(entrant.command) + 1) if len(alike) > 1 else "")
-        name = entrant.name
-        if names[name] > 1:
-            name = _variant(entrant)
-            name = entrant.command if variants[name] > 1 else name
+        name = names[entrant.command]
         if name in MISSING or name[:1] in "=+-@":
             how = "missing" if name in MISSING else "a formula"
             raise EntrantError(f"an agent called {name} reads as {how} in a table: rename it")
@@ -100,8 +104,7 @@ def read_entrants(commands: Sequence[str]) -> List[Entrant]:
 
 
 def refuse_twins(entrants: Sequence[Entrant]) -> None:
-    """Refuses an agent that is given twice. Raises EntrantError where two agents have the same
-    name, or are run by the same words."""
+    """Raises EntrantError where two agents have the same name, or are run by the same words."""
     seen: Dict[Tuple[str, ...], str] = {}
     for entrant in entrants:
         for key in (entrant.words, (entrant.name,)):
@@ -127,8 +130,8 @@ def seat_words(entrants: Sequence[Entrant]) -> List[str]:
 
 
 def environment(tac: str, folder: Path, is_apart: bool = False) -> Dict[str, str]:
-    """The variables of an agent's process: it finds the package and the program, and its temporary
-    files stand in a folder that is removed with the game. One that is kept apart has few others."""
+    """The variables of an agent's process, by which it finds the package, the program and a folder
+    for temporary files. One that is kept apart has few others."""
     path = os.pathsep.join(filter(None, [str(PACKAGE), os.environ.get("PYTHONPATH")]))
     others = {name: os.environ[name] for name in SHOWN if name in os.environ} if is_apart \
         else dict(os.environ)

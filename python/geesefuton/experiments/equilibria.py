@@ -88,7 +88,7 @@ class SymmetricGame:
         return slopes.reshape(*slopes.shape[:-1], *raised.shape[-3:-1])
 
     def regrets(self, mixtures: Array) -> Array:
-        """The most that a player gains by a single strategy while the others draw from it."""
+        """The regrets of mixtures."""
         values = self.values(mixtures)
         return values.max(axis=-1) - (values[..., :self.mixed] * mixtures).sum(axis=-1)
 
@@ -107,7 +107,7 @@ def _odds(gaps: Array) -> Array:
 
 def _starts(game: SymmetricGame) -> Array:
     """Mixtures of all strategies, each a row, from which those are searched in which all do equally
-    well: these themselves for two strategies, and otherwise random ones."""
+    well."""
     if game.players == 2:  # the equations are linear, and one step leads to their solution
         starts = np.ones((1, game.mixed))
     elif game.mixed == 2:  # the strategies' odds are the roots of a polynomial
@@ -241,7 +241,8 @@ def find(players: int, samples: Array, mixed: int = 0, resamples: int = RESAMPLE
                      sum(not _is_apart(mixture, found) for found in again),
                      _is_single(mean, mixture)) for mixture in mixtures],
         len(again), others,
-        [_middle(sorted(shares)) for shares in zip(*(each for found in again for each in found))])
+        [(shares[len(shares) // 20], shares[-1 - len(shares) // 20]) for shares in
+         (sorted(each) for each in zip(*(each for found in again for each in found)))])
 
 
 def _is_apart(mixture: Mixture, others: Sequence[Mixture]) -> bool:
@@ -254,8 +255,3 @@ def _is_single(game: SymmetricGame, mixture: Mixture) -> bool:
     as_good = values >= values.max() - MOST_REGRET * np.ptp(game.payoffs)
     return int(as_good.sum()) == sum(share > 0.0 for share in mixture)
 
-
-def _middle(values: Sequence[float]) -> Tuple[float, float]:
-    """The ends of sorted values without a twentieth at each end."""
-    cut = len(values) // 20
-    return values[cut], values[-1 - cut]

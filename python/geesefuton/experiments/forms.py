@@ -71,14 +71,6 @@ def _reasons(standing: Standing) -> str:
     return f"{standing.failed} of {standing.seats}" + (f": {', '.join(told)}" if told else "")
 
 
-def _kinds(summary: Summary) -> List[str]:
-    """How the games were played, if some of them were in turns."""
-    turns, broken = (summary.kinds.get(kind, 0) for kind in (Kind.TURNS, Kind.UNREPEATABLE))
-    told = f"in turns: {count_text(turns, 'game')} that can be repeated"
-    told += f", and {broken} in which an agent was passed over" if broken else ""
-    return [told] if turns + broken else []
-
-
 def _way(pair: Difference) -> str:
     return "clients" if pair.by_clients else "games"
 
@@ -105,19 +97,14 @@ def _of_pairs(pairs: Sequence[Difference], summary: Summary) -> List[List[str]]:
     return rows
 
 
-def groups_text(summary: Summary) -> str:
-    """Which agents these games do not separate."""
-    return "; ".join(", ".join(map(shown, group)) for group in summary.groups
-                     if len(group) > 1) or "none"
-
-
 def _below_pairs(pairs: Sequence[Difference], summary: Summary) -> List[str]:
     """What is said below the table of pairs."""
     lines = []
     if len(pairs) > 1:
+        groups = [", ".join(map(shown, group)) for group in summary.groups if len(group) > 1]
         lines += [f"all pairs: intervals that together hold for all {len(pairs)} comparisons "
                   "(Bonferroni); p (Holm) allows for all of them, too",
-                  f"not separated, with p (Holm) above 0.05: {groups_text(summary)}"]
+                  f"not separated, with p (Holm) above 0.05: {'; '.join(groups) or 'none'}"]
     if summary.detect and not summary.missing:
         lines.append(f"with so many games, {100 * POWER:g} % of experiments detect a difference of "
                      f"{summary.detect:g} dollars, for the largest spread that these games leave "
@@ -155,7 +142,12 @@ def undecided(summary: Summary) -> List[str]:
 def as_text(summary: Summary, most: float = math.inf) -> str:
     """The summary in lines for a reader, with tables that are at most so many letters wide."""
     lines = [f"{count_text(summary.games, 'game')} of {count_text(summary.deals, 'deal')}; dollars "
-             "with 95 % intervals by deals (Student's t)", *_kinds(summary), ""]
+             "with 95 % intervals by deals (Student's t)"]
+    turns, broken = (summary.kinds.get(kind, 0) for kind in (Kind.TURNS, Kind.UNREPEATABLE))
+    if turns + broken:
+        lines.append(f"in turns: {count_text(turns, 'game')} that can be repeated"
+                     + (f", and {broken} in which an agent was passed over" if broken else ""))
+    lines.append("")
     rows = [["agent", "mean", "of seats that played", "luck", f"mean {ADJUSTED}",
              "did not play"]]
     rows += [[shown(standing.agent), number_text(standing.score) + MARK * (standing.untaken > 0),

@@ -1,8 +1,7 @@
 """Joins the results of several tournaments, if they belong together.
 
 Results belong together if their games were played in the same way, with the same settings, by the
-same agents with the same files, and no game occurs twice. As pools, each group that belongs
-together has a name of its own.
+same agents with the same files, and no game occurs twice.
 """
 
 from collections import Counter
@@ -30,8 +29,7 @@ class Source:
 
 
 def read_source(path: Path) -> Tuple[Optional[Source], List[str]]:
-    """What the folder of a run has, None if that is nothing, and what is to be told, each in a
-    line."""
+    """What the folder of a run has, if anything, and what is to be told, each in a line."""
     try:
         if not is_run(path):
             within = sorted(each.name for each in path.iterdir() if is_run(each)) \
@@ -102,7 +100,7 @@ def twice(sources: Sequence[Source]) -> List[str]:
             first = seen.get((row.deal, row.rotation, row.seat), "")
             seen.setdefault((row.deal, row.rotation, row.seat), source.name)
             if first:
-                told.setdefault((first, source.name), []).append(f"{row.number}.{row.rotation}")
+                told.setdefault((first, source.name), []).append(row.game_name)
     return [(f"{other} and {first} both have" if first != other else f"{first} has twice")
             + f" game {games[0]}"
             + (f" and {len(set(games)) - 1} more" if len(set(games)) > 1 else "")

@@ -1,8 +1,7 @@
 """Games of a tournament, one after another, in a process of their own.
 
-The process is started with the file descriptor of a connection. For each `Job` that it receives
-there it sends back events of the lobby, notes, and at the end a `Result`. It hosts the game with a
-`Lobby` (in turns, with a `TurnServer`), and runs the agents (`agents.py`).
+For each `Job` that it receives over a connection it sends back events of the lobby, notes, and at
+the end a `Result`. It hosts the game with a `Lobby` (in turns, with a `TurnServer`).
 """
 
 import contextlib
@@ -21,10 +20,9 @@ from typing import IO, Callable, Dict, List, Optional, Tuple
 
 from geesefuton import program
 from geesefuton.experiments.agent_host import PORT
-from geesefuton.experiments.agents import AgentProcess, Agents
+from geesefuton.experiments.agents import PATIENCE, AgentProcess, Agents, Job
 from geesefuton.experiments.entrants import environment
-from geesefuton.experiments.messages import PATIENCE, Job, Message, Note, Result
-from geesefuton.experiments.results import Kind, Outcome
+from geesefuton.experiments.results import Kind, Message, Note, Outcome, Result
 from geesefuton.experiments.turns import TurnServer
 from geesefuton.hosting import events
 from geesefuton.hosting.events import End
@@ -44,11 +42,10 @@ OWN_FAULTS = {signal.SIGABRT, signal.SIGBUS, signal.SIGFPE, signal.SIGILL, signa
 
 @dataclass(frozen=True)
 class Exit:
-    """How an agent's process ended: its status (negative for a signal), and whether the game was
-    over and it had to be stopped."""
+    """How an agent's process ended."""
 
-    status: int
-    is_stopped: bool = False
+    status: int  # negative for a signal
+    is_stopped: bool = False  # whether it had to be stopped when the game was over
 
 
 def outcome_of(reason: End, exited: Exit, was_refused: bool, was_asking: bool) -> Outcome:
@@ -96,13 +93,6 @@ def _how(exited: Exit, reason: Optional[End]) -> str:
     return "ended without taking its seat" if reason is End.ABSENT else ""
 
 
-def repeated(seed: int) -> Dict[str, str]:
-    """The variables of an agent that is to do the same each time: the number from which it draws,
-    the order in which Python goes over a set, and that no reply comes too late, however long the
-    others think."""
-    return {"AGENT_SEED": str(seed), "PYTHONHASHSEED": "0", "AGENT_LIMIT": "0"}
-
-
 class Match:
     """A game with its agents; `send` takes what is sent back."""
 
@@ -115,9 +105,11 @@ class Match:
         self._ends: Dict[int, End] = {}
         self._refused: List[events.Refused] = []
         self._lines: Dict[int, Tuple[int, ...]] = {}  # that agents had sent, by tick
-        self._game = job.folder / f"{job.name}.game"
-        self._log = job.folder / f"{job.name}.log"
-        self._events = (job.folder / f"{job.name}.events").open("w", encoding="ascii")
+        self._game, self._log = self._file("game"), self._file("log")
+        self._events = self._file("events").open("w", encoding="ascii")
+
+    def _file(self, kind: str) -> Path:
+        return self._job.folder / f"{self._job.name}.{kind}"
 
     def play(self) -> Result:
         """Plays the game."""
@@ -127,14 +119,13 @@ class Match:
         with open(reading, encoding="ascii") as orders, open(writing, "wb", 0) as self._orders, \
                 self._events:
             try:
-                journal = job.folder / f"{job.name}.journal"
                 seated = self._agents.seated(job)
                 if job.limits:
                     self._start_agents(seated, PORT)
                 settings = LobbySettings(
                     game=self._game, port=0, pace=job.pace, log=self._log, form=job.form,
                     start=job.start, linger=job.linger, patience=max(job.start, PATIENCE),
-                    journal=None if job.turns else journal, orders=orders,
+                    journal=None if job.turns else self._file("journal"), orders=orders,
                     keys={key: seat for seat, key in enumerate(job.keys)},
                     listeners=[each.listener() for each in seated if job.limits])
                 turns = TurnServer(job.turns, job.patience) if job.turns else None
@@ -150,8 +141,7 @@ class Match:
                     over.set()
                     watcher.join()
                 if turns:
-                    script = b"".join(turns.script)
-                    (job.folder / f"{job.name}.script").write_bytes(script)
+                    self._file("script").write_bytes(b"".join(turns.script))
             except (LobbyError, program.ProgramError, ValueError) as fault:
                 return Result(fault=str(fault))
             finally:
@@ -181,8 +171,9 @@ class Match:
         pause = 0 if job.turns else job.pace / 1000
         for seat, (process, key) in enumerate(zip(seated, job.keys)):
             words = ["localhost", str(port), key, "--pause", str(pause)]
-            if job.turns:
-                variables.update(repeated(job.seeds[seat]))
+            if job.turns:  # it does the same each time, and no reply comes too late for it
+                variables.update({"AGENT_SEED": str(job.seeds[seat]), "PYTHONHASHSEED": "0",
+                                  "AGENT_LIMIT": "0"})
             # A file without a name does not tell the agent which game this is.
             out = self._printed[seat] = tempfile.TemporaryFile(dir=job.folder)
             process.begin(words, variables, {
@@ -190,7 +181,7 @@ class Match:
             self._running[seat] = process
 
     def _kept(self, seat: int) -> Path:
-        return self._job.folder / f"{self._job.name}.out.{self._job.words[seat]}"
+        return self._file(f"out.{self._job.words[seat]}")
 
     def _watch(self, over: threading.Event) -> None:
         """Watches the agents' processes, and a little after the game ends those that are left."""
@@ -213,8 +204,8 @@ class Match:
             self._orders.write(f"{line}\n".encode("ascii"))
 
     def _result(self, status: int, passed: Optional[List[int]]) -> Result:
-        """What the game came to, by the lobby's status, and in how many turns each agent was passed
-        over; None for a game by the clock."""
+        """What the game came to, by the lobby's status, and, in turns, how often each agent was
+        passed over."""
         job = self._job
         try:
             text = self._log.read_bytes() if self._log.exists() else b""
@@ -234,7 +225,8 @@ class Match:
             outcomes.append(outcome_of(reason, exited, self._was_refused(seat),
                                        self._was_asking(seat)))
             self._tell(seat, exited, reason, outcomes[-1])
-            missed.append(self._missed(seat))
+            told = re.findall(r"missed ([0-9]{1,2}) of [0-9]+ ticks", self._last_printed(seat))
+            missed.append(int(told[-1]) if told else None)
         if passed is None:
             return Result(scores, tuple(outcomes), missed=tuple(missed))
         for seat, count in enumerate(passed):
@@ -248,8 +240,7 @@ class Match:
         return f"{self._job.entrants[seat].name} at seat {seat} ({self._job.words[seat]})"
 
     def _was_refused(self, seat: int) -> bool:
-        """Whether a refused first line has the agent's word; one that has nobody's is told, and
-        blamed on nobody."""
+        """Whether a refused first line has the agent's word."""
         return any(self._job.keys[seat] in re.findall("[a-z0-9]+", refused.line)
                    for refused in self._refused)
 
@@ -260,30 +251,23 @@ class Match:
         return max(after, default=0) > max(before, default=0)
 
     def _tell(self, seat: int, exited: Exit, reason: End, outcome: Outcome) -> None:
-        how = _how(exited, reason)
-        if not how and outcome is Outcome.PLAYED:
-            return
-        text = f"{self._name(seat)} "
-        told = [f"counts as {outcome.value}" if outcome is not Outcome.PLAYED else "", how]
-        text += ": ".join(part for part in told if part)
-        last = self._last_printed(seat).split("\n")[-1][:120]
-        self._send(Note(text + (f"; its last line: {last}" if last else "")))
+        counted = "" if outcome is Outcome.PLAYED else f"counts as {outcome.value}"
+        told = ": ".join(filter(None, (counted, _how(exited, reason))))
+        if told:
+            last = self._last_printed(seat).split("\n")[-1][:120]
+            self._send(Note(f"{self._name(seat)} {told}"
+                            + (f"; its last line: {last}" if last else "")))
 
     def _last_printed(self, seat: int) -> str:
         """The end of what an agent printed."""
         return self._kept(seat).read_bytes()[-2000:].decode("utf-8", "replace").strip()
-
-    def _missed(self, seat: int) -> Optional[int]:
-        """In how many ticks an agent could not act in time, by what it printed last."""
-        told = re.findall(r"missed ([0-9]{1,2}) of [0-9]+ ticks", self._last_printed(seat))
-        return int(told[-1]) if told else None
 
     def _keep(self, seat: int, printed: IO[bytes]) -> None:
         """Keeps what an agent printed, if it is much only the last bytes."""
         with printed:
             more = max(0, printed.seek(0, os.SEEK_END) - MOST_KEPT)
             printed.seek(more)
-            told = f"[{more} bytes left out]\n".encode() if more else b""
+            told = b"[%d bytes left out]\n" % more if more else b""
             self._kept(seat).write_bytes(told + printed.read())
 
 

@@ -1,27 +1,34 @@
-"""The figures of the games of a run: the parts of scores, prices over the ticks, how many of the
-units that agents asked for they got, and how far the scores are from the best possible ones. They
-need the extra `study`, and are found by as many processes as the machine has processors."""
+"""The figures of the games of a run, and the best trips of many clients who share goods, by a
+program in whole numbers. They need the extra `study`, and are found by as many processes as the
+machine has processors.
+
+A client has at most one stay, which is a hotel and two days. It has at most one ticket of each
+type, and at most one for each night of its stay. Goods that are not held are bought.
+"""
 
 import os
 import pickle
 import subprocess
 import sys
 from collections import defaultdict
+from functools import lru_cache
 from itertools import groupby
 from pathlib import Path
 from typing import Any, Dict, Iterable, List, NamedTuple, Optional, Sequence, Tuple
 
+import numpy as np
 import pandas as pd
+from scipy.optimize import Bounds, LinearConstraint, milp
+from scipy.sparse import coo_matrix
 
-from geesefuton.experiments.allocations import Optimum, best_allocation
 from geesefuton.experiments.entrants import PACKAGE
 from geesefuton.experiments.joining import read_source
-from geesefuton.experiments.kept import KeptGame, games_of, read_games
 from geesefuton.experiments.results import Row
+from geesefuton.experiments.runs import KeptGame, games_of, read_games
 from geesefuton.processes import Children
-from geesefuton.records.accounts import gains_of
-from geesefuton.records.games import FLIGHTS, GOODS, HOTELS, SEATS, TICKETS, TICKS, Game
-from geesefuton.records.logs import Entry
+from geesefuton.records.games import (FLIGHTS, GOODS, HOTELS, PACKAGES, SEATS, TICKETS, TICKS,
+                                      Client, Game, ticket)
+from geesefuton.records.logs import Entry, gains_of
 from geesefuton.records.replies import No
 from geesefuton.records.rules import MINUTE, PENALTY
 from geesefuton.records.ticks import boards_by_tick
@@ -29,6 +36,10 @@ from geesefuton.records.ticks import boards_by_tick
 Frame = Any  # of pandas
 MINUTES = range(0, MINUTE * len(HOTELS), MINUTE)  # the ticks at which prices of rooms are predicted
 FEW = 8  # deals for each process, at least
+SECONDS = 20.0  # that a search takes at most
+STAYS = [package for package in PACKAGES if not any(package.nights)]
+SEATED = [(kind, night) for kind in range(3) for night in range(1, 5)]  # a ticket's type and night
+CHOICES = len(STAYS) + len(SEATED)  # of a client
 PROGRAM = "from geesefuton.experiments.overview import work; work()"
 SIDES = ("flights", "rooms", "tickets to buy", "tickets to sell")
 PREDICTORS = ("the quote", "the mean of other deals", "the quote and its mean rise in other deals")
@@ -48,6 +59,65 @@ COLUMNS: Dict[str, List[object]] = {
     "games": ["agents", "had", "best", "bound"]}
 TEXTS = ("deal", "agent", "side", "agents")  # columns that are no numbers
 Figures = Dict[str, List[Sequence[object]]]  # of a game: rows of each table
+
+
+class Optimum(NamedTuple):
+    """What clients might have at most, in dollars."""
+
+    value: int  # the most that is known
+    bound: int  # what is never passed
+
+
+@lru_cache(maxsize=4)
+def _rules(clients: int) -> Tuple[object, List[float]]:
+    """What choices may go together: a matrix with a column for each choice of each client, and then
+    for the units bought of each good, and the upper limits of its rows, the goods' last."""
+    entries: List[Tuple[int, int, int]] = []
+    limits: List[float] = []
+
+    def row(parts: Sequence[Tuple[int, int]], limit: float) -> None:
+        entries.extend((len(limits), column, factor) for column, factor in parts)
+        limits.append(limit)
+
+    stay = list(enumerate(STAYS))
+    seats = list(enumerate(SEATED, len(STAYS)))
+    for first in range(0, clients * CHOICES, CHOICES):
+        row([(first + place, 1) for place, _ in stay], 1.0)
+        for kind in range(3):
+            row([(first + place, 1) for place, seat in seats if seat[0] == kind], 1.0)
+        for night in range(1, 5):
+            row([*((first + place, 1) for place, seat in seats if seat[1] == night),
+                 *((first + place, -1) for place, package in stay
+                   if package.arrive <= night < package.depart)], 0.0)
+    for good in GOODS:
+        users = [place for place, package in stay if good in package.goods()]
+        users += [place for place, seat in seats if ticket(*seat) == good]
+        row([*((client * CHOICES + place, 1) for client in range(clients) for place in users),
+             (clients * CHOICES + good, -1)], 0.0)
+    rows, columns, factors = zip(*entries)
+    shape = (len(limits), clients * CHOICES + len(GOODS))
+    return coo_matrix((factors, (rows, columns)), shape=shape).tocsr(), limits
+
+
+def best_allocation(clients: Sequence[Client], held: Sequence[int],
+                    prices: Sequence[Optional[int]]) -> Optimum:
+    """The worth of the best trips of clients who share everything, less what is bought for them.
+    `held` has their units of the 28 goods, and `prices` what a unit more of each costs in dollars;
+    None if there is none to be had."""
+    rules, limits = _rules(len(clients))
+    worths = [[*map(client.worth, STAYS), *(client.values[kind] for kind, _ in SEATED)]
+              for client in clients]
+    costs = [0 if price is None else price for price in prices]
+    most = [0 if price is None else len(clients) for price in prices]
+    choices = len(clients) * CHOICES
+    found = milp(np.concatenate([-np.ravel(worths), costs]),
+                 constraints=LinearConstraint(rules, -np.inf, [*limits[:-len(GOODS)], *held]),
+                 integrality=np.concatenate([np.ones(choices), np.zeros(len(GOODS))]),
+                 bounds=Bounds(0, np.concatenate([np.ones(choices), most])),
+                 options={"mip_rel_gap": 0.0, "presolve": False, "time_limit": SECONDS})
+    bound = sum(max(0, *map(client.worth, PACKAGES)) for client in clients) \
+        if found.mip_dual_bound is None else int(1e-6 - found.mip_dual_bound)
+    return Optimum(0 if found.x is None else round(-found.fun), bound)
 
 
 class Overview(NamedTuple):
@@ -128,7 +198,7 @@ def figures_of(kept: KeptGame, best: Optimum) -> Figures:
 
 def fills_of(history: Iterable[Entry]) -> Dict[Tuple[int, bool], List[int]]:
     """How many units each seat asked for in an auction, to buy and to sell, and how many traded. A
-    bid asks for the units that it has more than stood there of its agent before."""
+    bid asks for the units by which it exceeds those that its agent had standing there."""
     standing: Dict[Tuple[int, bool], int] = defaultdict(int)
     fills: Dict[Tuple[int, bool], List[int]] = defaultdict(lambda: [0, 0])
     for entry in history:

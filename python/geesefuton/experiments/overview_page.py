@@ -13,7 +13,7 @@ from geesefuton.experiments.forms import count_text, letters_of, undecided
 from geesefuton.experiments.joining import WAYS
 from geesefuton.experiments.overview import PARTS, PREDICTORS, SIDES, Overview
 from geesefuton.experiments.results import Row
-from geesefuton.experiments.study import deals_to_detect
+from geesefuton.experiments.comparisons import deals_to_detect
 from geesefuton.experiments.summary import Difference, Summary
 from geesefuton.processes import why
 from geesefuton.records.games import FLIGHTS, HOTELS, TICKETS, TICKS, name_of

@@ -1,21 +1,21 @@
 """The payoffs of strategies in games of eight seats, and the files that hold them. It needs the
 extra `study`.
 
-Some seats have better clients than others. How much better a seat of a deal is shows in the games
-in which all seats have the same strategy. So a strategy's payoff is the mean over its seats of the
-score less what the seat had more than the mean there, where each rival's strategy counts by its
-share. A single seat that leaves a profile of one strategy is thus compared with the same seat.
+A strategy's payoff is the mean over its seats of the score less what the same seat had more than
+the mean in the games in which all have one strategy, where each rival's strategy counts by its
+share. A single seat that leaves a profile of one strategy is thus compared with itself.
 """
 
 import json
 import math
 from collections import Counter, defaultdict
 from itertools import product
+from statistics import fmean
 from typing import Any, Callable, Dict, Iterable, List, Optional, Sequence, Set, Tuple
 
 import numpy as np
 
-from geesefuton.experiments.comparisons import Estimate, estimate, mean_of
+from geesefuton.experiments.comparisons import Estimate, estimate
 from geesefuton.experiments.reduction import (Counts, counts_of, needed_profiles, profiles_of,
                                               text_of_profile, with_one)
 from geesefuton.experiments.results import Outcome, Row
@@ -70,30 +70,26 @@ class Payoffs:
         rows = self._games.get((deal, tuple(SEATS * count for count in profile)))
         if rows is None:
             return [math.nan] * SEATS
-        mean = mean_of([row.score for row in rows])
+        mean = fmean(row.score for row in rows)
         return [row.score - mean for row in rows]
 
-    def _scores(self, deal: str, profile: Counts, strategy: int) -> Dict[int, int]:
-        """The scores of a strategy in a game, by their seats."""
-        return {row.seat: row.score for row in self._games[deal, profile]
-                if row.agent == self.names[strategy]}
-
     def _mean(self, deal: str, profile: Counts, strategy: int) -> float:
-        return mean_of(list(self._scores(deal, profile, strategy).values()))
+        return fmean(row.score for row in self._games[deal, profile]
+                     if row.agent == self.names[strategy])
 
     def _by_seat(self, deal: str, profile: Counts, strategy: int) -> float:
         """A strategy's payoff in a game by its seats; NaN where that cannot be told."""
         rivals = np.array(profile) - np.eye(len(profile))[strategy]
         luck = rivals[rivals > 0] @ self._luck[deal][rivals > 0] / (SEATS - 1)
-        return mean_of([score - float(luck[seat]) for seat, score in
-                        self._scores(deal, profile, strategy).items()])
+        return fmean(row.score - float(luck[row.seat]) for row in self._games[deal, profile]
+                     if row.agent == self.names[strategy])
 
     def samples(self) -> Any:
         """The payoffs of each deal, as `equilibria` takes them."""
         fill = (0,) * (len(self.names) - self.mixed)
         return np.array([[[
-            mean_of([self._by_seat(deal, profile, strategy)
-                     for profile in profiles_of(strategy, rivals + fill)])
+            fmean(self._by_seat(deal, profile, strategy)
+                  for profile in profiles_of(strategy, rivals + fill))
             for rivals in counts_of(self.players - 1, self.mixed)]
             for strategy in range(len(self.names))] for deal in self.deals])
 

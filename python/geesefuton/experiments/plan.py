@@ -7,16 +7,15 @@ import platform
 from collections import Counter
 from dataclasses import dataclass, field, replace
 from pathlib import Path
-from typing import Dict, List, Mapping, Optional, Sequence, Tuple
+from typing import Any, Dict, List, Mapping, Optional, Sequence, Tuple
 
 from geesefuton import program
 from geesefuton.arguments import Parser, seconds, whole
-from geesefuton.experiments.apart import Limits, folder_of, why_not
-from geesefuton.experiments.deals import (SHORT, DealError, Rule, Table, kept_secret, made_deal,
+from geesefuton.experiments.agents import PATIENCE, Limits, folder_of, why_not
+from geesefuton.experiments.deals import (SHORT, Rule, Table, kept_secret, made_deal,
                                           read_rooms)
 from geesefuton.experiments.entrants import Entrant, read_entrants, refuse_twins
 from geesefuton.experiments.forms import FORMS
-from geesefuton.experiments.messages import PATIENCE
 from geesefuton.experiments.provenance import (Agent, agent_of, digest_of, names_text,
                                                package_digest)
 from geesefuton.experiments.seating import MOST, Seating
@@ -75,13 +74,6 @@ class Plan:
         return self.start + asked + self.linger + MARGIN
 
 
-def _rooms(text: str) -> Tuple[int, int]:
-    try:
-        return read_rooms(text)
-    except DealError as fault:
-        raise argparse.ArgumentTypeError(str(fault)) from None
-
-
 def _summary_file(text: str) -> Path:
     if Path(text).suffix not in FORMS:
         raise argparse.ArgumentTypeError(f"expected a name ending in {', '.join(FORMS)}, "
@@ -89,53 +81,49 @@ def _summary_file(text: str) -> Path:
     return Path(text)
 
 
-def add_playing(parser: Parser, games: str, default: Optional[int] = None) -> None:
-    """Adds the words that say which games are played, and how. `games` is the help on their number,
-    and `default` how many there are where none is given."""
-    add = parser.add_argument
-    add("--games", type=whole(1), default=default, metavar="N", help=games)
+def add_playing(parser: Parser, games: Optional[int] = None) -> None:
+    """Adds the words that say which games are played, and how. The help shows them unless `games`
+    says how many there are where no number is given."""
+    def add(name: str, **how: Any) -> None:
+        how["help"] = how["help"] if games is None else argparse.SUPPRESS
+        parser.add_argument(name, **how)
+
+    add("--games", type=whole(1), default=games, metavar="N",
+        help="N games, rounded up to fair rounds (default: 4 or more)")
     add("--seed", type=whole(0, MOST_SEED), metavar="N",
-        help="make the deals from the seeds N, N + 1, .., which can be guessed (default: draw them "
-             "from a secret)")
-    add("--rooms", type=_rooms, metavar="N..M",
-        help="draw the rooms of each hotel night from this range, such as 3..6 (default: 16)")
+        help="use the seeds N, N + 1, .. for deals, not a secret")
+    add("--rooms", type=read_rooms, metavar="N..M",
+        help="draw the rooms of each night from N..M (default: 16)")
     add("--live", action="store_true", help="let hotel prices move with each bid")
-    add("--endow", choices=(CLASSIC,),
-        help="endow tickets in clumps, as in the original game (docs/GAME.md; default: 0 to 2 of "
-             "each)")
+    add("--endow", choices=(CLASSIC,), help="endow tickets in clumps, as in the original game")
     add("--game", type=Path, metavar="FILE", help="play this game file instead of made games")
     add("--at-once", type=whole(1), default=os.cpu_count() or 1, metavar="N",
-        help="play this many games at a time (default: one for each processor)")
+        help="games at a time (default: one for each processor)")
     add("--pace", type=whole(1, 60000), metavar="MILLISECONDS",
         help=f"the time from tick to tick (default: {PACE})")
     add("--turns", type=whole(1, MOST_TURNS), default=0, metavar="R",
-        help="play without a clock: each agent has R turns between two ticks, with one request in "
-             "each")
+        help="no clock: R requests of each agent between two ticks")
     add("--patience", type=seconds, metavar="SECONDS",
-        help="in turns: pass an agent over after it has been silent this long (default: "
-             f"{PATIENCE:g})")
+        help=f"in turns: longest silence of an agent (default: {PATIENCE:g})")
     add("--json", action="store_true", help="let agents send JSON objects instead of words")
     add("--apart", action=argparse.BooleanOptionalAction,
-        help="keep agents from what is not theirs: files, processes and the network (default: if "
-             "`bwrap` works)")
+        help="keep agents from all that is not theirs, by `bwrap`")
     add("--memory", type=whole(16), default=1024, metavar="MEGABYTES",
-        help="of data for each process of an agent that is kept apart (default: 1024)")
+        help="data of a process that is kept apart (default: 1024)")
     add("--processes", type=whole(2), default=64, metavar="N",
-        help="of an agent that is kept apart, at a time (default: 64)")
+        help="at a time, of an agent that is kept apart (default: 64)")
     add("--processor", type=whole(1), default=600, metavar="SECONDS",
-        help="for each process of an agent that is kept apart (default: 600)")
+        help="processor time of a process kept apart (default: 600)")
     add("--start", type=seconds, default=20.0, metavar="SECONDS",
         help="wait this long for the agents of a game (default: 20)")
     add("--after", type=seconds, metavar="SECONDS",
-        help=f"close the remaining links this long after the last tick (default: {LINGER:g}, in "
-             f"turns {LINGER_IN_TURNS:g})")
+        help=f"close links after the end (default: {LINGER:g}, in turns {LINGER_IN_TURNS:g})")
     add("--files", action="append", default=[], metavar="PATTERN",
-        help="count only files with such names, like '*.py', as an agent's own (default: all in "
-             "its folder); may be repeated")
+        help="an agent's own files, as '*.py' (default: its folder)")
     add("--also", type=Path, action="append", default=[], metavar="FILE",
-        help="count this file or folder as each agent's own, too; may be repeated")
+        help="count this file or folder as each agent's own, too")
     add("--resume", action="store_true",
-        help="play what FOLDER lacks, if its run began with the same words and files")
+        help="play what FOLDER lacks, with the same words and files")
     parser.set_defaults(shared=None, against=[], plan=False, summary=[], pool=False,
                         partial=False)
 
@@ -145,27 +133,22 @@ def make_parser(description: Optional[str]) -> Parser:
     parser = Parser("tournament", description or "")
     add = parser.add_argument
     add("agents", nargs="*", metavar="AGENT",
-        help="a Python file, a program, or a command in quotes (default in a clone: planner, "
-             "trader and watcher of examples/agents)")
-    add_playing(parser, "play this many games, and more where a deal would lack some (default: a "
-                        "round in which all is equal, at least 4)")
+        help="a Python file, a program, or a command in quotes")
+    add_playing(parser)
     add("--against", action="append", default=[], metavar="AGENT",
-        help="play each agent alone among agents of this pool, in each seat; may be repeated")
+        help="play each alone among these agents, in each seat")
     add("--plan", action="store_true", help="only print who would sit where, and how fair it is")
     add("--out", type=Path, metavar="FOLDER",
-        help="keep the run here, in a new folder: run.json with the settings and files, scores.csv "
-             "with the lines of each game as it ends, grades.csv, and the files of the games")
+        help="keep settings, scores and games in this new folder")
     add("--summary", type=_summary_file, action="append", default=[], metavar="FILE",
-        help="also write the summary to this file, .txt, .csv or .json; may be repeated")
+        help="also write the summary to this .txt, .csv or .json")
     add("--detect", type=whole(1), metavar="DOLLARS",
-        help="estimate how many games detect such a difference between two agents")
+        help="estimate how many games detect such a difference")
     add("--join", action="store_true",
-        help="play nothing: AGENT .. are the folders of runs, which are summarized together if "
-             "they belong together")
-    add("--pool", action="store_true",
-        help="with --join: compare runs that do not belong together, each pool by its own name")
+        help="play nothing: AGENT .. are folders of runs to summarize")
+    add("--pool", action="store_true", help="with --join: also runs that do not belong together")
     add("--partial", action="store_true",
-        help="with --join: take the deals that were played whole, where games are missing")
+        help="with --join: take the deals that were played whole")
     return parser
 
 
@@ -184,21 +167,17 @@ def _entrants(parser: Parser, given: argparse.Namespace) -> Tuple[List[Entrant],
     return [*own, *(replace(each, name=f"{each.name} (pool)") for each in pool)], len(pool)
 
 
-def _rule(given: argparse.Namespace) -> Rule:
-    """How deals are made."""
-    folder = given.shared or (given.out if given.resume else None)
-    secret = str(given.seed).encode() if given.seed is not None else \
-        (kept_secret(folder) if folder else None) or new_secret()
-    return Rule(secret, given.seed, given.game, given.rooms, given.live, given.endow == CLASSIC)
-
-
 def read_plan(parser: Parser, given: argparse.Namespace, are_deals: bool = False) -> Plan:
     """The plan of a command line; ends with status 2 where there is none. If the number of games
     is one of deals, each has one game."""
     _refuse(parser, given)
     try:
         entrants, pool = _entrants(parser, given)
-        rule = _rule(given)
+        folder = given.shared or (given.out if given.resume else None)
+        secret = str(given.seed).encode() if given.seed is not None else \
+            folder and kept_secret(folder) or new_secret()
+        rule = Rule(secret, given.seed, given.game, given.rooms, given.live,
+                    given.endow == CLASSIC)
         first = made_deal(rule, 1)  # tells whether deals can be made
         tac = digest_of(Path(program.find()))
         agents = {entrant.name: agent_of(entrant, given.files, given.also, given.summary)

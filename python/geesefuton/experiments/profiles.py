@@ -1,14 +1,15 @@
-"""Plays every profile of a game between strategies, and searches for symmetric equilibria
-(docs/EXPERIMENTS.md, "Strategies and profiles").
+"""Plays every profile of a game between strategies, and searches for symmetric
+equilibria. A profile says how many of the eight seats have each strategy.
 
-    profiles baseline.py 'baseline.py --set SHADE=1.0' --games 40 --turns 40 --out FOLDER
+    geesefuton profiles mine.py theirs.py --games 40 --turns 40 --out FOLDER
 
-A strategy is an agent, as in a tournament. A profile says how many of the eight seats have each
-strategy. FOLDER keeps the games, like a tournament's --out: --resume continues after a stop, a
-larger --games adds games, and one strategy more plays only the profiles that it is in. The command
-writes payoffs.csv, payoffs.json and payoffs.nfg, and prints payoffs, a seat's gain by another
-strategy, and the symmetric equilibria, each with its number of occurrences in resamples of the
-deals. Its exit status is that of `tournament`. It needs numpy, scipy and pandas.
+FOLDER keeps the games: --resume continues after a stop, a larger --games adds
+games, and one strategy more plays only the profiles that it is in. The command
+writes payoffs.csv, payoffs.json and payoffs.nfg, and prints payoffs, a seat's
+gain by another strategy, and the equilibria, each with its number of
+occurrences in resamples of the deals. The options of games, from --games to
+--resume, and the exit status are those of `tournament`. It needs numpy, scipy
+and pandas.
 """
 
 import argparse
@@ -18,7 +19,7 @@ from pathlib import Path
 from typing import Tuple
 
 from geesefuton.arguments import Parser
-from geesefuton.experiments import study
+from geesefuton.experiments.comparisons import missing_libraries
 from geesefuton.experiments.plan import add_playing
 from geesefuton.experiments.reduction import PLAYERS
 from geesefuton.processes import command
@@ -35,18 +36,17 @@ def _main() -> int:
     parser = Parser("profiles", __doc__)
     add = parser.add_argument
     add("agents", nargs="+", metavar="AGENT", help="the strategies, two or more")
-    add_playing(parser, "play each profile this many times, on a deal of its own each time "
-                        "(default: 4)", 4)
+    add_playing(parser, 4)
     add("--players", type=int, choices=PLAYERS, default=PLAYERS[0],
-        help="8 for all profiles, fewer for the reduced game (default: 2)")
+        help="8: all profiles, fewer: the reduced game (default: 2)")
     add("--out", type=Path, required=True, metavar="FOLDER", help="keep the games in this folder")
     add("--search", action="store_true",
-        help="play only the profiles that lead to one equilibrium by best responses")
+        help="play only what leads to one equilibrium by best responses")
     add("--part", type=_part, metavar="I/N", help="play only this part of the games")
     given = parser.parse_args()
     if given.search and given.part:
         parser.error("--search plays games by what the earlier ones showed: leave --part out")
-    missing = study.missing("payoffs and equilibria")
+    missing = missing_libraries("payoffs and equilibria")
     if missing:
         parser.error(missing)
     from geesefuton.experiments.profile_study import run  # which needs those libraries

@@ -1,9 +1,5 @@
-"""The provenance of results: the settings and files that decide whether they can be compared.
-
-Results of two tournaments belong together only if their settings, the program, the package, and
-what each agent is are the same. So each row has its settings as a text, and the first digits of the
-SHA-256 of its agent's files.
-"""
+"""The provenance of results: the settings and files that decide whether they can be compared. Each
+row has its settings as a text, and the first digits of the SHA-256 of its agent's files."""
 
 import fnmatch
 import hashlib
@@ -69,10 +65,9 @@ def agent_of(entrant: Entrant, patterns: Sequence[str] = (), also: Sequence[Path
     """What an agent is.
 
     Its files are those of the folder of the first file that its command names, and of the folders
-    below: all that it may import or read. Left out are hidden files, what Python has compiled, and
-    folders of runs, of tables and of virtual environments. Further files that its command names,
-    after a `=`, too, and the program that runs it belong to it by themselves, and a folder with
-    what is in it.
+    below, but for hidden files and folders of something else (`NOT_OURS`). Further files that its
+    command names, after a `=`, too, and the program that runs it belong to it by themselves, and a
+    folder with what is in it.
 
     Args:
         patterns: If there are any, the files of its folder are those whose names match one.
@@ -103,11 +98,14 @@ def agent_of(entrant: Entrant, patterns: Sequence[str] = (), also: Sequence[Path
         raise EntrantError(f"{entrant.name}: its folder {folder} has more than {MOST_FILES} files, "
                            "or a gigabyte: give it a folder of its own, or name its files by "
                            "--files '*.py'")
+    imported = {name.split(".")[0] for file in files.values() if file.suffix == ".py"
+                for name in imports_of(file)}
+    libraries = sorted(each for name in imported for each in _installed().get(name, ()))
     return Agent(entrant.name, entrant.command,
                  ["".join([*word.rpartition("=")[:2], named[word].name]) if word in named else word
                   for word in words],
                  {name: digest_of(file) for name, file in sorted(files.items())},
-                 _libraries(files.values()))
+                 dict(libraries))
 
 
 def _within(folder: Path) -> Iterator[Path]:
@@ -119,13 +117,6 @@ def _within(folder: Path) -> Iterator[Path]:
             yield file
         elif file.is_dir() and not any((file / name).exists() for name in NOT_OURS):
             yield from _within(file)
-
-
-def _libraries(files: Iterable[Path]) -> Dict[str, str]:
-    """The versions of the installed libraries that Python files import."""
-    names = {name.split(".")[0] for file in files if file.suffix == ".py"
-             for name in imports_of(file)}
-    return dict(sorted(version for name in names for version in _installed().get(name, ())))
 
 
 @lru_cache(maxsize=1)

@@ -1,20 +1,14 @@
-"""Reports on a played game: scores, payments, prices over the ticks, trips, and trades.
+"""Makes a page of a game: scores, payments, prices over the ticks, trips, trades.
 
-    report my.game my.log > page.html          a self-contained page, for a projector
-    report --why my.game my.log > page.html    with each team's holdings, wishes and bids over the
-                                               ticks, and its costliest decisions
-    report --csv my.game my.log > rows.csv     lines `what,tick,good,position,agent,units,dollars`
-    report --over runs/1 > page.html           an overview of the games of a tournament's folder
+    geesefuton report my.game my.log > page.html
+    geesefuton report --csv my.game my.log > rows.csv
 
-The log comes from `tac serve` or `tac play`, whose reply lines may precede it. The command audits
-it first; if it is not sound, the command says why and makes no page. Seat words are passwords, so
-the page calls an agent by the letters before the digits of its word, if these differ between
-agents, and otherwise by its number.
-
-In the CSV `price` is the published price from that entry on, `close` the price at a hotel's
-closing, `trade` the units that an agent bought (above 0) or sold (below 0), with the dollars for
-each unit, and `score` a score. A log has no times: a call has the tick of the clock's last call in
-its auction, so trades of tickets have none.
+The log is audited first: if it is not sound there is no page. An agent is
+called by the letters before the digits of its word if these differ, or by its
+number. In the CSV `price` is the published price from that entry on, `close`
+that of a hotel's closing, `trade` what an agent bought (above 0) or sold, with
+the dollars a unit, `score` a score. A call has the tick of the clock's last
+call there, and trades of tickets have none.
 """
 
 import time
@@ -24,7 +18,7 @@ from typing import List, Optional, Tuple
 
 from geesefuton import program
 from geesefuton.arguments import Parser
-from geesefuton.experiments import study
+from geesefuton.experiments.comparisons import missing_libraries
 from geesefuton.experiments.forms import printed
 from geesefuton.experiments.joining import read_source
 from geesefuton.experiments.summary import summarize
@@ -32,10 +26,10 @@ from geesefuton.processes import command
 from geesefuton.records.games import Game, GameError, read_game
 from geesefuton.records.hindsight import stories
 from geesefuton.records.logs import Log, LogError, read_log
-from geesefuton.records.prices import MarketEvent, all_events
 from geesefuton.records.report_page import Heading, page
 from geesefuton.records.seat_names import names_of
 from geesefuton.records.tables import csv_of
+from geesefuton.records.ticks import MarketEvent, all_events
 
 START = b"taclog 1\n"
 
@@ -84,7 +78,7 @@ def _csv_text(game: Game, log: Log) -> str:
 def _over(folder: Path, figures: Optional[Path]) -> Tuple[str, List[str]]:
     """The page of a run's folder, "" if it has no games, and its faults, each in a line; a folder
     of figures gets the page's pictures."""
-    missing = study.missing("pages and pictures of a run")
+    missing = missing_libraries("pages and pictures of a run")
     if missing or not folder.is_dir():
         return "", [missing or f"{folder} is not a folder"]
     source, told = read_source(folder)
@@ -105,16 +99,13 @@ def _main() -> int:
     add = parser.add_argument
     add("--csv", action="store_true", help="write CSV instead of a page")
     add("--why", action="store_true",
-        help="show each team over the ticks, with the worth of its best plan, and what cost it "
-             "most; takes some seconds")
-    add("--unaudited", action="store_true",
-        help="also show a log that is not sound or cannot be audited")
+        help="show each team over the ticks, and what cost it most")
+    add("--unaudited", action="store_true", help="also show a log that is not sound or not audited")
     add("--names", action="store_true", help="show agents by their seat words, which are passwords")
     add("--over", type=Path, metavar="FOLDER",
-        help="show an overview of the games of a tournament's run")
+        help="show an overview of the games of a tournament")
     add("--figures", type=Path, metavar="FOLDER",
-        help="with --over: also write its pictures to this folder, as SVG and PDF, each with its "
-             "CSV; needs matplotlib")
+        help="with --over: also write its pictures to this folder")
     add("game", type=Path, nargs="?", help="the game file")
     add("log", type=Path, nargs="?", help="the log")
     given = parser.parse_args()

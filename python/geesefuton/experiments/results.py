@@ -1,11 +1,13 @@
-"""The rows of a tournament: one for each seat of each game, and their form in CSV."""
+"""What games come to, as the process that plays them tells it, and the rows of a tournament, one
+for each seat of each game, and their form in CSV."""
 
 import csv
 import enum
 import io
 from dataclasses import astuple, dataclass, field, fields
-from typing import Dict, Iterable, List, Optional, Sequence, Tuple
+from typing import Dict, Iterable, List, Optional, Sequence, Tuple, Union
 
+from geesefuton.hosting import events
 from geesefuton.records.games import SEATS
 from geesefuton.records.tables import csv_of
 
@@ -27,6 +29,29 @@ class Outcome(str, enum.Enum):
     HUNG = "hung"  # it fell silent, and had to be ended when the game was over
     KILLED = "killed"  # a signal ended it that its game had not sent
     REFUSED = "refused"  # its first line was refused, or every line that it sent
+
+
+@dataclass(frozen=True)
+class Note:
+    """Something that is told to whoever runs the tournament."""
+
+    text: str
+
+
+@dataclass(frozen=True)
+class Result:
+    """What a game came to."""
+
+    # the scores of the eight seats in dollars; none if the game was lost
+    scores: Tuple[int, ...] = ()
+    outcomes: Tuple[Outcome, ...] = ()  # how each seat's game went
+    fault: str = ""  # why the game was lost; "" if it was not
+    kind: Kind = Kind.SERVED  # how it was played
+    # in how many ticks each agent says that it could not act; None where it does not say
+    missed: Tuple[Optional[int], ...] = (None,) * SEATS
+
+
+Message = Union[events.Event, Note, Result]  # of a process that plays games
 
 
 @dataclass(frozen=True)
@@ -57,6 +82,11 @@ class Row:
     def place(self) -> Tuple[int, int]:
         """Which game of its run it is: the number of the deal, and the rotation."""
         return self.number, self.rotation
+
+    @property
+    def game_name(self) -> str:
+        """The name of its game's files."""
+        return f"{self.number}.{self.rotation}"
 
     @property
     def game(self) -> Tuple[str, str, int]:
@@ -118,9 +148,9 @@ def read_rows(text: str) -> Found:
             games.setdefault((row.deal, *row.place), []).append(row)
     if half:
         found.told.append(f"line {lines.line_num + 1} was half written: {half[:60]!r}")
-    for (_, number, rotation), rows in games.items():
+    for rows in games.values():
         if sorted(row.seat for row in rows) == list(range(SEATS)):
             found.rows += rows
         else:
-            found.told.append(f"game {number}.{rotation} has {len(rows)} rows, not {SEATS}")
+            found.told.append(f"game {rows[0].game_name} has {len(rows)} rows, not {SEATS}")
     return found

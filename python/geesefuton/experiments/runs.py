@@ -5,6 +5,9 @@ and each agent's files, and for each run its words, machine, load and times; FOL
 rows of the games; FOLDER/games the games' files; and FOLDER/secret what the deals are drawn from,
 until all games are scored. A resumed run plays the games that scores.csv lacks. A row that was half
 written, as on a full disk, is reported and removed with its game, and the game is played again.
+
+A game in turns keeps its script, and a game by the clock its journal, from which the ticks of its
+calls follow; where there is neither they come from the log.
 """
 
 import contextlib
@@ -14,19 +17,25 @@ import os
 import re
 import socket
 import time
-from dataclasses import asdict
+from collections import defaultdict
+from dataclasses import asdict, dataclass
 from datetime import datetime, timezone
 from pathlib import Path
-from typing import Any, Dict, Sequence, Set, Tuple
+from typing import Any, Dict, Iterable, Iterator, List, Sequence, Set, Tuple
 
 from geesefuton.experiments.deals import RUN, SECRET, DealError, kept_secret, write_whole
 from geesefuton.experiments.plan import Plan
 from geesefuton.experiments.provenance import commit, digest_of, machine, package_digest, unlike
-from geesefuton.experiments.results import HEAD, Found, ResultsError, read_rows, text_of
+from geesefuton.experiments.results import HEAD, Found, ResultsError, Row, read_rows, text_of
+from geesefuton.hosting.journal import JournalError, read_journal
 from geesefuton.processes import Output, why
 from geesefuton.program import CommandError, find
-from geesefuton.records.secret_deals import commitment, read_secret
+from geesefuton.records.games import Game, GameError, read_game
+from geesefuton.records.logs import Log, LogError, read_log
+from geesefuton.records.replies import read_request
 from geesefuton.records.tables import csv_of
+from geesefuton.records.ticks import (Ticks, Timed, TicksError, requests_of, ticks_by_log,
+                                      ticks_by_requests)
 
 FORM = 2  # of run.json
 MOST_WAIT = 10.0  # seconds for the games of an earlier run to end
@@ -235,21 +244,18 @@ class RunFolder:
 
     def _make_lock(self) -> None:
         """Makes the file that stands for a lock."""
-        file, ours = self._folder / LOCK, f"{socket.gethostname()} {os.getpid()}"
+        file, own = self._folder / LOCK, socket.gethostname()
         try:
-            text = os.open(file, os.O_CREAT | os.O_EXCL | os.O_WRONLY)
+            with open(file, "x", encoding="utf-8") as out:
+                out.write(f"{own} {os.getpid()}")
+            self._has_file = True
         except FileExistsError:
             host, _, process = file.read_text(encoding="utf-8", errors="replace").partition(" ")
-            if host == socket.gethostname() and process.isdigit() \
-                    and not os.path.exists(f"/proc/{process}"):
-                file.unlink()
-                self._make_lock()
-                return
-            raise RunError(f"another tournament is writing to it, process {process} of {host}; if "
-                           f"that has ended, remove {file}") from None
-        os.write(text, ours.encode())
-        os.close(text)
-        self._has_file = True
+            if host != own or not process.isdigit() or os.path.exists(f"/proc/{process}"):
+                raise RunError(f"another tournament is writing to it, process {process} of {host}; "
+                               f"if that has ended, remove {file}") from None
+            file.unlink()
+            self._make_lock()
 
     def _unlock(self) -> None:
         if self._has_file:
@@ -258,7 +264,7 @@ class RunFolder:
 
     def _clear(self) -> None:
         """Removes the files of games that were not finished."""
-        finished = {f"{number}.{rotation}" for number, rotation in self.finished}
+        finished = {row.game_name for row in self.rows}
         for file in (self._folder / GAMES).iterdir():
             match = FILE.fullmatch(file.name)
             if match and match[1] not in finished:
@@ -271,22 +277,72 @@ class RunFolder:
         write_whole(self._folder / name, text, mode)
 
 
-def secret_of(folder: Path) -> bytes:
-    """The secret of a run that is over. Raises RunError where it has none, it is not over, or the
-    secret is not the one of its commitment."""
-    deals = read_record(folder)["deals"]
-    if "commitment" not in deals:
-        raise RunError(f"{folder}: its deals are of the seed {deals.get('seed')}")
-    if SECRET not in deals:
-        raise RunError(f"{folder}: its secret is told when all of its games are scored")
-    try:
-        secret = read_secret(deals[SECRET])
-    except (ValueError, TypeError, AttributeError):
-        raise RunError(f"{folder / RUN}: its secret is none") from None
-    if commitment(secret) != deals["commitment"]:
-        raise RunError(f"{folder / RUN}: its secret is not the one of its commitment")
-    return secret
-
-
 def _now() -> str:
     return datetime.now(timezone.utc).isoformat(timespec="seconds")
+
+
+@dataclass(frozen=True)
+class KeptGame:
+    """A game of a run."""
+
+    rows: Sequence[Row]  # those of its eight seats
+    game: Game  # the game
+    log: Log  # its log
+    ticks: Ticks  # the ticks of the log's entries
+    source: str  # by what they are known: `script`, `journal` or `log`
+
+    @property
+    def agents(self) -> List[str]:
+        """The names of the agents at its seats."""
+        return [row.agent for row in self.rows]
+
+
+def games_of(rows: Iterable[Row]) -> List[List[Row]]:
+    """The rows of each game by seat, the games in the order of their deals and rotations."""
+    games: Dict[Tuple[int, int], List[Row]] = defaultdict(list)
+    for row in rows:
+        games[row.place].append(row)
+    return [sorted(games[place], key=lambda row: row.seat) for place in sorted(games)]
+
+
+def read_games(folder: Path, rows: Iterable[Row], told: List[str]) -> Iterator[KeptGame]:
+    """The games of a run's folder that have these rows; `told` gets a line for each game that
+    cannot be read."""
+    for each in games_of(rows):
+        try:
+            yield _read_kept(folder / GAMES, each)
+        except RunError as fault:
+            told.append(str(fault))
+        except OSError as fault:
+            told.append(f"{fault.filename}: {why(fault)}")
+
+
+def _read_kept(games: Path, rows: Sequence[Row]) -> KeptGame:
+    """Reads the game that has these eight rows. Raises RunError where a file is broken, or does not
+    belong to the others."""
+    name = rows[0].game_name
+    file = games / f"{name}.game"
+    try:
+        game = read_game(file.read_bytes().decode("latin-1"))
+        file = games / f"{name}.log"
+        log = read_log(file.read_bytes())
+        if [row.score for row in rows] != [score.score for score in log.scores]:
+            raise RunError(f"{file}: its scores differ from the run's rows")
+        for source in ("script", "journal"):
+            file = games / f"{name}.{source}"
+            if file.exists():
+                ticks = ticks_by_requests(game, log, _requests(file))
+                return KeptGame(rows, game, log, ticks, source)
+    except (GameError, LogError, TicksError, JournalError) as fault:
+        raise RunError(f"{file}: {fault}") from None
+    return KeptGame(rows, game, log, ticks_by_log(game, log), "log")
+
+
+def _requests(file: Path) -> Iterator[Timed]:
+    """The requests of a script or a journal."""
+    if file.suffix == ".script":
+        yield from requests_of(file.read_bytes().decode("latin-1"))
+        return
+    reader = read_journal(file)
+    for call in [*reader.calls, *reader.pending()]:
+        yield call.tick, call.agent, read_request(call.asked.text)

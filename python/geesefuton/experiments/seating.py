@@ -2,20 +2,18 @@
 
 Agents are numbers. With up to eight of them a deal has one game for each, and everybody has each
 seat once; with more it has as many games as it takes until everybody has played. Games are made
-from base games by adding the same number, modulo the number of agents, to all of its agents. Over a
-round, which has each such sum once, each agent has each seat equally often, and two agents meet or
-follow one another (they take turns in the order of seats) as often as their difference stands in
-the base games. These are searched so that each difference stands there equally often, up to one
-where that is found. (With as many agents as seats this is Williams' design.) For 64 agents the
-games are the lines of the affine plane of order 8: two meet once a round.
+from base games by adding the same number, modulo the number of agents, to all agents. Over a round,
+which has each such sum once, two agents meet or follow one another (they take turns in the order of
+seats) as often as their difference stands in the base games. These are searched so that each
+difference stands there equally often. (With as many agents as seats this is Williams' design.) For
+64 agents the games are the lines of the affine plane of order 8: two meet once a round.
 
-Against a pool each entrant plays alone with the same agents of the pool, in each deal at the same
-seat, over eight deals at each.
+Against a pool each entrant plays alone with the same agents of the pool, at the same seats.
 """
 
 import math
 from collections import Counter
-from itertools import permutations
+from itertools import permutations, product
 from random import Random
 from typing import Callable, Dict, Hashable, Iterable, Iterator, List, Tuple
 
@@ -25,6 +23,7 @@ MOST = SEATS * SEATS  # agents
 ROUNDS = 8  # after which the base games are repeated
 TRIES, STEPS, HEAT = 3, 5000, 12.0  # of a search; what a step may cost at first
 SALT = 7  # with which searches find what they should for twenty and thirty agents
+POWERS = (1, 2, 4, 3, 6, 7, 5)  # of 2, in the field of 8 numbers
 SAME = 1000  # what it costs that an agent meets or follows itself
 
 Game = List[int]  # the agent at each seat
@@ -46,7 +45,7 @@ class Seating:
         self.games = entrants if is_small else -(-entrants // SEATS)
         self.round = SEATS * pool if pool else 1 if is_small else \
             SEATS + 1 if entrants == MOST else entrants
-        self._rest, self._bases = _bases(entrants), [[list(range(SEATS))]][:0]
+        self._rest, self._bases = _bases(entrants), list[List[Game]]()
 
     def game(self, deal: int, rotation: int) -> Game:
         """The agents of a game of a deal, both numbered from 0."""
@@ -73,23 +72,19 @@ class Seating:
             for rotation in range(self.games):
                 game = self.game(deal, rotation)
                 played.update(set(game))
-                met.update((one, other) for one in set(game) for other in set(game))
+                met.update(permutations(set(game), 2))
                 sat.update(zip(game, range(SEATS)))
                 followed.update(zip(game, game[1:] + game[:1]))
         everybody = range(self._entrants)
-        pairs = [(one, other) for one in everybody for other in everybody if one != other]
-
-        def ends(counter: "Counter[Hashable]", keys: Iterable[Hashable]) -> Tuple[int, int]:
-            counts = [counter[key] for key in keys] or [0]
-            return min(counts), max(counts)
-
-        told = {"games of an agent": ends(played, everybody),
-                "times at each seat": ends(sat, ((one, seat) for one in everybody
-                                                 for seat in range(SEATS)))}
-        if not self._pool:
-            told.update({"games in which two agents meet": ends(met, pairs),
-                         "times that one follows another": ends(followed, pairs)})
-        return told
+        pairs = list(permutations(everybody, 2))
+        told: List[Tuple[str, Counter[Hashable], Iterable[Hashable]]] = [
+            ("games of an agent", played, everybody),
+            ("times at each seat", sat, product(everybody, range(SEATS))),
+            ("games in which two agents meet", met, pairs),
+            ("times that one follows another", followed, pairs)]
+        counts = {what: [counter[key] for key in keys] or [0]
+                  for what, counter, keys in told[:2 if self._pool else 4]}
+        return {what: (min(each), max(each)) for what, each in counts.items()}
 
 
 def _stride(agents: int) -> int:
@@ -109,12 +104,7 @@ def _line(slope: int, shift: int) -> Game:
 
 def _product(one: int, other: int) -> int:
     """The product in the field of 8 numbers."""
-    product = 0
-    for bit in range(3):
-        product ^= (one << bit) * (other >> bit & 1)
-    for bit in (4, 3):
-        product ^= (0b1011 << bit - 3) * (product >> bit & 1)
-    return product
+    return one and other and POWERS[(POWERS.index(one) + POWERS.index(other)) % len(POWERS)]
 
 
 def _bases(agents: int) -> Iterator[List[Game]]:

@@ -1,8 +1,7 @@
 """The summary of a tournament: means, differences of pairs, and seats that did not play.
 
 Means, their order and the pairs are over all seats of an agent, each with the score of its log. So
-an agent gains nothing by failing where it does badly. The summary also has the mean of the seats
-that played to the end, and how many did not, by reason. The unit of every interval is a deal, since
+an agent gains nothing by failing where it does badly. The unit of every interval is a deal, since
 games of one deal are alike: an agent's value for a deal is the mean over its seats there.
 """
 
@@ -10,12 +9,12 @@ from collections import Counter, defaultdict
 from dataclasses import dataclass, replace
 from itertools import combinations
 from operator import attrgetter
+from statistics import fmean
 from typing import Callable, Dict, List, Mapping, Optional, Sequence, Set, Tuple
 
-from geesefuton.experiments import study
-from geesefuton.experiments.comparisons import (LEVEL, Estimate, bonferroni_halves, estimate,
-                                                groups_of, holm, mean_of, signed_rank_p,
-                                                student_p)
+from geesefuton.experiments.comparisons import (LEVEL, Estimate, adjusted, bonferroni_halves,
+                                                deals_to_detect, estimate, groups_of, holm,
+                                                missing_libraries, signed_rank_p, student_p)
 from geesefuton.experiments.covariates import MEAN_FIRST_PRICE, MEAN_LUCK, MEAN_NIGHTS
 from geesefuton.experiments.provenance import read_settings
 from geesefuton.experiments.results import Kind, Outcome, Row
@@ -39,9 +38,7 @@ class Standing:
     # the mean of the seats that played to the end; None if there is none
     played: Optional[Estimate]
     luck: float  # the mean of the luck of its draws in dollars
-    # the mean that it would have with draws that are as those of all made games in the mean, or of
-    # all agents for other games; None where it cannot be told
-    adjusted: Optional[Estimate]
+    adjusted: Optional[Estimate]  # its mean for an average draw; None where it cannot be told
     # in how many ticks it could not act, by what it tells, in the mean; None if it tells nothing
     missed: Optional[float] = None
 
@@ -66,17 +63,13 @@ class Difference:
     left_out: int  # in how many deals both played, but without a client that both had
     # the mean difference; None if there is no deal in which they can be compared
     score: Optional[Estimate]
-    # the difference that there would be with equal draws that are as those of all made games in the
-    # mean; None where it cannot be told
-    adjusted: Optional[Estimate] = None
+    adjusted: Optional[Estimate] = None  # `score` for equal, average draws; None if not known
     # the probability by Student's t of such a difference if there is none; None without an interval
     student: Optional[float] = None
     wilcoxon: Optional[float] = None  # the same by Wilcoxon's signed ranks
     holm: Optional[float] = None  # `student`, made larger so that it allows for all pairs
     bonferroni: Optional[float] = None  # half the width of an interval that allows for all pairs
-    # how many deals tell a difference of the size that was asked for; None if none was, or it
-    # cannot be told
-    needed: Optional[int] = None
+    needed: Optional[int] = None  # how many deals tell a difference as was asked for, if known
 
     @property
     def is_shown(self) -> bool:
@@ -97,9 +90,7 @@ class Summary:
     partial: int  # how many of these lack games that were planned
     kinds: Dict[Kind, int]  # how many of the games were played how
     lost: List[str]  # what was lost or could not be written, each in a line
-    # the size of a difference, in dollars, of which is told how many deals tell it; None if that
-    # was not asked
-    detect: Optional[float] = None
+    detect: Optional[float] = None  # the difference in dollars that was asked for (`needed`)
     # why there are no adjusted figures, and none of what tells a difference; "" if there are
     missing: str = ""
     planned: int = 0  # how many games there were to be; 0 if that is not known
@@ -108,17 +99,17 @@ class Summary:
 
 def summarize(rows: Sequence[Row], lost: Sequence[str] = (), detect: Optional[float] = None,
               planned: int = 0, is_stopped: bool = False) -> Summary:
-    """The summary of rows, of one tournament or of several with different deals, and what else is
-    told of them (`Summary`)."""
+    """The summary of rows, of one tournament or of several with different deals."""
     by_agent: Dict[str, List[Row]] = defaultdict(list)
+    cells: Dict[str, Cells] = defaultdict(lambda: defaultdict(lambda: defaultdict(list)))
     for row in rows:
         by_agent[row.agent].append(row)
-    missing = study.missing("figures that are adjusted for the draw")
+        cells[row.agent][row.deal][row.seat].append(row)
+    missing = missing_libraries("figures that are adjusted for the draw")
     centre = [] if missing or not rows else _centre(rows)
     standings = [_standing(agent, own, centre) for agent, own in by_agent.items()]
     standings.sort(key=lambda standing: (standing.untaken == standing.seats, -standing.score.mean))
     names = [standing.agent for standing in standings]
-    cells = {agent: _cells_of(own) for agent, own in by_agent.items()}
     differences = [_difference(first, second, cells[first], cells[second], centre, detect)
                    for first, second in combinations(names, 2)]
     differences = [replace(each, holm=chance, bonferroni=half) for each, chance, half in zip(
@@ -142,19 +133,12 @@ def _partial(rows: Sequence[Row]) -> int:
                 if len(played) < int(read_settings(settings).get("rotations", 1))})
 
 
-def _cells_of(rows: Sequence[Row]) -> Cells:
-    deals: Cells = defaultdict(lambda: defaultdict(list))
-    for row in rows:
-        deals[row.deal][row.seat].append(row)
-    return deals
-
-
 def _by_deal(rows: Sequence[Row], value: Value) -> List[float]:
     """The mean of a value over an agent's seats, for each deal."""
     deals: Dict[str, List[float]] = defaultdict(list)
     for row in rows:
         deals[row.deal].append(value(row))
-    return [mean_of(values) for values in deals.values()]
+    return list(map(fmean, deals.values()))
 
 
 def _centre(rows: Sequence[Row]) -> List[float]:
@@ -162,7 +146,7 @@ def _centre(rows: Sequence[Row]) -> List[float]:
     of all their seats."""
     if all("rooms" in read_settings(text) for text in {row.settings for row in rows}):
         return [MEAN_LUCK, MEAN_NIGHTS, MEAN_FIRST_PRICE]
-    return [mean_of([value(row) for row in rows]) for value in COVARIATES]
+    return [fmean(map(value, rows)) for value in COVARIATES]
 
 
 def _adjusted(scores: Sequence[float], sides: Sequence[Tuple[Seats, Seats]],
@@ -173,7 +157,7 @@ def _adjusted(scores: Sequence[float], sides: Sequence[Tuple[Seats, Seats]],
     drawn = [*([ours - theirs for ours, theirs in value] for value in (luck, nights)),
              *([(ours + theirs) / 2.0 for ours, theirs in value]
                for value in (first_price, nights, luck))]
-    return study.adjusted(scores, drawn, [0.0, 0.0, *centre[::-1]])
+    return adjusted(scores, drawn, [0.0, 0.0, *centre[::-1]])
 
 
 def _standing(agent: str, rows: Sequence[Row], centre: Sequence[float]) -> Standing:
@@ -183,8 +167,8 @@ def _standing(agent: str, rows: Sequence[Row], centre: Sequence[float]) -> Stand
     played = _by_deal([row for row in rows if row.end is Outcome.PLAYED], SCORE)
     missed = [row.missed for row in rows if row.missed is not None]
     return Standing(agent, len(rows), ends, estimate(scores), estimate(played) if played else None,
-                    mean_of(drawn[0]), study.adjusted(scores, drawn, centre) if centre else None,
-                    mean_of(missed) if missed else None)
+                    fmean(drawn[0]), adjusted(scores, drawn, centre) if centre else None,
+                    fmean(missed) if missed else None)
 
 
 def _difference(first: str, second: str, ours: Cells, theirs: Cells, centre: Sequence[float],
@@ -208,9 +192,9 @@ def _difference(first: str, second: str, ours: Cells, theirs: Cells, centre: Seq
     return Difference(first, second, by_clients, left_out, score,
                       _adjusted(scores, sides, centre) if centre else None,
                       student_p(score), signed_rank_p(scores) if score.half is not None else None,
-                      needed=study.deals_to_detect(score, detect) if detect and centre else None)
+                      needed=deals_to_detect(score, detect) if detect and centre else None)
 
 
 def _mean_of_seats(seats: Seats, value: Value) -> float:
     """The mean over seats of the mean over each one's rows."""
-    return mean_of([mean_of([value(row) for row in rows]) for rows in seats.values()])
+    return fmean(fmean(map(value, rows)) for rows in seats.values())

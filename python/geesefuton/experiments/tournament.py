@@ -1,18 +1,10 @@
-"""Plays games between agents, several at once, and compares the agents (docs/TOURNAMENTS.md).
+"""Plays games between agents, several at once, and compares the agents.
 
-    tournament --games 20 --out FOLDER mine.py examples/agents/planner.py
+    geesefuton tournament --games 20 --out FOLDER mine.py theirs.py
 
-An agent is a Python file, a program, or a command in quotes, such as 'java -jar theirs.jar'. The
-command runs it with the words HOST PORT WORD --pause SECONDS, like the agents of examples/agents.
-An agent that fails or hangs costs only its own seat. With --turns R there is no clock, so agents
-whose requests depend only on what they received play the same games on any machine.
-
-FOLDER has scores.csv, which gains the rows of each game as the game ends, grades.csv at the end,
-run.json with the settings, the agents and their files, and the files of the games. Deals are drawn
-from a secret, which run.json has when all games are scored.
-
-The exit status is 0 if every game was scored and everything was written, 1 if not, and 128 plus
-the signal's number if a signal stopped it.
+In a clone, planner, trader and watcher of the examples play if none is named.
+--against, --files, --also and --summary may be repeated. The exit status is 0
+if every game was scored and everything was written.
 """
 
 import argparse
@@ -30,15 +22,15 @@ from typing import AbstractSet, Iterator, List, NamedTuple, Optional, Sequence, 
 
 from geesefuton import program
 from geesefuton.arguments import Parser
+from geesefuton.experiments.agents import Job
 from geesefuton.experiments.covariates import covariates_of
 from geesefuton.experiments.deals import SHORT, Table, place_of, tables
 from geesefuton.experiments.entrants import Entrant, seat_words
 from geesefuton.experiments.forms import FORMS, as_grades, as_text, printed
 from geesefuton.experiments.joining import joined, missing, pooled, read_source, whole_deals
-from geesefuton.experiments.messages import Job, Note, Result
 from geesefuton.experiments.plan import Plan, make_parser, read_plan, text_of
 from geesefuton.experiments.provenance import read_settings, settings_text
-from geesefuton.experiments.results import Row
+from geesefuton.experiments.results import Note, Result, Row
 from geesefuton.experiments.results import text_of as csv_text
 from geesefuton.experiments.runs import GAMES, RunError, RunFolder
 from geesefuton.experiments.summary import Summary, summarize
@@ -73,15 +65,13 @@ class Running:
 
 
 class Tournament:
-    """Plays the games of a plan.
+    """Plays the games of a plan that its folder lacks.
 
     Args:
         plan: The plan.
-        out: What takes the rows of each game.
-        finished: The games that are not played again, by the numbers of their deals and their
+        folder: The folder, which takes the rows of each game.
+        elsewhere: The games that are played elsewhere, by the numbers of their deals and their
             rotations.
-        run: The number of the run.
-        held: The numbers of open files that games' processes hold until they end.
 
     Attributes:
         rows: Those of the games so far, in the order in which they ended.
@@ -89,15 +79,14 @@ class Tournament:
         games: How many games are to be played.
     """
 
-    def __init__(self, plan: Plan, out: Output,
-                 finished: AbstractSet[Tuple[int, int]] = frozenset(), run: int = 1,
-                 held: Sequence[int] = ()) -> None:
-        self._plan, self._out, self._finished, self._run = plan, out, finished, run
-        self._held = held
+    def __init__(self, plan: Plan, folder: RunFolder,
+                 elsewhere: AbstractSet[Tuple[int, int]] = frozenset()) -> None:
+        self._plan, self._folder = plan, folder
+        self._finished = folder.finished | elsewhere
         self._digests = {name: agent.digest[:SHORT] for name, agent in plan.agents.items()}
         self.rows: List[Row] = []
         self.lost: List[str] = []
-        self.games = plan.games - sum(place_of(plan.rule, number, plan.rotations) in finished
+        self.games = plan.games - sum(place_of(plan.rule, number, plan.rotations) in self._finished
                                       for number in range(plan.games))
         self._done = 0
         self._began = time.monotonic()
@@ -110,16 +99,20 @@ class Tournament:
     def play(self, children: Children) -> None:
         """Plays all games."""
         plan = self._plan
-        waiting = tables(plan.rule, plan.games, plan.rotations, self._finished)
+        waiting: Optional[Iterator[Table]] = tables(plan.rule, plan.games, plan.rotations,
+                                                    self._finished)
         running: List[Running] = []
         self._idle: List[Player] = []
-        are_all_begun = False
         try:
-            while running or not are_all_begun:
-                while len(running) < plan.at_once and not are_all_begun:
-                    game = self._begin_next(children, waiting)
-                    are_all_begun = game is None
-                    running += [game] if game else []
+            while running or waiting:
+                while waiting and len(running) < plan.at_once:
+                    try:
+                        running.append(self._begin(children, next(waiting)))
+                    except StopIteration:
+                        waiting = None
+                    except (program.CommandError, OSError) as fault:
+                        self.lose(f"stopped playing games: {why(fault)}")
+                        waiting = None
                 self._hear(running)
                 for game in [game for game in running if self._is_over(game)]:
                     running.remove(game)
@@ -131,26 +124,15 @@ class Tournament:
         finally:
             _end_all([game.player for game in running] + self._idle, children)
 
-    def _begin_next(self, children: Children, waiting: Iterator[Table]) -> Optional[Running]:
-        """Begins the next game; None if there is none, or none can be begun."""
-        try:
-            table = next(waiting, None)
-            return None if table is None else self._begin(children, table)
-        except (program.CommandError, OSError) as fault:
-            self.lose(f"stopped playing games: {why(fault)}")
-        return None
-
     def _begin(self, children: Children, table: Table) -> Running:
-        plan = self._plan
-        entrants = plan.seated(table)
+        plan, entrants = self._plan, self._plan.seated(table)
         words = seat_words(entrants)
         seeds = [agent_seed(plan.rule.secret, table.name, f"{seat} {entrant.name}")
                  for seat, entrant in enumerate(entrants)]
         keys = [seat_key(plan.rule.secret, table.name, seat) for seat in range(SEATS)]
         job = Job(table.name, plan.out / GAMES, table.deal.game.named(words).text(),
                   tuple(entrants), tuple(words), tuple(seeds), tuple(keys), plan.limits,
-                  plan.form, plan.pace, plan.start, plan.linger, plan.turns,
-                  plan.patience)
+                  plan.form, plan.pace, plan.start, plan.linger, plan.turns, plan.patience)
         while self._idle and self._idle[-1].process.poll() is not None:
             _end_all([self._idle.pop()], children)
         player = self._idle.pop() if self._idle else self._started(children)
@@ -163,7 +145,7 @@ class Tournament:
         ours, theirs = Pipe()
         with theirs:
             return Player(ours, children.start(
-                [*PLAYER, str(theirs.fileno())], pass_fds=[theirs.fileno(), *self._held],
+                [*PLAYER, str(theirs.fileno())], pass_fds=[theirs.fileno(), self._folder.lock],
                 stdin=subprocess.DEVNULL, stdout=subprocess.DEVNULL))
 
     def _hear(self, running: Sequence[Running]) -> None:
@@ -199,28 +181,26 @@ class Tournament:
         result, table = game.result, game.table
         assert result is not None
         self._done += 1
-        rows = [] if result.fault else self._rows(game, result)
+        rows, settings = list[Row](), settings_text(self._plan.settings)
         if result.fault:
             self.lose(f"game {table.name} is lost: {result.fault}")
+        else:
+            rows = [Row(table.deal.name, table.rotation, seat, entrant.name, result.scores[seat],
+                        result.outcomes[seat], drawn.luck, result.kind, drawn.nights,
+                        drawn.first_price, self._folder.number, settings,
+                        self._digests.get(entrant.name, ""), result.missed[seat], table.deal.number)
+                    for seat, (entrant, drawn) in enumerate(zip(
+                        game.entrants, covariates_of(table.deal.game)))]
         each = (time.monotonic() - self._began) / self._done
         left = round(each * (self.games - self._done))
         tell(f"game {self._done} of {self.games} (deal {table.deal.number}, rotation "
              f"{table.rotation}): {'scored' if rows else 'lost'}; {left // 60}:{left % 60:02} left",
              is_passing=bool(rows) and self._done < self.games)
-        if rows and not self._out.write(csv_text(rows)):
-            self.lose(f"game {table.name} is lost: {self._out.name}: {self._out.fault}")
+        out = self._folder.out
+        if rows and not out.write(csv_text(rows)):
+            self.lose(f"game {table.name} is lost: {out.name}: {out.fault}")
             rows = []
         self.rows += rows
-
-    def _rows(self, game: Running, result: Result) -> List[Row]:
-        """The rows of a game that was scored."""
-        deal, settings = game.table.deal, settings_text(self._plan.settings)
-        return [Row(deal.name, game.table.rotation, seat, entrant.name, result.scores[seat],
-                    result.outcomes[seat], drawn.luck, result.kind, drawn.nights, drawn.first_price,
-                    self._run, settings, self._digests.get(entrant.name, ""), result.missed[seat],
-                    deal.number)
-                for seat, (entrant, drawn) in enumerate(zip(game.entrants,
-                                                            covariates_of(deal.game)))]
 
 
 def _end_all(players: Sequence[Player], children: Children) -> None:
@@ -258,12 +238,12 @@ def _join(given: argparse.Namespace) -> int:
         return 1
     summary = summarize(rows, detect=given.detect, planned=sum(each.planned for each in sources),
                         is_stopped=any(each.is_stopped for each in sources))
-    return 1 if _print_summary(summary, given.summary) or told else 0
+    return _print_summary(summary, given.summary) or int(bool(told))
 
 
-def _print_summary(summary: Summary, files: Sequence[Path], grades: Optional[Path] = None) -> bool:
+def _print_summary(summary: Summary, files: Sequence[Path], grades: Optional[Path] = None) -> int:
     """Writes the summary to standard output and to files, in the forms of their suffixes, and the
-    grades; tells what failed, and gives whether anything did."""
+    grades; tells what failed, and gives the exit status."""
     shown = as_text(summary, shutil.get_terminal_size().columns)
     if os.isatty(2) and not os.isatty(1):  # it goes to a file, but somebody looks on
         tell(shown.rstrip())
@@ -275,7 +255,7 @@ def _print_summary(summary: Summary, files: Sequence[Path], grades: Optional[Pat
         out.close()
         if out.fault:
             tell(f"tournament: the summary was not written to {out.name}: {out.fault}")
-    return any(out.fault for out, _ in targets)
+    return int(any(out.fault for out, _ in targets))
 
 
 def _main() -> int:
@@ -290,8 +270,7 @@ def _main() -> int:
         return printed("tournament", text_of(plan))
     status, rows, lost = play_in_folder(parser, plan)
     summary = summarize(rows, lost, given.detect, plan.games, status > 128)
-    failed = _print_summary(summary, given.summary, plan.out / GRADES)
-    return status or (1 if failed else 0)
+    return max(status, _print_summary(summary, given.summary, plan.out / GRADES))
 
 
 def play_in_folder(parser: Parser, plan: Plan, elsewhere: AbstractSet[Tuple[int, int]] = frozenset()
@@ -310,8 +289,7 @@ def play_in_folder(parser: Parser, plan: Plan, elsewhere: AbstractSet[Tuple[int,
              + (", and agents can guess them" if what == "seed" else ""))
     if folder.finished:
         tell(f"{len(folder.finished)} games were finished by earlier runs")
-    tournament = Tournament(plan, folder.out, folder.finished | elsewhere, folder.number,
-                            [folder.lock])
+    tournament = Tournament(plan, folder, elsewhere)
     folder.plan_games(len(folder.finished) + tournament.games)
     if folder.is_told and tournament.games:
         tell("the secret has been told, so agents may know the deals that are still to be played")

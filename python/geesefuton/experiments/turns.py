@@ -1,11 +1,10 @@
 """A game in turns: unchanged agents over the same protocol get their requests answered in turn.
 
-There is no clock, and no server at a port. In each turn every agent gets one request answered, seat
-after seat, in the order of `records.order`; the number of turns between two ticks is fixed. One
-process of `tac step` answers all requests. Slow agents are waited for: only an agent that sends
-nothing for a long time, `patience`, is passed over, and then in each turn until it sends a line
-again. So agents whose requests depend only on what they received play the same game on any machine,
-as long as no agent is passed over.
+There is no clock, and no server at a port. In each turn every agent gets one request answered by a
+process of `tac step`, seat after seat, in the order of `records.order`; the number of turns between
+two ticks is fixed. Only an agent that sends nothing for a long time, `patience`, is passed over,
+and then in each turn until it sends a line again. So agents whose requests depend only on what they
+received play the same game on any machine, as long as no agent is passed over.
 """
 
 from __future__ import annotations
@@ -67,8 +66,8 @@ class Turner:
 
 
 class TurnServer:
-    """Serves a game in turns, as a `Serving` of a lobby. The settings' `pace` has no meaning here,
-    and `linger` is how many seconds after the last tick everybody is passed over who has not ended.
+    """Serves a game in turns, as a `Serving` of a lobby, without the settings' `pace`; `linger` is
+    how many seconds after the last tick everybody is passed over who has not ended.
 
     Args:
         turns: How many turns each agent has between two ticks, 1 to `MOST_TURNS`, and before the

@@ -20,9 +20,8 @@ class Orders:
     """Reads the host's commands, from a terminal only while the lobby is in its foreground."""
 
     def __init__(self, source: Optional[TextIO], orders: Deque[str]) -> None:
-        self._orders, self._tail = orders, b""
+        self._orders, self._tail, self._is_attended = orders, b"", False
         self._number: Optional[int] = None
-        self._is_attended = False
         if source is None:
             return
         try:

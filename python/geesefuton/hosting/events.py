@@ -147,10 +147,7 @@ class EventQueue:
             raise self._fault
 
     def _give(self) -> None:
-        while True:
-            event = self._events.get()
-            if event is None:
-                return
+        while (event := self._events.get()) is not None:
             try:
                 self._listener(event)
             except Exception as fault:

@@ -43,9 +43,10 @@ async def _follow(live: Live, site: Site, ended: "asyncio.Future[None]") -> None
         tell(f"the page shows nothing more of the game: {fault}")
 
 
-def _watch_standard_input(ended: "asyncio.Future[None]") -> None:
-    """Sets a future at the end of standard input."""
+def _end_of_standard_input() -> "asyncio.Future[None]":
+    """What is done at the end of standard input."""
     loop = asyncio.get_running_loop()
+    ended: "asyncio.Future[None]" = loop.create_future()
 
     def look() -> None:
         if not os.read(0, 4096):
@@ -53,13 +54,12 @@ def _watch_standard_input(ended: "asyncio.Future[None]") -> None:
             ended.set_result(None)
 
     loop.add_reader(0, look)
+    return ended
 
 
 async def _serve(given: Dict[str, Any], player: Player) -> None:
     """Serves the pages until the lobby has ended the game, and a while longer."""
-    ended: "asyncio.Future[None]" = asyncio.get_running_loop().create_future()
-    _watch_standard_input(ended)
-    words = [word for word, _ in given["seats"]]
+    ended, words = _end_of_standard_input(), [word for word, _ in given["seats"]]
     names = dict(zip(words, names_of(words, given["names"])))
     site = Site(Host("127.0.0.1", given["port"], given["pace"], given["form"], given["advice"],
                      names, False, given["journal"] is not None), given["seats"])

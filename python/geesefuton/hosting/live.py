@@ -1,18 +1,15 @@
-"""Shows a game on a page, until ctrl-C: reads the journal that the lobby writes, and serves one
-page to any number of viewers.
+"""Shows a game on a page, until ctrl-C, by the journal that the lobby writes.
 
-The lobby shows this page itself if it has `--page PORT`. It is served by a process of its own, at a
-lower priority, which reads only the journal: so neither it nor a viewer slows the game. Once a tick
-and at most once a second, it runs `tac play` on the game so far, and computes the worth of each
-agent's best plan from its holdings, the cost of missing goods at current prices, and the dollars
-that it has paid. When the game is over it sends the scores to all viewers, whose pages keep them.
+The lobby shows this page itself if it has `--page PORT`. It is served by a
+process of its own, at a lower priority, so it does not slow the game. Once a
+tick, and at most once a second, it runs `tac play` on the game so far, and
+computes the worth of each agent's best plan from its holdings, the cost of
+missing goods at current prices, and the dollars that it has paid.
 
-With --late TICKS the page shows at once only what each agent can ask itself: published prices,
-closed auctions, the time, and which agents are here. It shows scores, trades and standing bids as
-they were TICKS before, or after the game if TICKS is 54. With --late 0 it shows everything at once:
-then no agent may see the page. Seat words are passwords: the page calls an agent by the letters
-before the digits of its word, if these differ between agents, and otherwise by its number. With
---names it shows the words.
+The page shows at once what each agent can ask itself, and late, by --late, the
+scores, trades and standing bids. With --late 0 no agent may see the page. Seat
+words are passwords: it calls an agent by the letters before the digits of its
+word, if these differ between agents, and otherwise by its number.
 """
 
 from __future__ import annotations
@@ -195,10 +192,8 @@ def _arguments() -> argparse.Namespace:
     add("journal", type=Path, help="the journal of the game")
     add("port", type=whole(1, 65535), help="the port of the page, 1 to 65535")
     add("--late", type=whole(0, TICKS), default=6, metavar="TICKS",
-        help="show what agents cannot ask this many ticks late; 0: at once, 54: after the game "
-             "(default: 6)")
-    add("--names", action="store_true",
-        help="show agents by their seat words, which are passwords")
+        help="show what agents cannot ask this many ticks late (default: 6)")
+    add("--names", action="store_true", help="show agents by their seat words, which are passwords")
     return parser.parse_args()
 
 

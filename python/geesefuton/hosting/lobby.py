@@ -8,7 +8,6 @@ writes everything into a journal as it happens, and at the end the log, also to 
 from __future__ import annotations
 
 import contextlib
-import os
 import socket
 import time
 from pathlib import Path
@@ -57,7 +56,11 @@ class Lobby:
         self._serving = serving or ClockServer()
         self._text = program.show(settings.game)
         self.words = self._text.split("\n")[1].split()[1:]
-        _check_page(settings)
+        if settings.page is not None:
+            if settings.page == settings.port:
+                raise LobbyError(
+                    f"port {settings.port} is for the game: choose another for the page")
+            listener_at(settings.page).close()  # it is free
         # Links are taken from the beginning on.
         self._listeners = list(settings.listeners) or [listener_at(settings.port)]
         self.port: int = self._listeners[0].getsockname()[1]  # for agents
@@ -214,18 +217,6 @@ def _vouching(game: HostedGame) -> Tuple[str, ...]:
     return ()
 
 
-def _check_page(settings: LobbySettings) -> None:
-    """Looks whether the port of the pages is free.
-
-    Raises:
-        LobbyError: It is not, or it is that of the game.
-    """
-    if settings.page is not None:
-        if settings.page == settings.port:
-            raise LobbyError(f"port {settings.port} is for the game: choose another for the page")
-        listener_at(settings.page).close()
-
-
 def listener_at(port: int) -> socket.socket:
     """A listening socket.
 
@@ -238,12 +229,6 @@ def listener_at(port: int) -> socket.socket:
         raise LobbyError(f"port {port}: {why(fault)}") from None
 
 
-def tool(name: str) -> str:
-    """A command of the package, as it is typed here."""
-    clone = program.top()
-    return os.path.relpath(clone / "tools" / name) if clone else f"tac-{name}"
-
-
 def recovery_line(journal: Path) -> str:
     """The command that makes a log of a journal."""
-    return f"{tool('recover')} {journal} > {journal.with_suffix('.recovered.log').name}"
+    return program.typed(f"recover {journal} > {journal.with_suffix('.recovered.log').name}")

@@ -1,28 +1,15 @@
-"""The command `lobby`: hosts a game for agents on other machines.
+"""Hosts a game for agents on other machines, which connect to the lobby's port,
+may reconnect with their words, and may join late. It writes a journal as it
+goes, and at the end the log, and compares both. `help` on its terminal lists
+commands.
 
-    lobby my.game 7000 2000 --page 7080 > my.log      a tick every two seconds, and a page
-
-Agents connect to the port as if it were the server's. The lobby shows which agents are there and
-which are missing. Once all are there it starts the server on a port of its own, and passes lines
-on. An agent whose link ends may reconnect with its word, before the game and during it, and gets
-the welcome again; an agent that is missing when the game begins may join late. A while after the
-last tick the lobby closes the remaining links, so that the log is written whatever an agent does.
-
-The lobby writes everything into a journal as it happens: `recover` makes a log from it even if the
-lobby was killed. At the end the lobby writes the log to standard output and to a file beside the
-journal. Then `tac vouch` compares the log with what the lobby passed on for each seat, by the
-journal: `vouched 8 of 8`.
-
-The lobby reads commands from standard input: `help` lists them. An empty line begins the game
-without the missing agents, or after the last tick ends it without waiting for those that have not
-left; `without WORD` stops waiting for one agent. Lines that begin with `!` report errors. The exit
-status is that of the server, 9 if the log does not match what was passed on for each seat, and 4 if
-the log could not be written to standard output.
+    geesefuton lobby my.game 7000 2000 --page 7080 > my.log
 """
 
 from __future__ import annotations
 
 import argparse
+import contextlib
 import os
 import signal
 import sys
@@ -31,10 +18,11 @@ from pathlib import Path
 from types import FrameType
 from typing import Iterator, Optional, Sequence
 
+from geesefuton import program
 from geesefuton.arguments import Parser, seconds, whole
 from geesefuton.hosting import events, log_files
 from geesefuton.hosting.control import STOPPED, Phase
-from geesefuton.hosting.lobby import Lobby, tool
+from geesefuton.hosting.lobby import Lobby
 from geesefuton.hosting.seats import SILENCE
 from geesefuton.hosting.settings import LobbySettings
 from geesefuton.hosting.teller import Teller
@@ -54,27 +42,21 @@ def _arguments() -> argparse.Namespace:
     add("pace", type=whole(1, 60000), help="milliseconds from tick to tick, 1 to 60000")
     add("form", nargs="?", choices=["json"], help="let agents send JSON objects instead of words")
     add("--start", type=seconds, metavar="SECONDS",
-        help="begin after this time without the missing agents, which may join late (default: wait "
-             "for all)")
+        help="begin after this time, even if agents are missing")
     add("--after", type=seconds, default=30.0, metavar="SECONDS",
-        help="close the remaining links this long after the last tick (default: 30)")
+        help="close links this long after the last tick (default: 30)")
     add("--patience", type=seconds, default=30.0, metavar="SECONDS",
-        help="wait this long for the first line of a link (default: 30)")
+        help="wait this long for a link's first line (default: 30)")
     add("--silence", type=seconds, default=SILENCE, metavar="SECONDS",
-        help="let another link with the same word take the seat once the agent's link has been "
-             f"silent this long, or for two ticks if these are longer (default: {SILENCE:g})")
+        help=f"after which a new link may take over (default: {SILENCE:g})")
     add("--journal", type=Path, metavar="FILE",
-        help="write the journal to this new file (default: GAME-DATE.journal beside the log)")
+        help="write the journal here (default: GAME-DATE.journal)")
     add("--page", type=whole(1, 65535), metavar="PORT",
-        help="show the game on a page at this port, for a projector, where people also join, to "
-             "play in their browsers or to download an agent")
-    add("--no-advice", action="store_true",
-        help="do not let the pages of people plan trips")
+        help="show the game on a page, where people can join, too")
+    add("--no-advice", action="store_true", help="do not let the pages of people plan trips")
     add("--late", type=whole(0, TICKS), default=6, metavar="TICKS",
-        help="show what agents cannot ask (scores, trades, standing bids) this many ticks late; 0: "
-             "at once, 54: after the game (default: 6)")
-    add("--names", action="store_true",
-        help="show agents by their seat words, which are passwords")
+        help="delay of what agents cannot ask (default: 6)")
+    add("--names", action="store_true", help="show agents by their seat words, which are passwords")
     return parser.parse_intermixed_args()  # `json` may stand after an option too
 
 
@@ -92,12 +74,10 @@ def _open_standard_files() -> bool:
 
 def _output_folder() -> Path:
     """The folder of the file that standard output goes to, if it is one and the system tells."""
-    try:
+    with contextlib.suppress(OSError):
         file = Path(os.readlink("/proc/self/fd/1"))
         if file.is_file() and os.path.samestat(os.stat(file), os.fstat(1)):
             return file.parent
-    except OSError:
-        pass
     return Path()
 
 
@@ -178,7 +158,7 @@ def _result_lines(game: Path, words: Sequence[str], log: Path) -> Iterator[str]:
     for score in scores:
         rank = 1 + sum(other.score > score.score for other in scores)
         yield f"{rank}. {words[score.agent]} {score.score:,}"
-    yield f"more: {tool('report')} {game} {log} > {game.stem}.html"
+    yield "more: " + program.typed(f"report {game} {log} > {game.stem}.html")
 
 
 def main() -> int:

@@ -14,14 +14,15 @@ from typing import Any, Dict, List, Optional
 from geesefuton.hosting.journal import JournalReader
 from geesefuton.hosting.nights import Night, PriceSteps, tick_of
 from geesefuton.hosting.recovery import Player, Recovery
-from geesefuton.records.accounts import Accounts
 from geesefuton.records.best_plans import parts_of
+from geesefuton.records.books import Books
 from geesefuton.records.games import CLOCK, DRAWS, GOODS, SEATS, TICKETS
 from geesefuton.records.logs import Log, read_log
 from geesefuton.records.rules import prices_of
 from geesefuton.records.seat_names import names_of
 
 SILENT = 9  # ticks without a line after which an agent is shown as silent
+MOST_TRADES = 60  # that are shown
 
 
 @dataclass(frozen=True)
@@ -67,11 +68,11 @@ def project(reader: JournalReader, nights: List[Night], player: Player) -> Proje
         [agent for agent in range(SEATS) if is_empty(accounts, agent)])
 
 
-def _accounts(log: Log, reader: JournalReader) -> Accounts:
+def _accounts(log: Log, reader: JournalReader) -> Books:
     """What the agents hold now. Of the log, which goes on to the end of the game, the clock's calls
     after the last tick do not count, and what they sell neither."""
     assert reader.game is not None and reader.schedule is not None
-    accounts = Accounts(reader.game)
+    accounts = Books(reader.game)
     for good in GOODS:
         clocks = reader.schedule.most(good, reader.tick)
         for entry in log.histories[good]:
@@ -82,7 +83,7 @@ def _accounts(log: Log, reader: JournalReader) -> Accounts:
     return accounts
 
 
-def plan_of(accounts: Accounts, agent: int) -> List[int]:
+def plan_of(accounts: Books, agent: int) -> List[int]:
     """What an agent's plan is worth now, as in a projection's `plans`. Of a trip that lacks
     something, what is held of it counts by its price, and the rest is what is still to be bought
     for."""
@@ -98,7 +99,7 @@ def plan_of(accounts: Accounts, agent: int) -> List[int]:
     return [cash + plan.value, cash, to_buy, hoped]
 
 
-def is_empty(accounts: Accounts, agent: int) -> bool:
+def is_empty(accounts: Books, agent: int) -> bool:
     """Whether an agent has neither a flight nor a room."""
     return not any(accounts.holdings[agent][:TICKETS.start])
 
@@ -164,9 +165,6 @@ class View:
             elif number in secret.silent and agent["here"] == "here" and reader.status is None:
                 agent["doing"] = "silent"
         return agent
-
-
-MOST_TRADES = 60
 
 
 def _presence(reader: JournalReader, number: int) -> str:

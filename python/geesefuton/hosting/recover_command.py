@@ -1,14 +1,16 @@
-"""Makes the log of a game from the journal that the lobby wrote, even if the lobby was killed.
+"""Makes the log of a game from the journal that the lobby wrote, even if the
+lobby was killed.
 
-It turns the journal into a game script, and has `tac play` play it, as if no agent had asked
-anything after the last known call.
+It turns the journal into a game script, and has `tac play` play it, as if no
+agent had asked anything after the last known call. It leaves out a request
+that had no reply yet, unless the replies of others show that it was made. For
+the other requests the journal does not show whether they were made: with
+--pending they come after all others, and each score that this changes is
+reported.
 
-It leaves out a request that had no reply yet, unless the replies of others show that it was made.
-For the other requests the journal does not show whether they were made: with --pending they come
-after all others. The command reports each score that this changes.
-
-It compares each reply with the answer of `tac play`, and reports each difference; the exit status
-is then 1. It places readings of cash near where they were, and does not compare them.
+It reports each reply that differs from the answer of `tac play`; the exit
+status is then 1. It places readings of cash near where they were, and does not
+compare them.
 """
 
 from __future__ import annotations
@@ -29,8 +31,7 @@ def _arguments() -> argparse.Namespace:
     parser = Parser("recover", __doc__)
     add = parser.add_argument
     add("journal", type=Path, help="the lobby's journal")
-    add("--pending", action="store_true",
-        help="also make the requests without a reply, after all others")
+    add("--pending", action="store_true", help="also make the requests without a reply")
     add("--script", type=Path, metavar="FILE", help="also write the script to this file")
     add("--game", type=Path, metavar="FILE", help="also write the game file to this file")
     return parser.parse_args()

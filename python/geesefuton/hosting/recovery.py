@@ -219,7 +219,10 @@ class Recovery:
         if self.left:
             self._settle()
         if pending:
-            self._append(list(self.left))
+            late = sorted(self.left, key=lambda call: call.order)
+            for call in late:
+                self._histories[call.asked.good].append(call, reader.tick)
+            self.made, self.left = [*self.made, *late], []
 
     def script(self, quotes: bool = True) -> Script:
         """The script, with or without quotes, which are in no history."""
@@ -274,9 +277,3 @@ class Recovery:
             told, _ = self._player.play(self._reader.text, script.text)
             wrong = {call.asked.good for call, _ in differences(script, told)}
             histories = [history for history in histories if history.good in wrong]
-
-    def _append(self, calls: List[Exchange]) -> None:
-        for call in sorted(calls, key=lambda call: call.order):
-            self._histories[call.asked.good].append(call, self._reader.tick)
-            self.left.remove(call)
-            self.made.append(call)

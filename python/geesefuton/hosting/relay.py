@@ -23,14 +23,13 @@ from geesefuton.hosting.journal import Journal
 from geesefuton.hosting.links import MOST_SAID, OuterLink, Session
 from geesefuton.hosting.seats import Action, Give, Over, Refuse, Seat, Seats, State
 from geesefuton.network.addresses import parsed
-from geesefuton.network.gate import Gate, Standing, most_links
+from geesefuton.network.gate import AT_ONCE, Gate, Standing, most_links
 from geesefuton.network.loop import Loop, Served
 from geesefuton.records.dialects import MOST_LINE, is_bye
 
 MOST_HELD = 65536  # bytes for an agent that does not read; nothing is asked for it beyond these
 MOST_LINKS, MOST_EACH, KEPT = 200, 32, 48  # links at a time, as a `Gate` counts them
 OTHERS = 48  # open files that the lobby needs beside them
-AT_ONCE = 16  # links that are taken before others are served
 MOST_LINES = 65536  # of a seat that the server answers
 NEAR_MOST = 60000  # lines of a seat of which the host is told
 UNREAD = 5.0  # seconds after which the host is told of an agent that does not read

@@ -1,20 +1,13 @@
-"""The command `vouch`: checks whether a log is right about links, by the bytes sent on them.
+"""Checks whether a log is right about links, by the bytes sent on them.
 
-    vouch GAME LOG --journal J              the lobby's link of each seat
-    vouch GAME LOG mine                     an agent's own records (AGENT_RECORD=mine)
-    vouch GAME LOG mine --published FOLDER  the same if the agent reconnected
+    geesefuton vouch GAME LOG --journal J               the lobby's links
+    geesefuton vouch GAME LOG mine                      an agent's own records
+    geesefuton vouch GAME LOG mine --published FOLDER   if it reconnected
 
-It audits the log first. Then it prints a line for each link, and last how many are vouched, such as
-`vouched: 8 of 8`. The exit status is 0 only if all of them are.
-
-MINE is a folder of records, or the stem of one, such as mine/red7k for mine/red7k.asked and
-mine/red7k.said. If a seat has a single record, `tac vouch` judges it. Several records are the
-pieces of a session in which the agent reconnected: then `tac vouch` judges the bytes of the one
-link that the lobby kept for the seat, and the command compares the pieces with these bytes line by
-line. The host publishes the bytes with --publish FOLDER, as two files WORD.asked and WORD.said for
-each seat. Beside the game file and the log, they reveal nothing new after the game.
-
-A folder may have records of several seats, but of one game only: otherwise name the records.
+It audits the log, prints a line for each link, and last how many are vouched,
+as `vouched: 8 of 8`: the exit status is 0 only if all are. MINE is a folder of
+the records of one game (AGENT_RECORD=mine), or the stem of one, such as
+mine/red7k for mine/red7k.asked and mine/red7k.said.
 """
 
 from __future__ import annotations
@@ -48,14 +41,11 @@ def _arguments() -> argparse.Namespace:
         help="a folder of records, or the stem of one")
     add("--journal", type=Path, metavar="J", help="judge by the lobby's journal of this game")
     add("--published", type=Path, metavar="FOLDER",
-        help="judge by the bytes of the lobby's links that the host published")
+        help="judge by the bytes that the host published")
     add("--publish", type=Path, metavar="FOLDER",
-        help="write the bytes of the lobby's links into this new folder")
-    add("--json", action="store_true",
-        help="read the records as JSON objects instead of words; a journal says so itself")
-    add("--seat", metavar="WORD",
-        help="take the records for those of the seat with this word in the game file, if the host "
-             "gave the agent another word")
+        help="write the bytes of the links into this new folder")
+    add("--json", action="store_true", help="read the records as JSON objects instead of words")
+    add("--seat", metavar="WORD", help="take the records for those of this seat of the game file")
     given = parser.parse_intermixed_args()
     if given.journal and given.published:
         parser.error("give --journal or --published, not both")

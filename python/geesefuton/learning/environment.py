@@ -8,7 +8,7 @@
 
 An action is a list of request lines as in docs/PROTOCOL.md. Each step makes the requests seat by
 seat, and then a tick comes. No seat gains by its place: each step begins one seat later, and the
-first seat of a game is pseudorandom (`geesefuton.records.order`). docs/LEARNING.md says what an
+first seat of a game is pseudorandom (`geesefuton.records.order`). docs/EXPERIMENTS.md says what an
 observation and the infos have. The rewards are 0 before the last step, and then the scores.
 
 The same requests give the same game, and its log is what `tac play` writes for the game's file and
@@ -23,15 +23,14 @@ from collections import abc
 from importlib import import_module
 from operator import index
 from pathlib import Path
-from typing import Any, Callable, Dict, List, Mapping, Optional, Sequence, Tuple, Union
+from typing import Any, Dict, List, Mapping, Optional, Sequence, Tuple, Union
 
 from geesefuton.learning.interfaces import Parallel
 from geesefuton.learning.market import LimitError, Market, Scorer
 from geesefuton.learning.rivals import Maker, Players, Rivals, maker_of
 from geesefuton.records.books import Board, Books, text_of
-from geesefuton.records.drawing import MOST_SEED, varied
+from geesefuton.records.drawing import MOST_SEED, made_game, varied
 from geesefuton.records.games import CLIENTS, GOODS, MOST_ROOMS, SEATS, TICKS, Game, read_game
-from geesefuton.records.made_games import made_game
 from geesefuton.records.order import order_of_turn
 
 MOST_ROUNDS = 1000  # in a tick
@@ -63,9 +62,9 @@ class Environment(Parallel):
         game: A game file of version 1 or 2, which is played each time; without one each game is
             made from a seed, as by `tac make`.
         rooms: The least and the most rooms that a hotel night of a made game has, drawn from its
-            seed as by `tools/tournament --rooms`; None for 16.
+            seed as by `tournament --rooms`; None for 16.
         live: Whether each bid publishes a hotel's price in made games.
-        endow: `classic`, for tickets as by `tools/tournament --endow classic` in made games; None
+        endow: `classic`, for tickets as by `tournament --endow classic` in made games; None
             for those of `tac make`.
         hindsight: Whether `infos` of each step have `hindsight`, the score that the agent would
             have if nobody asked anything more. It follows from draws that no agent knows yet.
@@ -110,7 +109,7 @@ class Environment(Parallel):
         self._has_hindsight = hindsight
         self._seeds: Optional[random.Random] = None  # draws those of games that have none given
         self._last: Optional[Tuple[int, Game, str]] = None  # the last made game and its seed
-        self._spaces: Values = {}
+        self._spaces: Dict[Tuple[str, Optional[int]], Any] = {}
         self._market: Optional[Market] = None
         self.agents: List[str] = []
         self.seed: Optional[int] = None
@@ -138,23 +137,23 @@ class Environment(Parallel):
     @property
     def state_space(self) -> Any:
         """The space of `state`. As the other spaces it needs `gymnasium`."""
-        return self._space("state", lambda spaces: spaces.state_space(len(self._numbers())))
+        return self._space("state_space", None, len(self._numbers()))
 
     def observation_space(self, agent: str) -> Any:
         """The space of an agent's observations, the same at each call. Raises ModuleNotFoundError
         where `gymnasium` is not installed."""
-        return self._space(f"observation {self._seats[agent]}",
-                           lambda spaces: spaces.observation_space(self._rounds))
+        return self._space("observation_space", self._seats[agent], self._rounds)
 
     def action_space(self, agent: str) -> Any:
         """The space of an agent's actions (`geesefuton.learning.spaces`), the same at each call.
         Raises ModuleNotFoundError where `gymnasium` is not installed."""
-        return self._space(f"action {self._seats[agent]}", lambda spaces: spaces.action_space())
+        return self._space("action_space", self._seats[agent])
 
-    def _space(self, key: str, make: Callable[[Any], Any]) -> Any:
-        if key not in self._spaces:
-            self._spaces[key] = make(import_module("geesefuton.learning.spaces"))
-        return self._spaces[key]
+    def _space(self, name: str, seat: Optional[int], *given: int) -> Any:
+        if (name, seat) not in self._spaces:
+            make = getattr(import_module("geesefuton.learning.spaces"), name)
+            self._spaces[name, seat] = make(*given)
+        return self._spaces[name, seat]
 
     def reset(self, seed: Optional[int] = None,
               options: Optional[Values] = None) -> Tuple[Values, Values]:
@@ -242,8 +241,8 @@ class Environment(Parallel):
             asked[seat] = list(requests)
         try:
             if asked:
-                self._market.check([(seat, line) for seat, lines in asked.items()
-                                    for line in lines])
+                self._market.counted([(seat, line) for seat, lines in asked.items()
+                                      for line in lines])
         except LimitError as fault:
             raise ActionError(str(fault)) from None
         return asked

@@ -2,8 +2,7 @@
 
 from __future__ import annotations
 
-from types import TracebackType
-from typing import Any, Dict, Optional, Type
+from typing import Any, Dict, Optional
 
 try:
     from pettingzoo import ParallelEnv
@@ -58,8 +57,7 @@ class Parallel(ParallelEnv):  # type: ignore[misc]
     def __enter__(self) -> Any:
         return self
 
-    def __exit__(self, kind: Optional[Type[BaseException]], fault: Optional[BaseException],
-                 trace: Optional[TracebackType]) -> None:
+    def __exit__(self, *_: object) -> None:
         self.close()
 
 

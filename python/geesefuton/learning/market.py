@@ -3,7 +3,8 @@
 from __future__ import annotations
 
 import copy
-from typing import Any, Dict, List, Optional, Sequence, Tuple
+from functools import cached_property
+from typing import Any, Dict, List, Sequence, Tuple
 
 from geesefuton import program
 from geesefuton.learning.stepping import Stepped
@@ -40,7 +41,6 @@ class Market:
     def __init__(self, game: Game, text: str = "") -> None:
         self.game, self.books = game, Books(game)
         self.text = text or game.text()
-        self._first: Optional[int] = None  # found when it is asked for
         self._process = Stepped(self.text.encode())
         self._script: List[bytes] = []
         self._waiting = b""  # ticks that the process was not told yet
@@ -49,12 +49,10 @@ class Market:
         self._lines = [0] * SEATS  # that each seat has asked
         self._bytes = len(TICK) * TICKS  # of the script
 
-    @property
+    @cached_property
     def first(self) -> int:
         """The seat that is asked first."""
-        if self._first is None:
-            self._first = first_seat(self.text)
-        return self._first
+        return first_seat(self.text)
 
     @property
     def script(self) -> bytes:
@@ -70,7 +68,7 @@ class Market:
         if not sent:
             return [_unasked(line) for _, line in requests]
         text = "".join([f"{seat} {line}\n" for seat, line in sent]).encode()
-        self._lines, self._bytes = self._counted(requests)
+        self._lines, self._bytes = self.counted(requests)
         self._script.append(text)
         told = self._exchange(text, len(sent)).decode("latin-1").split("\n")
         replies = [line[2:] for line in told[:-1]]
@@ -80,13 +78,9 @@ class Market:
         left = iter(replies)
         return [_unasked(line) or next(left) for _, line in requests]
 
-    def check(self, requests: Requests) -> None:
-        """Sees that there is room for requests. Raises LimitError where these are more lines of a
-        seat, or bytes of a script, than a game takes."""
-        self._counted(requests)
-
-    def _counted(self, requests: Requests) -> Tuple[List[int], int]:
-        """The lines of each seat and the bytes of the script with these requests."""
+    def counted(self, requests: Requests) -> Tuple[List[int], int]:
+        """The lines of each seat and the bytes of the script with these requests. Raises LimitError
+        where a game does not take so many."""
         lines, size = self._lines[:], self._bytes
         for seat, line in requests:
             lines[seat] += 1

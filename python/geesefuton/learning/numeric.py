@@ -116,20 +116,6 @@ class View:
         return ((score if is_over else self.promised) - before.promised) / THOUSAND
 
 
-class _Spaces:
-    """The spaces of a seat, made when they are asked for."""
-
-    @cached_property
-    def observations(self) -> Any:
-        """That of its observations."""
-        return observation_space()
-
-    @cached_property
-    def actions(self) -> Any:
-        """That of its actions."""
-        return action_space()
-
-
 class Seats(Environment):
     """Games of all seats that no rival has, by PettingZoo's parallel interface in numbers. It is
     made, and ends, as an `Environment`."""
@@ -139,15 +125,19 @@ class Seats(Environment):
     def __init__(self, *given: Any, **settings: Any) -> None:
         super().__init__(*given, **settings)
         self._views: Dict[str, View] = {}
-        self._numeric = {agent: _Spaces() for agent in self.possible_agents}
+
+    @cached_property
+    def _numeric(self) -> Dict[str, Tuple[Any, Any]]:
+        """For each agent the spaces of its observations and of its actions."""
+        return {agent: (observation_space(), action_space()) for agent in self.possible_agents}
 
     def observation_space(self, agent: str) -> Any:
         """The space of an agent's observations, the same at each call."""
-        return self._numeric[agent].observations
+        return self._numeric[agent][0]
 
     def action_space(self, agent: str) -> Any:
         """The space of an agent's actions, the same at each call."""
-        return self._numeric[agent].actions
+        return self._numeric[agent][1]
 
     def reset(self, seed: Optional[int] = None,
               options: Optional[Dict[str, Any]] = None) -> Tuple[Dict[str, Any], Dict[str, Any]]:
@@ -189,17 +179,16 @@ class Seat(Env):  # type: ignore[misc]
             raise ValueError(f"{agent!r:.60} must be a seat without a rival")
         self.agent, self.render_mode = agent, self._games.render_mode
         self._view: Optional[View] = None
-        self._spaces = _Spaces()
 
-    @property
+    @cached_property
     def observation_space(self) -> Any:
         """The space of observations, the same at each call."""
-        return self._spaces.observations
+        return observation_space()
 
-    @property
+    @cached_property
     def action_space(self) -> Any:
         """The space of actions, the same at each call."""
-        return self._spaces.actions
+        return action_space()
 
     def reset(self, *, seed: Optional[int] = None,
               options: Optional[Dict[str, Any]] = None) -> Tuple[Any, Dict[str, Any]]:

@@ -1,7 +1,7 @@
 """A game that is played line by line: the process of `tac step`, and its two pipes.
 
-    with Stepped("my.game") as game:
-        game.ask(["0 own 16", "tick", "3 bid 8 ((1 50))"])    # ['0 @0 own 1 ()', '3 @0 taken 0 0']
+    with Stepped(text) as game:
+        game.exchange(b"0 own 16\ntick\n7 own 16\n", 2)    # b'0 @0 own 1 ()\n7 @1 own 0 ()\n'
         log = game.finish()
 
 The lines are those of a game script (docs/FORMATS.md). The process needs no guard: it ends once the
@@ -15,11 +15,9 @@ import os
 import select
 import subprocess
 import weakref
-from types import TracebackType
-from typing import List, NoReturn, Optional, Sequence, Tuple, Type, Union
+from typing import List, NoReturn, Optional, Sequence, Tuple
 
-from geesefuton.program import (HEAP, INPUT, OK, ProgramError, Word, ended, find_runnable,
-                                nameless_file)
+from geesefuton.program import HEAP, INPUT, OK, ProgramError, ended, find_runnable, nameless_file
 
 MOST_READ = 1 << 16  # bytes read at once, which is what a pipe holds
 FIRST_PAUSE, PAUSE = 20, 1  # milliseconds before the first read of a log and before a further one
@@ -29,49 +27,36 @@ class Stepped:
     """A game of one process. Only one thread may use it at a time.
 
     Args:
-        game: The game file, or the text of one as bytes.
+        game: The text of a game file.
 
     Raises ProgramError where there is no program, or it cannot be run."""
 
-    def __init__(self, game: Union[Word, bytes]) -> None:
+    def __init__(self, game: bytes) -> None:
         self._process: Optional["subprocess.Popen[bytes]"] = None
         self._owner, self._script, self._replies = os.getpid(), -1, -1
         _open_games.add(self)
-        file, held = find_runnable(), []
-        if isinstance(game, bytes):
-            held.append(nameless_file(game))
-            game = f"/dev/fd/{held[0]}"
+        file, held = find_runnable(), nameless_file(game)
         try:  # in a session of its own, which ctrl-C at a terminal does not reach
             self._process = subprocess.Popen(
-                ["tac", "step", str(game), INPUT], executable=file, bufsize=0, pass_fds=held,
-                stdin=subprocess.PIPE, stdout=subprocess.PIPE, start_new_session=True,
-                env={**HEAP, **os.environb})
+                ["tac", "step", f"/dev/fd/{held}", INPUT], executable=file, bufsize=0,
+                pass_fds=[held], stdin=subprocess.PIPE, stdout=subprocess.PIPE,
+                start_new_session=True, env={**HEAP, **os.environb})
         except OSError as fault:
             if fault.filename is None:
                 raise
             raise ProgramError(f"cannot run the file of tac: {fault.strerror}") from None
         finally:
-            for each in held:
-                os.close(each)
+            os.close(held)
         assert self._process.stdin is not None and self._process.stdout is not None
         self._script, self._replies = self._process.stdin.fileno(), self._process.stdout.fileno()
         os.set_blocking(self._script, False)
 
-    def ask(self, lines: Sequence[str]) -> List[str]:
-        """Plays lines of a script, each without its line end.
-
-        Returns:
-            The reply lines, one for each line but `tick`, such as `0 @0 taken 2 0`.
+    def exchange(self, text: bytes, due: int) -> bytes:
+        """Plays a text of lines of a script, and gives the `due` reply lines, one for each of these
+        but `tick`, as a text.
 
         Raises ProgramError where the process has ended, since the game file or a line was refused
         or for another reason; its `line` is what the process wrote last."""
-        text = "".join(line + "\n" for line in lines).encode("latin-1", "replace")
-        due = sum(line != "tick" for line in lines)
-        return self.exchange(text, due).decode("latin-1").split("\n")[:-1]
-
-    def exchange(self, text: bytes, due: int) -> bytes:
-        """Plays a text of lines that `due` reply lines answer, and gives these as a text. Raises
-        ProgramError as `ask` does."""
         self._need_script()
         try:
             rest = text[os.write(self._script, text):]
@@ -95,7 +80,7 @@ class Stepped:
 
     def finish(self) -> bytes:
         """Ends the script, lets the ticks that are left come, and gives the log. Raises
-        ProgramError as `ask` does."""
+        ProgramError as `exchange` does."""
         self._need_script()
         log, status = self._rest()
         if status != OK:
@@ -168,8 +153,7 @@ class Stepped:
     def __enter__(self) -> "Stepped":
         return self
 
-    def __exit__(self, kind: Optional[Type[BaseException]], fault: Optional[BaseException],
-                 trace: Optional[TracebackType]) -> None:
+    def __exit__(self, *_: object) -> None:
         self.close()
 
     def __reduce__(self) -> NoReturn:

@@ -15,6 +15,7 @@ from typing import Iterator, List, Optional, Union
 ANYWHERE = "192.0.2.1"  # an address for documents, to which nothing is sent
 LETTERS = "abcdefghjkmnpqrstuvwxyz23456789"  # none that is taken for another one
 TOKEN = 10  # letters
+BACKLOG = 1024  # links that wait to be taken, where the system lets so many: others are kept out
 
 Address = Union[ipaddress.IPv4Address, ipaddress.IPv6Address]
 Network = Union[ipaddress.IPv4Network, ipaddress.IPv6Network]
@@ -30,7 +31,7 @@ def listen(port: int, address: str = "") -> socket.socket:
     family = socket.AF_INET6 if both or ":" in address else socket.AF_INET
     try:
         return socket.create_server((address, port), family=family, dualstack_ipv6=both,
-                                    backlog=128)
+                                    backlog=BACKLOG)
     except socket.gaierror:
         raise  # the address is a name that nobody has
     except OSError as fault:

@@ -1,9 +1,9 @@
 """Who may come in: the policy of a listener, without sockets.
 
-Limits are by *network*: an IPv4 address, or the first 64 bits of an IPv6 address, whose other bits
-a machine chooses as it likes. Many players may share one, behind a router. So only strangers are
+Limits are by *network*: an IPv4 address, or the /64 of an IPv6 address, in which a machine chooses
+its addresses as it likes. Many players may share one, behind a router. So only strangers are
 limited by it: a link that has shown what a player has, a seat's word or a token, is *known*, and
-counts by that.
+counts by that. All links of a network have a rate: a flood is refused before it costs a place.
 
 A link is a `Visit`:
 
@@ -30,6 +30,9 @@ from typing import Callable, Counter as Counts, Dict, List, Optional, Set
 
 from geesefuton.network.addresses import Network, parsed
 
+AT_ONCE = 16  # links that a listener takes before others are served
+LINK = 1 / 128  # seconds by which a link puts off the next ones of its network
+AHEAD = 2.0  # seconds that a network's links may be put off; beyond that they are refused
 LINE = 0.5  # seconds by which a first line puts off the next ones of its network
 WRONG = 2.0  # seconds by which a wrong one does so beyond that
 CREDIT = 20.0  # seconds that a network's lines are put off before any of them waits
@@ -52,8 +55,8 @@ class Standing(enum.Enum):
 class Visit:
     """A link at a gate, which is a stranger at first."""
 
-    def __init__(self, gate: "Gate", network: str, deadline: float) -> None:
-        self._gate, self.network = gate, network
+    def __init__(self, gate: "Gate", network: str, is_local: bool, deadline: float) -> None:
+        self._gate, self.network, self.is_local = gate, network, is_local  # of this machine
         self.deadline = deadline  # when it is closed; infinite once its first line is whole
         self.due = 0.0  # when that is judged then
         self.standing, self.word = Standing.STRANGER, ""
@@ -75,9 +78,9 @@ class Visit:
         """Its first line is whole: the seconds until it may be judged; None if too many lines of
         its network wait, so that it is to be closed."""
         gate, self.deadline = self._gate, float("inf")
-        wait = max(0.0, gate.put_off(self.network, LINE) - CREDIT)
+        wait = max(0.0, gate.lines.put_off(self.network, LINE) - CREDIT)
         if wait and gate.count_judged(self.network) >= WAITING:
-            gate.put_off(self.network, -LINE)
+            gate.lines.put_off(self.network, -LINE)
             return None
         self.standing, self.due = Standing.JUDGED, gate.clock() + wait
         return wait
@@ -88,7 +91,7 @@ class Visit:
 
     def refuse(self) -> None:
         """It has shown a wrong word or token: it is sent its last line."""
-        self._gate.put_off(self.network, WRONG)
+        self._gate.lines.put_off(self.network, WRONG)
         self.part()
 
     def part(self) -> None:
@@ -99,8 +102,27 @@ class Visit:
     def leave(self) -> None:
         """It is closed. A second call changes nothing."""
         if self.standing is Standing.JUDGED:
-            self._gate.put_off(self.network, -LINE)  # no line of it is judged any longer
+            self._gate.lines.put_off(self.network, -LINE)  # no line of it is judged any longer
         self._gate.move(self, Standing.GONE)
+
+
+class Delays:
+    """By how many seconds what comes from each network is put off, `most` at most."""
+
+    def __init__(self, clock: Callable[[], float], most: float) -> None:
+        self._clock, self._most = clock, most
+        self._until: Dict[str, float] = {}
+        self._most_networks = MOST_NETWORKS  # at which those are left out that wait no longer
+
+    def put_off(self, network: str, seconds: float) -> float:
+        """Puts off what comes from a network next by more. Returns by how much it is now."""
+        now = self._clock()
+        if len(self._until) > self._most_networks:
+            self._until = {each: until for each, until in self._until.items() if until > now}
+            self._most_networks = max(MOST_NETWORKS, 2 * len(self._until))
+        until = max(now, self._until.get(network, now)) + seconds
+        self._until[network] = min(until, now + self._most)
+        return self._until[network] - now
 
 
 class Gate:
@@ -109,8 +131,8 @@ class Gate:
     Args:
         clock: The time in seconds, which does not go back.
         most: The links at a time, of which `each` may be strangers of one network.
-        kept: How many of them are kept for those who are known, and for this machine itself; half
-            of them at most.
+        kept: How many of them are kept for those who are known, and for this machine itself, whose
+            places nobody else gets; half of them at most.
         first: The seconds until a first line has to be whole.
         own: The links that may have the same word or token.
     """
@@ -120,14 +142,14 @@ class Gate:
         self.clock, self._first, self._own = clock, first, own
         self._most, self._each, self._kept = most, each, min(kept, most // 2)
         self.banned: Set[Network] = set()  # from which no link is taken
+        self.lines = Delays(clock, CREDIT + LONGEST)  # of first lines
+        self._links = Delays(clock, AHEAD + LINK)
         self._known: Counts[str] = Counter()
         self._crowds: Dict[str, List[Visit]] = {}  # those not known by networks, the eldest first
-        self._until: Dict[str, float] = {}  # until when the lines of a network are put off
-        self._most_networks = MOST_NETWORKS  # at which those are left out that are no longer
 
     def arrive(self, address: str, network: str = "") -> Optional[Visit]:
-        """A link comes from an address, or a network of its own. Returns None if there is no place
-        for it, or its address is banned.
+        """A link comes from an address, or a network of its own. Returns None if too many of its
+        network have come just now, if there is no place for it, or if its address is banned.
 
         Raises:
             ValueError: It is no address.
@@ -136,31 +158,31 @@ class Gate:
         if any(known in network for network in self.banned):
             return None
         network = network or str(known if known.version == 4 else int(known) >> 64)
-        own, count = self._crowds.get(network, []), sum(map(len, self._crowds.values()))
-        taken = sum(self._known.values())
-        places = self._most - (taken if known.is_loopback else max(taken, self._kept))
-        if len(own) >= self._each or count >= places:
-            crowd = own if len(own) >= self._each else max(
-                self._crowds.values(), key=len, default=[])
-            if not _make_room(crowd, len(own) < len(crowd)):
-                return None
-        visit = Visit(self, network, self.clock() + self._first)
+        if self._links.put_off(network, LINK) > AHEAD:
+            self._links.put_off(network, -LINK)
+            return None
+        if not self._has_room(network, known.is_loopback):
+            return None
+        visit = Visit(self, network, known.is_loopback, self.clock() + self._first)
         self._crowds.setdefault(network, []).append(visit)
         return visit
+
+    def _has_room(self, network: str, is_local: bool) -> bool:
+        """Whether a place is free for a stranger of a network, or another one has made room."""
+        own, crowds = self._crowds.get(network, []), self._crowds.values()
+        others = [crowd for crowd in crowds if not crowd[0].is_local]
+        count = sum(map(len, others))
+        held = sum(self._known.values()) + sum(map(len, crowds)) - count
+        if len(own) >= self._each:
+            return _make_room(own, False)
+        if count < self._most - (held if is_local else max(held, self._kept)):
+            return True
+        crowd = max(others or (list(crowds) if is_local else []), key=len, default=own)
+        return _make_room(crowd, len(own) < len(crowd) or is_local and bool(others))
 
     def count_judged(self, network: str) -> int:
         """How many first lines of a network are judged, or wait for that."""
         return sum(each.standing is Standing.JUDGED for each in self._crowds.get(network, []))
-
-    def put_off(self, network: str, seconds: float) -> float:
-        """Puts off the first lines of a network. Returns by how much they are now."""
-        now = self.clock()
-        if len(self._until) > self._most_networks:
-            self._until = {each: until for each, until in self._until.items() if until > now}
-            self._most_networks = max(MOST_NETWORKS, 2 * len(self._until))
-        until = max(now, self._until.get(network, now)) + seconds
-        self._until[network] = min(until, now + CREDIT + LONGEST)
-        return self._until[network] - now
 
     def move(self, visit: Visit, standing: Standing, word: str = "") -> bool:
         """A visit's standing changes. Returns False if too many have its word already."""
@@ -185,14 +207,13 @@ class Gate:
 def _make_room(crowd: List[Visit], for_smaller: bool) -> bool:
     """Ends a visit: one that is parting, or else the eldest that has not sent a first line, or else
     for a network with fewer visits the eldest whose line waits. Returns whether there was one."""
-    last = [Standing.JUDGED] if for_smaller else []
-    for standing in [Standing.PARTING, Standing.STRANGER, *last]:
-        for visit in crowd:
-            if visit.standing is standing:
-                visit.end()
-                visit.leave()
-                return True
-    return False
+    order = [Standing.PARTING, Standing.STRANGER] + [Standing.JUDGED] * for_smaller
+    visit = min((each for each in crowd if each.standing in order), default=None,
+                key=lambda each: order.index(each.standing))
+    if visit is not None:
+        visit.end()
+        visit.leave()
+    return visit is not None
 
 
 def most_links(most: int, others: int) -> int:

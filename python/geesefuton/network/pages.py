@@ -19,13 +19,12 @@ from pathlib import Path
 from typing import (Any, AsyncGenerator, Awaitable, Callable, Coroutine, Dict, Iterator, List,
                     NamedTuple, Optional, Set)
 
-from geesefuton.network.gate import Gate, Visit, most_links
+from geesefuton.network.gate import AT_ONCE, Gate, Visit, most_links
 from geesefuton.processes import why
 
 MOST_LINKS, MOST_EACH = 200, 50  # links at a time, and strangers' of one network
 KEPT = 4  # one place of so many is kept for those who have a token, and for this machine
 OTHERS = 48  # open files that the rest of the process may need
-AT_ONCE = 16  # links that are taken before others are served
 MOST_HEAD = 1 << 16  # bytes of a request's head, which has the cookies of the host's other servers
 MOST_LINES = 100  # of a head
 MOST_BODY = 4096  # bytes of its body

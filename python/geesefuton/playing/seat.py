@@ -45,9 +45,7 @@ class Holding:
         """Whether what stood may have been traded since the last reading."""
         if self.quote is None or not self.points or self.quote.count <= self.at + 1:
             return False
-        if self.quote.closed:
-            return True
-        return good not in HOTELS and time.monotonic() >= self.due
+        return self.quote.closed or good not in HOTELS and time.monotonic() >= self.due
 
 
 class Order(NamedTuple):

@@ -1,4 +1,5 @@
-"""The folder of a practice room: the files of its games, and the outcome of each game.
+"""The folder of a practice room: the files of its games, the outcome of each, and the standings,
+which are averages in exact fractions.
 
 A game has a manifest, `0001.json`, from its beginning on, and then a log, `0001.log`. It counts
 once the manifest says that the log was audited. Files are written under another name, and renamed
@@ -16,17 +17,21 @@ import fcntl
 import json
 import os
 from dataclasses import asdict, dataclass
+from fractions import Fraction
 from pathlib import Path
-from typing import Any, Dict, List, Optional, Tuple
+from typing import Any, Dict, List, Optional, Sequence, Tuple
 
+from geesefuton.experiments.comparisons import estimate
+from geesefuton.experiments.deals import SECRET, Rule
 from geesefuton.hosting.journal import JournalError, read_journal
+from geesefuton.practice.teams import Team
 from geesefuton.processes import UNFINISHED, write_whole
 from geesefuton.program import CommandError
 from geesefuton.records.games import SEATS
-from geesefuton.records.secret_deals import commitment, deal_seed, new_secret, read_secret
+from geesefuton.records.secret_deals import new_secret, read_secret
 
 VERSION = 2  # of the form of a room's files
-ABOUT, LOCK, SECRET = "room.json", "lock", "secret"
+ABOUT, LOCK, WORDS = "room.json", "lock", "words.json"
 
 
 class FolderError(CommandError):
@@ -50,6 +55,19 @@ class Finished:
     fault: str = ""  # why it is lost
 
 
+@dataclass(frozen=True)
+class Standing:
+    """What a player came to, as `tac table` has it for a seat word."""
+
+    name: str
+    games: int  # seats that count for it; the house may have several in a game
+    average: Fraction
+    rank: int  # 1 plus the number of players with a greater average
+    half: Optional[float]  # of the average's 95 % interval; None for several seats in a game
+    last: int  # the score of its last seat
+    best: int
+
+
 class Folder:
     """The folder of a room, which one room at a time may use.
 
@@ -63,14 +81,14 @@ class Folder:
             be called again then.
 
     Attributes:
-        seed: The seed of the first game; None if games are drawn from a secret.
+        rule: What games are drawn from.
         commitment: The SHA-256 of the secret, in hexadecimal digits; "" for none.
         finished: The games that are judged, in their order.
         unjudged: Those that have a log and are not, by their numbers.
     """
 
     def __init__(self, path: Path, seed: Optional[int] = None) -> None:
-        self.path, self.seed, self._secret = path, seed, b""
+        self.path = path
         path.mkdir(parents=True, exist_ok=True)
         names = {name for name in os.listdir(path)
                  if name not in (LOCK, SECRET) and not name.endswith(UNFINISHED)}
@@ -81,11 +99,7 @@ class Folder:
             fcntl.flock(self._lock, fcntl.LOCK_EX | fcntl.LOCK_NB)
             for rest in path.glob(f".*{UNFINISHED}"):  # by a room that was killed
                 rest.unlink()
-            if names:
-                self._resume(seed)
-            else:
-                self._found()
-            self.commitment = commitment(self._secret) if self._secret else ""
+            self.rule = self._resumed(seed) if names else self._founded(seed)
             games = self._read_games()
         except BlockingIOError:
             self._lock.close()
@@ -93,6 +107,7 @@ class Folder:
         except BaseException:
             self._lock.close()
             raise
+        self.commitment = str(self.rule.drawn.get("commitment", ""))
         self.finished = [game for game in games if game.is_judged]
         self.unjudged = {game.number: game for game in games
                          if not game.is_judged and self.file(game.number, "log").exists()}
@@ -101,15 +116,22 @@ class Folder:
         """Lets another room use it."""
         self._lock.close()
 
-    def seed_of(self, number: int) -> int:
-        """What a game is made from."""
-        return deal_seed(self._secret, number) if self.seed is None else self.seed + number - 1
-
     def end(self) -> str:
         """Ends the room for good, and gives its secret, in hexadecimal digits; "" for none."""
+        secret = self.rule.secret.hex() if self.commitment else ""
         about = self._read(self.path / ABOUT)
-        write_whole(self.path / ABOUT, _json({**about, "secret": self._secret.hex()}))
-        return self._secret.hex()
+        write_whole(self.path / ABOUT, _json({**about, "secret": secret}))
+        return secret
+
+    def words(self) -> Dict[str, str]:
+        """The words of teams by their keys, also of those that are not here this time."""
+        file = self.path / WORDS
+        return self._read(file, "does not have the words of teams") if file.exists() else {}
+
+    def keep_words(self, teams: Sequence[Team]) -> None:
+        """Keeps the words of teams, for when the room starts again."""
+        write_whole(self.path / WORDS, _json({**self.words(), **{
+            team.key: team.word for team in teams}}))
 
     def file(self, number: int, kind: str) -> Path:
         """The file of a game, such as its `log`."""
@@ -124,7 +146,11 @@ class Folder:
             number = int(journal.stem) if journal.stem.isdigit() else 0
             if number in done or not number:
                 continue
-            if _has_begun(journal):
+            try:
+                has_begun = read_journal(journal).has_begun
+            except JournalError:
+                has_begun = journal.stat().st_size > 0  # whatever it has is kept
+            if has_begun:
                 begun.append(number)
             else:
                 journal.unlink()
@@ -146,35 +172,35 @@ class Folder:
         del self.unjudged[game.number]
         self.finished.append(game)
 
-    def _found(self) -> None:
+    def _founded(self, seed: Optional[int]) -> Rule:
         """Makes the files of a new room."""
-        about: Dict[str, Any] = {"room": VERSION, "seed": self.seed}
-        if self.seed is None:
-            self._secret = new_secret()
-            write_whole(self.path / SECRET, f"{self._secret.hex()}\n".encode("ascii"))
-            about = {"room": VERSION, "commitment": commitment(self._secret)}
-        write_whole(self.path / ABOUT, _json(about))
+        rule = Rule(new_secret(), seed)
+        if seed is None:
+            write_whole(self.path / SECRET, f"{rule.secret.hex()}\n".encode("ascii"))
+        write_whole(self.path / ABOUT, _json({"room": VERSION, **rule.drawn}))
+        return rule
 
-    def _resume(self, seed: Optional[int]) -> None:
+    def _resumed(self, seed: Optional[int]) -> Rule:
         """Takes over the seed or the secret of the room that the folder has."""
-        about = self._read(self.path / ABOUT)
-        self.seed, due = about.get("seed"), about.get("commitment")
-        if about.get("room") != VERSION or isinstance(self.seed, int) == isinstance(due, str):
+        about, file = self._read(self.path / ABOUT), self.path / SECRET
+        first, due = about.get("seed"), about.get("commitment")
+        if about.get("room") != VERSION or isinstance(first, int) == isinstance(due, str):
             raise FolderError(f"{self.path / ABOUT} does not describe a practice room")
         if "secret" in about:
             raise FolderError(f"the room of {self.path} is over: choose another folder")
-        if seed not in (None, self.seed):
-            known = "secret deals" if self.seed is None else f"the first seed {self.seed}"
+        if seed not in (None, first):
+            known = "secret deals" if first is None else f"the first seed {first}"
             raise FolderError(f"{self.path} has a room with {known}, not the first seed {seed}")
-        if self.seed is None:
-            file = self.path / SECRET
-            try:
-                self._secret = read_secret(file.read_text("ascii").strip())
-            except (FileNotFoundError, ValueError):
-                raise FolderError(f"{file} does not have the room's secret") from None
-            if commitment(self._secret) != due:
-                raise FolderError(f"{file} has another secret than that to which "
-                                  f"{self.path / ABOUT} commits")
+        if first is not None:
+            return Rule(seed=first)
+        try:
+            rule = Rule(read_secret(file.read_text("ascii").strip()))
+        except (FileNotFoundError, ValueError):
+            raise FolderError(f"{file} does not have the room's secret") from None
+        if rule.drawn["commitment"] != due:
+            raise FolderError(f"{file} has another secret than that to which "
+                              f"{self.path / ABOUT} commits")
+        return rule
 
     def _read_games(self) -> List[Finished]:
         games = []
@@ -192,13 +218,13 @@ class Folder:
         return sorted(games, key=lambda game: game.number)
 
     @staticmethod
-    def _read(file: Path) -> Dict[str, Any]:
+    def _read(file: Path, fault: str = "was not written by a room") -> Dict[str, Any]:
         try:
             what = json.loads(file.read_bytes())
         except ValueError:
             what = None
         if not isinstance(what, dict):
-            raise FolderError(f"{file} was not written by a room")
+            raise FolderError(f"{file} {fault}")
         return what
 
 
@@ -206,9 +232,19 @@ def _json(what: Dict[str, Any]) -> bytes:
     return json.dumps(what, indent=1).encode("ascii") + b"\n"
 
 
-def _has_begun(journal: Path) -> bool:
-    """Whether a game has begun, as far as its journal tells."""
-    try:
-        return read_journal(journal).has_begun
-    except JournalError:
-        return journal.stat().st_size > 0  # whatever it has is kept
+def standings_of(games: Sequence[Finished]) -> List[Standing]:
+    """The standings over games, in the order of their ranks and then of their names."""
+    seats: Dict[str, List[Tuple[int, int]]] = {}  # of each player: the game, and the score
+    for game in games:
+        for player, score in zip(game.players, game.scores):
+            if player:
+                seats.setdefault(player, []).append((game.number, score))
+    scores = {name: [score for _, score in own] for name, own in seats.items()}
+    averages = {name: Fraction(sum(own), len(own)) for name, own in scores.items()}
+    rows = []
+    for name, own in scores.items():
+        has_one_each = len(dict(seats[name])) == len(own)
+        rank = 1 + sum(other > averages[name] for other in averages.values())
+        half = estimate(own).half if has_one_each else None
+        rows.append(Standing(name, len(own), averages[name], rank, half, own[-1], max(own)))
+    return sorted(rows, key=lambda row: (row.rank, row.name))

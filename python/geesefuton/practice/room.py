@@ -15,17 +15,18 @@ import threading
 import time
 from collections import Counter
 from dataclasses import replace
-from typing import Callable, Dict, List, Optional, Sequence, Tuple
+from typing import Any, Callable, Dict, List, Optional, Sequence, Tuple
 
 from geesefuton import program
+from geesefuton.experiments.entrants import Entrant
 from geesefuton.experiments.provenance import digest_of
 from geesefuton.hosting.lobby import LobbyError, listener_at, recovery_line
-from geesefuton.practice.board import Board
+from geesefuton.hosting.settings import LobbySettings
 from geesefuton.practice.door import Door, Handed
-from geesefuton.practice.folder import Finished, Folder
-from geesefuton.practice.standings import standings_of
-from geesefuton.practice.table import Deal, Table, TableSettings
-from geesefuton.practice.teams import Team, keep_words
+from geesefuton.practice.folder import Finished, Folder, standings_of
+from geesefuton.practice.page import Board
+from geesefuton.practice.table import HouseServer, Table
+from geesefuton.practice.teams import Team
 from geesefuton.processes import why
 from geesefuton.records.games import SEATS
 from geesefuton.records.logs import LogError, read_scores
@@ -40,7 +41,8 @@ class Room:
     """Plays game after game.
 
     Args:
-        settings: What its table is told.
+        settings: What the lobby of each game is told, but for what is of one game.
+        house: The agents for empty seats.
         folder: Where its games are kept.
         board: What its page shows.
         tell: Is given a line for the host.
@@ -49,18 +51,17 @@ class Room:
         tables: How many games it plays at once; teams are needed for more than one.
     """
 
-    def __init__(self, settings: TableSettings, folder: Folder, board: Board,
-                 tell: Callable[[str], None], teams: Sequence[Team] = (),
+    def __init__(self, settings: LobbySettings, house: Sequence[Entrant], folder: Folder,
+                 board: Board, tell: Callable[[str], None], teams: Sequence[Team] = (),
                  games: Optional[int] = None, tables: int = 1) -> None:
-        self._given, self._folder, self._board, self._tell = settings, folder, board, tell
-        self._teams, self._games = teams, games
+        self._given, self._house, self._folder = settings, house, folder
+        self._board, self._tell, self._wait = board, tell, settings.wait or 0.0
+        self._teams, self._games, self._most = teams, games, tables
         self._shown = {team.key: team.name for team in teams}
-        each = settings if tables == 1 else replace(settings, wait=SEATING, orders=None)
-        show = self._show if tables == 1 else self._note
-        self._tables = [Table(each, folder, show) for _ in range(tables)]
-        self._running: Dict[Table, threading.Thread] = {}
+        self._tables: Dict[Table, threading.Thread] = {}  # where games are played now
         self._door: Optional[Door] = None
-        self._is_shown = False  # whether the page has what is known of the tables
+        self._changed = threading.Event()  # set while the page lacks what is known of the tables
+        self._changed.set()
         self._keeping = threading.Lock()  # held while a game is kept and judged
         self._rows = standings_of(folder.finished)
         self._played = Counter(name for game in folder.finished for name in game.players)
@@ -76,7 +77,7 @@ class Room:
             program.ProgramError: There is no program.
         """
         self._judge_all()
-        if len(self._tables) > 1:
+        if self._most > 1:
             self._host_tables()
         else:
             self._host_table()
@@ -89,14 +90,18 @@ class Room:
         be told."""
         self._is_closing = True
         self._is_stopped |= at_once or self._is_over
-        return max(table.close(at_once) for table in self._tables)
+        return max((table.close(at_once) for table in list(self._tables)), default="")
 
     def _host_table(self) -> None:
         """Plays game after game."""
         count = 0
         while not self._is_closing and count != self._games:
             try:
-                count += self._play_next()
+                table = self._table(self._next_number(), self._teams)
+                self._tables = {table: threading.current_thread()}
+                played = table.play()
+                self._keep_words(table)
+                count += self._take(played)
             except (LobbyError, OSError, program.ProgramError) as fault:
                 if not count:
                     raise
@@ -107,60 +112,46 @@ class Room:
         """Plays games at several tables, and takes the links of all."""
         number, begun, listener = self._next_number(), 0, listener_at(self._given.port)
         port, places = listener.getsockname()[1], list[str]()
-        self._tell(f"{len(self._tables)} tables wait for guests at port {port}")
+        self._tell(f"{self._most} tables wait for guests at port {port}")
         with contextlib.closing(listener), \
                 contextlib.closing(Door(listener, self._teams, self._table_of,
                                         self._played)) as self._door:
-            while self._running or not self._is_closing and begun != self._games:
-                self._running = {table: thread for table, thread in self._running.items()
-                                 if thread.is_alive()}
-                free = [table for table in self._tables if table not in self._running]
+            while self._tables or not self._is_closing and begun != self._games:
+                self._tables = {table: thread for table, thread in self._tables.items()
+                                if thread.is_alive()}
+                free = self._most - len(self._tables)
                 if self._is_closing or begun == self._games or time.monotonic() < self._again:
-                    free = []
-                keys = self._door.next_teams(len(free), self._given.wait)
+                    free = 0
+                keys = self._door.next_teams(free, self._wait)
                 if keys:
-                    self._begin(free[0], number + begun, keys, port)
+                    self._played.update(keys)
+                    handed = Handed(port)
+                    self._door.seat(keys, handed)
+                    table = self._table(number + begun, [
+                        team for team in self._teams if team.key in keys], handed)
+                    self._tables[table] = threading.Thread(target=self._play, args=(table, handed))
+                    self._tables[table].start()
                     begun += 1
                 now = self._door.places()
-                if now != places or not self._is_shown:
-                    places, self._is_shown = now, True
+                if now != places or self._changed.is_set():
+                    self._changed.clear()
                     self._show()
+                    places = now
                 self._door.turn(0.0 if keys else LOOK)
 
-    def _begin(self, table: Table, number: int, keys: Sequence[str], port: int) -> None:
-        """Lets teams play a game at a table."""
-        teams, handed = [team for team in self._teams if team.key in keys], Handed(port)
-        words = self._words(number, teams)
-        table.deal = Deal(number, words, {team.word: words.index(team.key) for team in teams},
-                          handed)
-        self._played.update(keys)
-        assert self._door is not None
-        self._door.seat(keys, handed)
-        self._running[table] = threading.Thread(target=self._play_at, args=(table, handed))
-        self._running[table].start()
-
-    def _play_at(self, table: Table, handed: Handed) -> None:
-        """Plays a game at a table, in a thread of its own."""
+    def _play(self, table: Table, handed: Handed) -> None:
+        """Plays a game of several, in a thread of its own."""
         try:
-            played = table.play(table.deal)
-            with self._keeping:
-                if played is not None:
-                    self._keep(*played)
-                    self._judge_all()
+            self._take(table.play())
         except (LobbyError, OSError, program.ProgramError) as fault:
             self._again = time.monotonic() + AGAIN
-            self._tell(f"game {table.deal.number} cannot be played: {why(fault)}")
+            self._tell(f"game {table.game.number} cannot be played: {why(fault)}")
         finally:
             handed.close()
 
     def _table_of(self, word: str) -> Optional[Handed]:
         """Where the links of the table go whose house agent has a word."""
-        return next((table.deal.listener for table in self._running if word in table.house.words),
-                    None)
-
-    def _note(self) -> None:
-        """Lets the main thread show what is known of the tables."""
-        self._is_shown = False
+        return next((table.listener for table in self._tables if word in table.house.words), None)
 
     def _next_number(self) -> int:
         """The number of the next game. Tells the host of games that were stopped."""
@@ -172,42 +163,45 @@ class Room:
                            f"{recovery_line(self._folder.file(lost, 'journal'))}")
         return number
 
-    def _play_next(self) -> bool:
-        """Plays the next game, and tells whether it is kept."""
-        number = self._next_number()
-        words = self._words(number, self._teams)
-        keys = {team.word: words.index(team.key) for team in self._teams} or {
-            word: seat for seat, word in enumerate(words)}
-        played = self._tables[0].play(Deal(number, words, keys))
-        self._keep_words(keys, words)
-        if played is None:
-            return False
-        self._keep(*played)
-        self._judge_all()
-        return True
-
-    @staticmethod
-    def _words(number: int, teams: Sequence[Team]) -> List[str]:
-        """The seat words of a game file, which anybody may see. From game to game teams move on by
-        a seat."""
+    def _table(self, number: int, teams: Sequence[Team],
+               handed: Optional[Handed] = None) -> Table:
+        """A table for a game between teams, at the door if their links are handed in. From game to
+        game teams move on by a seat."""
         words = [team.key for team in teams]
         spare = (f"{name}{seat}" for name in ("seat", "free") for seat in range(SEATS))
         while len(words) < SEATS:
             words.append(next(word for word in spare if word not in words))
         first = number % SEATS if teams else 0
-        return words[first:] + words[:first]
+        words = words[first:] + words[:first]
+        keys = {team.word: words.index(team.key) for team in teams} or {
+            word: seat for seat, word in enumerate(words)}
+        # Teams that were handed in may have left before they are gathered.
+        settings = replace(self._given, start=SEATING, wait=SEATING, orders=None) if handed else \
+            self._given
+        game = Finished(number, self._folder.rule.seed_of(number), settings.pace, 0.0, 0.0,
+                        ("",) * SEATS, {})
+        return Table(game, words, keys, handed, settings, HouseServer(self._house), self._folder,
+                     self._changed.set if handed else self._show, lambda: self._is_closing)
 
-    def _keep_words(self, keys: Dict[str, int], words: Sequence[str]) -> None:
+    def _keep_words(self, table: Table) -> None:
         """Keeps the words that the host has changed in a game."""
-        new = {words[seat]: word for word, seat in keys.items()}
+        new = {table.words[seat]: word for word, seat in table.keys.items()}
         changed = [team for team in self._teams if new.get(team.key, team.word) != team.word]
         for team in changed:
             team.word = new[team.key]
         if changed:
             try:
-                keep_words(self._folder.path, changed)
+                self._folder.keep_words(changed)
             except OSError as fault:
                 self._tell(f"cannot keep the new words: {why(fault)}")
+
+    def _take(self, played: Optional[Tuple[Finished, bytes]]) -> bool:
+        """Keeps and judges a game, and tells whether it was played."""
+        if played is not None:
+            with self._keeping:
+                self._keep(*played)
+                self._judge_all()
+        return played is not None
 
     def _keep(self, game: Finished, log: bytes) -> None:
         """Keeps a game, and tries so again and again while the disk takes no more."""
@@ -239,7 +233,9 @@ class Room:
                 self._tell(f"game {game.number} is lost: {judged.fault}")
             else:
                 self._rows = standings_of(self._folder.finished)
-                self._tell(f"game {game.number} of `tac make {game.seed}` counts; {self._leader()}")
+                first = self._named([row.name for row in self._rows if row.rank == 1])
+                self._tell(f"game {game.number} of `tac make {game.seed}` counts; first of "
+                           f"{len(self._rows)}: {' and '.join(first) or 'nobody'}")
 
     def _judged(self, game: Finished) -> Finished:
         """A game with its scores, by its audited log, or with what is wrong with it.
@@ -256,25 +252,12 @@ class Room:
                 fault = f"the audit says `{said}`"
             elif not fault:
                 scores = tuple(score.score for score in read_scores(log))
-        except LogError as failed:
-            fault = f"its log: {failed}"
-        except program.ProgramError as failed:
-            if failed.status != program.REFUSED:
+        except (LogError, program.ProgramError) as failed:
+            if isinstance(failed, program.ProgramError) and failed.status != program.REFUSED:
                 raise
             fault = f"its log: {failed}"
         return replace(game, is_judged=True, scores=scores, fault=fault,
                        files={**game.files, "log": digest_of(file)})
-
-    def _leader(self) -> str:
-        leaders = self._named([row.name for row in self._rows if row.rank == 1])
-        return f"first of {len(self._rows)}: {' and '.join(leaders) or 'nobody'}"
-
-    def _winner(self, game: Finished) -> Tuple[str, int]:
-        """Who has won a game that counts, and with how many dollars; "" if nobody has played."""
-        score, _, name = max(((score, -seat, name) for seat, (name, score)
-                              in enumerate(zip(game.players, game.scores)) if name),
-                             default=(0, 0, ""))
-        return self._named([name])[0], score
 
     def _named(self, names: Sequence[str]) -> List[str]:
         """How players are shown."""
@@ -282,26 +265,29 @@ class Room:
 
     def _show(self) -> None:
         """Shows the state of the room on its page."""
-        given, finished, table = self._given, self._folder.finished, self._tables[0]
-        last = finished[-1] if finished else None
-        rows = [[row.rank, self._shown.get(row.name, row.name), row.games, float(row.average),
-                 row.half, row.last, row.best] for row in self._rows]
-        state = {"phase": "room", "game": table.deal.number, "port": table.port,
-                 "wait": given.wait, "table": rows, "played": len(finished),
-                 "commitment": self._folder.commitment,
-                 "last": last and [last.number, str(last.seed), *self._winner(last)]}
+        finished = self._folder.finished
+        room: Dict[str, Any] = {
+            "phase": "room", "played": len(finished), "commitment": self._folder.commitment,
+            "table": [[row.rank, *self._named([row.name]), row.games, float(row.average), row.half,
+                       row.last, row.best] for row in self._rows], "last": None, "begins": None}
+        for last in finished[-1:]:  # its number, its seed, and who won it with how many dollars
+            score, _, winner = max((row for row in zip(last.scores, range(0, -SEATS, -1),
+                                                       last.players) if row[2]), default=(0, 0, ""))
+            room["last"] = [last.number, str(last.seed), *self._named([winner]), score]
         if self._door is not None:
-            waiting = self._named(self._door.places())
-            tables = [[table.deal.number, self._named(table.guests.names())]
-                      for table in self._running]
-            words = {team.word: team.name for team in self._teams}
-            return self._board.show(None, [], {**state, "begins": None, "seats": [],
-                                               "tables": tables, "waiting": waiting}, words)
-        words = {word: self._named([table.deal.words[seat]])[0]
-                 for word, seat in table.deal.keys.items()}
-        guests, names = table.guests, self._named(table.guests.names())
-        journal = self._folder.file(table.deal.number, "journal")
-        return self._board.show(None if guests.began is None else journal, names, {
-            **state, "begins": None if guests.first is None else guests.first + given.wait,
-            "seats": [{"name": name, "here": guests.is_here(seat)}
-                      for seat, name in enumerate(names)]}, words)
+            room["tables"] = [[table.game.number, self._named(table.names())]
+                              for table in self._tables]
+            room["waiting"] = self._named(self._door.places())
+            return self._board.show({"journal": None, "names": [], "room": room, "words": {
+                team.word: team.name for team in self._teams}})
+        table, = self._tables
+        names, journal = self._named(table.names()), self._folder.file(table.game.number, "journal")
+        room["game"] = table.game.number
+        room["seats"] = [{"name": name, "here": seat in table.sources}
+                         for seat, name in enumerate(names)]
+        if table.first is not None:
+            room["begins"] = table.first + self._wait
+        return self._board.show({
+            "journal": str(journal) if table.game.began else None, "names": names, "room": room,
+            "words": {word: self._named([table.words[seat]])[0]
+                      for word, seat in table.keys.items()}})

@@ -1,168 +1,179 @@
-"""A table of a practice room: hosts one game after another, and knows who had which seat."""
+"""A table of a practice room: hosts a game, lets house agents take its empty seats when it is about
+to begin, and knows who had which seat.
+
+Each house agent takes its seat by a word of its own, so a guest with the seat's word is never
+mistaken for it. Other users of the host can read that word among the arguments of its process, so
+it holds for one link: from the start of the process until the seat has a link. If that link is a
+guest's, the agent is ended, so that it never waits for a guest's seat. Its process ends with the
+game.
+"""
 
 from __future__ import annotations
 
 import contextlib
 import io
+import subprocess
 import time
-from dataclasses import dataclass, replace
-from typing import Callable, Dict, List, NamedTuple, Optional, Sequence, Set, TextIO, Tuple
+from dataclasses import dataclass, field, replace
+from pathlib import Path
+from typing import Callable, Dict, Iterable, List, Optional, Sequence, Tuple
 
 from geesefuton import program
-from geesefuton.experiments.entrants import Entrant
+from geesefuton.experiments.entrants import Entrant, environment
 from geesefuton.experiments.provenance import digest_of
 from geesefuton.hosting import events
 from geesefuton.hosting.control import STOPPED, Phase
 from geesefuton.hosting.events import Event
+from geesefuton.hosting.hosted_game import HostedGame
 from geesefuton.hosting.lobby import Lobby
 from geesefuton.hosting.relay import OWN
+from geesefuton.hosting.seats import Seat
+from geesefuton.hosting.server import ClockServer
 from geesefuton.hosting.server_links import summary
 from geesefuton.hosting.settings import LobbySettings
 from geesefuton.hosting.teller import Teller
-from geesefuton.network.addresses import Network
+from geesefuton.network.addresses import new_token
 from geesefuton.practice.door import Handed
 from geesefuton.practice.folder import Finished, Folder
-from geesefuton.practice.house import HouseServer
-from geesefuton.processes import write_whole
-from geesefuton.records.games import SEATS, GameError, read_game
+from geesefuton.processes import why, write_whole
+from geesefuton.records.games import GameError, read_game
 
 
-@dataclass(frozen=True)
-class TableSettings:
-    """What a table is told."""
-
-    port: int  # for agents; 0 takes a free one for each game
-    pace: int = 1000  # milliseconds from tick to tick
-    wait: float = 30.0  # seconds from the first guest of a game to its beginning
-    after: float = 10.0  # seconds after the last tick until the links that are left are ended
-    house: Sequence[Entrant] = ()
-    orders: Optional[TextIO] = None  # the host's commands
+COMING = 15.0  # seconds that house agents have to take their seats
+LOOK = 0.05  # seconds between two looks at them
+MOST_PRINTED = 2048  # blocks of 512 bytes that one may print, as `ulimit -f` counts
+# A house agent that was started: its process, its seat, the word by which it takes that, and the
+# file of what it prints.
+Started = Tuple["subprocess.Popen[bytes]", Seat, str, Path]
+LIMITED = ["sh", "-c", f'ulimit -f {MOST_PRINTED}; exec "$@"', "agent"]
 
 
-class Guests:
-    """Who has which seat of a game, and for whom it counts.
-
-    Attributes:
-        words: The seat words of the game file.
-        players: For whom each seat counts, once the game has begun.
-        began: When it began; None if it has not.
-        first: When the first guest came, while there is one.
-        vouched: What is said of each seat's link once it is over.
-    """
-
-    def __init__(self, words: Sequence[str], house: HouseServer) -> None:
-        self.words, self._house = words, house
-        self._sources: Dict[int, str] = {}
-        self.players: Dict[int, str] = {}
-        self.began: Optional[float] = None
-        self.first: Optional[float] = None
-        self.vouched: Tuple[str, ...] = ()
-
-    def take(self, event: Event) -> bool:
-        """Takes an event of the lobby, and tells whether a page would show it."""
-        if isinstance(event, (events.Arrived, events.Rejoined)):
-            self._sources[event.seat] = event.source
-            self.first = self.first or event.at
-            if self.began is not None:
-                self.players.setdefault(event.seat, self._player(event.seat))
-        elif isinstance(event, events.Departed):
-            self._sources.pop(event.seat, None)
-            self.first = self.first if self._sources else None
-        elif isinstance(event, events.Began):
-            self.began = event.at
-            self.players = {seat: self._player(seat) for seat in event.seats}
-        else:
-            if isinstance(event, events.Finished):
-                self.vouched = event.vouched
-            return False
-        return True
-
-    def _player(self, seat: int) -> str:
-        return self._house.name_at(seat) if self._sources[seat] == OWN else self.words[seat]
-
-    def names(self) -> List[str]:
-        """How the seats' players are called; those of one name have numbers."""
-        names = [self.players.get(seat, word) for seat, word in enumerate(self.words)]
-        return [f"{name} {names[:seat + 1].count(name)}" if names.count(name) > 1 else name
-                for seat, name in enumerate(names)]
-
-    def is_here(self, seat: int) -> bool:
-        """Whether a link has a seat."""
-        return seat in self._sources
-
-
-class Deal(NamedTuple):
-    """A game that is to be played: its number, the words of its file, which anybody may see, those
-    by which agents take its seats, and where their links come in, if that is no port."""
-
-    number: int
-    words: Sequence[str]
-    keys: Dict[str, int]
-    listener: Optional[Handed] = None
-
-
-class Table:
-    """Hosts games, one at a time.
+class HouseServer:
+    """Fills the empty seats with house agents, and serves the game by its clock.
 
     Args:
-        settings: What it is told.
-        folder: Where the games are kept.
-        show: Is called whenever a page would show something else.
+        house: The agents, of which each next seat gets the next one; none for no house.
 
     Attributes:
-        deal: The game that is played, or was last.
-        guests: Those of that game.
-        house: Its house agents.
+        port: The port of the lobby.
+        words: The words of those that are starting, each with the number of its seat.
     """
 
-    def __init__(self, settings: TableSettings, folder: Folder, show: Callable[[], None]) -> None:
-        self._given, self._folder, self._show = settings, folder, show
-        self._lobby: Optional[Lobby] = None
-        self._banned: Set[Network] = set()
-        self._is_closing, self._seed, self._files = False, 0, dict[str, str]()
-        self.house = HouseServer(settings.house)
-        self.deal, self.guests = Deal(0, (), {}), Guests((), self.house)
+    def __init__(self, house: Sequence[Entrant]) -> None:
+        self._house, self.port = house, 0
+        self.words: Dict[str, int] = {}
 
-    @property
-    def port(self) -> int:
-        """The port for agents."""
-        return self._lobby.port if self._lobby else self._given.port
+    def name_at(self, seat: int) -> str:
+        """Who plays a seat for the house."""
+        return f"house {self._agent(seat).name}"
 
-    def play(self, deal: Deal) -> Optional[Tuple[Finished, bytes]]:
-        """Plays a game. Gives what came of it and its log; None if it was stopped.
+    def _agent(self, seat: int) -> Entrant:
+        return self._house[seat % len(self._house)]
+
+    def play(self, game: HostedGame) -> int:
+        """Plays the game, as a lobby's `Serving`."""
+        self._wait(game, self._fill(game) if self._house else [])
+        return STOPPED if game.is_stopped else ClockServer().play(game)
+
+    def _fill(self, game: HostedGame) -> List[Started]:
+        variables, started = environment(program.find(), game.folder), list[Started]()
+        self.words = game.relay.seats.own
+        for seat in game.relay.seats.seats:
+            if seat.holder is not None:
+                continue
+            word, agent = new_token(), self._agent(seat.number)
+            self.words[word], printed = seat.number, game.folder / f"out.{seat.number}"
+            try:
+                with printed.open("wb") as out:
+                    process = game.children.start(
+                        [*LIMITED, *agent.words, "localhost", str(self.port), word, "--pause",
+                         str(game.settings.pace / 1000)], stdin=subprocess.DEVNULL, stdout=out,
+                        stderr=subprocess.STDOUT, env=variables)
+            except OSError as fault:  # such as too many processes
+                game.warn(f"cannot start the house agent {agent.name}: {why(fault)}")
+                continue
+            started.append((process, seat, word, printed))
+        return started
+
+    def _wait(self, game: HostedGame, started: List[Started]) -> None:
+        """Waits until each has its seat, or has ended, for a while."""
+        deadline = time.monotonic() + COMING
+        while started and not game.is_stopped:
+            game.turn(LOOK)
+            is_late = time.monotonic() > deadline
+            for agent in started[:]:
+                process, seat, word, printed = agent
+                has_ended, holder = process.poll() is not None, seat.holder
+                if holder is None and not has_ended and not is_late:
+                    continue
+                started.remove(agent)
+                del self.words[word]
+                if holder is None:
+                    game.warn(f"the house agent {self._agent(seat.number).name} did not take "
+                              + seat.word + (f": {_last_line(printed) or 'it printed nothing'}"
+                                             if has_ended else f" within {COMING:g} seconds"))
+                if holder is None or game.relay.links[holder].source != OWN:
+                    game.children.end(process)
+
+
+def _last_line(file: Path) -> str:
+    """The end of the last line that an agent printed."""
+    text = file.read_bytes()[-2000:].decode("utf-8", "replace").strip()
+    return text.split("\n")[-1][:120]
+
+
+@dataclass(eq=False)
+class Table:
+    """A table, at which one game is played."""
+
+    game: Finished  # as far as it has come
+    words: Sequence[str]  # the seat words of its file, which anybody may see
+    keys: Dict[str, int]  # those by which agents take its seats
+    listener: Optional[Handed]  # where their links come in; None for the port of the settings
+    settings: LobbySettings  # what its lobby is told, but for what is of this game
+    house: HouseServer  # who plays the empty seats
+    folder: Folder  # where it is kept
+    show: Callable[[], None]  # is called whenever a page would show something else
+    is_closing: Callable[[], bool]  # whether no other game is to begin
+    sources: Dict[int, str] = field(default_factory=dict)  # whence the links of its seats come
+    first: Optional[float] = None  # when the first guest came, while there is one
+    _lobby: Optional[Lobby] = None
+
+    def play(self) -> Optional[Tuple[Finished, bytes]]:
+        """Plays the game. Gives what came of it and its log; None if it was stopped.
 
         Raises:
             LobbyError: It cannot be hosted.
             OSError: Its file cannot be written.
             program.ProgramError: There is no program, or it made no game.
         """
-        self._seed = self._folder.seed_of(deal.number)
+        number, log = self.game.number, io.BytesIO()
         try:
-            made = read_game(program.make(self._seed)).named(deal.words).text().encode("ascii")
-        except GameError as fault:
-            raise program.ProgramError(f"the program did not make a game: {fault}") from None
-        file = self._folder.file(deal.number, "game")
+            made = read_game(program.make(self.game.seed)).named(self.words).text().encode("ascii")
+        except GameError as refused:
+            raise program.ProgramError(f"the program did not make a game: {refused}") from None
+        file = self.folder.file(number, "game")
         write_whole(file, made)
-        given, log = self._given, io.BytesIO()
-        lobby = Lobby(LobbySettings(
-            game=file, port=given.port, pace=given.pace, log=log, wait=given.wait,
-            start=given.wait if deal.listener else None,  # its teams may have left meanwhile
-            keys=deal.keys, linger=given.after, journal=self._folder.file(deal.number, "journal"),
-            orders=given.orders, vouches=True, listeners=[deal.listener] if deal.listener else [],
-            banned=self._banned), self.house)
+        self.game = replace(self.game, files={"game": digest_of(file)})
+        lobby = Lobby(replace(
+            self.settings, game=file, log=log, keys=self.keys,
+            journal=self.folder.file(number, "journal"),
+            listeners=[self.listener] if self.listener else []), self.house)
         self.house.port = lobby.port
-        self.deal, self.guests = deal, Guests(deal.words, self.house)
-        self._files = {"game": digest_of(file)}
-        status = self._host(lobby)
+        status, fault = self._host(lobby), ""
         if status == STOPPED:
             return None
-        return replace(self._game(), over=time.time(), fault=self._fault(status)), log.getvalue()
+        if status == program.UNSOUND:
+            fault = f"its log does not match each link: {summary(self.words, self.game.vouched)}"
+        elif status not in (program.OK, program.CLOCK):
+            fault = f"exit status {status}"
+        return replace(self.game, over=time.time(), fault=fault), log.getvalue()
 
     def close(self, at_once: bool) -> str:
         """Ends the game: before it and after its last tick at once, and in it after it, or with
         `at_once` without it. It may be called by a signal handler. Gives what the host is to be
         told."""
-        self._is_closing, lobby = True, self._lobby
+        lobby = self._lobby
         if lobby is None:
             return ""
         if lobby.control.phase is Phase.ENDING:
@@ -173,42 +184,59 @@ class Table:
             lobby.control.stop()
         return ""
 
+    def names(self) -> List[str]:
+        """How the seats' players are called; those of one name have numbers."""
+        names = [player or word for player, word in zip(self.game.players, self.words)]
+        return [f"{name} {names[:seat + 1].count(name)}" if names.count(name) > 1 else name
+                for seat, name in enumerate(names)]
+
     def _host(self, lobby: Lobby) -> int:
-        """Hosts a game, and gives the lobby's status."""
-        teller = Teller(self.deal.words)
-        teller.say(f"game {self.deal.number} waits for guests at port {lobby.port}")
+        """Hosts the game, and gives the lobby's status."""
+        teller = Teller(self.words)
+        teller.say(f"game {self.game.number} waits for guests at port {lobby.port}")
 
         def take(event: Event) -> None:
             teller.tell(event)
-            if isinstance(event, events.Ended) and self.deal.listener:
-                self.deal.listener.over.add(self.deal.words[event.seat])
-            if self.guests.take(event):
-                if self.guests.began is not None:
-                    with contextlib.suppress(OSError):  # a disk that is full is told at the end
-                        self._folder.write(self._game())
-                self._show()
+            self._take(event)
 
         self._lobby = lobby
-        if self._is_closing:  # it was asked for while the game was made
+        if self.is_closing():  # it was asked for while the game was made
             lobby.control.stop()
-        self._show()
+        self.show()
         try:
             return lobby.run(take)
         finally:
             teller.close()
             self._lobby = None
 
-    def _game(self) -> Finished:
-        """The game as far as it has come."""
-        guests = self.guests
-        players = tuple(guests.players.get(seat, "") for seat in range(SEATS))
-        return Finished(self.deal.number, self._seed, self._given.pace, guests.began or 0.0, 0.0,
-                        players, self._files, guests.vouched)
+    def _take(self, event: Event) -> None:
+        """Takes an event of the lobby."""
+        if isinstance(event, (events.Arrived, events.Rejoined)):
+            self.sources[event.seat] = event.source
+            self.first = self.first or event.at
+            if self.game.began and not self.game.players[event.seat]:
+                self._count([event.seat])
+        elif isinstance(event, events.Departed):
+            self.sources.pop(event.seat, None)
+            self.first = self.first if self.sources else None
+        elif isinstance(event, events.Began):
+            self.game = replace(self.game, began=event.at)
+            self._count(event.seats)
+        else:
+            if isinstance(event, events.Ended) and self.listener:
+                self.listener.over.add(self.words[event.seat])
+            if isinstance(event, events.Finished):
+                self.game = replace(self.game, vouched=event.vouched)
+            return  # a page would show nothing else
+        if self.game.began:
+            with contextlib.suppress(OSError):  # a disk that is full is told at the end
+                self.folder.write(self.game)
+        self.show()
 
-    def _fault(self, status: int) -> str:
-        """Why a game is lost, as far as that is known before its log is audited; "" if it is not.
-        """
-        if status == program.UNSOUND:
-            return "its log does not match each link: " + summary(self.guests.words,
-                                                                  self.guests.vouched)
-        return "" if status in (program.OK, program.CLOCK) else f"exit status {status}"
+    def _count(self, seats: Iterable[int]) -> None:
+        """Seats count for those who have them now."""
+        players = list(self.game.players)
+        for seat in seats:
+            players[seat] = self.house.name_at(seat) if self.sources[seat] == OWN else \
+                self.words[seat]
+        self.game = replace(self.game, players=tuple(players))

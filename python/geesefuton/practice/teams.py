@@ -4,19 +4,16 @@ from __future__ import annotations
 
 import csv
 import html
-import json
 import re
 from dataclasses import dataclass
 from pathlib import Path
-from typing import Dict, List, Optional, Sequence
+from typing import List, Mapping, Optional, Sequence
 
 from geesefuton.network.addresses import join_address, new_token, qr_picture
-from geesefuton.processes import write_whole
 from geesefuton.program import CommandError
 from geesefuton.records.games import SEATS, is_seat_word
 
 MOST = 64  # teams of a room with several tables
-WORDS = "words.json"
 
 
 class TeamsError(CommandError):
@@ -32,15 +29,14 @@ class Team:
     word: str  # by which its agent takes its seat
 
 
-def read_teams(file: Path, folder: Path, most: int = SEATS) -> List[Team]:
+def read_teams(file: Path, known: Mapping[str, str], most: int = SEATS) -> List[Team]:
     """The teams of a CSV file of lines `name` or `name,word`, so many at most. A team without a
-    word keeps that of the room's folder, or gets a new one.
+    word keeps the one that is known by its key, or gets a new one.
 
     Raises:
         TeamsError: The file has no teams, too many, or a name or word that cannot be one.
         OSError: It cannot be read.
     """
-    known = _known_words(folder)
     teams: List[Team] = []
     try:
         rows = [row for row in csv.reader(file.read_text("utf-8-sig").splitlines()) if any(row)]
@@ -64,26 +60,6 @@ def read_teams(file: Path, folder: Path, most: int = SEATS) -> List[Team]:
         if len(set(values)) < len(values):
             raise TeamsError(f"{file}: two teams have the same {what}")
     return teams
-
-
-def keep_words(folder: Path, teams: Sequence[Team]) -> None:
-    """Keeps the words, also of teams that are not here this time, for when the room starts again.
-
-    Raises:
-        OSError: The disk takes no more, for instance.
-    """
-    words = {**_known_words(folder), **{team.key: team.word for team in teams}}
-    write_whole(folder / WORDS, json.dumps(words, indent=1).encode("ascii") + b"\n")
-
-
-def _known_words(folder: Path) -> Dict[str, str]:
-    try:
-        words: Dict[str, str] = json.loads((folder / WORDS).read_bytes())
-    except FileNotFoundError:
-        return {}
-    except ValueError:
-        raise TeamsError(f"{folder / WORDS} does not have the words of teams") from None
-    return words
 
 
 def slips_of(teams: Sequence[Team], address: str, port: int, page: Optional[int]) -> str:

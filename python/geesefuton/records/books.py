@@ -11,6 +11,7 @@ import copy
 from itertools import repeat
 from typing import Any, Dict, List, Optional, Sequence, Set, Tuple, TypeVar, Union
 
+from geesefuton.records.best_plans import Plan, best_plan
 from geesefuton.records.games import (AUCTIONS, CLOCK, FLIGHTS, HOTELS, HOUSE, SEATS, TICKETS,
                                       TICKS, Game)
 from geesefuton.records.logs import Call, Entry
@@ -199,7 +200,7 @@ class Books:
         self.tick = 0
         self.holdings = [[0] * TICKETS.start + list(endow) for endow in game.endow]
         self.cash, self.moves = [0] * SEATS, 0
-        self._closing, self._drawn = game.closing, game.flights
+        self._closing, self._drawn, self.clients = game.closing, game.flights, game.clients
         self._flights = [FlightBook(prices_of(flight)) for flight in game.flights]
         self._nights = [NightBook(rooms, game.live) for rooms in game.rooms]
         self._tickets = [TicketBook() for _ in TICKETS]
@@ -254,13 +255,15 @@ class Books:
         books: List[Union[FlightBook, NightBook]] = [*self._flights, *self._nights]
         return {good: book.bids[agent] for good, book in enumerate(books) if agent in book.bids}
 
-    def price_for(self, good: int, agent: int) -> Optional[int]:
-        """What a unit more of a good costs an agent, in dollars; None if there is none."""
-        _, ask, is_closed = self.boards[good]
-        auction = self._auction(good)
-        if isinstance(auction, TicketBook):
-            return auction.ask_for(agent)
-        return None if is_closed else ask
+    def prices_for(self, agent: int) -> List[Optional[int]]:
+        """What a unit more of each of the 28 goods costs an agent, in dollars; None if there is
+        none."""
+        return [*(None if is_closed else ask for _, ask, is_closed in self.boards[:TICKETS.start]),
+                *(tickets.ask_for(agent) for tickets in self._tickets)]
+
+    def plan(self, agent: int, before: Optional[Plan] = None) -> Plan:
+        """An agent's best plan at these prices, with its plan of a moment ago, if that is known."""
+        return best_plan(self.clients[agent], self.holdings[agent], self.prices_for(agent), before)
 
     def withdraw(self, seat: int, good: int) -> None:
         """A withdrawal of a flight's or a ticket's bid is admitted."""

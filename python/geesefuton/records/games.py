@@ -84,16 +84,20 @@ def ticket(kind: int, night: int) -> int:
     return 16 + 4 * kind + night - 1
 
 
-class GameError(Exception):
-    """A text that is no game file.
+class TextError(Exception):
+    """A text that has not the form that it should have.
 
     Attributes:
-        line: The number of its first bad line, from 1.
+        line: The number of its first bad line, from 1; the line after the last if it ends early.
     """
 
     def __init__(self, line: int, why: str) -> None:
         super().__init__(f"line {line}: {why}")
         self.line = line
+
+
+class GameError(TextError):
+    """A text that is no game file."""
 
 
 @dataclass(frozen=True)
@@ -281,7 +285,8 @@ def read_game(text: str) -> Game:
         if not is_seat_word(word):
             raise GameError(lines.number, f"{word[:40]!r} is not a seat word")
     lines.different(words)
-    flights = [_read_flight(lines, ranges) for ranges in _FARES]
+    flights = [Flight(first, bound, tuple(draws)) for _, first, bound, *draws in (
+        lines.numbers("flight", ranges) for ranges in _FARES)]
     closing = lines.numbers("close", [HOTELS] * 8)
     lines.different(closing)
     rooms, live = [ROOMS] * 8, False
@@ -300,11 +305,6 @@ def read_game(text: str) -> Game:
         raise GameError(lines.last, "the last line has no line end")
     return Game(tuple(words), tuple(flights), tuple(closing), tuple(map(tuple, endow)),
                 tuple(map(tuple, clients)), tuple(rooms), live, int(version))
-
-
-def _read_flight(lines: _Lines, ranges: Sequence[range]) -> Flight:
-    _, first, bound, *draws = lines.numbers("flight", ranges)
-    return Flight(first, bound, tuple(draws))
 
 
 def _read_client(lines: _Lines, ranges: Sequence[range]) -> Client:

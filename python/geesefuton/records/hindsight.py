@@ -1,7 +1,7 @@
 """Why a team got its score: what it held, wanted and bid at each tick, the worth of its best plan
 at that time, and its costliest decisions.
 
-`accounts` finds the plan at the prices of a time; plan and cash together are worth the score that
+`Books` find the plan at the prices of a time; plan and cash together are worth the score that
 the team would get if it bought the missing goods at once. So each fall of this worth shows the cost
 of a decision: a trade, rooms that were wanted but not won at a closing, or flights that became
 dearer while the team waited.
@@ -9,8 +9,7 @@ dearer while the team waited.
 
 from typing import Dict, Iterable, List, NamedTuple, Tuple
 
-from geesefuton.records.accounts import Accounts
-from geesefuton.records.best_plans import Plan
+from geesefuton.records.books import Books
 from geesefuton.records.games import CLOCK, FLIGHTS, HOTELS, SEATS, Game, name_of
 from geesefuton.records.logs import Log
 from geesefuton.records.ticks import Placed, entries_by_tick, ticks_by_log
@@ -45,7 +44,7 @@ class Story(NamedTuple):
 
 def stories(game: Game, log: Log) -> List[Story]:
     """The story of each of the eight teams."""
-    accounts = Accounts(game)
+    accounts = Books(game)
     teams = [_Team(accounts, agent) for agent in range(SEATS)]
     for tick, entries in enumerate(entries_by_tick(ticks_by_log(game, log), log)):
         for part in _parts(entries):
@@ -72,7 +71,7 @@ def _parts(entries: List[Placed]) -> List[List[Placed]]:
 class _Team:
     """Follows one team."""
 
-    def __init__(self, accounts: Accounts, agent: int) -> None:
+    def __init__(self, accounts: Books, agent: int) -> None:
         self._accounts, self._agent = accounts, agent
         self._plan = accounts.plan(agent)
         self._cash = accounts.cash[agent]
@@ -96,7 +95,11 @@ class _Team:
         if is_agents:
             self._decide(cost, f"Tick {tick}: {_told(trades)}")
         elif good in HOTELS and first.call.do == "close":
-            self._decide(cost, self._closed(tick, good, trades, before))
+            won = sum(units for _, units, _ in trades)
+            at = f" at {trades[0][2]}" if trades else ""
+            self._decide(cost, f"Tick {tick}: {name_of(good)} closed, and it won {won or 'no'} "
+                               f"room{'' if won == 1 else 's'}{at} where its best plan wanted "
+                               f"{before.missing[good]}")
         elif good in FLIGHTS and any(before.missing[flight] for flight in FLIGHTS):
             self._waited, self._until = self._waited + cost, tick
 
@@ -121,18 +124,6 @@ class _Team:
         if cost > 0:
             self._decisions.append(Decision(cost, f"{text}. Its best plan was worth {cost:,} less "
                                                   "afterwards."))
-
-    def _closed(self, tick: int, good: int, trades: List[Tuple[int, int, int]],
-                before: Plan) -> str:
-        won, wanted = sum(units for _, units, _ in trades), before.missing[good]
-        price = next((price for _, _, price in trades), None)
-        at = "" if price is None else f" at {price}"
-        return (f"Tick {tick}: {name_of(good)} closed, and it won {_units(won, 'room')}{at} where "
-                f"its best plan wanted {wanted}")
-
-
-def _units(count: int, what: str) -> str:
-    return f"{count or 'no'} {what}{'' if count == 1 else 's'}"
 
 
 def _told(trades: Iterable[Tuple[int, int, int]]) -> str:

@@ -6,24 +6,17 @@ ranges, and certificates, are passed over.
 """
 
 from dataclasses import dataclass
-from typing import Dict, List, Optional, Sequence, Tuple, Union
+from typing import Dict, List, NamedTuple, Optional, Sequence, Tuple, Union
 
-from geesefuton.records.games import CLIENTS, CLOCK, GOODS, PACKAGES, SEATS, TICKS, Package
+from geesefuton.records.games import (CLIENTS, CLOCK, FLIGHTS, GOODS, HOTELS, PACKAGES, SEATS,
+                                      TICKS, Package, TextError)
 from geesefuton.records.replies import Points, Reply, ReplyError, read_entry_reply, read_points
 
 MOST_BYTES = 67_108_864
 
 
-class LogError(Exception):
-    """A text that is no log.
-
-    Attributes:
-        line: The number of its first bad line, from 1; the line after the last if it ends early.
-    """
-
-    def __init__(self, line: int, why: str) -> None:
-        super().__init__(f"line {line}: {why}")
-        self.line = line
+class LogError(TextError):
+    """A text that is no log."""
 
 
 @dataclass(frozen=True)
@@ -151,10 +144,6 @@ class _Lines:
         if self.take(line):
             raise ValueError
 
-    def skip(self, count: int) -> None:
-        """Goes over lines."""
-        self.number = min(self.number + count, len(self._lines) - 1)
-
     def end(self) -> None:
         """Sees that no line is left."""
         if self._lines[self.number:] != [""]:
@@ -261,10 +250,30 @@ def _read_score(lines: _Lines, agent: int) -> Score:
     best, cash, short, score = map(int, lines.take(f"score {agent} ").split(" "))
     packages = tuple(_PACKAGES[lines.take(f"package {agent} {client} ")]
                      for client in range(CLIENTS))
-    lines.skip(lines.count(f"cert {agent}"))
+    size = lines.count(f"cert {agent}")
+    lines.number += size
     return Score(agent, best, cash, short, score, packages)
 
 
 def trades_of(histories: Sequence[Sequence[Entry]]) -> int:
     """How many trades there are in all."""
     return sum(len(entry.trades) for history in histories for entry in history)
+
+
+class Gains(NamedTuple):
+    """What an agent earned less what it paid for each kind of goods, in dollars."""
+
+    flights: int
+    hotels: int
+    tickets: int
+
+
+def gains_of(log: Log) -> List[Gains]:
+    """The gains of each agent, which add up to its cash."""
+    sums = [[0, 0, 0] for _ in range(SEATS + 1)]  # the last one is the house's
+    for good, history in enumerate(log.histories):
+        kind = 0 if good in FLIGHTS else 1 if good in HOTELS else 2
+        for trade in (trade for entry in history for trade in entry.trades):
+            sums[trade.buyer][kind] -= trade.units * trade.price
+            sums[trade.seller][kind] += trade.units * trade.price
+    return [Gains(*gains) for gains in sums[:SEATS]]

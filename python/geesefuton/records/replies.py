@@ -7,7 +7,7 @@ lines do not have it.
 import json
 import re
 from dataclasses import dataclass
-from typing import Any, List, Optional, Sequence, Tuple, Union
+from typing import Any, Callable, Dict, Optional, Sequence, Tuple, Union
 
 Points = Tuple[Tuple[int, int], ...]  # units, below 0 for selling, and dollars for each
 
@@ -131,6 +131,18 @@ _FORMS = re.compile(
     rf"|quote (?P<bid>{NUMBER}) (?P<ask>{NUMBER}) (?P<state>open|closed)"
     rf"|no (?P<reason>{'|'.join(CLOSING_REASONS)})"
     rf"|no belowquote (?P<need>{NUMBER}) (?P<least>{NUMBER}) (?P<offered>{NUMBER})")
+# What is read from each form, by the name of its last group.
+_READ: Dict[Optional[str], Callable[[Optional[int], "re.Match[str]"], Reply]] = {
+    "sells": lambda at, found: Taken(at, int(found["bought"]), int(found["sells"])),
+    "done": lambda at, found: Done(at),
+    "price": lambda at, found: Sold(at, int(found["sold"]), int(found["price"])),
+    "points": lambda at, found: Own(at, int(found["own"]), read_points(found["points"])),
+    "cash": lambda at, found: Cash(at, int(found["cash"])),
+    "state": lambda at, found: Quote(at or 0, int(found["bid"]), int(found["ask"]),
+                                     found["state"] == "closed"),
+    "reason": lambda at, found: No(at, found["reason"]),
+    "offered": lambda at, found: No(at, "belowquote", 0, Below(
+        int(found["need"]), int(found["least"]), int(found["offered"])))}
 _PLACED = re.compile(rf"@({NUMBER}) (.*)")
 _PLAIN = re.compile(rf"no (?:({'|'.join(LINE_REASONS)})|bid ([1-5]))")
 
@@ -146,24 +158,7 @@ def read_entry_reply(text: str, at: Optional[int] = None) -> Reply:
     found = _FORMS.fullmatch(text)
     if found is None:
         raise ReplyError(f"{text[:60]!r} is not a reply")
-    kind = found.lastgroup
-    number = {name: int(word) for name, word in found.groupdict().items()
-              if word is not None and name not in ("done", "points", "state", "reason")}
-    if kind == "sells":
-        return Taken(at, number["bought"], number["sells"])
-    if kind == "done":
-        return Done(at)
-    if kind == "price":
-        return Sold(at, number["sold"], number["price"])
-    if kind == "points":
-        return Own(at, number["own"], read_points(found["points"]))
-    if kind == "cash":
-        return Cash(at, number["cash"])
-    if kind == "state":
-        return Quote(at or 0, number["bid"], number["ask"], found["state"] == "closed")
-    if kind == "reason":
-        return No(at, found["reason"])
-    return No(at, "belowquote", 0, Below(number["need"], number["least"], number["offered"]))
+    return _READ[found.lastgroup](at, found)
 
 
 def read_words(line: str) -> Reply:
@@ -260,12 +255,9 @@ def reply_json(reply: Reply) -> str:
 
 def request_words(request: Request) -> str:
     """The line of words that asks this, without a line end."""
-    words: List[str] = [request.do]
-    if request.auction is not None:
-        words.append(str(request.auction))
-    if request.do == "bid":
-        words.append(text_of_points(request.points))
-    return " ".join(words)
+    good = "" if request.auction is None else f" {request.auction}"
+    points = f" {text_of_points(request.points)}" if request.do == "bid" else ""
+    return f"{request.do}{good}{points}"
 
 
 def request_json(request: Request) -> str:

@@ -8,10 +8,10 @@ from importlib.resources import files
 from typing import Callable, Dict, Iterable, Iterator, List, Optional, Sequence, Tuple, Union
 
 from geesefuton.records.games import (AUCTIONS, CLIENTS, FLIGHTS, GOODS, HOTELS, ROOMS, TICKETS,
-                                      TICKS, Game, Package, name_of)
+                                      TICKS, Game, name_of)
 from geesefuton.records.hindsight import Moment, Story
 from geesefuton.records.logs import Log, Score, trades_of
-from geesefuton.records.prices import MarketEvent
+from geesefuton.records.ticks import MarketEvent
 
 # The style and the script of all pages, and the style and the script of reports.
 _COLOURS, _OWN, _SHARED, _SCRIPT = (
@@ -156,15 +156,10 @@ def _tickets(events: Sequence[MarketEvent]) -> str:
     """The prices of each ticket."""
     rows: List[List[Cell]] = []
     for good in TICKETS:
-        trades = [(event.units, event.dollars) for event in events
-                  if event.good == good and event.units and event.units > 0]
-        units = sum(count for count, _ in trades)
-        if units:
-            mean = sum(count * dollars for count, dollars in trades) / units
-            prices = [dollars for _, dollars in trades]
-            rows.append([name_of(good), units, min(prices), number(mean), max(prices)])
-        else:
-            rows.append([name_of(good), 0, "–", "–", "–"])
+        prices = [event.dollars for event in events if event.good == good
+                  for _ in range(event.units or 0)]
+        rows.append([name_of(good), len(prices), min(prices), number(sum(prices) / len(prices)),
+                     max(prices)] if prices else [name_of(good), 0, "–", "–", "–"])
     return ("<h2>Ticket prices</h2>"
             + table(["ticket", "traded", "lowest", "mean", "highest"], rows, (0,)))
 
@@ -233,7 +228,10 @@ def chart_rows(goods: range, chart_of: Callable[[int, str], str]) -> Iterator[st
         yield f'<h3>{AUCTIONS[group[0]].group}</h3><div class="charts">{charts}</div>'
 
 
-def _price_rows(game: Game, events: Sequence[MarketEvent]) -> Iterator[str]:
+def _prices(game: Game, events: Sequence[MarketEvent]) -> Iterator[str]:
+    live = " In this game they publish with each bid, too." if game.live else ""
+    yield ("<h2>Prices</h2><p>Dollars from tick 0 at the left to tick 54. Flights change at each "
+           f"tick. Every six ticks hotels publish, and one closes, at the dot.{live}</p>")
     paths: Dict[int, List[Tuple[int, int]]] = defaultdict(list)
     for event in events:
         if event.what in ("price", "close") and event.tick is not None:
@@ -252,25 +250,13 @@ def _price_rows(game: Game, events: Sequence[MarketEvent]) -> Iterator[str]:
         yield from chart_rows(goods, chart_of)
 
 
-def _prices(game: Game, events: Sequence[MarketEvent]) -> str:
-    live = " In this game they publish with each bid, too." if game.live else ""
-    note = ("Dollars from tick 0 at the left to tick 54. Flights change at each tick. Every six "
-            f"ticks hotels publish, and one closes, at the dot.{live}")
-    return f"<h2>Prices</h2><p>{note}</p>" + "".join(_price_rows(game, events))
-
-
 def _client_rows(game: Game, score: Score) -> Iterator[List[Cell]]:
     for place, (client, package) in enumerate(zip(game.clients[score.agent], score.packages), 1):
-        asked: List[Cell] = [place, f"{client.arrive}–{client.depart}", client.premium,
-                             *client.values]
-        yield asked + _trip(package) + [client.worth(package)]
-
-
-def _trip(package: Optional[Package]) -> List[Cell]:
-    if package is None:
-        return ["stays at home", "", "", "", ""]
-    return [("Shanties", "Towers")[package.hotel], f"{package.arrive}–{package.depart}",
+        trip: List[Cell] = ["stays at home", "", "", "", ""] if package is None else [
+            ("Shanties", "Towers")[package.hotel], f"{package.arrive}–{package.depart}",
             *(night or "" for night in package.nights)]
+        yield [place, f"{client.arrive}–{client.depart}", client.premium, *client.values, *trip,
+               client.worth(package)]
 
 
 def _trade_rows(events: Sequence[MarketEvent], agent: int) -> Iterator[List[Cell]]:
@@ -316,10 +302,9 @@ def story_html(story: Story) -> str:
 
 def _moment(moment: Moment) -> Dict[str, object]:
     """A moment as the page's script reads it."""
-    goods: List[Sequence[object]] = [
-        [name_of(good), moment.held[good] or "", moment.wanted[good] or "",
-         moment.bids.get(good, "")]
-        for good in GOODS if moment.held[good] or moment.wanted[good] or good in moment.bids]
+    goods = [[name_of(good), moment.held[good] or "", moment.wanted[good] or "",
+              moment.bids.get(good, "")]
+             for good in GOODS if moment.held[good] or moment.wanted[good] or good in moment.bids]
     return {"worth": moment.worth, "cash": moment.cash, "goods": goods}
 
 
@@ -337,18 +322,17 @@ def _head(game: Game, log: Log, heading: Heading) -> str:
 
 def page(game: Game, log: Log, events: Sequence[MarketEvent], heading: Heading,
          names: Sequence[str], stories: Sequence[Story] = ()) -> str:
-    """The page of a game, with the prices and trades of its auctions (`prices.all_events`), what
+    """The page of a game, with the prices and trades of its auctions (`ticks.all_events`), what
     the eight agents are called, and their stories, if there are any."""
     return document(f"A game of {html.escape(', '.join(names))}", [
         _head(game, log, heading), _scores(names, log, events), _spending(names, log, events),
-        _prices(game, events), _tickets(events), "<h2>Teams</h2>",
+        "".join(_prices(game, events)), _tickets(events), "<h2>Teams</h2>",
         *_teams(game, names, log, events, stories), *([SCRIPT] if stories else [])])
 
 
 def document(title: str, parts: Iterable[str]) -> str:
     """A page that stands alone. All is given as HTML."""
-    return "\n".join([
-        '<!doctype html><html lang="en"><meta charset="utf-8">'
-        '<meta name="viewport" content="width=device-width, initial-scale=1">'
-        f"<title>{title}</title>{STYLE}",
-        *parts]) + "</html>\n"
+    head = ('<!doctype html><html lang="en"><meta charset="utf-8">'
+            '<meta name="viewport" content="width=device-width, initial-scale=1">'
+            f"<title>{title}</title>{STYLE}")
+    return "\n".join([head, *parts]) + "</html>\n"

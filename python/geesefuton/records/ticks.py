@@ -6,13 +6,16 @@ leave that possible. By the log alone, an entry of a flight or a hotel has the t
 last call there. A trade of a ticket has the tick of the last such trade before it in the cash book,
 which has all trades in order; another entry of tickets, and a reading of cash, has the tick of the
 trade before it. These may have come later.
+
+Prices over the ticks are recomputed by the books of a game from its log, which has the calls, but
+not the prices that were shown. A trade of a ticket has no tick there.
 """
 
 from collections import defaultdict, deque
 from typing import Deque, Dict, Iterable, Iterator, List, NamedTuple, Optional, Sequence, Tuple
 
 from geesefuton.records.books import Board, Books
-from geesefuton.records.games import CLOCK, GOODS, TICKETS, TICKS, Game
+from geesefuton.records.games import CLOCK, GOODS, HOTELS, HOUSE, TICKETS, TICKS, Game
 from geesefuton.records.logs import Entry, Log, Post
 from geesefuton.records.replies import Request, read_request
 from geesefuton.records.rules import clock_ticks
@@ -140,3 +143,44 @@ def boards_by_tick(game: Game, log: Log, ticks: Ticks) -> List[List[Board]]:
             if is_clock:
                 boards.append(books.boards[:])
     return boards
+
+
+class MarketEvent(NamedTuple):
+    """Something that happened in an auction: a row of the report's CSV."""
+
+    # `price`, the published price from this entry on; `close`, that of a hotel's closing; `trade`,
+    # what an agent bought (units above 0) or sold (below 0)
+    what: str
+    tick: Optional[int]  # the tick; None where it is not known
+    good: int  # the auction
+    position: Optional[int]  # the position of the entry; None before the first
+    agent: Optional[int]  # who traded; None for prices
+    units: Optional[int]  # of a trade; None for prices
+    dollars: int  # the price, of a trade for each unit
+
+
+def events_of(game: Game, good: int, history: Sequence[Entry],
+              books: Books) -> Iterator[MarketEvent]:
+    """The prices and trades of an auction, in order, by the books of the game before it."""
+    has_prices, price = good not in TICKETS, books.boards[good][1]
+    if has_prices:
+        yield MarketEvent("price", 0, good, None, None, None, price)
+    for position, (tick, entry) in enumerate(zip(ticks_by_clock(game, good, history), history)):
+        books.take(good, entry)
+        before, price = price, books.boards[good][1]
+        what = "close" if good in HOTELS and entry.call.do == "close" else "price"
+        is_told = entry.caller == CLOCK and (what == "close" or entry.call.do != "close")
+        if has_prices and (is_told or price != before):
+            yield MarketEvent(what, tick, good, position, None, None, price)
+        for trade in entry.trades:
+            for agent, units in ((trade.buyer, trade.units), (trade.seller, -trade.units)):
+                if agent != HOUSE:
+                    yield MarketEvent("trade", tick if has_prices else None, good, position, agent,
+                                      units, trade.price)
+
+
+def all_events(game: Game, log: Log) -> List[MarketEvent]:
+    """The prices and trades of all auctions, by good."""
+    books = Books(game)
+    return [event for good in GOODS
+            for event in events_of(game, good, log.histories[good], books)]

@@ -1,37 +1,34 @@
 import math
 import random
 import unittest
+from typing import Optional
 
-from geesefuton.experiments import study
-from geesefuton.experiments.comparisons import estimate, student_quantile
+from geesefuton.experiments.comparisons import (Estimate, adjusted, deals_to_detect, estimate,
+                                                missing_libraries, power, student_quantile)
 from tests.package.helpers import needs_study
 
-if not study.missing("these tests"):
+if not missing_libraries("these tests"):
     import numpy as np
-
-    from geesefuton.experiments.study import adjusted
 
 
 @needs_study
 class Adjustment(unittest.TestCase):
+    def agree(self, got: Optional[Estimate], mean: float, half: float, places: int = 6) -> None:
+        assert got is not None and got.half is not None
+        self.assertAlmostEqual(got.mean, mean)
+        self.assertAlmostEqual(got.half, half, places)
+
     def test_points_on_a_line_are_adjusted_along_it(self) -> None:
         got = adjusted([10.0, 12.0, 16.0], [[0.0, 1.0, 3.0]], [2.0])
-        assert got is not None and got.half is not None
-        self.assertAlmostEqual(got.mean, 14.0)
-        self.assertAlmostEqual(got.half, 0.0, places=6)
-        self.assertEqual(got.count, 3)
+        self.agree(got, 14.0, 0.0)
+        self.assertEqual(got and got.count, 3)
 
     def test_an_interval_by_hand(self) -> None:
         # y = 1, 3, 2, 6 at x = 0, 1, 2, 3: slope 1.4, mean 3; at 1.5 the line has 3, and the
         # residuals 0.1, 0.7, -1.7, 0.9 have the squares 4.2, so the error is sqrt(2.1 / 4).
-        got = adjusted([1.0, 3.0, 2.0, 6.0], [[0.0, 1.0, 2.0, 3.0]], [1.5])
-        assert got is not None and got.half is not None
-        self.assertAlmostEqual(got.mean, 3.0)
-        self.assertAlmostEqual(got.half, 4.30265 * math.sqrt(2.1 / 4), places=4)
-        got = adjusted([1.0, 3.0, 2.0, 6.0], [[0.0, 1.0, 2.0, 3.0]], [3.0])
-        assert got is not None and got.half is not None
-        self.assertAlmostEqual(got.mean, 5.1)
-        self.assertAlmostEqual(got.half, 4.30265 * math.sqrt(2.1 * (1 / 4 + 2.25 / 5)), places=4)
+        for place, mean, square in ((1.5, 3.0, 2.1 / 4), (3.0, 5.1, 2.1 * (1 / 4 + 2.25 / 5))):
+            self.agree(adjusted([1.0, 3.0, 2.0, 6.0], [[0.0, 1.0, 2.0, 3.0]], [place]), mean,
+                       4.30265 * math.sqrt(square), 4)
 
     def test_points_on_a_plane_are_adjusted_along_it(self) -> None:
         source = random.Random(4)
@@ -41,21 +38,15 @@ class Adjustment(unittest.TestCase):
         for covariates, at in (([x, y], [1.0, 1.0]), ([y, x], [1.0, 1.0]),
                                ([x, y, z], [1.0, 1.0, -1.0]), ([z], [-1.0]),
                                ([[7.0] * 12, x, y], [7.0, 1.0, 1.0])):
-            got = adjusted(values, covariates, at)
-            assert got is not None and got.half is not None
-            self.assertAlmostEqual(got.mean, 4.0)
-            self.assertAlmostEqual(got.half, 0.0, places=6)
+            self.agree(adjusted(values, covariates, at), 4.0, 0.0)
 
     def test_two_covariates_by_hand(self) -> None:
         # At right angles, so each slope is its own: y = 4 + 1 x - 2 z, with the rests +-1.
         x, z = [1.0, 1.0, -1.0, -1.0] * 2, [1.0, -1.0] * 4
         rest = [1.0, 1.0, 1.0, 1.0, -1.0, -1.0, -1.0, -1.0]
         values = [4.0 + a - 2.0 * b + c for a, b, c in zip(x, z, rest)]
-        got = adjusted(values, [x, z], [1.0, 0.5])
-        assert got is not None and got.half is not None
-        self.assertAlmostEqual(got.mean, 4.0)
         error = math.sqrt(8 / 5 * (1 / 8 + 1 / 8 + 0.25 / 8))
-        self.assertAlmostEqual(got.half, student_quantile(5) * error)
+        self.agree(adjusted(values, [x, z], [1.0, 0.5]), 4.0, student_quantile(5) * error, 7)
 
     def test_few_units_use_few_covariates(self) -> None:
         source = random.Random(5)
@@ -63,9 +54,8 @@ class Adjustment(unittest.TestCase):
         for count, used in ((3, 1), (7, 1), (8, 2)):
             got = adjusted(values[:count], [x[:count], y[:count], values[:count]], [0.1, 0.2, 9.0])
             due = adjusted(values[:count], [x[:count], y[:count]][:used], [0.1, 0.2][:used])
-            assert got is not None and due is not None
-            self.assertAlmostEqual(got.mean, due.mean)
-            self.assertAlmostEqual(got.half or 0.0, due.half or -1.0)
+            assert due is not None and due.half is not None
+            self.agree(got, due.mean, due.half, 7)
 
     def test_nothing_is_told_of_two_values_or_equal_covariates(self) -> None:
         self.assertIsNone(adjusted([1.0, 2.0], [[0.0, 1.0]], [0.5]))
@@ -109,5 +99,43 @@ class Adjustment(unittest.TestCase):
             self.assertAlmostEqual(got.half or 0.0, student_quantile(count - 4) * error, places=6)
 
 
-if __name__ == "__main__":
-    unittest.main()
+def spread(deviation: float, deals: int) -> Estimate:
+    """An estimate from so many deals of that standard deviation."""
+    return Estimate(0.0, student_quantile(deals - 1) * deviation / math.sqrt(deals), deals)
+
+
+@needs_study
+class Sizes(unittest.TestCase):
+    def test_how_many_values_tell_a_difference(self) -> None:
+        # From printed tables of the power of Student's test: a difference of one standard deviation
+        # needs 10 pairs, of half of one 34, of a fifth of one 199. So does a pilot of any size
+        # whose upper limit of the standard deviation is that one: of the variance it is 7 / 3.822
+        # and 24 / 18.062 times what it has, by tables of chi-squared.
+        for deals, times in ((8, 7 / 3.822), (25, 24 / 18.062)):
+            value = spread(1.0 / math.sqrt(times), deals)
+            for difference, count in ((1.0, 10), (0.5, 34), (0.2, 199)):
+                found = deals_to_detect(value, difference)
+                assert found is not None
+                self.assertLessEqual(abs(found - count), 1)
+        self.assertIsNone(deals_to_detect(Estimate(7.0, None, 1), 1.0))
+        self.assertEqual(deals_to_detect(estimate([3.0] * 4), 1.0), 2)
+        self.assertEqual(deals_to_detect(spread(1.0, 8), 1e6), 2)
+
+    def test_small_pilots_seldom_promise_too_much(self) -> None:
+        """Of 300 pilots of 8 deals at most 25 % lead to a study with a power below 80 %, and at
+        most 10 % to one below 60 %."""
+        source, low, lower = random.Random(7), 0, 0
+        for _ in range(300):
+            found = deals_to_detect(estimate([source.gauss(0.0, 1.0) for _ in range(8)]), 0.25)
+            assert found is not None
+            low += power(found, 0.25) < 0.8
+            lower += power(found, 0.25) < 0.6
+        self.assertTrue(40 <= low <= 75, low)
+        self.assertLessEqual(lower, 30)
+
+    def test_the_power_is_that_of_experiments(self) -> None:
+        source, told = random.Random(7), 0
+        for _ in range(1000):
+            got = estimate([source.gauss(0.6, 1.0) for _ in range(24)])
+            told += got.half is not None and abs(got.mean) > got.half
+        self.assertAlmostEqual(told / 1000, power(24, 0.6), delta=0.04)
