@@ -27,9 +27,9 @@ from typing import Iterator, List, NamedTuple, Sequence, Tuple
 
 from running import Parser, ProgramError, Word, command, file_of, run, whole
 
-sys.path.insert(0, str(Path(__file__).resolve().parent.parent / "checks"))
+sys.path.insert(0, str(Path(__file__).resolve().parent.parent))
 
-from made_records import served, text_of  # noqa: E402
+from tests.support.made_records import served, text_of  # noqa: E402
 
 from geesefuton.records.games import FLIGHTS, HOTELS, TICKETS, read_game, welcome  # noqa: E402
 

@@ -38,6 +38,14 @@ class Agents(unittest.TestCase):
         self.assertEqual(link.bid.mock_calls, [mock.call(0, (2, 600)), mock.call(5, (2, 600))])
 
 
+class Benches(unittest.TestCase):
+    def test_each_script_tells_its_help(self) -> None:
+        for file in sorted((TOP / "bench").glob("*.py")):
+            if "__main__" in file.read_text("utf-8"):
+                with self.subTest(file=file.name):
+                    self.assertEqual(completed(sys.executable, file, "--help").returncode, 0)
+
+
 @needs_program
 class Examples(unittest.TestCase):
     def test_the_small_game_ends_with_the_score_that_was_told(self) -> None:
