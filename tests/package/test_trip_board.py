@@ -142,11 +142,11 @@ class Costs(Case):
         (cost, text), = [each for each in self.look()["costs"] if "closed at" in each[1]]
         self.assertEqual(cost, 350)  # a trip for 400, which a room for 50 would have made
         self.assertEqual(text, "Tick 6: Shoreline Shanties, night 1 closed at 60, you won 0 and "
-                               "your plan wanted 0; Tampa Towers, night 1 closed at 50, you won 1 "
-                               "and your plan wanted 2")
+                               "0 would have been best; Tampa Towers, night 1 closed at 50, you "
+                               "won 1 and 2 would have been best")
 
     def test_rooms_that_were_won_cost_nothing_and_those_beyond_the_plan_their_price(self) -> None:
-        text = "Tick 1: Tampa Towers, night 4 closed at 70, you won 9 and your plan wanted 6"
+        text = "Tick 1: Tampa Towers, night 4 closed at 70, you won 9 and 6 would have been best"
         for units, due in ((6, []), (9, [(3 * 70, text)])):
             with self.subTest(units=units):
                 self.setUp()

@@ -96,8 +96,8 @@ class TripBoard:
             first = self._moment(before.held, [now.asks[good] if good in closed else price for
                                                good, price in enumerate(prices)], before.cash)
             self._keep(first.worth - traded.worth, f"Tick {tick}: " + "; ".join(
-                f"{title_of(good)} closed at {now.asks[good]}, you won {won[good]} and your plan "
-                f"wanted {first.plan.missing[good]}" for good in closed))
+                f"{title_of(good)} closed at {now.asks[good]}, you won {won[good]} and "
+                f"{first.plan.missing[good]} would have been best" for good in closed))
         elif any(won):
             self._keep(before.worth - traded.worth, f"Tick {tick}: you " + ", ".join(
                 f"{'bought' if units > 0 else 'sold'} {abs(units)} of {title_of(good)}"
