@@ -176,6 +176,11 @@ class Children:
         self.close()
 
 
+def shown(text: str) -> str:
+    """A text of others, without what would break a line or steer a terminal."""
+    return "".join(letter if letter.isprintable() else ascii(letter)[1:-1] for letter in text)
+
+
 def why(fault: Exception) -> str:
     """A fault in a few words, as the system has them, such as `No space left on device`."""
     if isinstance(fault, BrokenPipeError):

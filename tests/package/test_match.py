@@ -268,14 +268,15 @@ class Matches(PlaceCase):
         self.lobby.ends = [End.GONE, End.HUNG, End.ABSENT, End.ABSENT, End.LEFT, End.GONE,
                            End.REFUSED, End.LEFT]
         self.patch("experiments.match.LEAVE", 3.0)
-        result = self.play("echo a; echo last; exit 3", "sleep 99", "exit 0", "kill -9 $$",
-                           "exit 137", "exit 0", "exit 0")
+        result = self.play("echo a; printf 'la\\033[31mst'; exit 3", "sleep 99", "exit 0",
+                           "kill -9 $$", "exit 137", "exit 0", "exit 0")
         self.assertEqual([outcome.value for outcome in result.outcomes],
                          ["crashed", "hung", "absent", "killed", "played", "played", "refused",
                           "played"])
         told = self.notes().split("\n")
         self.assertEqual(told, [
-            "agent0 at seat 0 (red0) counts as crashed: ended with status 3; its last line: last",
+            "agent0 at seat 0 (red0) counts as crashed: ended with status 3; its last line: "
+            r"la\x1b[31mst",
             "agent1 at seat 1 (red1) counts as hung: was still running 3 seconds after its game, "
             "and was stopped",
             "agent2 at seat 2 (red2) counts as absent: ended without taking its seat",

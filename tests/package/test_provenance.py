@@ -28,6 +28,17 @@ class Agents(PlaceCase):
     def digest(self, words: str = "") -> str:
         return self.agent(words).digest
 
+    def test_links_within_the_folder_count_once_and_others_are_refused_unread(self) -> None:
+        digest = self.digest()
+        (self.place / "again").symlink_to(".")
+        (self.place / "same.py").symlink_to("helper.py")
+        self.assertEqual(self.digest(), digest)
+        for target in ("/proc/kmsg", "/usr", "../elsewhere"):
+            (self.place / "notes").symlink_to(target)
+            with self.assertRaisesRegex(EntrantError, "notes leads out of its folder"):
+                self.agent()
+            (self.place / "notes").unlink()
+
     def test_files_are_those_of_the_folder_and_those_below(self) -> None:
         for folder, name in (("strategy", "__init__.py"), (".git", "x"), ("__pycache__", "x.pyc"),
                              ("runs/1", "run.json"), ("venv", "pyvenv.cfg"),

@@ -24,12 +24,12 @@ from typing import List
 from geesefuton import program
 from geesefuton.arguments import Parser, whole
 from geesefuton.experiments.comparisons import Estimate
-from geesefuton.experiments.forms import columns, count_text, number_text, printed, shown
+from geesefuton.experiments.forms import columns, count_text, number_text, printed
 from geesefuton.experiments.plan import Plan, make_parser, read_plan
 from geesefuton.experiments.results import Row
 from geesefuton.experiments.summary import summarize
 from geesefuton.experiments.tournament import play_in_folder
-from geesefuton.processes import Output, command, tell
+from geesefuton.processes import Output, command, shown, tell
 
 LISTS = ("classic", "scarce")
 RESULT = "benchmark.json"

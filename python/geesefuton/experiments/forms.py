@@ -9,7 +9,7 @@ from typing import Any, Callable, Dict, List, Optional, Sequence
 from geesefuton.experiments.comparisons import LEVEL, POWER, Estimate
 from geesefuton.experiments.results import Kind, Outcome
 from geesefuton.experiments.summary import Difference, Standing, Summary
-from geesefuton.processes import Output, tell
+from geesefuton.processes import Output, shown, tell
 from geesefuton.records.games import TICKS
 from geesefuton.records.tables import csv_of
 
@@ -45,11 +45,6 @@ def printed(command: str, text: str, told: Sequence[str] = ()) -> int:
 def count_text(number: int, what: str) -> str:
     """A number of things."""
     return f"{number} {what}" if number == 1 else f"{number} {what}s"
-
-
-def shown(name: str) -> str:
-    """A name without what would break a line."""
-    return "".join(letter if letter.isprintable() else ascii(letter)[1:-1] for letter in name)
 
 
 def columns(rows: Sequence[Sequence[str]], most: float = math.inf) -> List[str]:

@@ -28,7 +28,7 @@ from geesefuton.hosting import events
 from geesefuton.hosting.events import End
 from geesefuton.hosting.lobby import Lobby, LobbyError
 from geesefuton.hosting.settings import LobbySettings
-from geesefuton.processes import Children, command, why
+from geesefuton.processes import Children, command, shown, why
 from geesefuton.records.logs import LogError, read_scores
 
 LOOK = 0.02  # seconds between two looks at the agents' processes
@@ -254,7 +254,7 @@ class Match:
         counted = "" if outcome is Outcome.PLAYED else f"counts as {outcome.value}"
         told = ": ".join(filter(None, (counted, _how(exited, reason))))
         if told:
-            last = self._last_printed(seat).split("\n")[-1][:120]
+            last = shown(self._last_printed(seat).split("\n")[-1][:120])
             self._send(Note(f"{self._name(seat)} {told}"
                             + (f"; its last line: {last}" if last else "")))
 

@@ -14,7 +14,7 @@ from geesefuton.experiments.comparisons import Estimate
 from geesefuton.experiments.deals import SECRET, place_of, shared_secret, write_whole
 from geesefuton.experiments.entrants import Entrant
 from geesefuton.experiments.equilibria import NEAR, SymmetricGame, equilibria, find, gains
-from geesefuton.experiments.forms import columns, count_text, number_text, printed, shown
+from geesefuton.experiments.forms import columns, count_text, number_text, printed
 from geesefuton.experiments.joining import Source, read_source, twice
 from geesefuton.experiments.payoffs import FILES, Payoffs
 from geesefuton.experiments.plan import read_plan
@@ -22,7 +22,7 @@ from geesefuton.experiments.reduction import needed_profiles, text_of_profile
 from geesefuton.experiments.results import Row
 from geesefuton.experiments.runs import RunError, compare, is_being_written, is_run, read_record
 from geesefuton.experiments.tournament import play_in_folder
-from geesefuton.processes import tell, why
+from geesefuton.processes import shown, tell, why
 from geesefuton.records.games import SEATS
 
 PART = re.compile(r"part-([0-9]+)-of-([0-9]+)")

@@ -12,7 +12,7 @@ from functools import lru_cache
 from importlib import metadata
 from itertools import groupby
 from pathlib import Path
-from typing import Any, Dict, Iterable, Iterator, List, Mapping, Sequence, Tuple
+from typing import Any, Dict, Iterable, Iterator, List, Mapping, Optional, Sequence, Tuple
 from urllib.parse import quote
 
 from geesefuton.experiments.agent_host import imports_of
@@ -108,15 +108,21 @@ def agent_of(entrant: Entrant, patterns: Sequence[str] = (), also: Sequence[Path
                  dict(libraries))
 
 
-def _within(folder: Path) -> Iterator[Path]:
-    """The files of a folder, and of those below, that may be an agent's."""
+def _within(folder: Path, top: Optional[Path] = None) -> Iterator[Path]:
+    """The files of a folder, and of those below, that may be an agent's. A link to another place of
+    it is left out, since that place counts; one that leads out of it is refused, unread."""
+    top = top or folder.resolve()
     for file in sorted(folder.iterdir()):
         if file.name[0] == "." or file.name == "__pycache__":
+            continue
+        if file.is_symlink():
+            if top not in (file.resolve(), *file.resolve().parents):
+                raise EntrantError(f"the link {file} leads out of its folder: put a copy there")
             continue
         if file.is_file():
             yield file
         elif file.is_dir() and not any((file / name).exists() for name in NOT_OURS):
-            yield from _within(file)
+            yield from _within(file, top)
 
 
 @lru_cache(maxsize=1)

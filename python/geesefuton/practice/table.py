@@ -35,7 +35,7 @@ from geesefuton.hosting.teller import Teller
 from geesefuton.network.addresses import new_token
 from geesefuton.practice.door import Handed
 from geesefuton.practice.folder import Finished, Folder
-from geesefuton.processes import why, write_whole
+from geesefuton.processes import shown, why, write_whole
 from geesefuton.records.games import GameError, read_game
 
 
@@ -119,7 +119,7 @@ class HouseServer:
 def _last_line(file: Path) -> str:
     """The end of the last line that an agent printed."""
     text = file.read_bytes()[-2000:].decode("utf-8", "replace").strip()
-    return text.split("\n")[-1][:120]
+    return shown(text.split("\n")[-1][:120])
 
 
 @dataclass(eq=False)
