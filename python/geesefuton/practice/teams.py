@@ -30,8 +30,8 @@ class Team:
 
 
 def read_teams(file: Path, known: Mapping[str, str], most: int = SEATS) -> List[Team]:
-    """The teams of a CSV file of lines `name` or `name,word`, so many at most. A team without a
-    word keeps the one that is known by its key, or gets a new one.
+    """Reads at most `most` teams from a CSV file with lines `name` or `name,word`. A team without a
+    word keeps the word that `known` has for its key, or gets a new one.
 
     Raises:
         TeamsError: The file has no teams, too many, or a name or word that cannot be one.

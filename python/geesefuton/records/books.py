@@ -29,7 +29,7 @@ class _Book:
     """What stands in an auction."""
 
     def copied(self: Kept) -> Kept:
-        """The same, which goes on by itself."""
+        """A copy, which later changes of this book do not reach."""
         other = copy.copy(self)
         vars(other).update({name: copy.copy(value) for name, value in vars(self).items()})
         return other
