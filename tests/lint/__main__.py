@@ -14,6 +14,7 @@ import sys
 from pathlib import Path
 from typing import Callable, Dict, Iterator
 
+from calls import calls
 from documents import places
 from rooms import rooms
 from sources import clauses, long_clauses, rows
@@ -24,7 +25,7 @@ from geesefuton.arguments import Parser
 from geesefuton.processes import command
 
 CHECKS: Dict[str, Callable[[], Iterator[str]]] = {
-    each.__name__: each for each in (names, arguments, layers, clauses, rows, places, rooms)}
+    each.__name__: each for each in (names, arguments, layers, clauses, rows, calls, places, rooms)}
 
 
 def types() -> Iterator[str]:

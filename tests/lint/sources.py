@@ -1,6 +1,7 @@
 """Sources of the crates: short clauses, and rows that have their tests."""
 
 import re
+from pathlib import Path
 from typing import Iterator, List, Tuple
 
 from tree import CRATES, files, name_of, text_of
@@ -10,18 +11,38 @@ SHARE = 200  # one clause in so many may be longer
 BEGINNING = re.compile(r"^[ \t]*((?:requires|ensures)\*?\s*(?:\w+\s*)?\{)", re.MULTILINE)
 ROWS = CRATES / "rows.tsv"
 HEAD = ["row", "call", "test", "text"]
+GIVEN = re.compile(r"^pub use ([\w:]+)::(?:\{([^}]*)\}|(\w+));$", re.MULTILINE)
+
+
+def given_by(crate: Path) -> Iterator[Tuple[str, str]]:
+    """The public items and modules of the crate in a folder, each after the crate that has it."""
+    text = text_of(crate / "src" / "lib.rt")
+    for module in re.findall(r"^pub mod (\w+);$", text, re.MULTILINE):
+        yield crate.name, module
+    for source, several, one in GIVEN.findall(text):
+        first = source.split("::")[0]
+        is_own = (crate / "src" / f"{first}.rt").exists() or not (crate.parent / first).exists()
+        for item in (several or one).split(","):
+            if item.strip():
+                yield crate.name if is_own else first, item.split(" as ")[-1].strip()
+
+
+def after_brace(text: str, place: int) -> int:
+    """The place after the brace that closes the one before a place."""
+    depth = 1
+    for brace in re.compile("[{}]").finditer(text, place):
+        depth += 1 if brace[0] == "{" else -1
+        if not depth:
+            return brace.end()
+    raise LookupError(f"a brace is not closed: {text[place - 20:place]}")
 
 
 def clauses_in(text: str) -> Iterator[Tuple[int, str]]:
     """The clauses of a source, each with the number of its first line: from `requires` or `ensures`
     to the closing brace, with one space for each run of white space."""
     for beginning in BEGINNING.finditer(text):
-        depth, end = 1, beginning.end()
-        while depth:
-            depth += {"{": 1, "}": -1}.get(text[end], 0)
-            end += 1
-        yield (text.count("\n", 0, beginning.start(1)) + 1,
-               " ".join(text[beginning.start(1):end].split()))
+        clause = text[beginning.start(1):after_brace(text, beginning.end())]
+        yield text.count("\n", 0, beginning.start(1)) + 1, " ".join(clause.split())
 
 
 def long_clauses() -> Tuple[List[str], int]:

@@ -6,12 +6,12 @@ import re
 from pathlib import Path
 from typing import Callable, Dict, Iterable, Iterator, List, Set, Tuple
 
+from sources import given_by
 from tree import CRATES, NAMES_OF_CRATES, TOP, definitions, name_of, proofs, text_of
 
 from definitions import Definition, clauses_of
 
 MOST = 6  # arguments
-GIVEN = re.compile(r"^pub use ([\w:]+)::(?:\{([^}]*)\}|(\w+));$", re.M)
 OPENING, CLOSING = "({[", ")}]"
 BINDER = re.compile(r"([({])\s*([^\s:(){}→×]+(?:\s+[^\s:(){}→×]+)*)\s+:\s")
 SOUND = "log_text.specs.SoundLog"
@@ -41,10 +41,7 @@ def names_of_several() -> Iterator[str]:
 def public_items() -> Iterator[Tuple[str, str]]:
     """The crates and their public items, without what a crate gives again from another one."""
     for crate in sorted(NAMES_OF_CRATES):
-        for source, several, one in GIVEN.findall(text_of(CRATES / crate / "src" / "lib.rt")):
-            for item in (several or one).split(","):
-                if item.strip() and source.split("::")[0] not in NAMES_OF_CRATES:
-                    yield crate, item.split(" as ")[-1].strip()
+        yield from [(crate, item) for origin, item in given_by(CRATES / crate) if origin == crate]
 
 
 def names() -> Iterator[str]:
