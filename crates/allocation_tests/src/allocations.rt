@@ -20,7 +20,7 @@ const SAME_WISHES: &str = "client 0 3 5 100 200 200 200\nclient 1 3 5 100 200 20
     client 6 3 5 100 200 200 200\nclient 7 3 5 100 200 200 200\n";
 
 /// Holdings and clients, and the worth of the best allocation. An integer-program solver gives the totals of the last three.
-const ACCOUNTS: [(&str, &str, u32); 4] = [
+const ACCOUNTS: &[(&str, &str, u32)] = &[
     (ONE_SEAT, WRESTLING_FANS, 1150),
     (
         "5 4 1 1 3 4 2 5 1 5 5 3 4 4 5 3 2 1 1 2 2 2 1 0 2 1 0 2",
@@ -46,7 +46,7 @@ fn accounts_have_their_best_totals_and_print_them_first(rt: HostRuntime) -> Resu
         let solved = solve(alloc, &account(alloc, hold, clients)?)?;
         let text = print_solved(alloc, &solved)?;
         let first = format!(in alloc; "total {total}\npackage 0 ")?;
-        assert!(rt; solved.total == total && text.starts_with(first.as_bytes()));
+        assert!(rt; solved.total == *total && text.starts_with(first.as_bytes()));
     }
     Ok(())
 }

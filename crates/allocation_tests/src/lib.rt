@@ -6,8 +6,6 @@ mod accounts;
 #[cfg(test)]
 mod allocations;
 #[cfg(test)]
-mod certificates;
+mod bounds;
 #[cfg(test)]
-mod prices;
-#[cfg(test)]
-mod trips;
+mod splits;

@@ -134,7 +134,11 @@ fn have_posted(book: &CashBook, callers: u8, posts: u32, total: i64) -> bool {
 }
 
 #[test]
-fn callers_take_turns_at_the_cash_book(rt: HostRuntime) -> Result<(), Fail> {
+fn callers_post_at_once_and_take_turns_at_the_cash_book(rt: HostRuntime) -> Result<(), Fail> {
+    let two = posted(&rt, rt.alloc(), &[1000, 1000])?;
+    assert!(rt; have_posted(&two, 2, 1000, 2000));
+    let nine = posted(&rt, rt.alloc(), &[100; 9])?;
+    assert!(rt; have_posted(&nine, 9, 100, 900));
     let (zero, one) = (Agent::new(0)?, Agent::new(1)?);
     let (mut lock, mut first, mut second) = begin_two(rt.alloc(), 2, 1)?;
     let call = CashCall::Post {
@@ -156,14 +160,5 @@ fn callers_take_turns_at_the_cash_book(rt: HostRuntime) -> Result<(), Fail> {
     lock.take_back(second);
     let book = lock.close();
     assert!(rt; book.total(Party::house()) == 300 && book.entry(3).is_none());
-    Ok(())
-}
-
-#[test]
-fn callers_post_at_once(rt: HostRuntime) -> Result<(), Fail> {
-    let two = posted(&rt, rt.alloc(), &[1000, 1000])?;
-    assert!(rt; have_posted(&two, 2, 1000, 2000));
-    let nine = posted(&rt, rt.alloc(), &[100; 9])?;
-    assert!(rt; have_posted(&nine, 9, 100, 900));
     Ok(())
 }

@@ -8,16 +8,6 @@ use flight_auction::{Flight, next_price};
 use std::test::Fail;
 use tac_base::{Agent, Fills, Good, Kind, OutOfRange, Reply, Tick};
 
-#[test]
-fn prices_move_within_their_bounds(rt: HostRuntime) -> Result<(), Fail> {
-    let (first, middle, later) = (Tick::new(1)?, Tick::new(27)?, Tick::new(28)?);
-    assert!(rt; next_price(300, 30, middle, 30) == 320);
-    assert!(rt; next_price(300, -10, later, 0) == 299);
-    assert!(rt; next_price(795, 30, middle, 30) == 800);
-    assert!(rt; next_price(151, 10, first, 0) == 150);
-    Ok(())
-}
-
 fn inbound_flight() -> Result<Good, OutOfRange>
     ensures { IfOk result (λ good. kind_of good ≡ Kind.Flight) }
 {
@@ -31,7 +21,7 @@ fn are_two_sold(fills: &Fills) -> bool {
 }
 
 #[test]
-fn price_falls_to_a_bid_at_the_tenth_tick(rt: HostRuntime) -> Result<(), Fail> {
+fn prices_fall_to_a_bid_and_move_within_their_bounds(rt: HostRuntime) -> Result<(), Fail> {
     let mut fills = Fills::new();
     let mut flight = Flight::new(inbound_flight()?, 250, 10);
     let reply = flight.bid(0, Agent::new(0)?, &read_points(b"((2 150))")?, &mut fills);
@@ -43,5 +33,10 @@ fn price_falls_to_a_bid_at_the_tenth_tick(rt: HostRuntime) -> Result<(), Fail> {
     }
     assert!(rt; are_two_sold(&fills));
     assert!(rt; flight.board(11).ask == 150);
+    let (first, middle, later) = (Tick::new(1)?, Tick::new(27)?, Tick::new(28)?);
+    assert!(rt; next_price(300, 30, middle, 30) == 320);
+    assert!(rt; next_price(300, -10, later, 0) == 299);
+    assert!(rt; next_price(795, 30, middle, 30) == 800);
+    assert!(rt; next_price(151, 10, first, 0) == 150);
     Ok(())
 }

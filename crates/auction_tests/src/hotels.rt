@@ -112,15 +112,6 @@ fn is_played(mut hotel: Hotel, night: &(&[Step], &[Sale])) -> Result<bool, Fail>
     Ok(are_sold(&fills, sales))
 }
 
-#[test]
-fn nights_are_sold_as_the_rules_say(rt: HostRuntime) -> Result<(), Fail> {
-    for night in NIGHTS {
-        assert!(rt; is_played(Hotel::new(hotel_night()?, 16, false), night)?);
-    }
-    assert!(rt; is_played(Hotel::new(hotel_night()?, 64, false), &LARGE_NIGHT)?);
-    Ok(())
-}
-
 /// Whether agent 1's three units come first of sixteen.
 fn are_ranked(units: &[Unit]) -> bool {
     units.len() == 16
@@ -133,7 +124,11 @@ fn are_ranked(units: &[Unit]) -> bool {
 }
 
 #[test]
-fn units_stand_in_order_until_the_closing(rt: HostRuntime) -> Result<(), Fail> {
+fn nights_are_sold_and_units_stand_in_order_until_then(rt: HostRuntime) -> Result<(), Fail> {
+    for night in NIGHTS {
+        assert!(rt; is_played(Hotel::new(hotel_night()?, 16, false), night)?);
+    }
+    assert!(rt; is_played(Hotel::new(hotel_night()?, 64, false), &LARGE_NIGHT)?);
     let (zero, one) = (Agent::new(0)?, Agent::new(1)?);
     let mut fills = Fills::new();
     let mut hotel = Hotel::new(hotel_night()?, 16, false);

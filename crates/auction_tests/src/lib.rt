@@ -2,18 +2,14 @@
 #![tactic(auto)]
 
 #[cfg(test)]
-mod auctions;
-#[cfg(test)]
-mod bids;
-#[cfg(test)]
 mod cash;
 #[cfg(test)]
 mod flights;
 #[cfg(test)]
 mod hotels;
 #[cfg(test)]
-mod made_games;
-#[cfg(test)]
 mod replies;
+#[cfg(test)]
+mod texts;
 #[cfg(test)]
 mod tickets;

@@ -1,12 +1,18 @@
-// Ticket auctions.
+// Ticket auctions, and the history of one.
 ghost use Rattle.std.specs.Prelude.{◌≡◌, IfOk};
 ghost use Rattle.tac_base.specs.Kinds.{kind_of};
 
 use crate::replies::is_told;
+use auction_core::{Auction, Struck};
 use bid_strings::read_points;
+use game_text::Game;
+use std::process::Abort;
 use std::test::Fail;
-use tac_base::{Agent, Fills, Good, Kind, OutOfRange, Point, Reply};
+use tac_base::{
+    Agent, BidFault, Call, Caller, Fills, Good, Kind, OutOfRange, Party, Point, Points, Reply,
+};
 use ticket_book::Tickets;
+use turn_lock::Kept;
 
 /// An agent with the points of its bid or `withdraw`, and the line of the reply.
 type Step = (u8, &'static [u8], &'static [u8]);
@@ -100,10 +106,42 @@ fn is_played(mut tickets: Tickets, row: &Row) -> Result<bool, Fail> {
     )
 }
 
+fn points(units: i8, price: u16) -> Result<Points, BidFault> {
+    Points::new(&[Point { units, price }])
+}
+
+/// A caller's bid, in a short history.
+#[tactic(auto, using(auction_core::proofs::Counting::room_below))]
+fn bid(rt: &impl Abort, auction: &mut Auction, caller: Caller, points: Points) -> Struck {
+    let count = auction.len();
+    assert!(rt; count < 64);
+    auction.act(caller, &Call::Bid(points))
+}
+
+/// Whether it shows its two entries, the trade of the second, and what that left.
+fn is_shown(museum: &Auction) -> bool {
+    museum.len() == 2
+        && matches!(museum.trades_of(1), [trade] if trade.price == 60 && trade.good.get() == museum.good().get())
+        && museum.entry(1).is_some()
+        && museum.entry(2).is_none()
+        && museum.holding(Party::default()) == -1
+        && museum.board().bid == 70
+}
+
 #[test]
-fn units_are_matched_as_the_rules_say(rt: HostRuntime) -> Result<(), Fail> {
+fn units_are_matched_and_their_history_is_shown(rt: HostRuntime) -> Result<(), Fail> {
     for row in ROWS {
         assert!(rt; is_played(Tickets::new(museum_night()?), row)?);
     }
+    // Agent 0 sells a ticket that it does not have to agent 1, who would buy one more.
+    let (seller, buyer) = (Caller::new(0)?, Caller::new(1)?);
+    let (sale, purchase) = (points(-1, 60)?, points(2, 70)?);
+    let mut museum = Auction::begin(rt.alloc(), Good::new(24)?, &Game::default())?;
+    let struck = bid(&rt, &mut museum, seller, sale);
+    assert!(rt; matches!(struck.reply, Reply::Taken { bought: 0, sold: 0 }));
+    let struck = bid(&rt, &mut museum, buyer, purchase);
+    assert!(rt; matches!(struck.reply, Reply::Taken { bought: 1, sold: 0 }));
+    assert!(rt; struck.trades == 1 && struck.nets.dollars == [60, -60, 0, 0, 0, 0, 0, 0, 0]);
+    assert!(rt; is_shown(&museum));
     Ok(())
 }

@@ -38,20 +38,6 @@ impl Look for FlightLook<'_> {
     }
 }
 
-#[test]
-fn clock_waits_tick_by_tick(rt: HostRuntime) -> Result<(), Fail> {
-    let game = Game::default();
-    let (floor, agent, clock) = begin_two(rt.alloc(), &game)?;
-    let mut ticker = LookingTicker::new(FlightLook {
-        floor: &floor,
-        desk: agent,
-    });
-    let end = run_clock(&rt, &floor, clock, &game, &mut ticker);
-    assert!(rt; end.missed == 0);
-    assert!(rt; ticker.faults() == 0);
-    Ok(())
-}
-
 /// A tick and the number of a call, from 0; the good and the word of the call, `none` past the last.
 const DUE: &[(u8, u8, u8, &str)] = &[
     (1, 0, 0, "update"),
@@ -86,10 +72,20 @@ fn is_due(game: &Game, tick: Tick, n: u8, good: u8, word: &str) -> bool {
 }
 
 #[test]
-fn calls_of_a_tick_are_those_of_the_schedule(rt: HostRuntime) -> Result<(), Fail> {
+fn clock_waits_tick_by_tick_and_makes_the_calls_of_the_schedule(
+    rt: HostRuntime,
+) -> Result<(), Fail> {
     let game = Game::default();
     for (tick, n, good, word) in DUE {
         assert!(rt; is_due(&game, Tick::new(*tick)?, *n, *good, word));
     }
+    let (floor, agent, clock) = begin_two(rt.alloc(), &game)?;
+    let mut ticker = LookingTicker::new(FlightLook {
+        floor: &floor,
+        desk: agent,
+    });
+    let end = run_clock(&rt, &floor, clock, &game, &mut ticker);
+    assert!(rt; end.missed == 0);
+    assert!(rt; ticker.faults() == 0);
     Ok(())
 }

@@ -58,15 +58,6 @@ fn call_often<R: Wait + Clock>(
     answered
 }
 
-#[test]
-fn calls_are_spent_after_1024(rt: HostRuntime) -> Result<(), Fail> {
-    let museum = Good::new(24)?;
-    let (floor, mut desk, _second, _third) = begin_three(rt.alloc(), &Game::default())?;
-    assert!(rt; call_often(&rt, &floor, &mut desk, museum, 1024) == 1024);
-    assert!(rt; matches!(desk.own(&rt, &floor, museum), Outcome::Spent));
-    Ok(())
-}
-
 /// The desk bids the same 500 times.
 fn bid_often<R: Wait + Clock>(
     rt: &R,
@@ -139,15 +130,19 @@ fn gained(auction: &Auction, party: Party) -> i64 {
 }
 
 #[test]
-fn two_desks_bid_at_once(rt: HostRuntime) -> Result<(), Fail> {
+fn two_desks_bid_at_once_and_calls_are_spent_after_1024(rt: HostRuntime) -> Result<(), Fail> {
     let (sells, buys) = (read_points(b"((-1 60))")?, read_points(b"((1 70))")?);
     let (seller, buyer) = (Party::default(), Party::new(1)?);
-    let closed = bid_at_once(&rt, rt.alloc(), Good::new(24)?, &sells, &buys)?;
+    let museum = Good::new(24)?;
+    let closed = bid_at_once(&rt, rt.alloc(), museum, &sells, &buys)?;
     let Some(auction) = closed.auctions.get(24) else {
         return Err("there are 28 auctions".into());
     };
     assert!(rt; auction.len() == 1000 && gained(auction, seller) >= 60);
     assert!(rt; closed.cash.total(seller) == gained(auction, seller));
     assert!(rt; closed.cash.total(buyer) == gained(auction, buyer));
+    let (floor, mut desk, _second, _third) = begin_three(rt.alloc(), &Game::default())?;
+    assert!(rt; call_often(&rt, &floor, &mut desk, museum, 1024) == 1024);
+    assert!(rt; matches!(desk.own(&rt, &floor, museum), Outcome::Spent));
     Ok(())
 }

@@ -10,8 +10,6 @@ mod floors;
 #[cfg(test)]
 mod outside;
 #[cfg(test)]
-mod requests;
-#[cfg(test)]
 mod served_games;
 #[cfg(test)]
 mod sessions;

@@ -26,17 +26,6 @@ fn long_file(alloc: Global) -> Result<MemFiles, AllocError>
     MemFiles::new(alloc, files, 999, Vec::new(alloc))
 }
 
-// Each call that allocates memory has enough.
-#[test]
-fn memory_suffices_for_a_file_and_a_ticker(rt: HostRuntime) -> Result<(), Fail> {
-    let alloc = rt.alloc();
-    let mut files = long_file(alloc)?;
-    let bytes = read_file(alloc, &mut files, "long", 200_000)?;
-    assert!(rt; bytes.len() == 200_000);
-    assert!(rt; MemTicker::new(alloc, Vec::new(alloc)).is_ok());
-    Ok(())
-}
-
 // Each even tick is due at a pace of 100 milliseconds.
 #[derive(Drop)]
 struct EvenLook;
@@ -45,18 +34,6 @@ impl Look for EvenLook {
     fn is_due(&mut self, pace: Option<u16>, tick: Tick) -> bool {
         pace == Some(100) && tick.get() % 2 == 0
     }
-}
-
-#[test]
-fn a_looking_ticker_lapses_where_no_tick_is_due(rt: HostRuntime) -> Result<(), Fail> {
-    let (second, third) = (Tick::new(2)?, Tick::new(3)?);
-    let mut ticker = LookingTicker::new(EvenLook);
-    assert!(rt; ticker.wait(&rt, second).is_err());
-    ticker.pace(100);
-    assert!(rt; ticker.wait(&rt, second).is_ok());
-    assert!(rt; ticker.wait(&rt, third).is_err());
-    assert!(rt; ticker.faults() == 2);
-    Ok(())
 }
 
 // A link of two lines. The second arrives once another link was sent the ten lines of a welcome and a reply.
@@ -90,16 +67,30 @@ const SECOND_READS: &[(u64, u32, LineGot)] = &[
     (11, 1, LineGot::Line),
 ];
 
-// It looks for the other link's eleventh line. The three links share a count, and each is sent two whole lines at once.
 #[test]
-fn a_held_read_fails_at_the_end_of_its_turns(rt: HostRuntime) -> Result<(), Fail> {
-    let sent = Arc::new(rt.alloc(), AtomicU64::new(0))?;
+fn held_reads_and_tickers_look_and_memory_suffices(rt: HostRuntime) -> Result<(), Fail> {
+    let alloc = rt.alloc();
+    // A held read looks for the other link's eleventh line. The three links share a count, and each is sent two whole lines at once.
+    let sent = Arc::new(alloc, AtomicU64::new(0))?;
     for (other, turns, got) in SECOND_READS {
-        let link = held(rt.alloc(), &sent, *other)?;
+        let link = held(alloc, &sent, *other)?;
         let mut lines = Lines::new(link.giving_up_after(*turns));
         assert!(rt; next_two(&mut lines) == Some(*got));
         assert!(rt; lines.send(b"\nok\nbye").is_ok());
     }
     assert!(rt; sent.load(Ordering::SeqCst) == 6);
+    // A ticker that looks lapses where no tick is due.
+    let (second, third) = (Tick::new(2)?, Tick::new(3)?);
+    let mut ticker = LookingTicker::new(EvenLook);
+    assert!(rt; ticker.wait(&rt, second).is_err());
+    ticker.pace(100);
+    assert!(rt; ticker.wait(&rt, second).is_ok());
+    assert!(rt; ticker.wait(&rt, third).is_err());
+    assert!(rt; ticker.faults() == 2);
+    // Each call that allocates memory has enough for a file and a ticker.
+    let mut files = long_file(alloc)?;
+    let bytes = read_file(alloc, &mut files, "long", 200_000)?;
+    assert!(rt; bytes.len() == 200_000);
+    assert!(rt; MemTicker::new(alloc, Vec::new(alloc)).is_ok());
     Ok(())
 }

@@ -1,13 +1,39 @@
-// Sessions of agent 0 in the quiet game.
+// Request lines, and sessions of agent 0 in the quiet game that answer them.
 use crate::desks::begin_three;
 use agent_gate::{LineDialect, SessionEnd, run_session};
 use game_text::Game;
-use line_protocol::Cause;
+use line_protocol::{Cause, Request, RequestFault, read_request};
 use std::alloc::Global;
 use std::sync::Wait;
 use std::test::Fail;
 use std::time::Clock;
+use tac_base::{BidFault, Point, Points};
 use tac_io::{Lines, MemLink};
+
+/// Lines that are no requests, with their faults.
+const REFUSED: &[(&[u8], RequestFault)] = &[
+    (b"bid 28 ((1 1))", RequestFault::NoSuchAuction),
+    (b"own 99999", RequestFault::NoSuchAuction),
+    (b"bid 5", RequestFault::Syntax),
+    (b"own 05", RequestFault::Syntax),
+    (b"quit ", RequestFault::Syntax),
+    (b"buy 0", RequestFault::Syntax),
+    (b"bid 5 ", RequestFault::Bid(BidFault::Syntax)),
+];
+
+/// Whether these points are one point.
+fn is_one(points: &Points, point: Point) -> bool {
+    points.as_slice() == [point].as_slice()
+}
+
+/// Whether the line is a bid of one point for good 24.
+fn is_one_bid(line: &[u8], point: Point) -> bool {
+    let asked = read_request(line);
+    match &asked {
+        Ok(Request::Bid { good, points }) => good.get() == 24 && is_one(points, point),
+        _ => false,
+    }
+}
 
 const WELCOME: &[u8] = b"welcome 0\nendow 0 0 0 0 0 0 0 0 0 0 0 0 0\n\
     client 0 0 1 2 100 0 0 100\nclient 0 1 1 2 100 0 0 100\nclient 0 2 1 2 100 0 0 100\n\
@@ -51,7 +77,15 @@ fn was_sent(sent: &[u8], text: &[u8]) -> bool {
 }
 
 #[test]
-fn sessions_answer_each_line(rt: HostRuntime) -> Result<(), Fail> {
+fn requests_are_read_and_sessions_answer_each_line(rt: HostRuntime) -> Result<(), Fail> {
+    let point = Point {
+        units: 2,
+        price: 70,
+    };
+    assert!(rt; is_one_bid(b"bid 24 ((2 70))", point));
+    for (line, fault) in REFUSED {
+        assert!(rt; read_request(line).err() == Some(*fault));
+    }
     for (letters, given, told, cause, lines) in ROWS {
         let end = served(&rt, rt.alloc(), *letters, given)?;
         assert!(rt; was_sent(end.link.sent(), told));

@@ -158,14 +158,6 @@ const COMMANDS: &[Case<'static>] = &[
 const NOTHING_HELD: &str =
     "account\nhold 0 0 0 0 0 0 0 0 0 0 0 0 0 0 0 0 0 0 0 0 0 0 0 0 0 0 0 0\nclient 0 1 2 50 100 0 0\nclient 1 1 2 50 150 0 0\nclient 2 1 2 50 0 0 0\nclient 3 1 2 50 0 0 0\nclient 4 1 2 50 0 0 0\nclient 5 1 2 50 0 0 0\nclient 6 1 2 50 0 0 0\nclient 7 1 2 50 0 0 0\nend\n";
 
-#[test]
-fn commands_write_what_is_due(rt: HostRuntime) {
-    for line in NO_COMMANDS.split(';') {
-        check_script(&rt, line, "", 1, &["usage\n"]);
-    }
-    check_all(&rt, COMMANDS);
-}
-
 // A line that writes a game, the number of its lines, and how a line begins, counted from 0.
 const GAME_LINES: &[(&str, usize, usize, &str)] = &[
     ("make 42", 84, 0, "tac 1"),
@@ -247,7 +239,11 @@ fn check_changed<R: Threads + Sync + Wait + Clock + Abort + AllocGlobal>(
 }
 
 #[test]
-fn games_are_written_again_or_refused(rt: HostRuntime) {
+fn commands_write_what_is_due(rt: HostRuntime) {
+    for line in NO_COMMANDS.split(';') {
+        check_script(&rt, line, "", 1, &["usage\n"]);
+    }
+    check_all(&rt, COMMANDS);
     let (game, live) = (plain_game(&rt), live_game(&rt));
     check_written(&rt, &[("game", game.as_slice()), ("live", live.as_bytes())]);
     check_changed(&rt, text_of(&rt, &game), live.as_str());

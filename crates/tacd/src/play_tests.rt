@@ -120,11 +120,6 @@ const TRADES_TOLD: &[&str] = &[
     "\nscore 7 0 0 0 0\n",
 ];
 
-#[test]
-fn games_are_made_played_and_scored(rt: HostRuntime) {
-    check_all(&rt, GAMES);
-}
-
 // A line, lines of its script and how often they occur, the last line, and the code and the text that are due.
 const LONG: &[(&str, &str, usize, &str, u8, &[&str])] = &[
     // An agent has 1024 calls at an auction, and the clock 64.
@@ -185,7 +180,8 @@ const LONG: &[(&str, &str, usize, &str, u8, &[&str])] = &[
 ];
 
 #[test]
-fn long_scripts_and_large_scores_are_played(rt: HostRuntime) {
+fn scripts_are_played_and_scored(rt: HostRuntime) {
+    check_all(&rt, GAMES);
     for (line, lines, count, last, code, parts) in LONG {
         let mut script = lines.repeat(rt.alloc(), *count).expect(&rt, "memory");
         script.push_str(last).expect(&rt, "memory");

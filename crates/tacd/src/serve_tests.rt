@@ -180,19 +180,6 @@ const LAPSES: &[(u8, u8, &str)] = &[
     (1, 55, "\nmissed 54\nauction 0 54\n"),
 ];
 
-#[test]
-fn the_calls_of_lapsed_ticks_are_made(rt: HostRuntime) {
-    let sent = counter(&rt);
-    for (first, end, told) in LAPSES {
-        let (answer, out) = serve_four(&rt, &sent, *first, *end);
-        assert!(rt;
-            answer.code == 6 && has_parts(out.bytes(), &[FOUR_HEADS, told]),
-            "{told}"
-        );
-        assert!(rt; count_clock(out.bytes()) == 480 && out.bytes().ends_with(b"\nend\n"));
-    }
-}
-
 // The number of the clock's entries in the log.
 fn count_clock(text: &[u8]) -> usize {
     str::from_utf8(text).map_or(0, |text| text.matches("\n8 ").count())
@@ -283,14 +270,6 @@ fn check_many<R: Threads + Sync + Wait + Clock + Abort + AllocGlobal>(rt: &R) {
     assert!(rt; answer.code == 0 && out.bytes().starts_with(many_heads(rt).as_bytes()));
     assert!(rt; count_clock(out.bytes()) == 480);
     check_sent(rt, &answer, &[(8, "refused syntax\n"); 64]);
-}
-
-#[test]
-fn long_lines_and_many_links_are_answered(rt: HostRuntime) {
-    for (count, rest, most, told, cause) in SESSIONS {
-        check_long(&rt, *count, rest, *most, told, cause);
-    }
-    check_many(&rt);
 }
 
 // What a link sends whose calls fail, one after another, and what it is sent if none does.
@@ -384,7 +363,11 @@ fn check_faulty<R: Threads + Sync + Wait + Clock + Abort + AllocGlobal>(rt: &R) 
 }
 
 #[test]
-fn a_link_that_fails_ends_its_session(rt: HostRuntime) {
+fn links_are_answered_until_they_fail_and_calls_of_lapsed_ticks_are_made(rt: HostRuntime) {
+    for (count, rest, most, told, cause) in SESSIONS {
+        check_long(&rt, *count, rest, *most, told, cause);
+    }
+    check_many(&rt);
     for (read, write, least, cause) in FAILING {
         assert!(rt;
             count_failed(&rt, *read, *write, cause) >= *least,
@@ -392,6 +375,15 @@ fn a_link_that_fails_ends_its_session(rt: HostRuntime) {
         );
     }
     check_faulty(&rt);
+    let sent = counter(&rt);
+    for (first, end, told) in LAPSES {
+        let (answer, out) = serve_four(&rt, &sent, *first, *end);
+        assert!(rt;
+            answer.code == 6 && has_parts(out.bytes(), &[FOUR_HEADS, told]),
+            "{told}"
+        );
+        assert!(rt; count_clock(out.bytes()) == 480 && out.bytes().ends_with(b"\nend\n"));
+    }
 }
 
 // Prints how a run ended if a word of one byte follows the test's name, as in tests/program/refused_memory.py: its code, and how many lines

@@ -50,7 +50,7 @@ fn met<R: Net<Listener = TcpListener, Stream = TcpStream> + Env + Abort>(
 }
 
 #[test]
-fn links_come_over_the_loopback(rt: HostRuntime) {
+fn links_come_over_the_loopback_and_a_reset_is_a_fault(rt: HostRuntime) {
     let (mut client, mut link) = met(&rt, 28471);
     let mut into = [0u8; 16];
     client.write_all(b"hello\n").expect(&rt, "sent");
@@ -61,10 +61,6 @@ fn links_come_over_the_loopback(rt: HostRuntime) {
     drop(client);
     assert!(rt; link.read(&mut into) == Ok(0));
     assert!(rt; link.faults() == 0 && link.write_faults() == 0);
-}
-
-#[test]
-fn a_reset_is_a_fault_and_not_an_end(rt: HostRuntime) {
     let (mut client, mut link) = met(&rt, 28472);
     let mut into = [0u8; 2];
     assert!(rt; link.write(b"xyz\n") == Ok(4));

@@ -1,7 +1,5 @@
-// Prices of whole accounts.
-use crate::accounts::{ONE_SEAT, WRESTLING_FANS, account};
-use dual_bound::{Choice, dual_prices};
-use packages::{Package, leaf_bound};
+// Splits that the rules choose in a relaxation.
+use crate::accounts::{WRESTLING_FANS, account};
 use relaxation::{Relaxation, Split, SplitRule};
 use std::test::Fail;
 
@@ -10,41 +8,6 @@ const HALVES: &str =
     "client 0 3 4 144 200 0 200\nclient 1 3 5 103 0 0 200\nclient 2 2 3 103 0 0 0\n\
     client 3 1 4 102 200 0 200\nclient 4 1 3 85 200 200 200\nclient 5 1 5 62 137 74 172\n\
     client 6 4 5 141 177 46 0\nclient 7 2 5 105 200 200 200\n";
-
-#[test]
-fn dual_prices_bound_what_is_left_by_its_best_total(rt: HostRuntime) -> Result<(), Fail> {
-    let account = account(rt.alloc(), ONE_SEAT, WRESTLING_FANS)?;
-    let all = Choice::none();
-    // Client 1 stays at home, so that client 0 takes the seat and the ticket.
-    let home = all.with(1, 0, 0);
-    assert!(rt; home.fixed[1][0] == Some(0) && home.fixed[0][0].is_none());
-    let prices = dual_prices(&account, &all);
-    assert!(rt; leaf_bound(&account, &all, &prices) == Some(1150));
-    let prices = dual_prices(&account, &home);
-    assert!(rt; leaf_bound(&account, &home, &prices) == Some(1100));
-    Ok(())
-}
-
-#[test]
-fn relaxation_gives_whole_packages_and_prices(rt: HostRuntime) -> Result<(), Fail> {
-    let account = account(rt.alloc(), ONE_SEAT, WRESTLING_FANS)?;
-    let mut relaxation = Relaxation::new(&account);
-    relaxation.repair(0);
-    let mut due = [Package::None; 8];
-    due[1] = Package::Trip {
-        hotel: 0,
-        arrive: 1,
-        depart: 2,
-        nights: [1, 0, 0],
-    };
-    assert!(rt; relaxation.packages() == due);
-    assert!(rt; relaxation.packages_if_worth_more(1149) == Some(due));
-    assert!(rt; relaxation.packages_if_worth_more(1150).is_none());
-    assert!(rt; relaxation.prices_if_worth_no_more(1149).is_none());
-    assert!(rt; relaxation.prices_if_worth_no_more(1150).is_some());
-    assert!(rt; !relaxation.decide(0));
-    Ok(())
-}
 
 #[test]
 fn split_is_the_one_that_the_rule_says(rt: HostRuntime) -> Result<(), Fail> {

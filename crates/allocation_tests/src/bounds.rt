@@ -1,8 +1,14 @@
-// Certificates, as texts and as bounds.
+// The worth of a trip, and bounds of whole accounts: certificates, as texts and as bounds, and prices.
+ghost use Rattle.packages.specs.Packages.{IsPackage};
+
 use crate::accounts::{ONE_SEAT, WRESTLING_FANS, account};
 use bound_cert::{CertFault, check, print_cert, read_cert};
+use dual_bound::{Choice, dual_prices};
+use packages::{Package, leaf_bound, utility};
+use relaxation::Relaxation;
 use std::alloc::{AllocError, Global};
 use std::test::Fail;
+use tac_base::Client;
 
 const ONE_SEAT_LEAF: &[u8] =
     b"leaf 1000 1750 1750 1750 0 1750 1750 1750 0 1750 1750 1750 1750 1750 1750 1750 150 1750 1750 1750 1750 1750 1750 1750 1750 1750 1750 1750\n";
@@ -54,8 +60,22 @@ fn is_bound(alloc: Global, hold: &str, claim: u32, text: &[u8]) -> Result<bool, 
     Ok(check(&account, claim, &cert) && printed.as_slice() == text)
 }
 
+/// From day 2 to day 3 in Tampa Towers, with the museum on night 2.
+fn museum_trip() -> Package
+    ensures { IsPackage result }
+{
+    Package::Trip {
+        hotel: 1,
+        arrive: 2,
+        depart: 3,
+        nights: [0, 0, 2],
+    }
+}
+
 #[test]
-fn certificates_bound_their_claims_and_are_printed_as_read(rt: HostRuntime) -> Result<(), Fail> {
+fn certificates_and_prices_bound_accounts_and_a_trip_is_worth_1200(
+    rt: HostRuntime,
+) -> Result<(), Fail> {
     let alloc = rt.alloc();
     for (hold, text, claim, holds) in CLAIMS {
         assert!(rt; is_bound(alloc, hold, *claim, text)? == *holds);
@@ -69,5 +89,36 @@ fn certificates_bound_their_claims_and_are_printed_as_read(rt: HostRuntime) -> R
         };
         assert!(rt; read_cert(alloc, &tree(alloc, *splits, text, 1)?).err() == Some(fault));
     }
+    let client = Client {
+        arrive: 1,
+        depart: 3,
+        premium: 100,
+        values: [0, 0, 200],
+    };
+    assert!(rt; utility(&client, &museum_trip()) == 1200);
+    let account = account(alloc, ONE_SEAT, WRESTLING_FANS)?;
+    let all = Choice::none();
+    // Client 1 stays at home, so that client 0 takes the seat and the ticket.
+    let home = all.with(1, 0, 0);
+    assert!(rt; home.fixed[1][0] == Some(0) && home.fixed[0][0].is_none());
+    let prices = dual_prices(&account, &all);
+    assert!(rt; leaf_bound(&account, &all, &prices) == Some(1150));
+    let prices = dual_prices(&account, &home);
+    assert!(rt; leaf_bound(&account, &home, &prices) == Some(1100));
+    let mut relaxation = Relaxation::new(&account);
+    relaxation.repair(0);
+    let mut due = [Package::None; 8];
+    due[1] = Package::Trip {
+        hotel: 0,
+        arrive: 1,
+        depart: 2,
+        nights: [1, 0, 0],
+    };
+    assert!(rt; relaxation.packages() == due);
+    assert!(rt; relaxation.packages_if_worth_more(1149) == Some(due));
+    assert!(rt; relaxation.packages_if_worth_more(1150).is_none());
+    assert!(rt; relaxation.prices_if_worth_no_more(1149).is_none());
+    assert!(rt; relaxation.prices_if_worth_no_more(1150).is_some());
+    assert!(rt; !relaxation.decide(0));
     Ok(())
 }
