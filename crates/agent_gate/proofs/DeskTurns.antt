@@ -4,7 +4,7 @@ use Rattle.std.proofs.lemmas.List.{get_or-replicate}
 use Rattle.std.proofs.lemmas.List.Elements.{filter_map-append}
 use Rattle.std.proofs.lemmas.List.FromFn.{fill_by_all}
 use Rattle.std.proofs.lemmas.Grind.{flat_map-append}
-use Rattle.agent_gate.specs.{Entry, Desk, IsSameDesk, desk_caller, desk_entries, entries_at, desk_cash, boards_at, seen_at, count_readings, Turn, Called, CallDenied, CashRead, CashDenied, Quoted, Refused, Skipped, Left, made_at, entry_made, cash_by, cash_made, boards_shown, shown_by, is_reading, IsNotBehind, IsLawfulTurn, IsDueTurn, IsMade, AreMadeBy}
+use Rattle.agent_gate.specs.{Entry, Desk, IsSameDesk, desk_caller, desk_entries, entries_at, desk_cash, boards_at, seen_at, count_readings, Turn, Called, CallDenied, CashRead, CashDenied, Quoted, Refused, Skipped, Quit, made_at, entry_made, cash_by, cash_made, boards_shown, shown_by, is_reading, IsNotBehind, IsLawfulTurn, IsDueTurn, IsMade, AreMadeBy}
 use Rattle.agent_gate.proofs.LawfulTurns.{goes_on_more, goes_on_with, readings_made}
 
 -- the desk has what the turns left besides what it had, and has seen as much as they were answered
@@ -42,7 +42,7 @@ module _ (turns : List Turn) (turn : Turn) where
       by_turn (Quoted good board) d = (d.0, goes_on_more good (seen_at mid good) board.count turns (has.seen good d.0) d.1)
       by_turn (Refused fault) d = tt
       by_turn Skipped d = tt
-      by_turn Left d = tt
+      by_turn Quit d = tt
 
   pub made_more : (before mid after : Desk) → HasMade turns before mid → IsMade turn mid after → IsSameDesk mid after → HasMade (turns ++ turn ∷ []) before after
   made_more before mid after has made same = record {

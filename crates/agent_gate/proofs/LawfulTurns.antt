@@ -7,7 +7,7 @@ use Rattle.std.proofs.lemmas.List.Elements.{All-append}
 use Rattle.std.proofs.lemmas.List.Folds.{list_any-append}
 use Rattle.std.proofs.lemmas.List.Sums.{sum_by-append}
 use Rattle.tac_base.specs.declared.calls.Trade.{Trade}
-use Rattle.agent_gate.specs.{CashEntry, post_for, is_post, count_readings, Turn, Called, CallDenied, CashRead, CashDenied, Quoted, Refused, Skipped, Left, cash_by, cash_made, is_reading, is_leaving, has_left, shown_length, IsNotBehind, IsLawfulTurn, AreLawful}
+use Rattle.agent_gate.specs.{CashEntry, post_for, is_post, count_readings, Turn, Called, CallDenied, CashRead, CashDenied, Quoted, Refused, Skipped, Quit, cash_by, cash_made, is_reading, is_leaving, has_left, shown_length, IsNotBehind, IsLawfulTurn, AreLawful}
 
 module _ {A : Type 0} where
   -- the element at a place of a list with one more is one of the list at that place, or the last
@@ -71,7 +71,7 @@ readings_by agent CashDenied = refl
 readings_by agent (Quoted good board) = refl
 readings_by agent (Refused fault) = refl
 readings_by agent Skipped = refl
-readings_by agent Left = refl
+readings_by agent Quit = refl
 
 -- the desk's readings are those of the turns
 pub readings_made : (agent : ℕ) (turns : List Turn) → count_readings (cash_made agent turns) ≡ count_by is_reading turns

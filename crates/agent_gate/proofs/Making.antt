@@ -2,7 +2,7 @@
 use Rattle.std.proofs.Common.{◌≡◌, ℕ, ◌+◌, ◌<◌, ◌≤◌, ◌≢◌, List, [], ◌∷◌, ◌++◌, length, get_or, set, Bool, cond, eqb, Some, Ok, Err, refl, sym, ap, ◌∙◌, arith, inl, inr, append-nil, get_or-set_same, get_or-set_other}
 use Rattle.std.proofs.lemmas.List.{length-map}
 use Rattle.std.proofs.lemmas.Bool.Decides.{eqb_tells}
-use Rattle.agent_gate.specs.{Call, Board, Request, RequestFault, Said, Desk, Outcome, CashOutcome, IsOutcome, IsCashOutcome, IsSeen, desk_caller, desk_entries, entries_at, desk_cash, boards_of, boards_at, seen_of, seen_at, Item, Asks, Overlong, Turn, Called, CallDenied, CashRead, CashDenied, Quoted, Refused, Skipped, Left, asked_call, item_of, made_at, cash_by, boards_shown, shown_length, IsDueTurn, IsMade, TakesTurn, said_of_outcome, said_of_reading}
+use Rattle.agent_gate.specs.{Call, Board, Request, RequestFault, Said, Desk, Outcome, CashOutcome, IsOutcome, IsCashOutcome, IsSeen, desk_caller, desk_entries, entries_at, desk_cash, boards_of, boards_at, seen_of, seen_at, Item, Asks, Overlong, Turn, Called, CallDenied, CashRead, CashDenied, Quoted, Refused, Skipped, Quit, asked_call, item_of, made_at, cash_by, boards_shown, shown_length, IsDueTurn, IsMade, TakesTurn, said_of_outcome, said_of_reading}
 use Rattle.line_protocol.specs.declared.asking.Request.TheVariants as requests
 use Rattle.line_protocol.specs.declared.saying.Said.TheVariants as said
 use Rattle.turn_lock.specs.Passes.{made_by, noted_by, seen_by}
@@ -55,17 +55,17 @@ call_made request good call before after outcomes.Spent asks inside is = record 
   made = nothing_made (CallDenied request good) before after is.1 ((call, asks), inside, is.0) (λ g. refl) (λ a. refl) (λ g. refl) (λ g. refl);
 }
 call_made request good call before after (outcomes.At position reply) asks inside is = let a = is.1 in record {
-  turn = Called request good position a.entry a.posts.0;
+  turn = Called request good position a.entry a.adds.posts.0;
   asked = refl;
-  said = ap (λ r. said.At position r) a.reply;
+  said = ap (λ r. said.At position r) a.made.reply;
   made = record {
-    due = (asks ∙ ap (λ c. Some (good, c)) (sym a.call), inside, is.0, a.seen_before);
-    entries = λ g lt. ap (λ rows. get_or rows g []) a.entries ∙ row_more (desk_entries before) good g (position, a.entry) (omega (arith, wide before));
-    cash = a.posts.1;
+    due = (asks ∙ ap (λ c. Some (good, c)) (sym a.made.call), inside, is.0, a.adds.seen_before);
+    entries = λ g lt. ap (λ rows. get_or rows g []) a.adds.entries ∙ row_more (desk_entries before) good g (position, a.entry) (omega (arith, wide before));
+    cash = a.adds.posts.1;
     boards = λ g lt. ap (λ rows. get_or rows g []) a.boards ∙ sym (append-nil (boards_at before g));
     seen = λ g lt.
-        let both = seen_more (seen_of before) good g (position + 1) (omega (arith, wide_seen before)) (omega (arith, a.seen_before)) in
-        let now : seen_at after g ≡ get_or (set (seen_of before) good (position + 1)) g 0 = ap (λ l. get_or l g 0) a.seen in
+        let both = seen_more (seen_of before) good g (position + 1) (omega (arith, wide_seen before)) (omega (arith, a.adds.seen_before)) in
+        let now : seen_at after g ≡ get_or (set (seen_of before) good (position + 1)) g 0 = ap (λ l. get_or l g 0) a.adds.seen in
         (omega (arith, both.0), omega (arith, both.1));
   };
 }
@@ -109,10 +109,10 @@ board_seen good board before after inside is = record {
 
 pub agent_left : (d : Desk) → TakesTurn (λ item. item ≡ Asks (Ok requests.Quit)) d d said.Bye
 agent_left d = record {
-  turn = Left;
+  turn = Quit;
   asked = refl;
   said = refl;
-  made = nothing_made Left d d refl tt (λ g. refl) (λ a. refl) (λ g. refl) (λ g. refl);
+  made = nothing_made Quit d d refl tt (λ g. refl) (λ a. refl) (λ g. refl) (λ g. refl);
 }
 
 pub line_refused : (fault : RequestFault) (d : Desk) → TakesTurn (λ item. item ≡ Asks (Err fault)) d d (said.Fault fault)

@@ -1,7 +1,7 @@
 -- A session under way, from turn to turn to its end.
 use Rattle.std.proofs.Common.{◌≡◌, ℕ, ◌+◌, ◌^◌, ◌<◌, ◌≤◌, ◌≢◌, List, [], ◌∷◌, ◌++◌, map, length, true, false, Some, None, Ok, Err, refl, sym, ap, ◌∙◌, subst, arith, inl, inr, length-append, Option, Result, flat_map, append_assoc, append-nil}
 use Rattle.std.proofs.lemmas.Grind.{flat_map-append}
-use Rattle.agent_gate.specs.{answers_left, Held, LinkPlace, Answers, GaveBytes, NoReadFails, NoWriteFails, LinkState, known_then, IsAtEnd, TakesSome, LineGot, Request, RequestFault, Said, Bye, Cause, Desk, IsSameDesk, desk_caller, GameFile, Dialect, SessionState, Item, Asks, Overlong, IsItem, AreItems, Turn, Called, CallDenied, CashRead, CashDenied, Quoted, Refused, Skipped, Left, item_of, said_of, is_leaving, has_left, AreLawful, Session, reply_line, IsServed, IsSession, HasSessionCause, lines_of, welcome_text, cause_without_line, Says, HasTurn, count_whole}
+use Rattle.agent_gate.specs.{answers_left, Held, LinkPlace, Answers, GaveBytes, NoReadFails, NoWriteFails, LinkState, known_then, IsAtEnd, TakesSome, LineGot, Request, RequestFault, Said, Bye, Cause, Desk, IsSameDesk, desk_caller, GameFile, Dialect, SessionState, Item, Asks, Overlong, IsItem, AreItems, Turn, Called, CallDenied, CashRead, CashDenied, Quoted, Refused, Skipped, Quit, item_of, said_of, is_leaving, has_left, AreLawful, Session, reply_line, IsServed, IsSession, HasSessionCause, lines_of, welcome_text, cause_without_line, Says, HasTurn, count_whole}
 use Rattle.tac_io.specs.declared.line_got.LineGot.TheVariants as gots
 use Rattle.tac_io.proofs.ByBytes.{in_turn}
 use Rattle.tac_io.proofs.KnownPieces.{known_then-twice, gave_twice, last_read_fails_then, last_write_fails_then, no_read_fails_twice, no_write_fails_twice}
@@ -96,7 +96,7 @@ leaves CashDenied is = absurd (cc)
 leaves (Quoted good board) is = absurd (cc)
 leaves (Refused fault) is = absurd (cc)
 leaves Skipped is = absurd (cc)
-leaves Left is = refl
+leaves Quit is = refl
 
 stays : (turn : Turn) → said_of turn ≢ Bye → is_leaving turn ≡ false
 stays (Called request good position entry posted) is = refl
@@ -106,7 +106,7 @@ stays CashDenied is = refl
 stays (Quoted good board) is = refl
 stays (Refused fault) is = refl
 stays Skipped is = refl
-stays Left is = absurd (is refl)
+stays Quit is = absurd (is refl)
 
 text_more : (text : Said → List ℕ) (welcome : List ℕ) (turns : List Turn) (turn : Turn) → session_text text welcome turns ++ reply_line text turn ≡ session_text text welcome (turns ++ turn ∷ [])
 text_more text welcome turns turn =

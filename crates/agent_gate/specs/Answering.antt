@@ -5,7 +5,7 @@ use Rattle.line_protocol.specs.declared.saying.Said.TheVariants as said
 use Rattle.floor.specs.declared.outcomes.Outcome.TheVariants as outcomes
 use Rattle.floor.specs.declared.outcomes.CashOutcome.TheVariants as cash_outcomes
 use Rattle.agent_gate.specs.Items.{Item}
-use Rattle.agent_gate.specs.Turns.{Turn, Called, CallDenied, CashRead, CashDenied, Quoted, Refused, Skipped, Left, asked_call, item_of, said_of, made_at, cash_by, boards_shown, shown_length}
+use Rattle.agent_gate.specs.Turns.{Turn, Called, CallDenied, CashRead, CashDenied, Quoted, Refused, Skipped, Quit, asked_call, item_of, said_of, made_at, cash_by, boards_shown, shown_length}
 
 -- the statement about a call at a good
 abbrev pub said_of_outcome : Outcome → Said
@@ -28,7 +28,7 @@ IsDueTurn before CashDenied = count_readings (desk_cash before) ≡ CASH_READING
 IsDueTurn before (Quoted good board) = (good < GOODS) × (seen_at before good ≤ board.count)
 IsDueTurn before (Refused fault) = ⊤
 IsDueTurn before Skipped = ⊤
-IsDueTurn before Left = ⊤
+IsDueTurn before Quit = ⊤
 
 -- a turn was due, and the desk has what the turn left besides what it had, and nothing else
 pub record IsMade (turn : Turn) (before after : Desk) : Type 0 where

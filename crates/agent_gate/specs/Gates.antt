@@ -1,4 +1,4 @@
--- The gate: which first line of a link takes which seat. This project defines the rule.
+-- The gate: which first line of a link takes which seat. The rule is our own.
 use Rattle.std.specs.Prelude.{ℕ, if◌then◌else◌, List, [], ◌∷◌, Bool, true, false, Option, Some, None, codes, position, slice_index_or, slice_set, bytes_eq}
 use Rattle.text_forms.specs.Words.{words_of}
 use Rattle.game_text.specs.SeatWords.{is_seat_word}

@@ -11,7 +11,7 @@ pub mod Welcome
 pub mod Answering
 pub mod Turning
 pub use Rattle.agent_gate.specs.Items.{AreItems, Asks, IsItem, Item, Overlong}
-pub use Rattle.agent_gate.specs.Turns.{AreLawful, CallDenied, Called, CashDenied, CashRead, IsLawfulTurn, IsNotBehind, Left, Quoted, Refused, Skipped, Turn, asked_call, boards_shown, cash_by, cash_made, entry_made, has_left, is_leaving, is_reading, item_of, made_at, said_of, shown_by, shown_length}
+pub use Rattle.agent_gate.specs.Turns.{AreLawful, CallDenied, Called, CashDenied, CashRead, IsLawfulTurn, IsNotBehind, Quit, Quoted, Refused, Skipped, Turn, asked_call, boards_shown, cash_by, cash_made, entry_made, has_left, is_leaving, is_reading, item_of, made_at, said_of, shown_by, shown_length}
 pub use Rattle.agent_gate.specs.Dialects.{Dialect}
 pub use Rattle.agent_gate.specs.Served.{ComesTo, EndsBy, IsCutOff, IsServed, IsUsedUp, SendsAll, Session}
 pub use Rattle.agent_gate.specs.SessionEnds.{reply_line}

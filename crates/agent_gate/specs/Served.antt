@@ -1,4 +1,4 @@
--- A session against its link's lines, and why it ends, in the form that the sessions' contracts use and `vouch` checks. Read `StopsBy`,
+-- A session beside its link's lines, and why it ends, in the form that the sessions' contracts use and `vouch` checks. Read `StopsBy`,
 -- `ReadsBy` and `SendsBy` in `SessionEnds` and `IsSeatedLink` (game_run, `PlayedLinks`) instead: `columns_of` and `of_columns`
 -- (proofs/SameEnds) show the causes to be the same.
 use Rattle.std.specs.Prelude.{◌≡◌, ℕ, ◌<◌, ◌≤◌, ◌⊎◌, List, [], ◌∷◌, ◌++◌, true, false, length, map}
@@ -54,9 +54,9 @@ ComesTo got session = (has_left session.turns ≡ false) × (length session.turn
 abbrev pub IsUsedUp : Session → Type 0
 IsUsedUp session = (has_left session.turns ≡ false) × (length session.turns ≡ SESSION_LINES)
 
--- The causes of a session's end, an equation each: why it stopped, what was sent, and whether a read failed, after which nothing was
--- taken. The agent quit; the link's bytes ended; a read failed, whatever bytes were left; a failed write cut off what was sent; or the
--- session used up its lines, or its bytes.
+-- The causes of a session's end, an equation each: why it stopped, what was sent, and whether a read failed. The agent quit; the link's
+-- bytes ended; a read failed, and nothing was taken after it, whether or not bytes were left; a failed write cut off what was sent; or
+-- the session used up its lines, or its link's bytes.
 -- Row: quit_after_bye (worked_rows/proofs/Ends.antt)
 -- Row: end_with_all_taken (worked_rows/proofs/Ends.antt)
 -- Row: no_end_with_a_reply_unsent (worked_rows/proofs/Ends.antt)

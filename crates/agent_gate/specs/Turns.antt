@@ -18,8 +18,8 @@ use Rattle.line_protocol.specs.declared.asking.Request.TheVariants as requests
 use Rattle.line_protocol.specs.declared.saying.Said.TheVariants as said
 use Rattle.agent_gate.specs.Items.{Item, Asks, Overlong}
 
--- A turn, by its kind: what the line asks for, the reply, the entry that was made, and when the turn is lawful. A turn is behind if an
--- earlier one showed the good's history to be longer.
+-- A turn, by its kind: what the line asks for, the reply, the entry that was made, and when the turn is lawful. A position or a board's
+-- count is behind if an earlier turn showed that the good's history has more entries than that.
 pub data Turn : Type 0 where
   -- The line asks for a call at a good. The reply is `@P ..`, where P is the position of its entry there; the post that is due to the
   -- entry, if any, is at `posted` in the cash history. Lawful if the agent has calls left at the good and P is not behind.
@@ -38,7 +38,7 @@ pub data Turn : Type 0 where
   -- The line is too long. The reply is `no toolong`, and there is no entry. Always lawful.
   Skipped : Turn
   -- The line asks to quit. The reply is `bye`, there is no entry, and no turn follows. Always lawful.
-  Left : Turn
+  Quit : Turn
 
 -- ---- items and replies
 
@@ -52,7 +52,7 @@ asked_and_said CashDenied = (Asks (Ok requests.Cash), said.Spent)
 asked_and_said (Quoted good board) = (Asks (Ok (requests.Quote good)), said.Quote board)
 asked_and_said (Refused fault) = (Asks (Err fault), said.Fault fault)
 asked_and_said Skipped = (Overlong, said.TooLong)
-asked_and_said Left = (Asks (Ok requests.Quit), said.Bye)
+asked_and_said Quit = (Asks (Ok requests.Quit), said.Bye)
 
 -- what the line of a turn asks for
 abbrev pub item_of : Turn → Item
@@ -115,7 +115,7 @@ is_reading turn = false
 
 -- whether the agent quit
 abbrev pub is_leaving : Turn → Bool
-is_leaving Left = true
+is_leaving Quit = true
 is_leaving turn = false
 
 -- whether the agent has quit

@@ -1,7 +1,7 @@
 -- Who calls, and the answer to an agent's reading.
 use Rattle.std.proofs.Common.{◌≡◌, ℕ, ◌≤◌, ◌==◌, Bool, true, false, cond, List, [], ◌∷◌, ap, ◌∙◌, arith, ℤ, pos, get_or, Some, None}
 use Rattle.std.proofs.lemmas.Bool.Decides.{nat_tests}
-use Rattle.auction_core.specs.{Point, Reply, Trade, Setup, holding, left, entry_of, Follows, held_by}
+use Rattle.auction_core.specs.{Point, Reply, Trade, Setup, holding, standing_points_of, entry_of, Follows, held_by}
 use Rattle.tac_base.specs.declared.calls.Reply.TheVariants.{Own}
 use Rattle.tac_base.specs.declared.calls.Call.TheVariants.{Own as OwnCall}
 use Rattle.auction_rules.specs.History.{Entry}
@@ -26,7 +26,7 @@ held_is setup past held party le holds = ap (λ (h : List ℤ). get_or h party (
 
 -- an answer of what an agent owns
 pub owned_follows : (setup : Setup) (past : List Entry) (agent : ℕ) (held : List ℤ) (points : List Point) (reply : Reply) (trades : List Trade) (Stands : List Entry → Type 0) → agent ≤ 7 →
-    held ≡ held_by setup past → points ≡ left setup.rules past agent → reply ≡ Own (get_or held agent (pos 0)) points → trades ≡ [] →
+    held ≡ held_by setup past → points ≡ standing_points_of setup.rules past agent → reply ≡ Own (get_or held agent (pos 0)) points → trades ≡ [] →
     Stands (entry_of setup past agent OwnCall ∷ past) → Follows setup past agent OwnCall reply trades Stands
 owned_follows setup past agent held points reply trades Stands le holds leaves told none stands =
     rw (told, none) (own_follows setup past agent (get_or held agent (pos 0)) points Stands le (held_is setup past held agent (omega arith) holds) leaves stands)

@@ -16,7 +16,7 @@ pub use Rattle.auction_rules.specs.BookHotels.{published, closing_trade, closing
 pub use Rattle.auction_rules.specs.Board.{board, shown_ask, shown_bid}
 pub use Rattle.auction_rules.specs.Effects.{all_trades, bought, holding, net_units, nets, sold}
 pub use Rattle.auction_rules.specs.FlightRule.{price, price_after}
-pub use Rattle.auction_rules.specs.BookStanding.{is_sale, looked_at, flight_trades, points_looked_at, standing_points, gone, left, stand}
+pub use Rattle.auction_rules.specs.BookStanding.{is_sale, looked_at, flight_trades, points_looked_at, standing_points, gone, standing_points_of, stand}
 pub use Rattle.auction_rules.specs.Follows.{Follows}
 pub use Rattle.auction_rules.specs.Laws.{HasTwoParties, IsFlightPrice}
 pub use Rattle.auction_rules.specs.BookRules.{IsLawful, Legal, admitted_reply, close_reply, entry_by, entry_of, reply_of, trades_by, trades_of, bid_refusal, call_refusal, refusal}

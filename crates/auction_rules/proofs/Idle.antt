@@ -2,7 +2,7 @@
 use Rattle.std.proofs.Common.{◌≡◌, ℕ, ◌≤◌, Bool, true, false, cond, List, [], ◌∷◌, refl, ap, Some, None, sym, subst, not, ◌&&◌, ◌||◌, ◌==◌, ℤ, if◌then◌else◌}
 use Rattle.std.specs.Prelude.{⊤}
 use Rattle.std.proofs.lemmas.Bool.{and_right}
-use Rattle.auction_rules.specs.{Point, Trade, Call, Reply, Entry, is_admission, is_own, is_closed, last_bid, last_bids, units_of_bids, price, published, gone_by, left_standing, gone, stand, left, holding, is_wrong_caller, is_wrong_place, refusal, trades_by, admitted_trades, admitted_reply, entry_of}
+use Rattle.auction_rules.specs.{Point, Trade, Call, Reply, Entry, is_admission, is_own, is_closed, last_bid, last_bids, units_of_bids, price, published, gone_by, left_standing, gone, stand, standing_points_of, holding, is_wrong_caller, is_wrong_place, refusal, trades_by, admitted_trades, admitted_reply, entry_of}
 use Rattle.tac_base.specs.declared.calls.Call.TheVariants.{Bid, Withdraw, Own as OwnCall, Update, Publish, Close}
 use Rattle.tac_base.specs.declared.calls.Reply.TheVariants.{Own, Closed, WrongCall}
 use Rattle.auction_rules.specs.declared.units.BidUnit.{BidUnit}
@@ -124,7 +124,7 @@ own_trades TicketRules good past agent = refl
 
 -- the answer to an agent's reading follows the rules
 pub own_follows : (setup : Setup) (past : List Entry) (agent : ℕ) (held : ℤ) (points : List Point) (Stands : List Entry → Type 0) → agent ≤ 7 →
-    held ≡ holding setup past agent → points ≡ left setup.rules past agent → Stands (entry_of setup past agent OwnCall ∷ past) →
+    held ≡ holding setup past agent → points ≡ standing_points_of setup.rules past agent → Stands (entry_of setup past agent OwnCall ∷ past) →
     Follows setup past agent OwnCall (Own held points) [] Stands
 own_follows setup past agent held points Stands le holds leaves stands =
     let e : Entry = record { caller = agent; call = OwnCall; reply = admitted_reply setup past agent OwnCall; trades = admitted_trades setup past agent OwnCall } in

@@ -1,7 +1,7 @@
 -- A hotel's published price does not fall.
 use Rattle.std.proofs.Common.{◌≡◌, ℕ, ◌≤◌, Bool, true, false, cond, List, [], ◌∷◌, refl, sym, ap, ◌∙◌, subst, arith, Option, Some, None, inl, inr, not, ◌&&◌, ◌||◌, ◌==◌, nat_lt, if◌then◌else◌}
 use Rattle.std.proofs.lemmas.Bool.{false≢true}
-use Rattle.auction_rules.specs.{Point, Trade, Call, Reply, Entry, is_own, is_closed, last_bid, units_of_bids, stand, left, ask, published, need, quote_to_beat, offered, is_wrong_caller, is_wrong_place, sells, call_refusal, refusal, IsLawful, entry_of, entry_by, admitted_reply, admitted_trades, close_reply, sold_units, bought, sold, holding}
+use Rattle.auction_rules.specs.{Point, Trade, Call, Reply, Entry, is_own, is_closed, last_bid, units_of_bids, stand, standing_points_of, ask, published, need, quote_to_beat, offered, is_wrong_caller, is_wrong_place, sells, call_refusal, refusal, IsLawful, entry_of, entry_by, admitted_reply, admitted_trades, close_reply, sold_units, bought, sold, holding}
 use Rattle.tac_base.specs.declared.calls.Call.TheVariants.{Bid, Withdraw, Own as OwnCall, Update, Publish, Close}
 use Rattle.tac_base.specs.declared.calls.Reply.TheVariants.{Own, Closed, WrongCall, Sell, BelowQuote, Done, Sold}
 use Rattle.auction_rules.specs.declared.units.BidUnit.{BidUnit}
@@ -135,7 +135,7 @@ module _ (setup : Setup) (rooms : ℕ) (live : Bool) (hotel : setup.rules ≡ Ho
       let trades = admitted_trades setup past caller (Bid points) in bid_step past caller points (bought trades caller) (sold trades caller) trades h backed
   admitted_step past caller Withdraw h backed = absurd (no_place rooms live past caller Withdraw refl h)
   admitted_step past caller OwnCall h backed =
-      idle_keeps past (record { caller = caller; call = OwnCall; reply = Own (holding setup past caller) (left setup.rules past caller); trades = admitted_trades setup past caller OwnCall }) refl backed
+      idle_keeps past (record { caller = caller; call = OwnCall; reply = Own (holding setup past caller) (standing_points_of setup.rules past caller); trades = admitted_trades setup past caller OwnCall }) refl backed
   admitted_step past caller (Update tick draw) h backed = absurd (no_place rooms live past caller (Update tick draw) refl h)
   admitted_step past caller Publish h backed = publish_step past caller (admitted_trades setup past caller Publish) h backed
   admitted_step past caller Close h backed =

@@ -11,8 +11,8 @@ use Rattle.auction_rules.specs.History.{Entry, current_bids}
 abbrev pub signed_as : ℤ → ℕ → ℤ
 signed_as units count = if buys_of units then pos count else neg_ℤ (pos count)
 
--- The points, each with only those of its units that stand; a point without such units is left out. The units are numbered from `from`
--- on.
+-- The points of a bid, each with only those of its units that are among `standing`; a point without such units is left out. The units
+-- of these points are numbered from `from` on.
 abbrev pub left_points : List BidUnit → ℕ → ℕ → ℕ → List Point → List Point
 left_points standing agent position from [] = []
 left_points standing agent position from (point ∷ points) =

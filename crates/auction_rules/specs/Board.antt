@@ -1,5 +1,6 @@
--- What an auction shows, in a form of our own. `stand` and `published` are the books' forms of `standing_units` and `published_price`,
--- equal to them by `standing_same` and `published_same`: with these two, the types of the locks above grow too large for the prover.
+-- What an auction shows, in a form of our own. For `stand` and `published` read `standing_units` (`Standing`) and `published_price`
+-- (`Ask`): `standing_same` (proofs/SameStanding) and `published_same` (proofs/SameRules) prove them equal. They stand here because the
+-- types of the locks above would be too large for the prover with the plainer forms.
 use Rattle.std.specs.Prelude.{ℕ, max, min, not, List, [], ◌∷◌, length, map, filter, fold}
 use Rattle.tac_base.specs.declared.calls.Board.{Board}
 use Rattle.auction_rules.specs.declared.units.BidUnit.{BidUnit}

@@ -17,7 +17,7 @@ use Rattle.auction_rules.specs.Ask.{ask}
 use Rattle.auction_rules.specs.Refusals.{is_wrong_caller, is_wrong_place, sells, crosses_itself, hotel_refusal}
 use Rattle.auction_rules.specs.Legal.{cap, entries_of}
 use Rattle.auction_rules.specs.BookPairs.{ticket_trades}
-use Rattle.auction_rules.specs.BookStanding.{is_sale, stand, left, standing_points, points_looked_at, flight_trades}
+use Rattle.auction_rules.specs.BookStanding.{is_sale, stand, standing_points_of, standing_points, points_looked_at, flight_trades}
 use Rattle.auction_rules.specs.BookHotels.{need, quote_to_beat, closing_trades, sold_units}
 
 -- ---- refusals
@@ -66,7 +66,7 @@ close_reply rules past = Done
 abbrev pub admitted_reply : Setup → List Entry → ℕ → Call → Reply
 admitted_reply setup past caller (Bid points) =
     Taken (bought (admitted_trades setup past caller (Bid points)) caller) (sold (admitted_trades setup past caller (Bid points)) caller)
-admitted_reply setup past caller OwnCall = Own (holding setup past caller) (left setup.rules past caller)
+admitted_reply setup past caller OwnCall = Own (holding setup past caller) (standing_points_of setup.rules past caller)
 admitted_reply setup past caller Close = close_reply setup.rules past
 admitted_reply setup past caller call = Done
 

@@ -90,8 +90,8 @@ left_of standing None = []
 left_of standing (Some bid) = left_points standing bid.agent bid.position 0 bid.points
 
 -- the agent's standing units, combined into points in the order of its bid
-abbrev pub left : Rules → List Entry → ℕ → List Point
-left rules past agent = left_of (stand rules past) (last_bid agent past)
+abbrev pub standing_points_of : Rules → List Entry → ℕ → List Point
+standing_points_of rules past agent = left_of (stand rules past) (last_bid agent past)
 
 -- ---- what a flight sells
 

@@ -28,8 +28,8 @@ dollars trades party =
 abbrev pub nets : List Trade → List ℤ
 nets trades = map (dollars trades) parties
 
--- How many units of the good a party holds: its endowment, which is 0 for the house, and its net units over all trades. The number is
--- negative for an agent that has sold tickets short.
+-- How many units of the good a party holds: its endowment, which is 0 for the house, and its net units over all trades, a sum in which
+-- the order of the trades does not matter. The number is negative for an agent that has sold tickets short.
 -- Row: part_of_a_sale_is_left (worked_rows/proofs/Auctions.antt)
 -- Row: holding_may_be_negative (worked_rows/proofs/Auctions.antt)
 abbrev pub holding : Setup → List Entry → ℕ → ℤ
@@ -45,6 +45,6 @@ buys_by trades party = filter (λ t. t.buyer == party) trades
 abbrev pub sales_by : List Trade → ℕ → List Trade
 sales_by trades party = filter (λ t. t.seller == party) trades
 
--- the trades of all entries
+-- the trades of all entries, in the order in which these are given: for a past, those of its newest entry come first
 abbrev pub all_trades : List Entry → List Trade
 all_trades past = flat_map (λ e. e.trades) past

@@ -46,8 +46,8 @@ is_close call = false
 abbrev pub is_closed : List Entry → Bool
 is_closed past = list_any (λ e. is_admission e.reply && is_close e.call) past
 
--- The bids once an admitted call has changed its agent's own, in the order of their positions. An agent has at most one bid in an
--- auction: a new one replaces its whole earlier one, has its own position, and comes last. A withdrawal removes the bid.
+-- The bids after an admitted call at a position, in the order of their positions; `bids` are those before it. An agent has at most one
+-- bid in an auction: a new one replaces the caller's whole earlier one, and comes last. A withdrawal removes the caller's bid.
 -- Row: withdrawn_bid_is_gone (worked_rows/proofs/Auctions.antt)
 abbrev pub bids_found : List Placed → ℕ → ℕ → Call → List Placed
 bids_found bids position caller (Bid points) = filter (λ bid. not (bid.agent == caller)) bids ++ record { agent = caller; position = position; points = points } ∷ []

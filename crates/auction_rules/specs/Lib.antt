@@ -36,7 +36,7 @@ pub use Rattle.auction_rules.specs.Refusals.{crosses_itself, first_refusal, is_w
 pub use Rattle.auction_rules.specs.Legal.{AreDueEntries, IsLegalHistory, call_reply, call_trades, cap, closing_reply, entries_of, entry_due}
 pub use Rattle.auction_rules.specs.Board.{highest_buy, lowest, lowest_sell, shown_ask, shown_bid}
 pub use Rattle.auction_rules.specs.BookPairs.{if_crossing, not_taken, pair_with, pairs, partner, ticket_gone, ticket_trades, units_of_pairs}
-pub use Rattle.auction_rules.specs.BookStanding.{bid_after, bid_units, by_position, flight_trades, gone, gone_by, is_sold, last_bid, last_bids, left, left_of, left_standing, looked_at, owned_by, placed_bids, points_looked_at, sale, stand, standing_of, standing_points, units_of_bids, units_of_last}
+pub use Rattle.auction_rules.specs.BookStanding.{bid_after, bid_units, by_position, flight_trades, gone, gone_by, is_sold, last_bid, last_bids, left_of, left_standing, looked_at, owned_by, placed_bids, points_looked_at, sale, stand, standing_of, standing_points, standing_points_of, units_of_bids, units_of_last}
 pub use Rattle.auction_rules.specs.BookHotels.{closing_trade, closing_trades, need, precedes, published, quote_to_beat, sold_units, winning, wins}
 pub use Rattle.auction_rules.specs.BookRules.{IsLawful, admitted_reply, admitted_trades, bid_refusal, call_refusal, close_reply, entry_by, entry_of, has_standing, past_of, refusal, trades_by, trades_of}
 pub use Rattle.auction_rules.specs.Traded.{Spends, traded}

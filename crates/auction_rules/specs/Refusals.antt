@@ -1,5 +1,5 @@
--- The six refusals of a call, and the order in which they are tested, which is our own rule. So is what a hotel bid must offer to beat
--- the quote, modelled on TAC.
+-- The six refusals of a call, and the order in which they are tested, which is our own rule. What a hotel bid must offer to beat
+-- the quote is after TAC, from memory.
 use Rattle.std.specs.Prelude.{ℕ, ◌+◌, ◌==◌, max, Bool, true, false, not, ◌&&◌, ◌||◌, nat_le, nat_lt, if◌then◌else◌, List, Option, Some, None, sum_by}
 use Rattle.std.specs.List.{list_any}
 use Rattle.tac_base.specs.declared.bids.Point.{Point}

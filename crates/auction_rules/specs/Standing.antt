@@ -1,4 +1,4 @@
--- Which units stand, from each entry to the next. By our own rule a new bid replaces the whole earlier one.
+-- Which units stand, from each entry to the next. After TAC, from memory, a new bid replaces the whole earlier one.
 --
 -- For example, at a flight whose price is 300, where a unit is written as (position of its bid, index):
 --   position  call                             units found        traded  standing

@@ -1,4 +1,4 @@
--- Tickets: which standing unit an arriving unit trades with, and what is traded. The rule is our own, modelled on TAC.
+-- Tickets: which standing unit an arriving unit trades with, and what is traded. The rule is after TAC, from memory.
 use Rattle.std.specs.Prelude.{ℕ, ◌==◌, Bool, not, ◌&&◌, ◌||◌, nat_lt, nat_le, if◌then◌else◌, List, [], ◌∷◌, Option, Some, None, filter, find}
 use Rattle.std.specs.List.{list_all}
 use Rattle.tac_base.specs.declared.calls.Trade.{Trade}

@@ -34,13 +34,13 @@ makes_still calls before between after made taken = record {
 
 makes_one : (good : ℕ) (call : Call) (position : ℕ) (reply : Reply) (before after : Desk) → good < 28 → IsCallAnswered before after good call position reply → MakesCalls ((good, call) ∷ []) before after
 makes_one good call position reply before after low a =
-    let turn : ClockTurn = record { good = good; position = position; entry = a.entry; posted = a.posts.0 } in
+    let turn : ClockTurn = record { good = good; position = position; entry = a.entry; posted = a.adds.posts.0 } in
     let wide = before.kept.goods in
     record {
       turns = turn ∷ [];
-      asked = ap (λ c. (good, c) ∷ []) a.call;
-      entries = λ g lt. ap (λ rows. get_or rows g []) a.entries ∙ row_more (desk_entries before) good g (position, a.entry) (omega (arith, wide));
-      cash = a.posts.1 ∙ ap (λ l. desk_cash before ++ l) (sym (append-nil (clock_post turn)));
+      asked = ap (λ c. (good, c) ∷ []) a.made.call;
+      entries = λ g lt. ap (λ rows. get_or rows g []) a.adds.entries ∙ row_more (desk_entries before) good g (position, a.entry) (omega (arith, wide));
+      cash = a.adds.posts.1 ∙ ap (λ l. desk_cash before ++ l) (sym (append-nil (clock_post turn)));
     }
 
 -- some calls, and then others

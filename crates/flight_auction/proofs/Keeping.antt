@@ -2,7 +2,7 @@
 use Rattle.std.proofs.Common.{◌≡◌, ℕ, ◌≤◌, Bool, true, false, List, [], ◌∷◌, ◌++◌, length, map, refl, sym, ap, ◌∙◌, subst, arith, Some, None, ℤ, ◌||◌, ◌==◌, ◌≢◌, filter, sum_by, if◌then◌else◌, not, ◌&&◌, pos}
 use Rattle.std.specs.List.{AllByRecursion, list_any}
 use Rattle.std.proofs.lemmas.Bool.Decides.{nat_tests}
-use Rattle.flight_auction.specs.Prelude.{Point, Trade, Call, Bid, Withdraw, Update, Close, Taken, Done, Closed, WrongCall, NoBid, Sell, size_of, clock, house, bought, sold, sales_by, Setup, Rules, Flight as FlightRules, Entry, is_own, is_closed, price, next_price, left, refusal, sells, has_standing, is_wrong_caller, is_wrong_place, entry_of, admitted_trades, Follows, StandingPoint, owned_by, sale, standing_points}
+use Rattle.flight_auction.specs.Prelude.{Point, Trade, Call, Bid, Withdraw, Update, Close, Taken, Done, Closed, WrongCall, NoBid, Sell, size_of, clock, house, bought, sold, sales_by, Setup, Rules, Flight as FlightRules, Entry, is_own, is_closed, price, next_price, standing_points_of, refusal, sells, has_standing, is_wrong_caller, is_wrong_place, entry_of, admitted_trades, Follows, StandingPoint, owned_by, sale, standing_points}
 use Rattle.tac_base.specs.declared.calls.Reply.{Reply}
 use Rattle.auction_rules.proofs.Idle.{IsIdle, idle_refused, idle_price, idle_closed, wrong_follows}
 use Rattle.auction_rules.proofs.Agents.{not_clock}
@@ -202,5 +202,5 @@ module _ (setup : Setup) (past : List Entry) (book : FlightBook) (stood : Flight
 
   -- ---- what an agent has
 
-  pub owns : (agent : ℕ) → agent ≤ 7 → agents_points agent book.standing ≡ left setup.rules past agent
+  pub owns : (agent : ℕ) → agent ≤ 7 → agents_points agent book.standing ≡ standing_points_of setup.rules past agent
   owns agent le = rw (standing_is, stood.rules) (own_points (FlightRules stood.first book.bound) past agent le)

@@ -3,7 +3,7 @@ use Rattle.std.proofs.Common.{◌≡◌, ℕ, ◌+◌, ◌≤◌, Bool, true, fa
 use Rattle.std.specs.List.{list_any}
 use Rattle.std.proofs.lemmas.List.Elements.{filter-append}
 use Rattle.std.proofs.lemmas.List.Sums.{length-filter}
-use Rattle.flight_auction.specs.{Point, size_of, Placed, BidUnit, point_units, units_from, among, without, common_units, Rules, Entry, is_closed, last_bid, units_of_last, gone, stand, signed_as, left_points, left_of, left, has_standing, StandingPoint, owned_by, by_position, placed_bids, standing_of, standing_points, is_points_agent, agents_points}
+use Rattle.flight_auction.specs.{Point, size_of, Placed, BidUnit, point_units, units_from, among, without, common_units, Rules, Entry, is_closed, last_bid, units_of_last, gone, stand, signed_as, left_points, left_of, standing_points_of, has_standing, StandingPoint, owned_by, by_position, placed_bids, standing_of, standing_points, is_points_agent, agents_points}
 use Rattle.auction_rules.proofs.Standing.{Each, each-front, each-back, stands_unless_gone}
 use Rattle.auction_rules.proofs.LeftPoints.{suc_not_zero}
 use Rattle.auction_rules.proofs.Lists.{filter_same, filter-flat_map, map-flat_map, flat_map-filter, flat_map_alike, some_of, some-append, any_is_some}
@@ -21,7 +21,7 @@ owned_points agent owner points = by_test (owner == agent) refl points
     by_test false h (p ∷ ps) = rw (h, by_test false h ps) refl
 
 -- the agent's points are what is left of its last bid
-pub own_points : (rules : Rules) (past : List Entry) (agent : ℕ) → agent ≤ 7 → agents_points agent (standing_points rules past) ≡ left rules past agent
+pub own_points : (rules : Rules) (past : List Entry) (agent : ℕ) → agent ≤ 7 → agents_points agent (standing_points rules past) ≡ standing_points_of rules past agent
 own_points rules past agent le =
     ap (map (λ (s : StandingPoint). s.point)) (filter-flat_map (is_points_agent agent) (standing_of units) order)
     ∙ map-flat_map (λ (s : StandingPoint). s.point) (λ (bid : Placed). filter (is_points_agent agent) (standing_of units bid)) order

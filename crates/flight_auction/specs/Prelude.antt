@@ -7,7 +7,7 @@ pub use Rattle.tac_base.specs.declared.calls.Call.TheVariants.{Bid, Close, Own, 
 pub use Rattle.tac_base.specs.declared.calls.Reply.TheVariants.{Closed, Done, NoBid, Sell, Taken, WrongCall}
 pub use Rattle.tac_base.specs.declared.calls.Trade.{Trade}
 pub use Rattle.auction_rules.specs.Effects.{bought, sales_by, sold}
-pub use Rattle.auction_rules.specs.BookStanding.{looked_at, flight_trades, is_sold, points_looked_at, standing_points, units_of_last, gone, left, stand, by_position, owned_by, placed_bids, sale, standing_of, last_bid, left_of}
+pub use Rattle.auction_rules.specs.BookStanding.{looked_at, flight_trades, is_sold, points_looked_at, standing_points, units_of_last, gone, standing_points_of, stand, by_position, owned_by, placed_bids, sale, standing_of, last_bid, left_of}
 pub use Rattle.auction_rules.specs.FlightRule.{next_price, price}
 pub use Rattle.auction_rules.specs.Follows.{Follows}
 pub use Rattle.auction_rules.specs.History.{Entry, is_closed, is_own}

@@ -1,6 +1,6 @@
 ghost use Rattle.std.specs.Prelude.{◌≡◌, ◌+◌, ◌≤◌, ◌||◌, [], ◌∷◌, ◌++◌, IsTrue, length, List, All, pos, negsuc, ◌≤ℤ◌};
 ghost use Rattle.tac_base.specs.Kinds.{kind_of};
-ghost use Rattle.flight_auction.specs.{Setup, Entry, left, is_wrong_caller, is_wrong_place, entry_of, Follows, Spends, IsShort, owned_by, FlightStandsFor, IsPaid, flight_units_left};
+ghost use Rattle.flight_auction.specs.{Setup, Entry, standing_points_of, is_wrong_caller, is_wrong_place, entry_of, Follows, Spends, IsShort, owned_by, FlightStandsFor, IsPaid, flight_units_left};
 ghost use Rattle.auction_rules.specs.Board.{board};
 
 use crate::prices::next_price;
@@ -103,7 +103,7 @@ impl Flight {
     /// Returns the standing points of an agent, in the order of its bid; none in a closed flight.
     #[tactic(auto, using(crate::proofs::Keeping::idle_keeps, auction_rules::proofs::Idle::own_idle))]
     pub fn own(&self, agent: Agent) -> Left
-        ensures left { (setup : Setup) (past : List Entry) → FlightStandsFor self.now setup past → result ≡ left setup.rules past agent }
+        ensures left { (setup : Setup) (past : List Entry) → FlightStandsFor self.now setup past → result ≡ standing_points_of setup.rules past agent }
         // Reading changes nothing.
         ensures stands { (setup : Setup) (past : List Entry) → FlightStandsFor self.now setup past →
             FlightStandsFor self.now setup (entry_of setup past agent Call.Own ∷ past) }

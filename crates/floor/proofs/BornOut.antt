@@ -78,7 +78,7 @@ pub takes_lawful_bid : (before after : Desk) (good : ℕ) (points : Points) (out
 takes_lawful_bid before after good points Spent outcome = tt
 takes_lawful_bid before after good points (At position reply) outcome =
     let told = outcome.1 in
-    (told, λ none. (_, _, sym told.reply ∙ (ap (λ (e : Entry). e.reply) told.ruled ∙ taken_by told.setup (reverse told.earlier) (desk_caller before) points none)))
+    (told, λ none. (_, _, sym told.made.reply ∙ (ap (λ (e : Entry). e.reply) told.made.ruled ∙ taken_by told.made.setup (reverse told.made.earlier) (desk_caller before) points none)))
 
 split_at : (h : List Entry) (k : ℕ) (e : Entry) → slice_get h k ≡ Some e → (later : List Entry) × (h ≡ take k h ++ e ∷ later)
 split_at [] k e at = let never : None ≡ Some e = at in absurd cc

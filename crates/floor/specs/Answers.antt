@@ -15,22 +15,12 @@ use Rattle.floor.specs.Desks.{desk_ids, desk_caller, setup_at, desk_entries, ent
 abbrev pub IsSameDesk : Desk → Desk → Type 0
 IsSameDesk before after = (desk_ids after ≡ desk_ids before) × (desk_caller after ≡ desk_caller before)
 
--- a call at a good was answered at a position: the desk has one entry more there, and at the other goods as before; this call is appended
--- to its steps and to its list of calls; the post that is due to that entry was made; and the position is not below what the desk had seen there. The
--- entry is the one that the rules give after the entries before it, among which the desk's own are those that it had made
-pub record IsCallAnswered (before after : Desk) (good : ℕ) (asked : Call) (position : ℕ) (answered : Reply) : Type 0 where
-  pub entry : Entry
+-- The entry of a desk's call at a good, at a position: it has the desk's caller, this call and this reply, and is the one that the rules
+-- give after the entries before it, among which the desk's own are those that it had made.
+pub record IsEntryOfCall (before : Desk) (good : ℕ) (asked : Call) (position : ℕ) (answered : Reply) (entry : Entry) : Type 0 where
   pub caller : entry.caller ≡ desk_caller before
   pub call : entry.call ≡ asked
   pub reply : entry.reply ≡ answered
-  pub entries : desk_entries after ≡ slice_set (desk_entries before) good (entries_at before good ++ (position, entry) ∷ [])
-  pub steps : desk_steps after ≡ desk_steps before ++ CallMade good asked ∷ []
-  pub calls : desk_calls after ≡ desk_calls before ++ (good, asked) ∷ []
-  pub posts : AddsCash (desk_cash before) (desk_cash after) (due_post good position entry)
-  pub seen_before : seen_at before good ≤ position
-  pub seen : seen_of after ≡ slice_set (seen_of before) good (position + 1)
-  pub boards : boards_of after ≡ boards_of before
-  pub same : IsSameDesk before after
   -- what is fixed of the auction, and its entries before this one
   pub setup : Setup
   pub setup_is : setup_at before good ≡ Some setup
@@ -39,6 +29,26 @@ pub record IsCallAnswered (before after : Desk) (good : ℕ) (asked : Call) (pos
   pub own : part (λ e. e.caller) earlier (desk_caller before) ≡ entries_at before good
   pub legal : Legal setup (earlier ++ entry ∷ [])
   pub ruled : entry ≡ entry_of setup (reverse earlier) (desk_caller before) asked
+
+-- What a call changes of a desk: the desk has one entry more at this good, and the same at the others; the call is appended to its steps
+-- and to its list of calls; the post that is due to the entry was made; and the desk, which had seen no more than the entries before the
+-- position, has now seen the one at it.
+pub record AddsCall (before after : Desk) (good : ℕ) (asked : Call) (position : ℕ) (entry : Entry) : Type 0 where
+  pub entries : desk_entries after ≡ slice_set (desk_entries before) good (entries_at before good ++ (position, entry) ∷ [])
+  pub steps : desk_steps after ≡ desk_steps before ++ CallMade good asked ∷ []
+  pub calls : desk_calls after ≡ desk_calls before ++ (good, asked) ∷ []
+  pub posts : AddsCash (desk_cash before) (desk_cash after) (due_post good position entry)
+  pub seen_before : seen_at before good ≤ position
+  pub seen : seen_of after ≡ slice_set (seen_of before) good (position + 1)
+
+-- A call at a good was answered at a position: the desk has the call's entry, and the boards that it saw, its locks and its caller
+-- stayed.
+pub record IsCallAnswered (before after : Desk) (good : ℕ) (asked : Call) (position : ℕ) (answered : Reply) : Type 0 where
+  pub entry : Entry
+  pub made : IsEntryOfCall before good asked position answered entry
+  pub adds : AddsCall before after good asked position entry
+  pub boards : boards_of after ≡ boards_of before
+  pub same : IsSameDesk before after
 
 -- an agent's call at a good is spent, and changes nothing, exactly if the desk made all its calls there before
 abbrev pub IsOutcome : Desk → Desk → ℕ → Call → Outcome → Type 0
@@ -49,7 +59,7 @@ IsOutcome before after good asked (At position reply) = (length (entries_at befo
 abbrev pub TakesLawfulBid : Desk → Desk → ℕ → Points → Outcome → Type 0
 TakesLawfulBid before after good points Spent = ⊤
 TakesLawfulBid before after good points (At position reply) = (told : IsCallAnswered before after good (Bid points) position reply)
-    × (refusal told.setup.rules (reverse told.earlier) (desk_caller before) (Bid points) ≡ None → (bought : ℕ) × (sold : ℕ) × (reply ≡ Taken bought sold))
+    × (refusal told.made.setup.rules (reverse told.made.earlier) (desk_caller before) (Bid points) ≡ None → (bought : ℕ) × (sold : ℕ) × (reply ≡ Taken bought sold))
 
 -- an agent's cash was read: the desk has that entry more in the cash history, and nothing else is changed
 pub record IsCashRead (before after : Desk) (position : ℕ) (entry : CashEntry) : Type 0 where

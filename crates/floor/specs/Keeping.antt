@@ -12,9 +12,9 @@ module _ {S C R G : Type 0} {K : Ghosts S C R G CashEntry} where
   abbrev pub AddsByTurns : Pass S C R G CashEntry K → Pass S C R G CashEntry K → List CashEntry → Type 0
   AddsByTurns before after entries = AddsCash (made_by before) (made_by after) entries × (turns_left after + length entries ≡ turns_left before)
 
--- a desk's posts are those that are due to its own entries so far, each once
-abbrev pub IsPosted : List (List (ℕ × Entry)) → List (ℕ × CashEntry) → Type 0
-IsPosted entries cash = HoldSame (posts_of (map (λ p. p.1) cash)) (due_posts entries)
+-- a desk has posted all: its posts are those that are due to its own entries so far, each once
+abbrev pub HasPostedAll : List (List (ℕ × Entry)) → List (ℕ × CashEntry) → Type 0
+HasPostedAll entries cash = HoldSame (posts_of (map (λ p. p.1) cash)) (due_posts entries)
 
 -- how many readings are among entries of the cash history
 abbrev pub count_readings : List (ℕ × CashEntry) → ℕ
@@ -35,7 +35,7 @@ module _ (caller : ℕ) where
     pub counted : count ≡ count_readings cash
     pub few : count ≤ CASH_READINGS
     pub clock_reads_nothing : caller ≡ clock → count ≡ 0
-    pub posted : IsPosted entries cash
+    pub posted : HasPostedAll entries cash
 
 -- what was answered of a good is in order: positions rise, and what was seen is above each, and not below the count of a board
 pub record IsInOrder (entries : List (ℕ × Entry)) (boards : List (ℕ × Board)) (seen : ℕ) : Type 0 where

@@ -47,7 +47,7 @@ impl Desk {
     ghost use Rattle.tac_base.specs.declared.calls.Call.{Call};
     ghost use Rattle.auction_rules.specs.Legal.{cap};
     ghost use Rattle.turn_lock.specs.Passes.{turns_left};
-    ghost use Rattle.floor.specs.Keeping.{IsPosted, count_entries};
+    ghost use Rattle.floor.specs.Keeping.{HasPostedAll, count_entries};
     ghost use Rattle.floor.specs.Desks.{desk_ids, desk_caller, desk_entries, entries_at, desk_cash};
     ghost use Rattle.floor.specs.Floors.{floor_ids};
     ghost use Rattle.floor.specs.Answers.{IsSameDesk, IsCallAnswered, IsOutcome, TakesLawfulBid, IsCashOutcome, IsSeen, IsClockCall, IsStepTaken};
@@ -90,7 +90,7 @@ impl Desk {
         requires fit { IsFit call.now }
         ensures outcome { IsOutcome self.old self.new good call.now result }
         ensures same { IsSameDesk self.old self.new }
-        ensures posted { IsPosted (desk_entries self.new) (desk_cash self.new) }
+        ensures posted { HasPostedAll (desk_entries self.new) (desk_cash self.new) }
     {
         if self.passes[place(good)].left() == 0 {
             return Outcome::Spent;
@@ -113,7 +113,7 @@ impl Desk {
         ensures outcome { IsOutcome self.old self.new good (Call.Bid points.now) result }
         ensures taken { TakesLawfulBid self.old self.new good points.now result }
         ensures same { IsSameDesk self.old self.new }
-        ensures posted { IsPosted (desk_entries self.new) (desk_cash self.new) }
+        ensures posted { HasPostedAll (desk_entries self.new) (desk_cash self.new) }
     {
         let call = Call::Bid(points.copy());
         self.ask(rt, floor, good, &call)
@@ -125,7 +125,7 @@ impl Desk {
         requires agent { desk_caller self.old < AGENTS }
         ensures outcome { IsOutcome self.old self.new good Call.Withdraw result }
         ensures same { IsSameDesk self.old self.new }
-        ensures posted { IsPosted (desk_entries self.new) (desk_cash self.new) }
+        ensures posted { HasPostedAll (desk_entries self.new) (desk_cash self.new) }
     {
         self.ask(rt, floor, good, &Call::Withdraw)
     }
@@ -136,7 +136,7 @@ impl Desk {
         requires agent { desk_caller self.old < AGENTS }
         ensures outcome { IsOutcome self.old self.new good Call.Own result }
         ensures same { IsSameDesk self.old self.new }
-        ensures posted { IsPosted (desk_entries self.new) (desk_cash self.new) }
+        ensures posted { HasPostedAll (desk_entries self.new) (desk_cash self.new) }
     {
         self.ask(rt, floor, good, &Call::Own)
     }
@@ -148,7 +148,7 @@ impl Desk {
         requires agent { desk_caller self.old < AGENTS }
         ensures outcome { IsCashOutcome self.old self.new result }
         ensures same { IsSameDesk self.old self.new }
-        ensures posted { IsPosted (desk_entries self.new) (desk_cash self.new) }
+        ensures posted { HasPostedAll (desk_entries self.new) (desk_cash self.new) }
     {
         if self.readings == CASH_READINGS {
             return CashOutcome::Spent;
@@ -163,7 +163,7 @@ impl Desk {
     pub fn quote(&mut self, floor: &Floor, good: Good) -> Board
         requires own { desk_ids self.old ≡ floor_ids floor.now }
         ensures seen { IsSeen self.old self.new good result }
-        ensures posted { IsPosted (desk_entries self.new) (desk_cash self.new) }
+        ensures posted { HasPostedAll (desk_entries self.new) (desk_cash self.new) }
     {
         let place = place(good);
         floor.auctions[place].peek(&mut self.passes[place])
@@ -174,7 +174,7 @@ impl Desk {
         ghost step: { Step }
         requires no_call { call_of_step step ≡ None }
         ensures taken { IsStepTaken self.old self.new step }
-        ensures posted { IsPosted (desk_entries self.new) (desk_cash self.new) }
+        ensures posted { HasPostedAll (desk_entries self.new) (desk_cash self.new) }
     {
         self.steps = self.steps.with();
     }
@@ -183,7 +183,7 @@ impl Desk {
     pub fn take_due<T: Ticker>(&mut self, tick: Tick, due: T::Due)
         requires due { T.due_tick due ≡ tick }
         ensures taken { IsStepTaken self.old self.new (DueTaken T.mark tick) }
-        ensures posted { IsPosted (desk_entries self.new) (desk_cash self.new) }
+        ensures posted { HasPostedAll (desk_entries self.new) (desk_cash self.new) }
     {
         drop(due);
         self.take_step(&tick);
@@ -192,7 +192,7 @@ impl Desk {
     /// Records a ticker's waits so far, if they are known, as a step of the desk. Nothing else changes.
     pub fn note_waits<T: Ticker>(&mut self, ticker: &T)
         ensures noted { IsStepTaken self.old self.new (WaitsNoted (T.state ticker.now).waited) }
-        ensures posted { IsPosted (desk_entries self.new) (desk_cash self.new) }
+        ensures posted { HasPostedAll (desk_entries self.new) (desk_cash self.new) }
     {
         self.take_step(ticker);
     }
@@ -212,7 +212,7 @@ impl Desk {
         requires left { length (entries_at self.old good) < CLOCK_CALLS }
         requires all_left { count_entries (desk_entries self.old) < CLOCK_CASH_ENTRIES }
         ensures answered { IsCallAnswered self.old self.new good call.now result.0 result.1 }
-        ensures posted { IsPosted (desk_entries self.new) (desk_cash self.new) }
+        ensures posted { HasPostedAll (desk_entries self.new) (desk_cash self.new) }
     {
         self.call(rt, floor, good, call)
     }

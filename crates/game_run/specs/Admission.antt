@@ -1,4 +1,4 @@
--- How links are admitted, in the order in which they come. This project defines the rule.
+-- How links are admitted, in the order in which they come. The rule is our own.
 use Rattle.std.specs.Prelude.{◌≡◌, ℕ, ◌<◌, ◌⊎◌, List, [], ◌∷◌, Bool, true, false, Option, codes, length, take, replicate, count_by, fold}
 use Rattle.tac_base.specs.declared.limits.TheConstants.{AGENTS, LINKS, LINK_BYTES}
 use Rattle.line_protocol.specs.declared.admission.Verdict.{Verdict}

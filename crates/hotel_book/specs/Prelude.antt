@@ -11,7 +11,7 @@ pub use Rattle.auction_rules.specs.Ask.{ask}
 pub use Rattle.auction_rules.specs.BookHotels.{published, precedes, winning}
 pub use Rattle.auction_rules.specs.Follows.{Follows}
 pub use Rattle.auction_rules.specs.History.{Entry, is_closed, is_own}
-pub use Rattle.auction_rules.specs.BookStanding.{last_bid, bid_units, last_bids, units_of_bids, units_of_last, left, stand, left_of}
+pub use Rattle.auction_rules.specs.BookStanding.{last_bid, bid_units, last_bids, units_of_bids, units_of_last, standing_points_of, stand, left_of}
 pub use Rattle.auction_rules.specs.Refusals.{hotel_refusal, is_wrong_caller, is_wrong_place}
 pub use Rattle.auction_rules.specs.BookRules.{refusal}
 pub use Rattle.auction_rules.specs.Setup.{Setup}

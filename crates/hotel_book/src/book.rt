@@ -1,6 +1,6 @@
 ghost use Rattle.std.specs.Prelude.{All, ◌≡◌, ◌≤◌, ◌||◌, [], ◌∷◌, length, map, List, false, IsTrue, IsPermutation};
 ghost use Rattle.tac_base.specs.Kinds.{kind_of};
-ghost use Rattle.hotel_book.specs.{ask, clock, Setup, shown_unit, Entry, left, stand, winning, is_wrong_caller, is_wrong_place, Follows, Spends, IsShort, AreRanked, HotelStandsFor, hotel_units_left, sale_of, with_bid};
+ghost use Rattle.hotel_book.specs.{ask, clock, Setup, shown_unit, Entry, standing_points_of, stand, winning, is_wrong_caller, is_wrong_place, Follows, Spends, IsShort, AreRanked, HotelStandsFor, hotel_units_left, sale_of, with_bid};
 ghost use Rattle.auction_rules.specs.Board.{board};
 ghost use Rattle.auction_rules.specs.BookRules.{entry_of};
 
@@ -155,7 +155,7 @@ impl Hotel {
     #[tactic(auto, using(crate::proofs::Keeping::idle_keeps, auction_rules::proofs::Idle::own_idle))]
     pub fn own(&self, agent: Agent) -> Left
         ensures left { (setup : Setup) (past : List Entry) → HotelStandsFor self.now setup past →
-            result ≡ left setup.rules past agent }
+            result ≡ standing_points_of setup.rules past agent }
         // Reading changes nothing.
         ensures stands { (setup : Setup) (past : List Entry) → HotelStandsFor self.now setup past →
             HotelStandsFor self.now setup (entry_of setup past agent Call.Own ∷ past) }

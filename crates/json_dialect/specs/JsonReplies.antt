@@ -1,4 +1,4 @@
--- The JSON text of the server's lines to an agent. This project defines the texts.
+-- The JSON text of the server's lines to an agent. The texts are our own.
 use Rattle.std.specs.Prelude.{ℕ, ℤ, List, [], ◌∷◌, ◌++◌, Bool, true, false, if◌then◌else◌, nat_lt, decimal, codes, map}
 use Rattle.std.specs.Fmt.{signed_decimal}
 use Rattle.std.specs.List.{concat, join_with_byte}

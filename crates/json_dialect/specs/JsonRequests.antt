@@ -1,4 +1,4 @@
--- What a JSON line requests. This project defines the forms; serde_json's definition of reading determines the value of a line.
+-- What a JSON line requests. The forms are our own; serde_json's definition of reading determines the value of a line.
 use Rattle.std.specs.Prelude.{ℕ, suc, ◌==◌, nat_le, if◌then◌else◌, List, [], ℤ, pos, negsuc, unsigned_abs, Option, Some, None, Result, Ok, Err, codes, option_and_then, bytes_eq}
 use Rattle.std.specs.Str.{is_utf8}
 use Rattle.serde_json.specs.Data.{Data, Items, no_items, item, Members, no_members, member}

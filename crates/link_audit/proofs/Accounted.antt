@@ -375,7 +375,7 @@ module _ (game : GameFile) (dialect : Dialect) (log : LoggedGame) (asked said : 
 
     -- what the lines show of the end of the session
     pub through_ending : (ending : Ending) → HasStayed dialect n (lines_at asked at) ending → EndsSo game dialect log asked said ending
-    through_ending endings.Left open' = absurd open'
+    through_ending endings.Quit open' = absurd open'
     through_ending (endings.Open full over quits) open' = of_each (λ other w. IsEnding dialect w (endings.Open full over quits))
         (λ w. (stays w, subst (λ (l : ℕ × List TheLine). HasStayed dialect l.0 l.1 (endings.Open full over quits)) (λ i. (sym (count w) i, sym (rest_lines w) i)) open'))
       where
@@ -387,8 +387,8 @@ module _ (game : GameFile) (dialect : Dialect) (log : LoggedGame) (asked said : 
   gone_leaves : (n : ℕ) → HasHeard dialect TheSubject asked from replies (Gone n) → (w : Account agent) → has_left w.heard ≡ true
   gone_leaves n has w = has.3 (record { turns = length w.heard; left = has_left w.heard; to = walked start w.heard }) (sym (own_long w) ∙ has.2) (own_heard w)
 
-  pub gone_ending : (n : ℕ) → HasHeard dialect TheSubject asked from replies (Gone n) → EndsSo game dialect log asked said endings.Left
-  gone_ending n has = of_each (λ other w. IsEnding dialect w endings.Left) (gone_leaves n has)
+  pub gone_ending : (n : ℕ) → HasHeard dialect TheSubject asked from replies (Gone n) → EndsSo game dialect log asked said endings.Quit
+  gone_ending n has = of_each (λ other w. IsEnding dialect w endings.Quit) (gone_leaves n has)
 
   pub gone_accounted : (n : ℕ) → IsHeard dialect TheSubject asked from replies (Gone n) → HasHeard dialect TheSubject asked from replies (Gone n)
       → (v : Vouching) → v ≡ (if ended then Whole agent n memory else Cut agent n 0 memory) → IsAccounted game dialect log asked said v

@@ -1,7 +1,7 @@
 -- Turns from some places on, line by line.
 use Rattle.std.proofs.Common.{◌≡◌, ℕ, zero, suc, ◌+◌, ◌≤◌, List, [], ◌∷◌, ◌++◌, Bool, true, false, cond, length, drop, refl, sym, ap, ◌∙◌, subst, arith, ◌||◌, slice_index, slice_set, count_by, get_or-set_same}
 use Rattle.std.proofs.lemmas.List.Sums.{sum_by-cons}
-use Rattle.link_audit.specs.{LineGot, logged_history, Dialect, Turn, Called, CallDenied, CashRead, CashDenied, Quoted, Refused, Skipped, Left, has_left, is_leaving, item_of, reading, Subject, AreAllowed, FitsReply, IsAllowed, IsAsked, IsEasier, IsLeaving, IsNextInLog, IsOver, IsPossible, IsStuck, IsTaken, IsWide, behind_turn, cash_caller, entry_caller, rest_of, MayAsk, AreAnswered, AreNext, Course, FinishesLog, HasCourse, IsKept, has_entry, walked}
+use Rattle.link_audit.specs.{LineGot, logged_history, Dialect, Turn, Called, CallDenied, CashRead, CashDenied, Quoted, Refused, Skipped, Quit, has_left, is_leaving, item_of, reading, Subject, AreAllowed, FitsReply, IsAllowed, IsAsked, IsEasier, IsLeaving, IsNextInLog, IsOver, IsPossible, IsStuck, IsTaken, IsWide, behind_turn, cash_caller, entry_caller, rest_of, MayAsk, AreAnswered, AreNext, Course, FinishesLog, HasCourse, IsKept, has_entry, walked}
 use Rattle.link_audit.specs.declared.places.Places.{Places}
 use Rattle.link_audit.proofs.Walking.{wide_after}
 use Rattle.link_audit.proofs.Easier.{easier_than, easy_over, easy_turns, same_places}
@@ -27,7 +27,7 @@ kept_by from CashDenied none = (refl, refl)
 kept_by from (Quoted good board) none = (refl, refl)
 kept_by from (Refused fault) none = (refl, refl)
 kept_by from Skipped none = (refl, refl)
-kept_by from Left none = (refl, refl)
+kept_by from Quit none = (refl, refl)
 
 pub moved_by : (from : Places) (turn : Turn) → IsWide from → IsAllowed from turn → has_entry turn ≡ true → IsKept from (behind_turn from turn) → ⊥
 moved_by from (Called request good position entry posted) wide allowed some kept =
@@ -41,7 +41,7 @@ moved_by from CashDenied wide allowed some kept = absurd cc
 moved_by from (Quoted good board) wide allowed some kept = absurd cc
 moved_by from (Refused fault) wide allowed some kept = absurd cc
 moved_by from Skipped wide allowed some kept = absurd cc
-moved_by from Left wide allowed some kept = absurd cc
+moved_by from Quit wide allowed some kept = absurd cc
 
 -- turns that lead to places with the same calls and readings left as many entries
 pub same_entries : (from : Places) (turn other : Turn) → IsWide from → IsAllowed from turn → IsAllowed from other → IsEasier (behind_turn from turn) (behind_turn from other) → has_entry turn ≡ has_entry other
@@ -114,7 +114,7 @@ over_kept s from (turn ∷ turns) over allowed next = over_kept s (behind_turn f
     by_turn (Quoted good board) here is = record { calls = over.calls; cash = over.cash }
     by_turn (Refused fault) here is = over
     by_turn Skipped here is = over
-    by_turn Left here is = over
+    by_turn Quit here is = over
 
 -- where nothing is left no turn leaves an entry
 pub over_entries : (s : Subject) (from : Places) (turns : List Turn) → IsOver s from → AreAllowed from turns → AreNext s from turns → count_by has_entry turns ≡ 0
@@ -131,7 +131,7 @@ over_entries s from (turn ∷ turns) over allowed next = by_turn turn over allow
     by_turn (Quoted good board) over all next later = none_more (Quoted good board) turns refl (later (record { calls = over.calls; cash = over.cash }))
     by_turn (Refused fault) over all next later = none_more (Refused fault) turns refl (later over)
     by_turn Skipped over all next later = none_more Skipped turns refl (later over)
-    by_turn Left over all next later = none_more Left turns refl (later over)
+    by_turn Quit over all next later = none_more Quit turns refl (later over)
 
 module _ (dialect : Dialect) (s : Subject) (from : Places) where
   -- no turns
@@ -242,7 +242,7 @@ module _ (dialect : Dialect) (s : Subject) (from : Places) where
       module _ (t : IsLeaving (IsAsked dialect true line) (FitsReply dialect true reply) s from) where
         pub leaving_course : HasCourse dialect s from (line ∷ lines) (reply ∷ replies) (record { turns = 1; left = true; to = from })
         leaving_course = let p = t.possible in record {
-          turns = Left ∷ [];
+          turns = Quit ∷ [];
           answered = (p.asked, p.fits refl, tt);
           allowed = (tt, (λ leaves. refl), tt);
           next = (tt, tt);
@@ -365,7 +365,7 @@ module _ (dialect : Dialect) (s : Subject) (from : Places) where
     module _ (t : IsLeaving (IsAsked dialect false line) (FitsReply dialect false []) s from) where
       pub pass_leaving : HasCourse dialect s from (line ∷ lines) [] (record { turns = 1; left = true; to = from })
       pass_leaving = let p = t.possible in record {
-        turns = Left ∷ [];
+        turns = Quit ∷ [];
         answered = (p.asked, tt);
         allowed = (tt, (λ leaves. refl), tt);
         next = (tt, tt);

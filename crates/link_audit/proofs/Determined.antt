@@ -1,7 +1,7 @@
 -- Which turn a request was: the log tells, but for the count of a quote.
 use Rattle.std.proofs.Common.{◌≡◌, ◌≢◌, ℕ, ◌+◌, ◌<◌, ◌≤◌, List, [], ◌∷◌, Option, Some, None, Ok, refl, sym, ap, ◌∙◌, subst, arith, inl, inr, ℤ, slice_index, slice_set, option_map}
 use Rattle.std.proofs.lemmas.Bool.Decides.{leb_tells}
-use Rattle.link_audit.specs.{AGENT_CALLS, CASH_READINGS, Board, Call, CashEntry, due_post, Request, Said, logged_history, Asks, Turn, Called, CallDenied, CashRead, CashDenied, Quoted, Refused, Skipped, Left, asked_call, reading, Subject, entry_caller, cash_caller, rest_of, HasNext, calls_left, IsNote, IsWide, behind, behind_call, behind_turn, ArePostedAt, ArePosted, IsPossible, IsEasier, IsTaken, IsStuck}
+use Rattle.link_audit.specs.{AGENT_CALLS, CASH_READINGS, Board, Call, CashEntry, due_post, Request, Said, logged_history, Asks, Turn, Called, CallDenied, CashRead, CashDenied, Quoted, Refused, Skipped, Quit, asked_call, reading, Subject, entry_caller, cash_caller, rest_of, HasNext, calls_left, IsNote, IsWide, behind, behind_call, behind_turn, ArePostedAt, ArePosted, IsPossible, IsEasier, IsTaken, IsStuck}
 use Rattle.auction_rules.specs.History.{Entry}
 use Rattle.line_protocol.specs.declared.asking.Request.TheVariants as requests
 use Rattle.line_protocol.specs.declared.saying.Said.TheVariants as said
@@ -37,7 +37,7 @@ module _ (s : Subject) (Fits : Said → Type 0) (from : Places) where
       denied (Quoted g board) p = absurd (no_call (requests.Quote g) refl p.asked)
       denied (Refused fault) p = absurd (let is = p.asked in cc)
       denied Skipped p = absurd (let is = p.asked in cc)
-      denied Left p = absurd (no_call requests.Quit refl p.asked)
+      denied Quit p = absurd (no_call requests.Quit refl p.asked)
 
       call_in : (call : Option (ℕ × Call)) → option_map (λ p. p.0) call ≡ Some good → (c : Call) × (call ≡ Some (good, c))
       call_in None is = absurd cc
@@ -94,7 +94,7 @@ module _ (s : Subject) (Fits : Said → Type 0) (from : Places) where
       made_next position entry next (Quoted g board) is = absurd (no_call (requests.Quote g) refl is.asked)
       made_next position entry next (Refused fault) is = absurd (let asked = is.asked in cc)
       made_next position entry next Skipped is = absurd (let asked = is.asked in cc)
-      made_next position entry next Left is = absurd (no_call requests.Quit refl is.asked)
+      made_next position entry next Quit is = absurd (no_call requests.Quit refl is.asked)
 
       pub none_stuck : calls_left s from good ≡ [] → IsStuck (λ item. item ≡ Asks (Ok request)) Fits s from
       none_stuck none (Called r g p e posted) is =
@@ -112,7 +112,7 @@ module _ (s : Subject) (Fits : Said → Type 0) (from : Places) where
       none_stuck none (Quoted g board) is = no_call (requests.Quote g) refl is.asked
       none_stuck none (Refused fault) is = absurd (let asked = is.asked in cc)
       none_stuck none Skipped is = absurd (let asked = is.asked in cc)
-      none_stuck none Left is = no_call requests.Quit refl is.asked
+      none_stuck none Quit is = no_call requests.Quit refl is.asked
 
       module _ (position : ℕ) (entry : Entry) (next : HasNext entry_caller s.agent (slice_index from.next good) (logged_history s.log good) position entry) where
         pub many_stuck : AGENT_CALLS < slice_index from.made good → IsStuck (λ item. item ≡ Asks (Ok request)) Fits s from
@@ -177,7 +177,7 @@ module _ (s : Subject) (Fits : Said → Type 0) (from : Places) where
   read_only A (Quoted g board) is read denied = absurd (let asked = is.asked in cc)
   read_only A (Refused fault) is read denied = absurd (let asked = is.asked in cc)
   read_only A Skipped is read denied = absurd (let asked = is.asked in cc)
-  read_only A Left is read denied = absurd (let asked = is.asked in cc)
+  read_only A Quit is read denied = absurd (let asked = is.asked in cc)
 
   module _ (full : from.readings ≡ CASH_READINGS) where
     pub read_spent_taken : Fits said.Spent → IsTaken (λ item. item ≡ Asks (Ok requests.Cash)) Fits s from from
@@ -247,7 +247,7 @@ module _ (s : Subject) (Fits : Said → Type 0) (from : Places) where
         shown board (λ i. Quoted (here i) board) (subst (λ (k : ℕ). slice_index from.seen k ≤ board.count) here is.allowed.1) (subst (λ (k : ℕ). IsNote s k (board.count, board)) here is.next) is.fits
     quote_only A (Refused fault) is shown = absurd (let asked = is.asked in cc)
     quote_only A Skipped is shown = absurd (let asked = is.asked in cc)
-    quote_only A Left is shown = absurd (let asked = is.asked in cc)
+    quote_only A Quit is shown = absurd (let asked = is.asked in cc)
 
     pub quote_stuck : ((count : ℕ) (board : Board) → slice_index from.seen good ≤ count → IsNote s good (count, board) → Fits (said.Quote board) → ⊥)
         → IsStuck (λ item. item ≡ Asks (Ok (requests.Quote good))) Fits s from

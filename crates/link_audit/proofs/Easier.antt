@@ -1,7 +1,7 @@
 -- Whoever saw less may do all that whoever saw more may do.
 use Rattle.std.proofs.Common.{◌≡◌, ℕ, ◌+◌, ◌<◌, ◌≤◌, List, [], ◌∷◌, false, Ok, length, refl, sym, ap, ◌∙◌, subst, inl, inr, arith, slice_index, slice_set, get_or-set_same, get_or-set_other}
 use Rattle.std.proofs.lemmas.Bool.Decides.{eqb_tells}
-use Rattle.link_audit.specs.{AGENT_CALLS, CASH_READINGS, due_post, Said, logged_history, Item, Asks, Turn, Called, CallDenied, CashRead, CashDenied, Quoted, Refused, Skipped, Left, is_leaving, reading, Subject, entry_caller, cash_caller, rest_of, ArePostedAt, HasNext, IsNextInLog, IsOver, IsWide, behind, behind_turn, IsAllowed, AreAllowed, Remains, IsEasier, IsPossible, AreNext, walked}
+use Rattle.link_audit.specs.{AGENT_CALLS, CASH_READINGS, due_post, Said, logged_history, Item, Asks, Turn, Called, CallDenied, CashRead, CashDenied, Quoted, Refused, Skipped, Quit, is_leaving, reading, Subject, entry_caller, cash_caller, rest_of, ArePostedAt, HasNext, IsNextInLog, IsOver, IsWide, behind, behind_turn, IsAllowed, AreAllowed, Remains, IsEasier, IsPossible, AreNext, walked}
 use Rattle.line_protocol.specs.declared.asking.Request.TheVariants as requests
 use Rattle.link_audit.specs.declared.places.Places.{Places}
 use Rattle.link_audit.proofs.Walking.{wide_after}
@@ -15,7 +15,7 @@ all_stay Asked Fits s from quit CashDenied is = refl
 all_stay Asked Fits s from quit (Quoted good board) is = refl
 all_stay Asked Fits s from quit (Refused fault) is = refl
 all_stay Asked Fits s from quit Skipped is = refl
-all_stay Asked Fits s from quit Left is = absurd (quit is.asked)
+all_stay Asked Fits s from quit Quit is = absurd (quit is.asked)
 
 pub same_places : (from : Places) → IsEasier from from
 same_places from = record { next = refl; made = refl; cash = refl; readings = refl; seen = λ good low. omega arith }
@@ -70,7 +70,7 @@ module _ (from hard : Places) (easier : IsEasier from hard) where
   easy_allowed (Quoted good board) is = (is.0, (let less = easier.seen good is.0 in let forward = is.1 in omega (arith, less, forward)))
   easy_allowed (Refused fault) is = tt
   easy_allowed Skipped is = tt
-  easy_allowed Left is = tt
+  easy_allowed Quit is = tt
 
   module _ (wide : IsWide from) (wide' : IsWide hard) where
     easy_after : (turn : Turn) → IsAllowed hard turn → IsEasier (behind_turn from turn) (behind_turn hard turn)
@@ -93,7 +93,7 @@ module _ (from hard : Places) (easier : IsEasier from hard) where
     }
     easy_after (Refused fault) is = easier
     easy_after Skipped is = easier
-    easy_after Left is = easier
+    easy_after Quit is = easier
 
 all_easy : (from hard : Places) (turns : List Turn) → IsEasier from hard → IsWide from → IsWide hard → AreAllowed hard turns → AreAllowed from turns
 all_easy from hard [] easier wide wide' all = tt
@@ -124,7 +124,7 @@ easy_next s from hard easier CashDenied is = tt
 easy_next s from hard easier (Quoted good board) is = is
 easy_next s from hard easier (Refused fault) is = tt
 easy_next s from hard easier Skipped is = tt
-easy_next s from hard easier Left is = tt
+easy_next s from hard easier Quit is = tt
 
 -- turns from harder places are turns from easier ones, and lead to easier ones
 pub record AreEasy (s : Subject) (from hard : Places) (turns : List Turn) : Type 0 where

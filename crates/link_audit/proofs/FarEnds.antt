@@ -7,7 +7,7 @@ use Rattle.std.proofs.lemmas.List.Concat.{flat_map-append}
 use Rattle.std.proofs.lemmas.List.Elements.{filter_map-append}
 use Rattle.std.proofs.lemmas.Bool.{or_right}
 use Rattle.std.proofs.lemmas.Option.{slice_get_within}
-use Rattle.link_audit.specs.{Board, LINK_BYTES, SESSION_LINES, GoesOn, GameFile, AreNotes, board_of, AuctionHistory, ClosedGame, all_goods, all_answers, LineGot, Cause, Verdict, Seated, Syntax, WrongWord, Taken, Lost, Request, RequestFault, Said, LoggedGame, gives_seat, Seats, greeting_of, seat_verdict, seats_after, verdict_of, word_verdict, Item, Asks, Overlong, IsItem, AreItems, Session, reply_line, lines_of, IsTranscript, Turn, Called, CallDenied, CashRead, CashDenied, Quoted, Refused, Skipped, Left, AreLawful, IsLawfulTurn, boards_shown, cash_by, cash_made, entry_made, has_left, item_of, made_at, said_of, shown_by, welcome_lines, welcome_text, free_seats, seats_given, HostedGame, AccountsFor, AllowsCause, HasNoLine, HasWelcome, IsLinkOfLog, IsVouched, MayAsk, MayUseUp, closed_in, fresh_link, logged_ends, logged_verdicts, whole_lines}
+use Rattle.link_audit.specs.{Board, LINK_BYTES, SESSION_LINES, GoesOn, GameFile, AreNotes, board_of, AuctionHistory, ClosedGame, all_goods, all_answers, LineGot, Cause, Verdict, Seated, Syntax, WrongWord, Taken, Lost, Request, RequestFault, Said, LoggedGame, gives_seat, Seats, greeting_of, seat_verdict, seats_after, verdict_of, word_verdict, Item, Asks, Overlong, IsItem, AreItems, Session, reply_line, lines_of, IsTranscript, Turn, Called, CallDenied, CashRead, CashDenied, Quoted, Refused, Skipped, Quit, AreLawful, IsLawfulTurn, boards_shown, cash_by, cash_made, entry_made, has_left, item_of, made_at, said_of, shown_by, welcome_lines, welcome_text, free_seats, seats_given, HostedGame, AccountsFor, AllowsCause, HasNoLine, HasWelcome, IsLinkOfLog, IsVouched, MayAsk, MayUseUp, closed_in, fresh_link, logged_ends, logged_verdicts, whole_lines}
 use Rattle.tac_io.specs.declared.line_got.LineGot.TheVariants as gots
 use Rattle.line_protocol.specs.declared.admission.Cause.TheVariants as causes
 use Rattle.line_protocol.specs.declared.asking.RequestFault.TheVariants as faults
@@ -74,7 +74,7 @@ tells (Refused faults.NoSuchAuction) = inl (λ is. absurd cc)
 tells (Refused (faults.Bid fault)) = inl (λ is. absurd cc)
 tells (Refused faults.Memory) = inr refl
 tells Skipped = inl (λ is. absurd cc)
-tells Left = inl (λ is. absurd cc)
+tells Quit = inl (λ is. absurd cc)
 
 may_item : (may_answer : List ℕ → Result Request RequestFault → Type 0) (got : LineGot) (line : List ℕ) (item : Item) → IsItem may_answer (got, line) item → item ≢ Asks (Err faults.Memory)
     → IsItem (MayAsk may_answer) (got, line) item

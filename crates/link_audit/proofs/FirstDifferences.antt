@@ -2,7 +2,7 @@
 use Rattle.std.proofs.Common.{◌≡◌, ℕ, zero, suc, ◌+◌, ◌<◌, ◌≤◌, List, [], ◌∷◌, ◌++◌, Bool, true, false, length, map, get_or, take, drop, Option, Some, None, Result, Ok, Err, refl, sym, ap, ◌∙◌, subst, arith, inl, inr, ◌⊎◌, ◌==◌, if◌then◌else◌, slice_index, slice_index_or, codes, take-append-drop, length-take-le, eq-eqb}
 use Rattle.std.proofs.lemmas.Bool.Decides.{eqb_tells, leb_tells}
 use Rattle.std.proofs.lemmas.Option.{slice_get_within}
-use Rattle.link_audit.specs.{AGENT_CALLS, CASH_READINGS, GOODS, LINK_BYTES, SESSION_LINES, Board, Call, CashEntry, due_post, GameFile, all_answers, ended_line, LineGot, Seated, verdict_of, free_seats, Request, RequestFault, Said, json_text, IsLogged, LoggedGame, logged_history, Dialect, Item, Asks, Overlong, IsItem, Turn, Called, CallDenied, CashRead, CashDenied, Quoted, Refused, Skipped, Left, asked_call, item_of, said_of, welcome_lines, Subject, AreAllowed, AreBoards, FitsReply, HasNext, ArePostedAt, IsAhead, IsAllowed, IsAnswerTo, IsEasier, IsNextInLog, IsNote, IsOver, ReadsBy, behind, behind_call, behind_turn, calls_left, cash_caller, cash_left, entry_caller, rest_of, start, AreAnswered, AreNext, HaveTurns, IsDifferent, IsFirstLeft, IsFirstLine, IsLowestLeft, walked, AccountsFor, DiffersBehind, HasOneDifference, HasSeatAndLines, IsFirstDifference, LacksWelcome, RefutesCause}
+use Rattle.link_audit.specs.{AGENT_CALLS, CASH_READINGS, GOODS, LINK_BYTES, SESSION_LINES, Board, Call, CashEntry, due_post, GameFile, all_answers, ended_line, LineGot, Seated, verdict_of, free_seats, Request, RequestFault, Said, json_text, IsLogged, LoggedGame, logged_history, Dialect, Item, Asks, Overlong, IsItem, Turn, Called, CallDenied, CashRead, CashDenied, Quoted, Refused, Skipped, Quit, asked_call, item_of, said_of, welcome_lines, Subject, AreAllowed, AreBoards, FitsReply, HasNext, ArePostedAt, IsAhead, IsAllowed, IsAnswerTo, IsEasier, IsNextInLog, IsNote, IsOver, MayBeReadAs, behind, behind_call, behind_turn, calls_left, cash_caller, cash_left, entry_caller, rest_of, start, AreAnswered, AreNext, HaveTurns, IsDifferent, IsFirstLeft, IsFirstLine, IsLowestLeft, walked, AccountsFor, DiffersBehind, HasOneDifference, HasSeatAndLines, IsFirstDifference, LacksWelcome, RefutesCause}
 use Rattle.auction_rules.specs.History.{Entry}
 use Rattle.json_dialect.specs.JsonRequests.{asks_json}
 use Rattle.tac_io.specs.declared.line_got.LineGot.TheVariants as gots
@@ -26,7 +26,7 @@ use Rattle.link_audit.proofs.Welcomes.{same_rest}
 
 -- a line, with its reply if that arrived, asks one thing
 abbrev pub IsKnown : Dialect → Type 0
-IsKnown dialect = (heard : Bool) (line reply : List ℕ) (one other : Result Request RequestFault) (answer answer' : Said) → ReadsBy dialect.may_answer heard line one → ReadsBy dialect.may_answer heard line other
+IsKnown dialect = (heard : Bool) (line reply : List ℕ) (one other : Result Request RequestFault) (answer answer' : Said) → MayBeReadAs dialect.may_answer heard line one → MayBeReadAs dialect.may_answer heard line other
     → IsAnswerTo one answer → IsAnswerTo other answer' → FitsReply dialect heard reply answer → FitsReply dialect heard reply answer' → one ≡ other
 
 words_known : IsKnown words
@@ -86,7 +86,7 @@ unseen_after from CashDenied = refl
 unseen_after from (Quoted good board) = refl
 unseen_after from (Refused fault) = refl
 unseen_after from Skipped = refl
-unseen_after from Left = refl
+unseen_after from Quit = refl
 
 module _ (s : Subject) where
   abbrev after_posts : ℕ → List CashEntry → List (ℕ × CashEntry) → ℕ
@@ -137,7 +137,7 @@ module _ (s : Subject) where
   leads_to from (Quoted good board) allowed next = refl
   leads_to from (Refused fault) allowed next = refl
   leads_to from Skipped allowed next = refl
-  leads_to from Left allowed next = refl
+  leads_to from Quit allowed next = refl
 
   -- turns with one item lead to places that differ in what was seen alone
   same_after : (from from' : Places) (turn turn' : Turn) → unseen from ≡ unseen from' → item_of turn ≡ item_of turn' → IsAllowed from turn → IsAllowed from' turn' → IsNextInLog s from turn → IsNextInLog s from' turn'
@@ -149,12 +149,12 @@ module _ (s : Subject) where
       by_one p t here is = unseen_after p t ∙ leads_to (unseen p) t (easy_allowed (unseen p) p (unseen_easier p) t here) (easy_next s (unseen p) p (unseen_easier p) t is)
 
   module _ (dialect : Dialect) (known : IsKnown dialect) where
-    same_item : (heard : Bool) (reply : List ℕ) (line : TheLine) (turn turn' : Turn) → IsItem (ReadsBy dialect.may_answer heard) line (item_of turn) → IsItem (ReadsBy dialect.may_answer heard) line (item_of turn')
+    same_item : (heard : Bool) (reply : List ℕ) (line : TheLine) (turn turn' : Turn) → IsItem (MayBeReadAs dialect.may_answer heard) line (item_of turn) → IsItem (MayBeReadAs dialect.may_answer heard) line (item_of turn')
         → FitsReply dialect heard reply (said_of turn) → FitsReply dialect heard reply (said_of turn') → item_of turn ≡ item_of turn'
     same_item heard reply line turn turn' is is' fits fits' = by_items line.0 line.1 (item_of turn) (item_of turn') refl refl is is'
       where
-        by_items : (got : LineGot) (text : List ℕ) (item item' : Item) → item_of turn ≡ item → item_of turn' ≡ item' → IsItem (ReadsBy dialect.may_answer heard) (got, text) item
-            → IsItem (ReadsBy dialect.may_answer heard) (got, text) item' → item ≡ item'
+        by_items : (got : LineGot) (text : List ℕ) (item item' : Item) → item_of turn ≡ item → item_of turn' ≡ item' → IsItem (MayBeReadAs dialect.may_answer heard) (got, text) item
+            → IsItem (MayBeReadAs dialect.may_answer heard) (got, text) item' → item ≡ item'
         by_items gots.Line text (Asks asked) (Asks asked') one one' may may' = ap Asks (known heard text reply asked asked' (said_of turn) (said_of turn') may may' (answers turn asked one) (answers turn' asked' one') fits fits')
         by_items gots.Line text (Asks asked) Overlong one one' may may' = absurd may'
         by_items gots.Line text Overlong item' one one' may may' = absurd may
@@ -363,7 +363,7 @@ module _ (game : GameFile) (log : LoggedGame) (agent : ℕ) (boards boards' : Li
       by_turn (Quoted good board) here is = note_again good board.count board here.0 is
       by_turn (Refused fault) here is = is
       by_turn Skipped here is = is
-      by_turn Left here is = is
+      by_turn Quit here is = is
 
   module _ (dialect : Dialect) (lines : List TheLine) (replies : List (List ℕ)) where
     turns_again : (n : ℕ) → HaveTurns dialect one lines replies n → HaveTurns dialect other lines replies n

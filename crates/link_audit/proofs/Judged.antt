@@ -3,7 +3,7 @@ use Rattle.std.proofs.Common.{◌≡◌, ◌-◌, ℕ, List, ◌++◌, Bool, tru
 use Rattle.line_protocol.specs.declared.admission.Cause.TheVariants as causes
 use Rattle.link_audit.specs.{SESSION_LINES, Cause, GameFile, LoggedGame, Dialect, has_left, AccountsFor, AllowsCause, IsVouched, logged_ends, IsJudged, IsWholeLink, EndsSo, HasCauseOf, HasCauseFor, IsAccounted, IsEnding, MayEndBy}
 use Rattle.link_audit.specs.declared.causes.Ending.{Ending}
-use Rattle.link_audit.specs.declared.causes.Ending.TheVariants.{Left, Open}
+use Rattle.link_audit.specs.declared.causes.Ending.TheVariants.{Quit, Open}
 use Rattle.link_audit.specs.declared.vouching.Difference.TheVariants as differences
 use Rattle.link_audit.specs.declared.vouching.Vouching.{Vouching}
 use Rattle.link_audit.specs.declared.vouching.Vouching.TheVariants.{Whole, Cut, Not}
@@ -16,11 +16,11 @@ not_so false none = refl
 -- a record allows a cause exactly if the session may have ended by it, by what the record shows of its end
 module _ {game : GameFile} {dialect : Dialect} {log : LoggedGame} {agent : ℕ} {asked said : List ℕ} (account : AccountsFor game dialect log agent asked said) where
   pub may_end : (ending : Ending) → IsEnding dialect account ending → (cause : Cause) → AllowsCause account cause → MayEndBy cause ending asked
-  may_end Left is causes.Quit a = tt
-  may_end Left is causes.End a = absurd (let other = a.left is in cc)
-  may_end Left is causes.ReadFault a = absurd (let other = a.left is in cc)
-  may_end Left is causes.WriteFault a = absurd (let other = a.left is in cc)
-  may_end Left is causes.Budget a = absurd (let other = a.left is in cc)
+  may_end Quit is causes.Quit a = tt
+  may_end Quit is causes.End a = absurd (let other = a.left is in cc)
+  may_end Quit is causes.ReadFault a = absurd (let other = a.left is in cc)
+  may_end Quit is causes.WriteFault a = absurd (let other = a.left is in cc)
+  may_end Quit is causes.Budget a = absurd (let other = a.left is in cc)
   may_end (Open full over quits) is causes.Quit a = elim (a.quit refl) [ inl left ↦ absurd (let both : true ≡ false = sym left ∙ is.0 in cc) | inr asks ↦ is.1.2.1 asks ]
   may_end (Open full over quits) is causes.End a = not_so full (λ most. (let other = a.full is.0 (is.1.0.0 most) in cc))
   may_end (Open full over quits) is causes.ReadFault a = not_so full (λ most. (let other = a.full is.0 (is.1.0.0 most) in cc))
@@ -34,17 +34,17 @@ module _ {game : GameFile} {dialect : Dialect} {log : LoggedGame} {agent : ℕ} 
   differ b none is = let both : true ≡ false = sym is ∙ none in cc
 
   pub allows : (ending : Ending) → IsEnding dialect account ending → (cause : Cause) → MayEndBy cause ending asked → AllowsCause account cause
-  allows Left is causes.Quit may = record {
+  allows Quit is causes.Quit may = record {
     left = λ left. refl;
     quit = λ same. inl is;
     full = λ none. absurd (stays none is);
     cut = λ other. absurd cc;
     used_up = λ other. absurd cc;
   }
-  allows Left is causes.End may = absurd may
-  allows Left is causes.ReadFault may = absurd may
-  allows Left is causes.WriteFault may = absurd may
-  allows Left is causes.Budget may = absurd may
+  allows Quit is causes.End may = absurd may
+  allows Quit is causes.ReadFault may = absurd may
+  allows Quit is causes.WriteFault may = absurd may
+  allows Quit is causes.Budget may = absurd may
   allows (Open full over quits) is causes.Quit may = record {
     left = λ left. refl;
     quit = λ same. inr (is.1.2.0 may);

@@ -8,7 +8,7 @@ use Rattle.std.proofs.lemmas.List.Sums.{sum_by-append}
 use Rattle.std.proofs.lemmas.Bool.Decides.{eqb_tells}
 use Rattle.std.proofs.lemmas.Bool.{or_right}
 use Rattle.auction_rules.specs.History.{Entry}
-use Rattle.link_audit.specs.{Request, Turn, Called, CallDenied, CashRead, CashDenied, Quoted, Refused, Skipped, Left, entry_made, made_at, is_reading, is_leaving, has_left, shown_length, IsNotBehind, IsLawfulTurn, start, behind_turn, IsAllowed, AreAllowed, IsWide}
+use Rattle.link_audit.specs.{Request, Turn, Called, CallDenied, CashRead, CashDenied, Quoted, Refused, Skipped, Quit, entry_made, made_at, is_reading, is_leaving, has_left, shown_length, IsNotBehind, IsLawfulTurn, start, behind_turn, IsAllowed, AreAllowed, IsWide}
 use Rattle.agent_gate.proofs.LawfulTurns.{goes_on_more, goes_on_with, has_left-more}
 use Rattle.link_audit.specs.declared.places.Places.{Places}
 use Rattle.link_audit.proofs.Walking.{wide_after}
@@ -47,7 +47,7 @@ module _ (from : Places) (past : List Turn) (tracks : Tracks from past) where
   allowed_lawful (Quoted good board) here = (here.0, goes_on_more good (slice_index from.seen good) board.count past (tracks.seen good here.0) here.1)
   allowed_lawful (Refused fault) here = tt
   allowed_lawful Skipped here = tt
-  allowed_lawful Left here = tt
+  allowed_lawful Quit here = tt
 
   pub lawful_allowed : (turn : Turn) → IsLawfulTurn past turn → IsAllowed from turn
   lawful_allowed (Called request good position entry posted) is = (
@@ -62,7 +62,7 @@ module _ (from : Places) (past : List Turn) (tracks : Tracks from past) where
   lawful_allowed (Quoted good board) is = (is.0, tracks.least good board.count is.0 is.1)
   lawful_allowed (Refused fault) is = tt
   lawful_allowed Skipped is = tt
-  lawful_allowed Left is = tt
+  lawful_allowed Quit is = tt
 
   -- ---- one turn more
 
@@ -155,7 +155,7 @@ module _ (from : Places) (past : List Turn) (tracks : Tracks from past) where
       }
   tracks_after (Refused fault) wide here stays = same_after (Refused fault) from refl refl (λ good. refl) (λ good. refl) (omega arith) refl
   tracks_after Skipped wide here stays = same_after Skipped from refl refl (λ good. refl) (λ good. refl) (omega arith) refl
-  tracks_after Left wide here stays = absurd cc
+  tracks_after Quit wide here stays = absurd cc
 
 -- ---- all turns
 

@@ -1,7 +1,7 @@
 -- Line by line: what is ahead of a link before one of its lines, and behind it.
 use Rattle.std.proofs.Common.{◌≡◌, ℕ, suc, ◌≤◌, List, [], ◌∷◌, ◌++◌, true, false, length, map, refl, sym, ap, ◌∙◌, subst, arith, Result}
 use Rattle.std.specs.Prelude.{⊤}
-use Rattle.link_audit.specs.{LineGot, Request, RequestFault, Said, Dialect, Item, Asks, Overlong, IsItem, AreItems, Turn, Left, is_leaving, item_of, said_of, MayAsk, Subject, IsAsked, FitsReply, IsOver, IsWide, behind_turn, Remains, IsPossible, IsTaken, IsStuck, IsLeaving, IsEasier, IsAhead}
+use Rattle.link_audit.specs.{LineGot, Request, RequestFault, Said, Dialect, Item, Asks, Overlong, IsItem, AreItems, Turn, Quit, is_leaving, item_of, said_of, MayAsk, Subject, IsAsked, FitsReply, IsOver, IsWide, behind_turn, Remains, IsPossible, IsTaken, IsStuck, IsLeaving, IsEasier, IsAhead}
 use Rattle.tac_io.specs.declared.line_got.LineGot.TheVariants as gots
 use Rattle.link_audit.specs.declared.places.Places.{Places}
 use Rattle.link_audit.proofs.Walking.{wide_after, turn_first, turn_next, over_none, none_over}
@@ -249,7 +249,7 @@ module _ (dialect : Dialect) (s : Subject) where
         pub left_on : IsAhead dialect s from (line ∷ lines) (reply ∷ replies) (suc room) → (replies ≡ []) × IsOver s from
         left_on a =
             let o = open_heard reply replies a in
-            let last : o.turn ≡ Left = t.only o.turn o.possible in
+            let last : o.turn ≡ Quit = t.only o.turn o.possible in
             let end = o.left (ap is_leaving last) in
             (end.0, subst (λ (turn : Turn). IsOver s (behind_turn from turn)) last end.1)
 
@@ -259,19 +259,19 @@ module _ (dialect : Dialect) (s : Subject) where
           unanswered = [];
           later = lines;
           lines_are = refl;
-          heard = Left ∷ [];
+          heard = Quit ∷ [];
           unheard = [];
           heard_items = (p.asked, tt);
           unheard_items = tt;
           few = omega arith;
           replies_are = λ i. sym (p.fits refl) i ∷ none i;
-          remains = turn_first s from Left [] wide tt (λ leaves. refl) tt (over_none s from over);
+          remains = turn_first s from Quit [] wide tt (λ leaves. refl) tt (over_none s from over);
         }
 
       pub unheard_left : (IsOver s from → ⊥) → IsLeaving (IsAsked dialect false line) (FitsReply dialect false []) s from → IsAhead dialect s from (line ∷ lines) [] (suc room) → ⊥
       unheard_left more t a =
           let o = open_unheard a more in
-          let last : o.turn ≡ Left = t.only o.turn o.possible in
+          let last : o.turn ≡ Quit = t.only o.turn o.possible in
           more (subst (λ (turn : Turn). IsOver s (behind_turn from turn)) last (o.left (ap is_leaving last)).1)
 
     -- ---- no line at the front

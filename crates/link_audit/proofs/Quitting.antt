@@ -1,6 +1,6 @@
 -- Lines of which one may be read as `quit`, line by line.
 use Rattle.std.proofs.Common.{◌≡◌, ◌<◌, ◌≤◌, ◌↔◌, ◌⊎◌, ℕ, zero, suc, List, [], ◌∷◌, false, length, take, Result, Ok, inl, inr, sym, subst}
-use Rattle.link_audit.specs.{LINE_BYTES, ended_line, LineGot, Request, RequestFault, Dialect, Asks, IsItem, MayAsk, AsksToLeave, AsksOnly, HasNoLine, IsBehind, ReadsBy}
+use Rattle.link_audit.specs.{LINE_BYTES, ended_line, LineGot, Request, RequestFault, Dialect, Asks, IsItem, MayAsk, AsksToLeave, AsksOnly, HasNoLine, IsBehind, MayBeReadAs}
 use Rattle.tac_io.specs.declared.line_got.LineGot.TheVariants as gots
 use Rattle.line_protocol.specs.declared.asking.Request.TheVariants as requests
 use Rattle.line_protocol.specs.declared.saying.Said.TheVariants as said
@@ -19,7 +19,7 @@ module _ (dialect : Dialect) where
     pub long_stays : LINE_BYTES < length line → IsQuit (ended_line line) → ⊥
     long_stays many is = let here : IsQuit (gots.TooLong, []) = subst IsQuit (long_line dialect false [] line many) is in here
 
-    pub quits_so : (asked : Result Request RequestFault) → length line ≤ LINE_BYTES → ReadsBy dialect.may_answer false line asked → AsksOnly dialect false line [] asked
+    pub quits_so : (asked : Result Request RequestFault) → length line ≤ LINE_BYTES → MayBeReadAs dialect.may_answer false line asked → AsksOnly dialect false line [] asked
         → (asked ≡ Ok requests.Quit) ↔ IsQuit (ended_line line)
     quits_so asked few may only = (
       (λ is. subst IsQuit (sym (short_line dialect false [] line few)) (subst (MayAsk dialect.may_answer line) is may)),

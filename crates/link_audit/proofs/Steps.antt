@@ -1,18 +1,18 @@
 -- What a line led to, by what it was read as.
 use Rattle.std.proofs.Common.{◌≡◌, ◌<◌, ◌≤◌, ℕ, List, [], length, Bool, true, false, Ok, Err, refl, sym, ap, subst, le-leb, Result, if◌then◌else◌}
 use Rattle.std.proofs.lemmas.Bool.{lt-leb}
-use Rattle.link_audit.specs.{LINE_BYTES, ended_line, LineGot, Request, RequestFault, Said, Dialect, Item, Asks, Overlong, IsItem, Turn, Called, CallDenied, CashRead, CashDenied, Quoted, Refused, Skipped, Left, item_of, said_of, Subject, ReadsBy, IsAsked, FitsReply, IsPossible, IsEasier, IsTaken, IsStuck, IsStep, IsAnswerTo, AsksOnly, behind_turn}
+use Rattle.link_audit.specs.{LINE_BYTES, ended_line, LineGot, Request, RequestFault, Said, Dialect, Item, Asks, Overlong, IsItem, Turn, Called, CallDenied, CashRead, CashDenied, Quoted, Refused, Skipped, Quit, item_of, said_of, Subject, MayBeReadAs, IsAsked, FitsReply, IsPossible, IsEasier, IsTaken, IsStuck, IsStep, IsAnswerTo, AsksOnly, behind_turn}
 use Rattle.tac_io.specs.declared.line_got.LineGot.TheVariants as gots
 use Rattle.line_protocol.specs.declared.asking.Request.TheVariants as requests
 use Rattle.line_protocol.specs.declared.saying.Said.TheVariants as said
 use Rattle.link_audit.specs.declared.places.Places.{Places}
 use Rattle.link_audit.specs.declared.stepping.Step.{Step}
-use Rattle.link_audit.specs.declared.stepping.Step.TheVariants.{Taken, Leaves, Stuck}
+use Rattle.link_audit.specs.declared.stepping.Step.TheVariants.{Stays, Leaves, Stuck}
 use Rattle.link_audit.proofs.Easier.{all_stay, same_places}
 
 module _ (s : Subject) (from : Places) where
   pub step_of : (Asked : Item → Type 0) (Fits : Said → Type 0) (to : Places) (taken : Bool) (result : Step) → (taken ≡ true → IsTaken Asked Fits s from to) → (taken ≡ false → IsStuck Asked Fits s from)
-      → result ≡ (if taken then Taken else Stuck) → IsStep Asked Fits s from to result
+      → result ≡ (if taken then Stays else Stuck) → IsStep Asked Fits s from to result
   step_of Asked Fits to true result did not is = subst (IsStep Asked Fits s from to) (sym is) (did refl)
   step_of Asked Fits to false result did not is = subst (IsStep Asked Fits s from to) (sym is) (not refl)
 
@@ -28,7 +28,7 @@ module _ (s : Subject) (from : Places) where
       fault_only (Quoted g board) is = absurd (let asked = is.asked in cc)
       fault_only (Refused other) is = let same : other ≡ fault = (let asked = is.asked in cc) in ap Refused same
       fault_only Skipped is = absurd (let asked = is.asked in cc)
-      fault_only Left is = absurd (let asked = is.asked in cc)
+      fault_only Quit is = absurd (let asked = is.asked in cc)
 
       pub fault_taken : Fits (said.Fault fault) → IsTaken (λ item. item ≡ Asks (Err fault)) Fits s from from
       fault_taken fit = record {
@@ -54,7 +54,7 @@ module _ (s : Subject) (from : Places) where
       long_only (Quoted g board) is = absurd is.asked
       long_only (Refused fault) is = absurd is.asked
       long_only Skipped is = refl
-      long_only Left is = absurd is.asked
+      long_only Quit is = absurd is.asked
 
       pub long_taken : Fits said.TooLong → IsTaken (IsItem may_answer (gots.TooLong, [])) Fits s from from
       long_taken fit = record {
@@ -80,8 +80,8 @@ module _ (s : Subject) (from : Places) where
     from_other turn is = record { asked = back turn is.asked is.fits; fits = is.fits; allowed = is.allowed; next = is.next }
 
     pub step_as : (to : Places) (result : Step) → IsStep Asked Fits s from to result → IsStep Other Fits s from to result
-    step_as to Taken is = record { turn = is.turn; possible = to_other is.turn is.possible; stays = is.stays; to_is = is.to_is; easiest = λ other o. is.easiest other (from_other other o); stay = λ other o. is.stay other (from_other other o) }
-    step_as to Leaves is = (record { possible = to_other Left is.0.possible; only = λ other o. is.0.only other (from_other other o) }, is.1)
+    step_as to Stays is = record { turn = is.turn; possible = to_other is.turn is.possible; stays = is.stays; to_is = is.to_is; easiest = λ other o. is.easiest other (from_other other o); stay = λ other o. is.stay other (from_other other o) }
+    step_as to Leaves is = (record { possible = to_other Quit is.0.possible; only = λ other o. is.0.only other (from_other other o) }, is.1)
     step_as to Stuck is = λ other o. is other (from_other other o)
 
 -- what a turn was answered answers what it was asked
@@ -93,7 +93,7 @@ answers CashDenied asked is = let same : Ok requests.Cash ≡ asked = cc in subs
 answers (Quoted g board) asked is = let same : Ok (requests.Quote g) ≡ asked = cc in subst (λ (a : Result Request RequestFault). IsAnswerTo a (said.Quote board)) same tt
 answers (Refused fault) asked is = let same : Err fault ≡ asked = cc in subst (λ (a : Result Request RequestFault). IsAnswerTo a (said.Fault fault)) same refl
 answers Skipped asked is = absurd cc
-answers Left asked is = let same : Ok requests.Quit ≡ asked = cc in subst (λ (a : Result Request RequestFault). IsAnswerTo a said.Bye) same tt
+answers Quit asked is = let same : Ok requests.Quit ≡ asked = cc in subst (λ (a : Result Request RequestFault). IsAnswerTo a said.Bye) same tt
 
 module _ (dialect : Dialect) (heard : Bool) (reply line : List ℕ) where
   -- a line of at most 512 bytes
@@ -104,7 +104,7 @@ module _ (dialect : Dialect) (heard : Bool) (reply line : List ℕ) where
   long_line many = ap (λ (b : Bool). if b then (gots.Line, line) else (gots.TooLong, [])) (lt-leb (length line) LINE_BYTES many)
 
   module _ (s : Subject) (from to : Places) (result : Step) where
-    pub read_step : (asked : Result Request RequestFault) → length line ≤ LINE_BYTES → ReadsBy dialect.may_answer heard line asked → AsksOnly dialect heard line reply asked
+    pub read_step : (asked : Result Request RequestFault) → length line ≤ LINE_BYTES → MayBeReadAs dialect.may_answer heard line asked → AsksOnly dialect heard line reply asked
         → IsStep (λ item. item ≡ Asks asked) (FitsReply dialect heard reply) s from to result
         → IsStep (IsAsked dialect heard (ended_line line)) (FitsReply dialect heard reply) s from to result
     read_step asked few may only is =

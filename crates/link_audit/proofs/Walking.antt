@@ -3,7 +3,7 @@ use Rattle.std.proofs.Common.{◌≡◌, ◌≢◌, ℕ, ◌+◌, ◌<◌, ◌�
 use Rattle.std.specs.List.{cons_option}
 use Rattle.std.proofs.lemmas.List.Elements.{All-cons, All-nil, All-head, All-tail}
 use Rattle.std.proofs.lemmas.Bool.Decides.{eqb_tells}
-use Rattle.link_audit.specs.{Board, Trade, CashEntry, nets, Post, due_post, post_for, Request, logged_history, Turn, Called, CallDenied, CashRead, CashDenied, Quoted, Refused, Skipped, Left, made_at, cash_made, boards_shown, is_leaving, reading, Subject, entry_caller, cash_caller, rest_of, HasNext, calls_left, IsOver, IsNote, IsWide, behind, behind_turn, IsAllowed, Remains, ArePostedAt, IsNextInLog}
+use Rattle.link_audit.specs.{Board, Trade, CashEntry, nets, Post, due_post, post_for, Request, logged_history, Turn, Called, CallDenied, CashRead, CashDenied, Quoted, Refused, Skipped, Quit, made_at, cash_made, boards_shown, is_leaving, reading, Subject, entry_caller, cash_caller, rest_of, HasNext, calls_left, IsOver, IsNote, IsWide, behind, behind_turn, IsAllowed, Remains, ArePostedAt, IsNextInLog}
 use Rattle.auction_rules.specs.History.{Entry}
 use Rattle.trade_ledger.specs.declared.cash_calls.CashReply.TheVariants.{Done}
 use Rattle.link_audit.specs.declared.places.Places.{Places}
@@ -23,7 +23,7 @@ wide_after from CashDenied wide = wide
 wide_after from (Quoted good board) wide = record { next = wide.next; made = wide.made; seen = length-set from.seen good board.count ∙ wide.seen }
 wide_after from (Refused fault) wide = wide
 wide_after from Skipped wide = wide
-wide_after from Left wide = wide
+wide_after from Quit wide = wide
 
 module _ (s : Subject) where
   -- ---- a call at the front
@@ -151,7 +151,7 @@ module _ (s : Subject) where
   }
   turn_first from (Refused fault) ts wide here last next rest = record { calls = rest.calls; cash = rest.cash; boards = rest.boards; allowed = (here, last, rest.allowed) }
   turn_first from Skipped ts wide here last next rest = record { calls = rest.calls; cash = rest.cash; boards = rest.boards; allowed = (here, last, rest.allowed) }
-  turn_first from Left ts wide here last next rest = record { calls = rest.calls; cash = rest.cash; boards = rest.boards; allowed = (here, last, rest.allowed) }
+  turn_first from Quit ts wide here last next rest = record { calls = rest.calls; cash = rest.cash; boards = rest.boards; allowed = (here, last, rest.allowed) }
 
   -- and back
   pub record HasFirst (from : Places) (turn : Turn) (ts : List Turn) : Type 0 where
@@ -194,7 +194,7 @@ module _ (s : Subject) where
       record { allowed = all.allowed.0; last = all.allowed.1; next = tt; rest = record { calls = all.calls; cash = all.cash; boards = all.boards; allowed = all.allowed.2 } }
   turn_next from Skipped ts wide all =
       record { allowed = all.allowed.0; last = all.allowed.1; next = tt; rest = record { calls = all.calls; cash = all.cash; boards = all.boards; allowed = all.allowed.2 } }
-  turn_next from Left ts wide all =
+  turn_next from Quit ts wide all =
       record { allowed = all.allowed.0; last = all.allowed.1; next = tt; rest = record { calls = all.calls; cash = all.cash; boards = all.boards; allowed = all.allowed.2 } }
 
   -- ---- no turn

@@ -1,12 +1,12 @@
 -- What a log still has of an agent from given places on, and the turns that this leaves possible.
 use Rattle.std.specs.Prelude.{⊤, ◌≡◌, ℕ, ◌+◌, ◌<◌, ◌≤◌, List, [], ◌∷◌, ◌++◌, All, Bool, Option, MatchOption, Result, Ok, Err, Some, true, false, drop, length, map, replicate, slice_get, slice_index, slice_index_or, slice_set, take}
 use Rattle.std.specs.Global.{Vec}
-use Rattle.link_audit.specs.Prelude.{AGENT_CALLS, CASH_READINGS, GOODS, Board, Call, GameFile, Legal, setup_of, board_of, CashEntry, due_post, part_from, LineGot, Request, RequestFault, Said, LoggedGame, IsLogged, logged_history, HasDuePost, Dialect, Item, IsItem, AreItems, Turn, Called, CallDenied, CashRead, CashDenied, Quoted, Refused, Skipped, Left, asked_call, boards_shown, cash_made, is_leaving, item_of, made_at, reading, said_of}
+use Rattle.link_audit.specs.Prelude.{AGENT_CALLS, CASH_READINGS, GOODS, Board, Call, GameFile, Legal, setup_of, board_of, CashEntry, due_post, part_from, LineGot, Request, RequestFault, Said, LoggedGame, IsLogged, logged_history, HasDuePost, Dialect, Item, IsItem, AreItems, Turn, Called, CallDenied, CashRead, CashDenied, Quoted, Refused, Skipped, Quit, asked_call, boards_shown, cash_made, is_leaving, item_of, made_at, reading, said_of}
 use Rattle.auction_rules.specs.History.{Entry}
 use Rattle.line_protocol.specs.declared.saying.Said.TheVariants as said
 use Rattle.link_audit.specs.declared.places.Places.{Places}
 use Rattle.link_audit.specs.declared.stepping.Step.{Step}
-use Rattle.link_audit.specs.declared.stepping.Step.TheVariants.{Taken, Leaves, Stuck}
+use Rattle.link_audit.specs.declared.stepping.Step.TheVariants.{Stays, Leaves, Stuck}
 use Rattle.link_audit.specs.Links.{MayAsk}
 
 -- ---- what is left of a log
@@ -90,7 +90,7 @@ behind_turn from CashDenied = from
 behind_turn from (Quoted good board) = record from { seen = slice_set from.seen good board.count }
 behind_turn from (Refused fault) = from
 behind_turn from Skipped = from
-behind_turn from Left = from
+behind_turn from Quit = from
 
 -- the turn is allowed at these places
 abbrev pub IsAllowed : Places → Turn → Type 0
@@ -102,7 +102,7 @@ IsAllowed from CashDenied = from.readings ≡ CASH_READINGS
 IsAllowed from (Quoted good board) = (good < GOODS) × (slice_index from.seen good ≤ board.count)
 IsAllowed from (Refused fault) = ⊤
 IsAllowed from Skipped = ⊤
-IsAllowed from Left = ⊤
+IsAllowed from Quit = ⊤
 
 -- each turn is allowed after those before it, and the agent leaves by none but the last
 abbrev pub AreAllowed : Places → List Turn → Type 0
@@ -143,16 +143,16 @@ IsNextInLog s from CashDenied = ⊤
 IsNextInLog s from (Quoted good board) = IsNote s good (board.count, board)
 IsNextInLog s from (Refused fault) = ⊤
 IsNextInLog s from Skipped = ⊤
-IsNextInLog s from Left = ⊤
+IsNextInLog s from Quit = ⊤
 
 -- what a line may be read as; if its reply did not arrive, not as a failed memory allocation
-abbrev pub ReadsBy : (List ℕ → Result Request RequestFault → Type 0) → Bool → List ℕ → Result Request RequestFault → Type 0
-ReadsBy may_answer true = may_answer
-ReadsBy may_answer false = MayAsk may_answer
+abbrev pub MayBeReadAs : (List ℕ → Result Request RequestFault → Type 0) → Bool → List ℕ → Result Request RequestFault → Type 0
+MayBeReadAs may_answer true = may_answer
+MayBeReadAs may_answer false = MayAsk may_answer
 
 -- the item of a line whose reply arrived, or did not
 abbrev pub IsAsked : Dialect → Bool → LineGot × List ℕ → Item → Type 0
-IsAsked dialect heard line item = IsItem (ReadsBy dialect.may_answer heard) line item
+IsAsked dialect heard line item = IsItem (MayBeReadAs dialect.may_answer heard) line item
 
 -- if the reply arrived, it is the text of this answer in this form of lines
 abbrev pub FitsReply : Dialect → Bool → List ℕ → Said → Type 0
@@ -195,12 +195,12 @@ IsStuck Asked Fits s from = (turn : Turn) → IsPossible Asked Fits s from turn 
 
 -- the agent may leave, and nothing else is possible
 pub record IsLeaving (Asked : Item → Type 0) (Fits : Said → Type 0) (s : Subject) (from : Places) : Type 0 where
-  pub possible : IsPossible Asked Fits s from Left
-  pub only : (other : Turn) → IsPossible Asked Fits s from other → other ≡ Left
+  pub possible : IsPossible Asked Fits s from Quit
+  pub only : (other : Turn) → IsPossible Asked Fits s from other → other ≡ Quit
 
 -- the step of a line
 abbrev pub IsStep : (Item → Type 0) → (Said → Type 0) → Subject → Places → Places → Step → Type 0
-IsStep Asked Fits s from to Taken = IsTaken Asked Fits s from to
+IsStep Asked Fits s from to Stays = IsTaken Asked Fits s from to
 IsStep Asked Fits s from to Leaves = IsLeaving Asked Fits s from × (to ≡ from)
 IsStep Asked Fits s from to Stuck = IsStuck Asked Fits s from
 
@@ -212,7 +212,7 @@ IsAnswerTo (Err fault) answer = answer ≡ said.Fault fault
 
 -- the line asks only this: nothing else that it may be read as has an answer that fits the reply, if that arrived
 abbrev pub AsksOnly : Dialect → Bool → List ℕ → List ℕ → Result Request RequestFault → Type 0
-AsksOnly dialect heard line reply asked = (other : Result Request RequestFault) (answer : Said) → ReadsBy dialect.may_answer heard line other
+AsksOnly dialect heard line reply asked = (other : Result Request RequestFault) (answer : Said) → MayBeReadAs dialect.may_answer heard line other
     → IsAnswerTo other answer → FitsReply dialect heard reply answer → other ≡ asked
 
 -- ---- what is left of a link

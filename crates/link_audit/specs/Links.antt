@@ -1,4 +1,4 @@
--- When a log is right about one link, by the bytes that it gave and those that it was sent. This project defines the two relations.
+-- When a log is right about one link, by the bytes that it gave and those that it was sent. The two relations are our own.
 use Rattle.std.specs.Prelude.{◌≡◌, ◌≢◌, ℕ, ◌-◌, ◌==◌, ◌<◌, ◌≤◌, ◌⊎◌, if◌then◌else◌, List, [], ◌∷◌, ◌++◌, Contains, Result, Ok, Err, Some, true, false, length, map, slice_get, take, count_by}
 use Rattle.std.specs.List.{list_any}
 use Rattle.link_audit.specs.Prelude.{LINK_BYTES, SESSION_LINES, GoesOn, GameFile, all_answers, LinkState, LineGot, Cause, Verdict, Seated, Request, RequestFault, Said, IsOneLine, ClosedGame, LoggedGame, auctions_in, gives_seat, Dialect, verdict_of, AreItems, Asks, IsItem, IsTranscript, Turn, AreLawful, has_left, item_of, said_of, welcome_lines, welcome_text, free_seats, seats_given, HostedGame, hosted_game, IsSeated, PlayedGame}

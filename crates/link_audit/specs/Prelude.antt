@@ -40,7 +40,7 @@ pub use Rattle.agent_gate.specs.Served.{Session}
 pub use Rattle.agent_gate.specs.SessionEnds.{reply_line}
 pub use Rattle.agent_gate.specs.Sessions.{lines_of}
 pub use Rattle.agent_gate.specs.Transcript.{IsTranscript}
-pub use Rattle.agent_gate.specs.Turns.{AreLawful, CallDenied, Called, CashDenied, CashRead, IsLawfulTurn, IsNotBehind, Left, Quoted, Refused, Skipped, Turn, asked_call, boards_shown, cash_by, cash_made, entry_made, has_left, is_leaving, is_reading, item_of, made_at, reading, said_of, shown_by, shown_length}
+pub use Rattle.agent_gate.specs.Turns.{AreLawful, CallDenied, Called, CashDenied, CashRead, IsLawfulTurn, IsNotBehind, Quit, Quoted, Refused, Skipped, Turn, asked_call, boards_shown, cash_by, cash_made, entry_made, has_left, is_leaving, is_reading, item_of, made_at, reading, said_of, shown_by, shown_length}
 pub use Rattle.agent_gate.specs.Welcome.{welcome_lines, welcome_text}
 pub use Rattle.json_dialect.specs.JsonReplies.{fault_text, json_place, json_point_text, json_text, openness, pair_text, points_text, quote_members, reply_members}
 pub use Rattle.log_text.specs.LoggedGames.{IsLogged, IsLoggedCash, IsLoggedCashEntry, LoggedGame}

@@ -119,13 +119,13 @@ pub record IsAccounted (game : GameFile) (dialect : Dialect) (log : LoggedGame) 
 
 -- the agent did not leave by one of so many lines that were answered, behind which these lines stand
 abbrev pub HasStayed : Dialect → ℕ → List (LineGot × List ℕ) → Ending → Type 0
-HasStayed dialect answered lines endings.Left = ⊥
+HasStayed dialect answered lines endings.Quit = ⊥
 HasStayed dialect answered lines (endings.Open full over quits) =
     ((full ≡ true) ↔ (answered ≡ SESSION_LINES)) × ((over ≡ true) ↔ HasNoLine lines) × ((quits ≡ true) ↔ AsksToLeave dialect (take (SESSION_LINES - answered) lines))
 
 -- what an account shows of the end of its session
 abbrev pub IsEnding : (dialect : Dialect) {game : GameFile} {log : LoggedGame} {agent : ℕ} {asked said : List ℕ} → AccountsFor game dialect log agent asked said → Ending → Type 0
-IsEnding dialect account endings.Left = has_left account.heard ≡ true
+IsEnding dialect account endings.Quit = has_left account.heard ≡ true
 IsEnding dialect account (endings.Open full over quits) =
     (has_left account.heard ≡ false) × HasStayed dialect (length account.heard) (account.unanswered ++ account.later) (endings.Open full over quits)
 
@@ -135,13 +135,13 @@ EndsSo game dialect log asked said ending = (agent : ℕ) (account : AccountsFor
 
 -- a record that shows this allows this cause
 abbrev pub MayEndBy : Cause → Ending → List ℕ → Type 0
-MayEndBy causes.Quit endings.Left asked = ⊤
+MayEndBy causes.Quit endings.Quit asked = ⊤
 MayEndBy causes.Quit (endings.Open full over quits) asked = quits ≡ true
 MayEndBy causes.End (endings.Open full over quits) asked = full ≡ false
 MayEndBy causes.ReadFault (endings.Open full over quits) asked = full ≡ false
 MayEndBy causes.WriteFault (endings.Open full over quits) asked = (full ≡ false) × (over ≡ false)
 MayEndBy causes.Budget (endings.Open full over quits) asked = MayUseUp asked
-MayEndBy cause endings.Left asked = ⊥
+MayEndBy cause endings.Quit asked = ⊥
 
 -- the head of a log has a cause for this agent by which its session may have ended
 abbrev pub HasCauseOf : LoggedGame → List ℕ → Ending → ℕ → Type 0

@@ -13,8 +13,8 @@ use tac_base::limits::{LINK_BYTES, SESSION_LINES};
 /// What the record of a link shows of the end of its session.
 #[derive(Clone, Copy, Debug)]
 pub(crate) enum Ending {
-    /// The agent left by a line that was answered.
-    Left,
+    /// The agent quit by a line that was answered.
+    Quit,
     /// It did not.
     Open {
         /// As many lines were answered as a session may have.
@@ -48,19 +48,19 @@ fn may_end_by(cause: Cause, ending: &Ending, asked: &[u8]) -> bool
 {
     match cause {
         Cause::Quit => match ending {
-            Ending::Left => true,
+            Ending::Quit => true,
             Ending::Open { quits, .. } => *quits,
         },
         Cause::End | Cause::ReadFault => match ending {
-            Ending::Left => false,
+            Ending::Quit => false,
             Ending::Open { full, .. } => !*full,
         },
         Cause::WriteFault => match ending {
-            Ending::Left => false,
+            Ending::Quit => false,
             Ending::Open { full, over, .. } => !*full && !*over,
         },
         Cause::Budget => match ending {
-            Ending::Left => false,
+            Ending::Quit => false,
             Ending::Open { .. } => may_use_up(asked),
         },
     }

@@ -91,7 +91,7 @@ pub(crate) fn hear<D: KnownDialect>(
         let reply = &said[place..reply_end];
         let line = &asked[at..end];
         match step_line(log, boards, agent, &mut places, dialect, line, true, reply)? {
-            Step::Taken => {}
+            Step::Stays => {}
             Step::Leaves => {
                 let more = line_end(said, reply_end + 1).is_some();
                 return Ok(leave(log, agent, &places, more, lines));

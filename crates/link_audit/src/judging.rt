@@ -96,11 +96,11 @@ fn finish<D: KnownDialect>(
 
 /// The result for a link that differs here.
 fn unlike(difference: Difference) -> Accounted
-    ensures { result ≡ record { vouching = Vouching.Not difference; ending = Ending.Left } }
+    ensures { result ≡ record { vouching = Vouching.Not difference; ending = Ending.Quit } }
 {
     Accounted {
         vouching: Vouching::Not(difference),
-        ending: Ending::Left,
+        ending: Ending::Quit,
     }
 }
 
@@ -143,7 +143,7 @@ fn account<D: KnownDialect>(
         }
         Heard::Gone { lines } => Ok(Accounted {
             vouching: vouched(agent, lines, 0, memory, ended),
-            ending: Ending::Left,
+            ending: Ending::Quit,
         }),
         Heard::Not(difference) => Ok(unlike(difference)),
     }

@@ -1,6 +1,6 @@
 // Forms of lines that show what each line requested.
 ghost use Rattle.std.specs.Prelude.{◌≡◌, ◌↔◌, IfOk, IsTrue, codes};
-ghost use Rattle.link_audit.specs.{AsksOnly, ReadsBy};
+ghost use Rattle.link_audit.specs.{AsksOnly, MayBeReadAs};
 
 use agent_gate::{Dialect, LineDialect};
 use json_dialect::JsonDialect;
@@ -16,7 +16,7 @@ pub trait KnownDialect: Dialect {
         heard: bool,
         reply: &[u8],
     ) -> Result<Result<Request, RequestFault>, Memory>
-        ensures may { IfOk result (λ asked. ReadsBy (Self.form self.now).may_answer heard line.now asked) }
+        ensures may { IfOk result (λ asked. MayBeReadAs (Self.form self.now).may_answer heard line.now asked) }
         ensures only { IfOk result (AsksOnly (Self.form self.now) heard line.now reply.now) };
 }
 

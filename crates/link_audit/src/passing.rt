@@ -76,7 +76,7 @@ pub(crate) fn pass<D: KnownDialect>(
             false,
             &[],
         )? {
-            Step::Taken => {}
+            Step::Stays => {}
             Step::Leaves => return Ok(Err(left)),
             Step::Stuck => return Ok(Err(left)),
         }

@@ -17,8 +17,8 @@ use tac_base::{Agent, Board, Memory};
 #[derive(Clone, Copy, Debug, PartialEq, Eq)]
 pub(crate) enum Step {
     /// A turn after which the agent stays.
-    Taken,
-    /// The agent left.
+    Stays,
+    /// A turn by which the agent leaves.
     Leaves,
     /// The log has no turn for the line.
     Stuck,
@@ -26,9 +26,9 @@ pub(crate) enum Step {
 
 /// The step of a line after which the agent stays, if it has a turn.
 fn step_if(taken: bool) -> Step
-    ensures { result ≡ (if taken then Step.Taken else Step.Stuck) }
+    ensures { result ≡ (if taken then Step.Stays else Step.Stuck) }
 {
-    if taken { Step::Taken } else { Step::Stuck }
+    if taken { Step::Stays } else { Step::Stuck }
 }
 
 /// Takes a request.

@@ -1,4 +1,4 @@
--- The 28 goods as seats, rooms and tickets. The goods are those of the game description; their numbers are our own.
+-- The 28 goods as seats, rooms and tickets. The goods are those of the game description; their numbers follow TAC, from memory.
 use Rattle.std.specs.Prelude.{ℕ, ◌+◌, ◌-◌, ◌/◌, ◌%◌, nat_lt, if◌then◌else◌}
 use Rattle.tac_base.specs.Goods.{inbound_flight, outbound_flight, hotel_night, ticket_night}
 

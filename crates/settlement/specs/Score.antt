@@ -1,4 +1,4 @@
--- The score of an agent: by the game description its best total and its cash, and by our own rule, modelled on TAC, a penalty for each
+-- The score of an agent: by the game description its best total and its cash, and after TAC, from memory, a penalty for each
 -- ticket that it sold but does not have.
 use Rattle.std.specs.Prelude.{ℕ, ◌+◌, ◌*◌, List, ℤ, pos, negsuc, ◌+ℤ◌, ◌-ℤ◌, drop, sum_by}
 

@@ -1,4 +1,4 @@
--- The numbers of goods, parties and callers, which this project defines.
+-- The numbers of goods, after TAC and from memory, and of parties and callers, which are our own.
 use Rattle.std.specs.Prelude.{ℕ, ◌+◌, ◌-◌, ◌*◌, List, [], ◌∷◌}
 
 -- the inbound flight of a day, 1 to 4

@@ -1,10 +1,14 @@
 -- Reading a file of a command. The read has a fault exactly if the count of faults of the files rose. An allocation may fail at any time.
-use Rattle.std.specs.Prelude.{◌≡◌, ℕ, ◌⊎◌, List, Option, Ok, Err}
-use Rattle.tac_commands.specs.Prelude.{Rose, IsFile, FilesState, GameFault}
+use Rattle.std.specs.Prelude.{◌≡◌, ℕ, ◌+◌, ◌<◌, ◌≤◌, ◌⊎◌, List, Option, Ok, Err, IfSome, length}
+use Rattle.tac_commands.specs.Prelude.{FILE_NAMES, NAME_BYTES, Rose, IsFile, FilesState, GameFault}
 use Rattle.tac_commands.specs.declared.file_kinds.FileKind.{FileKind}
 use Rattle.tac_commands.specs.declared.refusals.Refusal.{Refusal}
 use Rattle.tac_commands.specs.declared.refusals.Refusal.TheVariants.{ReadFault, Memory}
 use Rattle.tac_commands.specs.FileKinds.{Value, read_as, refusal_of}
+
+-- if the names are known, two more files may be selected, and their names are short enough
+abbrev pub MaySelectTwo : FilesState → List ℕ → List ℕ → Type 0
+MaySelectTwo files first second = IfSome files.names (λ names. (length names + 1 < FILE_NAMES) × (length first ≤ NAME_BYTES) × (length second ≤ NAME_BYTES))
 
 -- the bytes of each name, if they are known
 abbrev pub Content : Type 0

@@ -31,7 +31,7 @@ pub use Rattle.tac_commands.specs.Commands.{Audit, Batch, BatchCommand, Command,
 pub use Rattle.tac_commands.specs.Words.{IsShortBatch, IsWithinBatch}
 pub use Rattle.tac_commands.specs.Outcomes.{Done, Lapsed, Outcome, Refused, Stopped, Unread, Unsound, Unwritten, refusal_end}
 pub use Rattle.tac_commands.specs.Steps.{Reads, file, EndsWith, Hears, Judges, NamedFile}
-pub use Rattle.tac_commands.specs.Files.{Content, HasFault, IsFileRead, IsNotRead}
+pub use Rattle.tac_commands.specs.Files.{Content, HasFault, IsFileRead, IsNotRead, MaySelectTwo}
 pub use Rattle.tac_commands.specs.HeardFiles.{IsScriptOutcome, IsGiven, IsScriptHeard, IsUnheard}
 pub use Rattle.tac_commands.specs.Outsides.{outside_of}
 pub use Rattle.tac_commands.specs.SoundTexts.{EndsInSoundLog, IsOnlyGameIn, log_of_game}

@@ -1,4 +1,5 @@
--- Which words of a command line ask for the service of a game, and the forms of lines. The command line is our own.
+-- Which words of a command line ask for the service of a game, and how a line of an agent is read and a reply written in each form.
+-- Both are our own rules.
 use Rattle.std.specs.Prelude.{◌≡◌, ℕ, ◌⊎◌, ◌&&◌, nat_le, List, [], ◌∷◌, Option, Some, None, Err, String, if◌then◌else◌, codes, map, string_bytes, bytes_eq}
 use Rattle.std.specs.declared.alloc.Global.{Global}
 use Rattle.tac_base.specs.declared.limits.TheConstants.{PACE, PORT}

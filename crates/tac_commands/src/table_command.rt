@@ -1,6 +1,6 @@
 // Writes the standings of the teams of several games.
 ghost use Rattle.std.specs.Prelude.{◌≡◌, ◌+◌, ◌*◌, ◌/◌, ◌≤◌, ◌<◌, ℕ, List, [], ◌∷◌, length, string_len, All, IfErr, IfOk, IfSome, OnOk};
-ghost use Rattle.tac_commands.specs.{WritesDue, table_steps, in_pairs, EndsAtPair, TableGoesOn, HasAdded, IsAdded, outcome_of};
+ghost use Rattle.tac_commands.specs.{MaySelectTwo, WritesDue, table_steps, in_pairs, EndsAtPair, TableGoesOn, HasAdded, IsAdded, outcome_of};
 ghost use Rattle.tac_commands.specs.Prelude.{FILE_NAMES, NAME_BYTES, known_then, GameFile, LoggedGame, IsSound, IsPrinted, AreStandingsOf};
 ghost use Rattle.tac_commands.specs.Services.{bytes_of_words};
 ghost use Rattle.tac_commands.specs.Commands as commands;
@@ -63,7 +63,7 @@ fn add_pair<F: Files>(
     pair: u8,
     files: &mut F,
 ) -> Result<Standings, TableFault>
-    requires names { IfSome (F.state files.old).names (λ names. (length names + 1 < FILE_NAMES) × (length game.now ≤ NAME_BYTES) × (length log.now ≤ NAME_BYTES)) }
+    requires names { MaySelectTwo (F.state files.old) game.now log.now }
     requires few { standings.games < TABLE_GAMES }
     ensures added { IfOk result (λ after. IsAdded (F.state files.old).content game.now log.now standings after) }
     ensures games { IfOk result (λ after. after.games ≡ standings.games + 1) }

@@ -1,6 +1,6 @@
 // Judges the log of a game by the game, and then by one link.
 ghost use Rattle.std.specs.Prelude.{◌≡◌, ◌+◌, ◌<◌, ◌≤◌, [], ◌∷◌, ◌++◌, codes, length, IfSome};
-ghost use Rattle.tac_commands.specs.{FILE_NAMES, LINK_BYTES, NAME_BYTES, MaySelect, IsSound, dialect_in, link_file_steps, link_steps, vouch_steps, EndsBatch, EndsSteps, EndsUnasked, IsShortBatch, Reads, file};
+ghost use Rattle.tac_commands.specs.{FILE_NAMES, LINK_BYTES, NAME_BYTES, MaySelect, MaySelectTwo, IsSound, dialect_in, link_file_steps, link_steps, vouch_steps, EndsBatch, EndsSteps, EndsUnasked, IsShortBatch, Reads, file};
 ghost use Rattle.tac_commands.specs.Commands as commands;
 ghost use Rattle.tac_commands.specs.declared.words.BatchCommand.TheVariants as batch;
 ghost use Rattle.tac_commands.specs.declared.file_kinds.FileKind.TheVariants.{Bytes, Log as LogKind};
@@ -171,7 +171,7 @@ fn judge_files<D: KnownDialect, F: Files, K: Sink>(
     out: &mut K,
 ) -> End
     requires sound { IsSound game.now log.now }
-    requires names { IfSome (F.state files.old).names (λ names. (length names + 1 < FILE_NAMES) × (length asked.now ≤ NAME_BYTES) × (length said.now ≤ NAME_BYTES)) }
+    requires names { MaySelectTwo (F.state files.old) asked.now said.now }
     ensures { EndsSteps (link_file_steps game.now (D.form dialect.now) log.now asked.now said.now)
         (F.state files.old) (F.state files.new) (K.state out.old) (K.state out.new) result }
 {
@@ -202,7 +202,7 @@ fn judge_form<F: Files, K: Sink>(
     out: &mut K,
 ) -> End
     requires sound { IsSound game.now log.now }
-    requires names { IfSome (F.state files.old).names (λ names. (length names + 1 < FILE_NAMES) × (length asked.now ≤ NAME_BYTES) × (length said.now ≤ NAME_BYTES)) }
+    requires names { MaySelectTwo (F.state files.old) asked.now said.now }
     ensures { EndsSteps (link_file_steps game.now (dialect_in form) log.now asked.now said.now)
         (F.state files.old) (F.state files.new) (K.state out.old) (K.state out.new) result }
 {
@@ -234,7 +234,7 @@ fn vouch_log<F: Files, K: Sink>(
     files: &mut F,
     out: &mut K,
 ) -> End
-    requires { IfSome (F.state files.old).names (λ names. (length names + 1 < FILE_NAMES) × (length asked.now ≤ NAME_BYTES) × (length said.now ≤ NAME_BYTES)) }
+    requires { MaySelectTwo (F.state files.old) asked.now said.now }
     ensures { EndsSteps (vouch_steps game.now (dialect_in form) asked.now said.now log.now)
         (F.state files.old) (F.state files.new) (K.state out.old) (K.state out.new) result }
 {

@@ -11,7 +11,7 @@ ended_line line = if nat_le (length line) LINE_BYTES then (Line, line) else (Too
 
 -- What the bytes give, one answer after the other. `line` has the bytes since the last line end, and at most `room` of `bytes` may be
 -- taken. The bytes are cut at each byte 10. The list ends with `Budget` if `room` is used up, which is tested first, or else with
--- `End`, where bytes without a line end are dropped. It never has `Failed`, since it depends on the bytes alone.
+-- `End`: the bytes give no further line, and those without a line end are dropped. It never has `Failed`, which no bytes can show.
 -- Row: lines_have_ends_and_fit_the_budget (worked_rows/proofs/Links.antt)
 abbrev pub all_answers : List ℕ → ℕ → List ℕ → List (LineGot × List ℕ)
 all_answers line zero bytes = (Budget, []) ∷ []

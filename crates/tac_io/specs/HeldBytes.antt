@@ -24,7 +24,7 @@ pub record Gives (bytes bytes' : List ℕ) (before after : LinkState) (n : ℕ) 
   pub end : n ≡ 0 → IsAtEnd before.left
 
 -- A read gave at most this many bytes, or failed and changed nothing.
-abbrev pub Fills : {E : Type 0} → List ℕ → List ℕ → LinkState → LinkState → ℕ → Result ℕ E → Type 0
-Fills bytes bytes' before after most result = MatchResult result
+abbrev pub ReadsMore : {E : Type 0} → List ℕ → List ℕ → LinkState → LinkState → ℕ → Result ℕ E → Type 0
+ReadsMore bytes bytes' before after most result = MatchResult result
     (λ n. (n ≤ most) × (length bytes' ≤ 1024) × Gives bytes bytes' before after n)
     (λ _. (bytes' ≡ bytes) × (after.taken ≡ before.taken) × (after.left ≡ before.left))

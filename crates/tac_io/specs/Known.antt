@@ -12,12 +12,12 @@ known_then known more = option_map (λ xs. xs ++ more) known
 abbrev pub then_known : {A : Type 0} → List A → Option (List A) → Option (List A)
 then_known more known = option_map (λ xs. more ++ xs) known
 
--- If it is known what is left, then nothing is left.
+-- Nothing is left, if it is known what is left.
 abbrev pub IsAtEnd : {A : Type 0} → Option (List A) → Type 0
 IsAtEnd known = IfSome known (λ xs. xs ≡ [])
 
 -- A read gave n bytes, at most `most`: those with which `bytes` begins. It took them from the front of what was left, and gave none
--- only if nothing was left. A failed read took nothing. That `bytes` has at least n bytes is said elsewhere.
+-- only if nothing was left. A failed read took nothing. That `bytes` has n bytes or more is a clause of its own where this is cited.
 abbrev pub ReadsAtMost : {E : Type 0} → ℕ → Option (List ℕ) → Option (List ℕ) → Result ℕ E → List ℕ → Type 0
 ReadsAtMost most before after result bytes = MatchResult result
     (λ n. (n ≤ most) × (before ≡ then_known (take n bytes) after) × (n ≡ 0 → IsAtEnd before))
@@ -45,7 +45,7 @@ abbrev pub failed_at : Option (List ℕ) → Option (List ℕ) → Option (List 
 failed_at None failures = None
 failed_at (Some bytes) failures = known_then failures (length bytes ∷ [])
 
--- A call that failed adds a failure after these bytes. Any other call adds none.
+-- A call that failed adds a failure, noted as the number of these bytes. Any other call adds none.
 abbrev pub NotesFailure : {T E : Type 0} → Option (List ℕ) → Option (List ℕ) → Option (List ℕ) → Result T E → Type 0
 NotesFailure bytes before after result = MatchResult result (λ _. after ≡ before) (λ _. after ≡ failed_at bytes before)
 

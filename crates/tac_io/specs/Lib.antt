@@ -21,7 +21,7 @@ pub mod AllAnswers
 pub mod AnswersInTurn
 pub mod Lines
 pub use Rattle.tac_io.specs.Counts.{HasCause, Rose}
-pub use Rattle.tac_io.specs.HeldBytes.{Fills, Gives, Held, LinkPlace}
+pub use Rattle.tac_io.specs.HeldBytes.{Gives, Held, LinkPlace, ReadsMore}
 pub use Rattle.tac_io.specs.Known.{GivesNext, IsAtEnd, NotesFailure, Reads, ReadsAtMost, Takes, failed_at, known_then, then_known}
 pub use Rattle.tac_io.specs.LineAnswers.{Answers, HasLineCause, IsDecided, IsKind, IsNext}
 pub use Rattle.tac_io.specs.LineText.{BeginsWithLine, has_end, line_length}

@@ -1,6 +1,6 @@
 // A buffer with the last line and the unread bytes: those in no line yet.
 ghost use Rattle.std.specs.Prelude.{◌≡◌, [], ◌+◌, ◌<◌, ◌≤◌, IfSome, IfNone, IfOk, length, take, drop, false, MatchResult};
-ghost use Rattle.tac_io.specs.{HasCause, Fills, has_end, BeginsWithLine, SendsNothing, known_then, NotesFailure, ReadsAtMost};
+ghost use Rattle.tac_io.specs.{HasCause, ReadsMore, has_end, BeginsWithLine, SendsNothing, known_then, NotesFailure, ReadsAtMost};
 
 use crate::{Failed, Link};
 use std::marker::Model;
@@ -120,7 +120,7 @@ impl Buffer {
     pub(crate) fn fill<L: Link>(&mut self, link: &mut L, most: usize) -> Result<usize, Failed>
         requires most { 0 < most }
         requires room { length self.old.unread < 1024 }
-        ensures bytes { Fills self.old.unread self.new.unread (L.state link.old) (L.state link.new) most result }
+        ensures bytes { ReadsMore self.old.unread self.new.unread (L.state link.old) (L.state link.new) most result }
         ensures cause { HasCause (L.state link.old).reads (L.state link.new).reads result }
         ensures noted { NotesFailure (L.state link.old).taken (L.state link.old).read_failures (L.state link.new).read_failures result }
         ensures sent { SendsNothing (L.state link.old) (L.state link.new) }

@@ -7,7 +7,7 @@ pub enum LineGot {
     Line,
     /// A line of more than 512 bytes before its end. All of it was skipped.
     TooLong,
-    /// The link is at its end. Bytes without a line end are dropped.
+    /// A read gave no byte: there is nothing more to read. Bytes without a line end are dropped.
     End,
     /// A read failed, and the link counted the fault.
     Failed,

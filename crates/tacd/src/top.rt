@@ -14,8 +14,9 @@ use tac_commands::{run_words, service_asked};
 use tac_io::{Files, Links, Sink, Ticker};
 
 /// Runs the command of a command line, given by the words after the program's name, over the files,
-/// the sink, the links and the ticker of the outside. If the names of the selected files are known,
-/// there are none yet, and each word has at most 1024 bytes.
+/// the sink, the links and the ticker of the outside. As far as is known, no file was selected, no
+/// port was asked for and no tick was waited for before. Where the names of the selected files are
+/// known, each word has at most 1024 bytes.
 pub fn tac<R: Threads + Sync + Wait + Clock, F: Files, K: Sink, N: Links, T: Ticker + Send>(
     rt: &R,
     alloc: Global,

@@ -1,7 +1,7 @@
 -- The calls of a ticket auction follow the rules.
 use Rattle.std.proofs.Common.{◌≡◌, ℕ, ◌<◌, ◌≤◌, Bool, true, false, List, [], ◌∷◌, length, map, set, get_or, refl, sym, ap, ◌∙◌, subst, Option, Some, None, not, ◌||◌, ◌==◌, if◌then◌else◌, ◌&&◌, sum_by}
 use Rattle.std.specs.List.{list_any}
-use Rattle.ticket_book.specs.{Point, Trade, Bid, Withdraw, Close, Placed, clock, units_of, bought, sold, Setup, Tickets as TicketRules, Entry, is_closed, last_bid, last_bids, is_own, pair_trade, ticket_trades, stand, left, left_of, refusal, crosses_itself, has_standing, is_wrong_caller, is_wrong_place, entry_of, admitted_trades, IsLawful, highest_buy, lowest_sell, board, Follows, SortedSides, both, HaveSame, others, after_bid, TicketBook, TicketsStandFor}
+use Rattle.ticket_book.specs.{Point, Trade, Bid, Withdraw, Close, Placed, clock, units_of, bought, sold, Setup, Tickets as TicketRules, Entry, is_closed, last_bid, last_bids, is_own, pair_trade, ticket_trades, stand, standing_points_of, left_of, refusal, crosses_itself, has_standing, is_wrong_caller, is_wrong_place, entry_of, admitted_trades, IsLawful, highest_buy, lowest_sell, board, Follows, SortedSides, both, HaveSame, others, after_bid, TicketBook, TicketsStandFor}
 use Rattle.tac_base.specs.declared.calls.Board.{Board}
 use Rattle.tac_base.specs.declared.calls.Call.{Call}
 use Rattle.tac_base.specs.declared.calls.Reply.{Reply}
@@ -143,11 +143,11 @@ module _ (setup : Setup) (past : List Entry) (book : TicketBook) (stood : Ticket
 
   -- ---- what an agent has
 
-  pub owns : (agent : ℕ) (d bid : Option Placed) → agent ≤ 7 → bid ≡ get_or book.bids agent d → left_of (both book.sides) bid ≡ left setup.rules past agent
+  pub owns : (agent : ℕ) (d bid : Option Placed) → agent ≤ 7 → bid ≡ get_or book.bids agent d → left_of (both book.sides) bid ≡ standing_points_of setup.rules past agent
   owns agent d bid le at =
       left_of_alike bid (both book.sides) (stand TicketRules past) stood.units
       ∙ ap (left_of (stand TicketRules past)) (at ∙ ap (λ (bs : List (Option Placed)). get_or bs agent d) stood.bids ∙ agents_get agent (λ (a : ℕ). last_bid a past) d le)
-      ∙ ap (λ (rules : Rules). left rules past agent) (sym stood.rules)
+      ∙ ap (λ (rules : Rules). standing_points_of rules past agent) (sym stood.rules)
 
   -- ---- what is shown
 

@@ -10,7 +10,7 @@ pub use Rattle.auction_rules.specs.Board.{board, highest_buy, lowest, lowest_sel
 pub use Rattle.auction_rules.specs.Effects.{bought, sold}
 pub use Rattle.auction_rules.specs.Follows.{Follows}
 pub use Rattle.auction_rules.specs.History.{Entry, is_admission, is_closed, is_own}
-pub use Rattle.auction_rules.specs.BookStanding.{last_bid, bid_units, last_bids, units_of_last, gone, left, stand, left_of}
+pub use Rattle.auction_rules.specs.BookStanding.{last_bid, bid_units, last_bids, units_of_last, gone, standing_points_of, stand, left_of}
 pub use Rattle.auction_rules.specs.BookRules.{IsLawful, admitted_trades, entry_of, has_standing, refusal}
 pub use Rattle.auction_rules.specs.Refusals.{crosses_itself, is_wrong_caller, is_wrong_place}
 pub use Rattle.auction_rules.specs.Setup.{Setup}

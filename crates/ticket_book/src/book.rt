@@ -1,6 +1,6 @@
 ghost use Rattle.std.specs.Prelude.{◌≡◌, ◌≤◌, ◌||◌, [], ◌∷◌, length, List, IsTrue, ◌<◌, ◌≢◌, All, true, false, not, map, filter, IsPermutation};
 ghost use Rattle.tac_base.specs.Kinds.{kind_of};
-ghost use Rattle.ticket_book.specs.{clock, Setup, Entry, left, stand, shown_unit, IsLawful, entry_of, board, is_wrong_caller, is_wrong_place, Follows, Spends, IsSideInOrder, TicketsStandFor};
+ghost use Rattle.ticket_book.specs.{clock, Setup, Entry, standing_points_of, stand, shown_unit, IsLawful, entry_of, board, is_wrong_caller, is_wrong_place, Follows, Spends, IsSideInOrder, TicketsStandFor};
 
 use crate::refusals::crosses_itself;
 use crate::remains::left_of;
@@ -95,7 +95,7 @@ impl Tickets {
 
     /// Returns the standing points of an agent, in the order of its bid; none in a closed auction.
     pub fn own(&self, agent: Agent) -> Left
-        ensures left { (setup : Setup) (past : List Entry) → TicketsStandFor self.now setup past → result ≡ left setup.rules past agent }
+        ensures left { (setup : Setup) (past : List Entry) → TicketsStandFor self.now setup past → result ≡ standing_points_of setup.rules past agent }
         // Reading changes nothing.
         ensures stands { (setup : Setup) (past : List Entry) → TicketsStandFor self.now setup past →
             TicketsStandFor self.now setup (entry_of setup past agent Call.Own ∷ past) }

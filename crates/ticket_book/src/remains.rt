@@ -7,11 +7,12 @@ ghost use Rattle.ticket_book.specs.Remains as remains;
 use crate::sides::Sides;
 use arrayvec::ArrayVec;
 use auction_rules::{BidUnit, Placed, push_point};
+use tac_base::limits::{BID_POINTS, BID_UNITS};
 use tac_base::{Left, Point};
 
 /// Returns how many units of the bid's point stand, if `from` units of the bid come before it.
 fn units_left(standing: &Sides, bid: &Placed, from: u8, point: &Point) -> u8
-    requires { from + size_of point.now ≤ 16 }
+    requires { from + size_of point.now ≤ BID_UNITS }
     ensures value { result ≡ units.common_units (units.point_units bid.now.agent bid.now.position from point.now) (both standing.now) }
     ensures few { result ≤ size_of point.now }
 {
@@ -22,7 +23,7 @@ fn units_left(standing: &Sides, bid: &Placed, from: u8, point: &Point) -> u8
 
 /// Returns a point like the given one, with this many units.
 fn with_units(point: &Point, count: u8) -> Point
-    requires { count ≤ 16 }
+    requires { count ≤ BID_UNITS }
     ensures { result ≡ remains.with_units point.now count }
 {
     let units = count as i8;
@@ -34,8 +35,8 @@ fn with_units(point: &Point, count: u8) -> Point
 
 /// Appends what is left of a point, if any unit is.
 fn push_left(left: &mut ArrayVec<Point, 16>, point: &Point, count: u8)
-    requires room { length left.old.items < 16 }
-    requires few { count ≤ 16 }
+    requires room { length left.old.items < BID_POINTS }
+    requires few { count ≤ BID_UNITS }
     ensures points { left.new.items ≡ left.old.items ++ remains.point_left point.now count }
     ensures len { length left.new.items ≤ length left.old.items + 1 }
 {

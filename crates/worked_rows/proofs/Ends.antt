@@ -7,7 +7,7 @@ use Rattle.tac_io.specs.declared.line_got.LineGot.TheVariants as gots
 use Rattle.line_protocol.specs.declared.admission.Cause.{Cause}
 use Rattle.line_protocol.specs.declared.admission.Cause.TheVariants as causes
 use Rattle.line_protocol.specs.Replies.{said_text}
-use Rattle.agent_gate.specs.Turns.{Turn, Skipped, Left, has_left}
+use Rattle.agent_gate.specs.Turns.{Turn, Skipped, Quit, has_left}
 use Rattle.agent_gate.specs.SessionEnds.{StopsBy, ReadsBy, SendsBy, reply_line}
 use Rattle.worked_rows.proofs.Links.{counts_rise_or_stay}
 
@@ -62,7 +62,7 @@ answered answers = map (λ answer. answer.0) answers
 one_line : 1 < 65536
 one_line = omega arith
 
-quit_after_bye : EndsFor causes.Quit (Left ∷ []) no_line (quiet (codes "hi\nbye\n") (codes "cash\n"))
+quit_after_bye : EndsFor causes.Quit (Quit ∷ []) no_line (quiet (codes "hi\nbye\n") (codes "cash\n"))
 quit_after_bye = record { stopped = refl; reads = (refl, refl); sent = (refl, (refl, refl)) }
 
 no_quit_without_it : EndsFor causes.Quit (Skipped ∷ []) no_line (quiet (codes "hi\nno toolong\n") []) → ⊥

@@ -18,7 +18,7 @@ use Rattle.line_protocol.specs.Heads.{Play, Serve}
 use Rattle.log_text.specs.LoggedGames.{LoggedGame}
 use Rattle.agent_gate.specs.Dialects.{Dialect}
 use Rattle.agent_gate.specs.SessionEnds.{reply_line}
-use Rattle.agent_gate.specs.Turns.{Left, Refused}
+use Rattle.agent_gate.specs.Turns.{Quit, Refused}
 use Rattle.agent_gate.specs.Welcome.{welcome_text}
 use Rattle.agent_gate.proofs.LawfulTurns.{lawful_more, none_lawful}
 use Rattle.game_run.specs.Hosted.{HostedGame, hosted_game}
@@ -96,11 +96,11 @@ ended_by_quit = record {
   rest = (gots.Line, codes "own 8") ∷ (gots.End, []) ∷ [];
   read = refl;
   seat = refl;
-  turns = bought ∷ read ∷ Left ∷ [];
+  turns = bought ∷ read ∷ Quit ∷ [];
   items = (refl, (refl, (refl, tt)));
   few = omega arith;
-  lawful = lawful_more (bought ∷ read ∷ []) Left lawful tt refl;
-  transcript = transcribed (ended_by causes.Quit) (bought ∷ read ∷ Left ∷ []) refl refl refl (λ good. refl);
+  lawful = lawful_more (bought ∷ read ∷ []) Quit lawful tt refl;
+  transcript = transcribed (ended_by causes.Quit) (bought ∷ read ∷ Quit ∷ []) refl refl refl (λ good. refl);
   stopped = refl;
   reads = (refl, refl);
   sent = (refl, (refl, refl));
@@ -237,14 +237,14 @@ quit_was_answered = record {
   later = (gots.Line, codes "own 8") ∷ (gots.End, []) ∷ [];
   lines = refl;
   seat = refl;
-  heard = bought ∷ read ∷ Left ∷ [];
+  heard = bought ∷ read ∷ Quit ∷ [];
   unheard = [];
   heard_items = (refl, (refl, (refl, tt)));
   unheard_items = tt;
   few = omega arith;
-  lawful = lawful_more (bought ∷ read ∷ []) Left lawful tt refl;
+  lawful = lawful_more (bought ∷ read ∷ []) Quit lawful tt refl;
   replies = refl;
-  transcript = transcribed (ended_by causes.End) (bought ∷ read ∷ Left ∷ []) refl refl refl (λ good. refl);
+  transcript = transcribed (ended_by causes.End) (bought ∷ read ∷ Quit ∷ []) refl refl refl (λ good. refl);
 }
 
 -- a `bye` that arrived allows no other cause than `quit`

@@ -24,7 +24,7 @@ use Rattle.line_protocol.specs.Requests.{request_of}
 use Rattle.line_protocol.specs.Replies.{said_text}
 use Rattle.clock_events.specs.ClockTurns.{ClockTurn, clock_entries, clock_posts}
 use Rattle.agent_gate.specs.Items.{Asks}
-use Rattle.agent_gate.specs.Turns.{Turn, Called, CallDenied, CashRead, CashDenied, Quoted, Refused, Skipped, Left, item_of, made_at, cash_made, boards_shown, shown_length, has_left, IsLawfulTurn, AreLawful}
+use Rattle.agent_gate.specs.Turns.{Turn, Called, CallDenied, CashRead, CashDenied, Quoted, Refused, Skipped, Quit, item_of, made_at, cash_made, boards_shown, shown_length, has_left, IsLawfulTurn, AreLawful}
 use Rattle.agent_gate.specs.SessionEnds.{reply_line}
 use Rattle.agent_gate.proofs.LawfulTurns.{none_lawful, lawful_more}
 use Rattle.worked_rows.proofs.Auctions.{played}
@@ -55,7 +55,7 @@ abbrev board : ℕ → ℕ → Board
 board count ask = record { count = count; bid = 0; ask = ask; closed = false }
 
 abbrev turns : List Turn
-turns = Called (requests.Bid 8 (bid ∷ [])) 8 1 bid_entry 0 ∷ Quoted 8 (board 3 40) ∷ Called (requests.Own 8) 8 3 (own_entry (bid ∷ [])) 0 ∷ CashRead 0 (pos 0) ∷ Refused faults.Syntax ∷ Left ∷ []
+turns = Called (requests.Bid 8 (bid ∷ [])) 8 1 bid_entry 0 ∷ Quoted 8 (board 3 40) ∷ Called (requests.Own 8) 8 3 (own_entry (bid ∷ [])) 0 ∷ CashRead 0 (pos 0) ∷ Refused faults.Syntax ∷ Quit ∷ []
 
 each_line_is_asked_and_answered_once :
     (map item_of turns ≡ map (λ line. Asks (request_of line)) (codes "bid 8 ((1 50))" ∷ codes "quote 8" ∷ codes "own 8" ∷ codes "cash" ∷ codes "sell 8" ∷ codes "quit" ∷ []))
@@ -100,9 +100,9 @@ answers_tell_lengths_and_quit_is_last = (refl, refl)
 abbrev look_at : ℕ → Turn
 look_at position = Called (requests.Own 8) 8 position (own_entry []) 0
 
-nothing_comes_after_quit : AreLawful (Skipped ∷ Left ∷ []) × (AreLawful (Left ∷ Skipped ∷ []) → ⊥)
+nothing_comes_after_quit : AreLawful (Skipped ∷ Quit ∷ []) × (AreLawful (Quit ∷ Skipped ∷ []) → ⊥)
 nothing_comes_after_quit = (
-  lawful_more (Skipped ∷ []) Left (lawful_more [] Skipped none_lawful tt refl) tt refl,
+  lawful_more (Skipped ∷ []) Quit (lawful_more [] Skipped none_lawful tt refl) tt refl,
   λ lawful. let e : true ≡ false = (lawful 1 Skipped refl).1 in cc,
 )
 

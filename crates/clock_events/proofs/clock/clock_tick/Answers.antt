@@ -77,9 +77,9 @@ loop-good-preserved g c =
     let low = (call_is_due calls c.args.tick c.loop-good.n c.in-Some.good c.in-Some.call due at).0 in
     record {
       within = omega (arith, within);
-      calls = known.calls ∙ ap (λ l. l ++ (c.in-Some.good, c.in-Some.call) ∷ []) c.loop-good.invariant.calls
+      calls = known.adds.calls ∙ ap (λ l. l ++ (c.in-Some.good, c.in-Some.call) ∷ []) c.loop-good.invariant.calls
           ∙ append_assoc before (take c.loop-good.n calls) ((c.in-Some.good, c.in-Some.call) ∷ []) ∙ ap (λ l. before ++ l) (one_more calls c.loop-good.n (c.in-Some.good, c.in-Some.call) at);
-      steps = known.steps ∙ ap (λ l. l ++ CallMade c.in-Some.good c.in-Some.call ∷ []) c.loop-good.invariant.steps
+      steps = known.adds.steps ∙ ap (λ l. l ++ CallMade c.in-Some.good c.in-Some.call ∷ []) c.loop-good.invariant.steps
           ∙ append_assoc (desk_steps c.args.desk.now) (DueTaken g.T.Ticker.mark c.args.tick ∷ map step (take c.loop-good.n calls)) (CallMade c.in-Some.good c.in-Some.call ∷ [])
           ∙ ap (λ l. (desk_steps c.args.desk.now) ++ DueTaken g.T.Ticker.mark c.args.tick ∷ l) (sym (map-append step (take c.loop-good.n calls) ((c.in-Some.good, c.in-Some.call) ∷ []))
           ∙ ap (map step) (one_more calls c.loop-good.n (c.in-Some.good, c.in-Some.call) at));

@@ -1,7 +1,7 @@
 use Rattle.std.proofs.Common.{◌≡◌, ◌+◌, ◌-◌, ℕ, suc, List, [], ◌∷◌, true, length, refl, sym, ap, ◌∙◌, subst, arith, slice_range}
 use Rattle.link_audit.specs.{SESSION_LINES, ended_line, LineGot, Dialect, Subject, IsAsked, FitsReply, IsAhead, IsOver, IsStep, start, subject_of, FinishesLog, HasCourse, behind_course, HasHeard, HasLeft, IsAheadAt, IsBehind, EndsByLeaving, lines_at, replies_at}
 use Rattle.link_audit.specs.declared.places.Places.{Places}
-use Rattle.link_audit.specs.declared.stepping.Step.TheVariants.{Taken, Leaves, Stuck}
+use Rattle.link_audit.specs.declared.stepping.Step.TheVariants.{Stays, Leaves, Stuck}
 use Rattle.link_audit.specs.declared.hearing.Heard.TheVariants.{Through}
 use Rattle.link_audit.proofs.Cuts.{lines_here, lines_end, no_line, replies_here, replies_end}
 use Rattle.link_audit.proofs.Walked.{walked_on, walk_stuck, walk_left, left_walk, walk_ended, walk_full, more_replies, left_heard, taken_wide}
@@ -132,8 +132,8 @@ loop-lines-preserved g c =
     let line = slice_range asked at end in
     let lines_are : lines_at asked at ≡ ended_line line ∷ lines_at asked (end + 1) =
     lines_here asked at c.requires.short.1 v.within end c.in-Some-line_end.ensures.0 c.in-Some-line_end.ensures.1 c.in-Some-line_end.ensures.2 in
-    let taken : IsStep (IsAsked dialect true (ended_line line)) (FitsReply dialect true reply) s places c.step_line.new.places Taken =
-    subst (IsStep (IsAsked dialect true (ended_line line)) (FitsReply dialect true reply) s places c.step_line.new.places) c.in-Taken.is c.in_ok-step_line.ensures in
+    let taken : IsStep (IsAsked dialect true (ended_line line)) (FitsReply dialect true reply) s places c.step_line.new.places Stays =
+    subst (IsStep (IsAsked dialect true (ended_line line)) (FitsReply dialect true reply) s places c.step_line.new.places) c.in-Stays.is c.in_ok-step_line.ensures in
     record {
       behind = walked_on dialect s Before places v.wide (lines_at asked at) (lines_at asked (end + 1)) (ended_line line) lines_are (SESSION_LINES - lines) (SESSION_LINES - (lines + 1)) room_is (replies_at said place) (replies_at said (reply_end + 1)) reply replies_are v.behind c.step_line.new.places taken;
       courses = λ course. heard_course dialect s places v.wide (ended_line line) (lines_at asked (end + 1)) (lines_at asked at) lines_are reply (replies_at said (reply_end + 1)) (replies_at said place) replies_are

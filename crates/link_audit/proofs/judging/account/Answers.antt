@@ -2,7 +2,7 @@ use Rattle.std.proofs.Common.{◌≡◌, ◌+◌, ◌-◌, ℕ, List, [], ◌∷
 use Rattle.std.specs.Global.{Vec}
 use Rattle.link_audit.specs.{Board, LINK_BYTES, SESSION_LINES, all_answers, ended_line, Dialect, Subject, AreBoards, IsAhead, subject_of, IsYesExactlyIf, HasHeard, IsFinished, IsHeard, TakesSeat, lines_at, replies_at}
 use Rattle.log_audit.specs.declared.findings.Flaw.TheVariants as flaws
-use Rattle.link_audit.specs.declared.causes.Ending.TheVariants.{Left}
+use Rattle.link_audit.specs.declared.causes.Ending.TheVariants.{Quit}
 use Rattle.link_audit.specs.declared.hearing.Heard.TheVariants.{Through, Gone, Not}
 use Rattle.link_audit.specs.declared.vouching.Difference.TheVariants.{Seat, Welcome}
 use Rattle.link_audit.proofs.Cuts.{lines_here, lines_end}
@@ -117,5 +117,5 @@ returns g c =
       lines = different_accounted game dialect log asked said line (end + 1) first agent seat c.head-head.ensures.logged.goods (map (λ (row : Vec Board). row.items) boards) are replies c.in-Some-behind_welcome.ensures.1 c.is_ended-ended.result c.is_ended-ended.ensures
           c.count_memory-memory.result c.count_memory-memory.ensures c.in-Not.difference heard has;
       ending = different_ending game dialect log asked said line (end + 1) first agent seat c.head-head.ensures.logged.goods (map (λ (row : Vec Board). row.items) boards) are replies c.in-Some-behind_welcome.ensures.1 c.is_ended-ended.result c.is_ended-ended.ensures
-          c.count_memory-memory.result c.count_memory-memory.ensures heard Left;
+          c.count_memory-memory.result c.count_memory-memory.ensures heard Quit;
     })

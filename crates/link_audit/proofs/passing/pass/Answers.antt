@@ -1,7 +1,7 @@
 use Rattle.std.proofs.Common.{◌≡◌, ◌+◌, ◌-◌, ℕ, suc, List, [], ◌∷◌, false, refl, subst, arith, slice_range}
 use Rattle.link_audit.specs.{SESSION_LINES, ended_line, LineGot, Dialect, Subject, IsAsked, FitsReply, IsAhead, IsOver, IsStep, subject_of, HasCourse, has_entry, lines_at}
 use Rattle.link_audit.specs.declared.places.Places.{Places}
-use Rattle.link_audit.specs.declared.stepping.Step.TheVariants.{Taken, Leaves, Stuck}
+use Rattle.link_audit.specs.declared.stepping.Step.TheVariants.{Stays, Leaves, Stuck}
 use Rattle.link_audit.proofs.Cuts.{lines_here, lines_end, no_line}
 use Rattle.link_audit.proofs.Walked.{passed_on, pass_stuck, pass_left, pass_ended, pass_full, pass_over, taken_wide}
 use Rattle.link_audit.proofs.Courses.{end_course, finish_over, pass_course_stuck}
@@ -107,8 +107,8 @@ loop-line-preserved g c =
     let line = slice_range asked at end in
     let lines_are : lines_at asked at ≡ ended_line line ∷ lines_at asked (end + 1) =
     lines_here asked at c.requires.short.1 v.within end c.in-Some-line_end.ensures.0 c.in-Some-line_end.ensures.1 c.in-Some-line_end.ensures.2 in
-    let taken : IsStep (IsAsked dialect false (ended_line line)) (FitsReply dialect false []) s places c.step_line.new.places Taken =
-    subst (IsStep (IsAsked dialect false (ended_line line)) (FitsReply dialect false []) s places c.step_line.new.places) c.in-Taken.is c.in_ok-step_line.ensures in
+    let taken : IsStep (IsAsked dialect false (ended_line line)) (FitsReply dialect false []) s places c.step_line.new.places Stays =
+    subst (IsStep (IsAsked dialect false (ended_line line)) (FitsReply dialect false []) s places c.step_line.new.places) c.in-Stays.is c.in_ok-step_line.ensures in
     record {
       behind = passed_on dialect s Before places v.wide (lines_at asked at) (lines_at asked (end + 1)) (ended_line line) lines_are (SESSION_LINES - lines) (SESSION_LINES - (lines + 1)) room_is v.behind more c.step_line.new.places taken;
       courses = passed_course dialect s places v.wide (ended_line line) (lines_at asked (end + 1)) (lines_at asked at) lines_are c.args.reached.now (lines_at asked c.args.from)

@@ -1,5 +1,5 @@
 use Rattle.std.proofs.Common.{ℕ, List, [], sym, subst}
-use Rattle.link_audit.specs.{TooLong, LineGot, Dialect, ReadsBy, FitsReply, IsAsked, IsStep, subject_of}
+use Rattle.link_audit.specs.{TooLong, LineGot, Dialect, MayBeReadAs, FitsReply, IsAsked, IsStep, subject_of}
 use Rattle.link_audit.proofs.Steps.{step_of, long_taken, long_stuck, long_line, read_step}
 use Rattle.link_audit.proofs.stepping.step_line.Goals as goal
 
@@ -7,7 +7,7 @@ pub returns-then-line : goal.returns-then-line
 returns-then-line g c =
     let s = subject_of c.args.log.now c.args.boards.now c.args.agent in let from = c.args.places.now in
     let dialect : Dialect = g.D.Dialect.form c.args.dialect.now in
-    let may_answer = ReadsBy (g.D.Dialect.form c.args.dialect.now).may_answer c.args.heard in
+    let may_answer = MayBeReadAs (g.D.Dialect.form c.args.dialect.now).may_answer c.args.heard in
     subst (λ (l : LineGot × List ℕ). IsStep (IsAsked dialect c.args.heard l) (FitsReply (g.D.Dialect.form c.args.dialect.now) c.args.heard c.args.reply.now) s from from c.step_if.result)
     (sym (long_line dialect c.args.heard c.args.reply.now c.args.line.now c.if-line.true))
     (step_of s from (IsAsked dialect c.args.heard (TooLong, [])) (FitsReply (g.D.Dialect.form c.args.dialect.now) c.args.heard c.args.reply.now) from c.fits.result c.step_if.result

@@ -57,25 +57,29 @@ returns g c =
     record {
       answered = record {
         entry = e;
-        caller = entry.1 ∙ caller;
-        call = entry.2;
-        reply = ap (λ s. s.reply) entry.3;
-        entries = map_set (λ q. made_by q) ps k p' _ (entry.4 ∙ ap (λ (l : List (ℕ × Entry)). l ++ (position, e) ∷ []) (sym (map_get (λ q. made_by q) ps k p [] inside at)))
-            ∙ ap (λ (j : ℕ). set (map (λ q. made_by q) ps) j (get_or (map (λ q. made_by q) ps) j [] ++ (position, e) ∷ [])) is;
-        steps = c.with_call-self.ensures;
-        calls = ap calls_of_steps c.with_call-self.ensures ∙ calls_of_steps-call (desk_steps d) c.args.good c.args.call.now;
-        posts = posted.0;
-        seen_before = subst (λ (n : ℕ). n ≤ position) (sym (map_get (λ q. seen_by q) ps k p 0 inside at) ∙ ap (λ (j : ℕ). get_or (map (λ q. seen_by q) ps) j 0) is) c.call-position.ensures.seen.0;
-        seen = map_set (λ q. seen_by q) ps k p' (position + 1) c.call-position.ensures.seen.1 ∙ ap (λ (j : ℕ). set (map (λ q. seen_by q) ps) j (position + 1)) is;
+        made = record {
+          caller = entry.1 ∙ caller;
+          call = entry.2;
+          reply = ap (λ s. s.reply) entry.3;
+          setup = start.setup;
+          setup_is = ap (λ l. option_and_then (λ id. option_map (λ s. s.setup) id.start) (slice_get l good)) (ap (λ t. t.0) c.requires.own)
+              ∙ ap (option_and_then (λ (id : LockId AuctionHistory). option_map (λ s. s.setup) id.start)) (ap (slice_get (map (λ l. lock_id l) locks)) (sym is) ∙ map_at (λ l. lock_id l) locks k lock wide c.index-lock.ensures);
+          earlier = turn.before;
+          count = turn.count;
+          own = ap (part (λ (x : Entry). x.caller) turn.before) (sym caller) ∙ (turn.own ∙ (sym (map_get (λ q. made_by q) ps k p [] inside at) ∙ ap (λ (j : ℕ). get_or (map (λ q. made_by q) ps) j []) is));
+          legal = turn.lawful;
+          ruled = last_is_ruled start.setup turn.before e turn.lawful ∙ (λ i. entry_of start.setup (reverse turn.before) ((entry.1 ∙ caller) i) (entry.2 i));
+        };
+        adds = record {
+          entries = map_set (λ q. made_by q) ps k p' _ (entry.4 ∙ ap (λ (l : List (ℕ × Entry)). l ++ (position, e) ∷ []) (sym (map_get (λ q. made_by q) ps k p [] inside at)))
+              ∙ ap (λ (j : ℕ). set (map (λ q. made_by q) ps) j (get_or (map (λ q. made_by q) ps) j [] ++ (position, e) ∷ [])) is;
+          steps = c.with_call-self.ensures;
+          calls = ap calls_of_steps c.with_call-self.ensures ∙ calls_of_steps-call (desk_steps d) c.args.good c.args.call.now;
+          posts = posted.0;
+          seen_before = subst (λ (n : ℕ). n ≤ position) (sym (map_get (λ q. seen_by q) ps k p 0 inside at) ∙ ap (λ (j : ℕ). get_or (map (λ q. seen_by q) ps) j 0) is) c.call-position.ensures.seen.0;
+          seen = map_set (λ q. seen_by q) ps k p' (position + 1) c.call-position.ensures.seen.1 ∙ ap (λ (j : ℕ). set (map (λ q. seen_by q) ps) j (position + 1)) is;
+        };
         boards = map_set_same (λ q. noted_by q) ps k p p' inside at own.3;
         same = ((λ i. (map_set_same (λ q. lock_of q) ps k p p' inside at own.0 i, c.post.ensures.own.0 i)), c.post.ensures.own.1);
-        setup = start.setup;
-        setup_is = ap (λ l. option_and_then (λ id. option_map (λ s. s.setup) id.start) (slice_get l good)) (ap (λ t. t.0) c.requires.own)
-            ∙ ap (option_and_then (λ (id : LockId AuctionHistory). option_map (λ s. s.setup) id.start)) (ap (slice_get (map (λ l. lock_id l) locks)) (sym is) ∙ map_at (λ l. lock_id l) locks k lock wide c.index-lock.ensures);
-        earlier = turn.before;
-        count = turn.count;
-        own = ap (part (λ (x : Entry). x.caller) turn.before) (sym caller) ∙ (turn.own ∙ (sym (map_get (λ q. made_by q) ps k p [] inside at) ∙ ap (λ (j : ℕ). get_or (map (λ q. made_by q) ps) j []) is));
-        legal = turn.lawful;
-        ruled = last_is_ruled start.setup turn.before e turn.lawful ∙ (λ i. entry_of start.setup (reverse turn.before) ((entry.1 ∙ caller) i) (entry.2 i));
       };
     }
