@@ -11,7 +11,7 @@ from unittest import mock
 from geesefuton.network.addresses import listen
 from geesefuton.network.gate import Gate
 from geesefuton.network.pages import Faults, PageServer, Request, page_gate
-from geesefuton.playing.seat_page import Host, Pages, Site, Table
+from geesefuton.playing.seat_page import NOT_YET, Host, Pages, Site, Table
 from geesefuton.playing.trip_board import HELD, TripBoard
 from tests.package import cases
 from tests.package.cases import MOST
@@ -172,6 +172,22 @@ class Served(Case):
         self.assertEqual(self.playing(first, later), [False, True])
         self.assertEqual(self.bids(first)[0], 409)
         self.assertTrue(self.bids(later)[1]["done"])
+
+    def test_an_answer_after_its_browser_was_told_to_wait_is_listed(self) -> None:
+        page, answer, may_answer = self.open(), self.server.answer, threading.Event()
+        self.addCleanup(may_answer.set)
+
+        def late(line: str) -> str:
+            if line.startswith("bid"):
+                may_answer.wait(MOST)
+            return answer(line)
+
+        self.enter(mock.patch.object(self.server, "answer", late))
+        with mock.patch("geesefuton.playing.seat_page.LATE", 0.01):
+            self.assertEqual(self.bids(page)[1]["text"], NOT_YET.text)
+        may_answer.set()
+        self.assertTrue(self.bids(page)[1]["done"])
+        self.assertEqual(len(self.state(page)["calls"]), 2)
 
     def test_requests_that_are_none(self) -> None:
         page, path = self.open(), f"/{TOKEN}/bid"
