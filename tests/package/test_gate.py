@@ -121,8 +121,10 @@ class Admission(Case):
         self.come("10.0.1.9")
         self.assertEqual(len(self.ended), 1)
 
-    def test_places_of_this_machine_are_never_given_to_others(self) -> None:
-        own = self.come("127.0.0.1", "127.0.0.1", "127.0.0.1", "::1")
+    def test_places_that_are_kept_for_this_machine_are_never_given_to_others(self) -> None:
+        for player in self.come("10.1.0.1", "10.1.0.2"):
+            player.know("seat0")
+        own = self.come("127.0.0.1", "::1")
         own[0].whole()
         own[1].part()
         others = self.come(*(f"10.0.{number}.1" for number in range(170)))
@@ -132,11 +134,18 @@ class Admission(Case):
         count = len(self.ended)
         self.come("::1")  # it takes one of theirs if none is free, even one that waits
         self.assertEqual(self.ended[count:], others[-6:-5])
-        self.setUp()
+
+    def test_a_crowd_of_this_machine_keeps_no_others_out(self) -> None:
         own = self.come(*(f"127.0.0.{number}" for number in range(10)))
-        self.assertIsNone(self.arrive("10.0.0.1"))
         self.come("127.0.1.1")
         self.assertEqual(self.ended, own[:1])
+        others = self.come("10.0.0.1", "10.0.0.2")
+        self.come(*(f"127.0.2.{number}" for number in range(10)))
+        self.assertFalse({*others} & {*self.ended})
+        for visit in [visit for crowd in self.gate._crowds.values() for visit in crowd]:
+            visit.whole()
+        self.come(*(f"10.0.1.{number}" for number in range(5)))
+        self.assertFalse({*others} & {*self.ended})
 
     def test_a_few_places_are_left_for_strangers(self) -> None:
         gate = Gate(lambda: 0.0, most=2, each=9, kept=50, first=1.0)
@@ -191,6 +200,15 @@ class Guesses(Case):
         waits = [visit.whole() for visit in self.come(*["10.0.0.1"] * (WAITING + 2))]
         self.assertEqual(waits[WAITING:], [None, None])
         self.assertNotIn(None, waits[:WAITING])
+
+    def test_one_that_is_known_may_show_another_word(self) -> None:
+        for _ in range(3):
+            visit, = self.come("10.0.0.1")
+            self.assertTrue(visit.know("token"))
+            self.assertEqual(visit.whole(), 0.0)
+            visit.refuse()
+            visit.leave()
+        self.assertEqual((sum(self.gate._known.values()), self.gate._crowds), (0, {}))
 
     def test_a_line_that_is_not_judged_puts_off_none(self) -> None:
         for _ in range(200):

@@ -82,7 +82,8 @@ class Visit:
         if wait and gate.count_judged(self.network) >= WAITING:
             gate.lines.put_off(self.network, -LINE)
             return None
-        self.standing, self.due = Standing.JUDGED, gate.clock() + wait
+        gate.move(self, Standing.JUDGED)  # also one that had shown something else
+        self.due = gate.clock() + wait
         return wait
 
     def know(self, word: str) -> bool:
@@ -131,8 +132,8 @@ class Gate:
     Args:
         clock: The time in seconds, which does not go back.
         most: The links at a time, of which `each` may be strangers of one network.
-        kept: How many of them are kept for those who are known, and for this machine itself, whose
-            places nobody else gets; half of them at most.
+        kept: How many of them are kept for those who are known, and for this machine itself, which
+            gives up only what it has beyond them; half of them at most.
         first: The seconds until a first line has to be whole.
         own: The links that may have the same word or token.
     """
@@ -170,15 +171,17 @@ class Gate:
     def _has_room(self, network: str, is_local: bool) -> bool:
         """Whether a place is free for a stranger of a network, or another one has made room."""
         own, crowds = self._crowds.get(network, []), self._crowds.values()
-        others = [crowd for crowd in crowds if not crowd[0].is_local]
-        count = sum(map(len, others))
-        held = sum(self._known.values()) + sum(map(len, crowds)) - count
+        near, far = ([crowd for crowd in crowds if crowd[0].is_local is each]
+                     for each in (True, False))
+        here, there = (sum(map(len, each)) for each in (near, far))
+        held = sum(self._known.values()) + here
         if len(own) >= self._each:
             return _make_room(own, False)
-        if count < self._most - (held if is_local else max(held, self._kept)):
+        if there < self._most - (held if is_local else max(held, self._kept)):
             return True
-        crowd = max(others or (list(crowds) if is_local else []), key=len, default=own)
-        return _make_room(crowd, len(own) < len(crowd) or is_local and bool(others))
+        yielding = near if here + is_local > self._kept else far
+        crowd = max(yielding or (near if is_local else []), key=len, default=own)
+        return _make_room(crowd, len(own) < len(crowd) or is_local is (yielding is far))
 
     def count_judged(self, network: str) -> int:
         """How many first lines of a network are judged, or wait for that."""
