@@ -260,6 +260,13 @@ class Crowds(Case):
             await asks(link)
         self.assertGreater(len(links), MOST_EACH)
 
+    @served
+    async def test_one_that_asks_much_at_once_keeps_no_other_waiting(self, port: int) -> None:
+        busy, other = await self.known(port), await self.known(port)
+        busy[1].write(GET % b"/known" * 500)
+        await asks(other, b"/other")
+        self.assertLess([asked.path for asked in self.asked].index("/other"), 50)
+
     def test_links_that_come_at_once_need_few_files(self) -> None:
         async def work(port: int) -> None:
             for _ in range(100):  # before any of them is taken

@@ -216,6 +216,7 @@ class PageServer:
                 if not visit.is_known():
                     visit.part()
                 await _send(writer, answer, is_kept)
+                await asyncio.sleep(0)  # others are served before what it asks next
         except (asyncio.IncompleteReadError, asyncio.LimitOverrunError, OSError):
             pass  # a browser that is gone, or is let go
         finally:
