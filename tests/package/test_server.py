@@ -100,6 +100,19 @@ class Strangers(Case):
         self.stranger("GET / HTTP/1.1\n")
         self.assertEqual(self.warnings_of_game(), [])
 
+    def test_a_server_that_a_silent_stranger_holds_up_is_started_again(self) -> None:
+        waits = iter([0.1])
+
+        def port() -> int:
+            server.WELCOMING = next(waits, MOST)
+            return free_port()
+
+        self.patch("hosting.server.WELCOMING")
+        self.patch("hosting.server.free_port", port)
+        self.stranger("")
+        self.assertEqual(self.warnings_of_game(), [
+            "the server did not start: it welcomed nobody in 0.1 seconds; trying again"])
+
     def test_a_server_that_never_listens_is_given_up(self) -> None:
         self.set(FAKE_LATE=str(MOST))
         self.patch("hosting.server.LISTENING", 0.2)

@@ -25,7 +25,7 @@ from geesefuton.records.games import SEATS, TICKS, welcome
 HOST = "127.0.0.1"
 TAKEN = 5  # the server's exit status if its port is taken
 TRIES = 5  # times that the server is started
-LISTENING = 15.0  # seconds that a server has to listen
+LISTENING = WELCOMING = 15.0  # seconds that a server has to listen, and then to welcome the lobby
 ENDING = 5.0  # seconds that a server has to end after its log
 SETTLING = 0.3  # seconds in which a server ends that cannot listen
 AGAIN = 0.5  # seconds until it is tried again
@@ -188,13 +188,16 @@ class Server:
             links[-1].setblocking(False)
 
     def _be_welcomed(self, links: List[socket.socket]) -> None:
-        """Waits until all seats are welcomed."""
+        """Waits until all seats are welcomed, which a stranger's link at the server may hold up."""
+        deadline = time.monotonic() + WELCOMING
         for seat, link in enumerate(links):
             left = welcome(self._game.text, seat)
             while left and self._is_going():
                 try:
                     said = link.recv(len(left))
                 except BlockingIOError:
+                    if time.monotonic() >= deadline:
+                        raise NotStarted(f"it welcomed nobody in {WELCOMING:g} seconds") from None
                     self._game.turn(STEP)
                     continue
                 if not said:
