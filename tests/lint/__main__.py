@@ -7,11 +7,9 @@ define, and the clauses that are long. It ends with 1 if there is a fault. `mypy
 installed, as python/pyproject.toml has it; otherwise a line says that it is left out.
 """
 
-import os
 import shutil
 import subprocess
 import sys
-from pathlib import Path
 from typing import Callable, Dict, Iterator
 
 from calls import calls
@@ -19,7 +17,7 @@ from documents import places
 from rooms import rooms
 from sources import clauses, long_clauses, rows
 from specs import arguments, layers, names, names_of_several
-from tree import TOP
+from tree import TOP, cache_of
 
 from geesefuton.arguments import Parser
 from geesefuton.processes import command
@@ -30,8 +28,7 @@ CHECKS: Dict[str, Callable[[], Iterator[str]]] = {
 
 def types() -> Iterator[str]:
     """What mypy says of the package."""
-    cache = Path(os.environ.get("XDG_CACHE_HOME") or Path.home() / ".cache", "geesefuton-mypy")
-    done = subprocess.run(["mypy", "--no-error-summary", "--cache-dir", cache], check=False,
+    done = subprocess.run(["mypy", "--no-error-summary", "--cache-dir", cache_of(TOP)], check=False,
                           cwd=TOP / "python", stdin=subprocess.DEVNULL, stdout=subprocess.PIPE,
                           stderr=subprocess.STDOUT, text=True)
     yield from [line for line in done.stdout.splitlines() if ": note: " not in line]

@@ -1,5 +1,6 @@
 """The files of the repository, each read once, and the definitions among them."""
 
+import os
 import sys
 from functools import lru_cache
 from pathlib import Path
@@ -12,6 +13,12 @@ sys.path[:0] = [str(TOP / "docs"), str(TOP / "python")]
 from definitions import Definitions, Module  # noqa: E402
 
 NAMES_OF_CRATES = frozenset(each.name for each in CRATES.iterdir())
+
+
+def cache_of(tree: Path) -> Path:
+    """Where mypy keeps what it knows of a tree, so that two trees may be checked at once."""
+    caches = os.environ.get("XDG_CACHE_HOME") or Path.home() / ".cache"
+    return Path(caches, "geesefuton-mypy", *tree.parts[1:])
 
 
 def files(*patterns: str) -> List[Path]:

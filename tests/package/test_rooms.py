@@ -11,7 +11,7 @@ from unittest import mock
 from tests.package.helpers import TOP
 
 with mock.patch.object(sys, "path", [str(TOP / "tests" / "lint"), *sys.path]):
-    rooms = importlib.import_module("rooms")
+    rooms, tree = (importlib.import_module(name) for name in ("rooms", "tree"))
 
 BASE = "class Base:\n    def _own(self): self._count = 1\n    def told(self): return 1\n"
 
@@ -83,3 +83,10 @@ class Rooms(unittest.TestCase):
             modules = rooms.read_modules(Path(folder))
             self.assertEqual(rooms.not_in_map(modules, "the `link.py`"), [])
             self.assertRegex(rooms.not_in_map(modules, "link.py")[0], "link.py:1: .* not name it")
+
+
+class Types(unittest.TestCase):
+    def test_each_tree_has_a_cache_of_its_own(self) -> None:
+        caches = [tree.cache_of(Path(name).absolute()) for name in ("one", "two", "one")]
+        self.assertNotEqual(caches[0], caches[1])
+        self.assertEqual(caches[0], caches[2])
