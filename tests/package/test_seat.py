@@ -24,6 +24,7 @@ class Case(cases.Case):
         self.addCleanup(self.end)
         self.patch("playing.seat.MOST", 0.02)
         self.patch("playing.seat.LEAST", 0.02)
+        self.patch("playing.seat.PAUSE", 0.0)
         self.patch("link.tell")
         self.seat = Seat(lambda: Link.greet("127.0.0.1", self.server.port, "red", limit=5), PACE)
 
@@ -76,6 +77,16 @@ class Seats(Case):
         self.assertEqual(state["quotes"][0], [0, 300, False])
         self.seat.begin()
         self.assertEqual([line for line in self.server.heard if "hello" in line], ["hello red"])
+
+    def test_one_that_is_refused_and_begins_again_and_again_greets_seldom(self) -> None:
+        self.patch("playing.seat.PAUSE", 0.2)
+        begun = time.monotonic()
+        for _ in range(3):
+            self.server.refusals["hello"] = "refused taken"
+            self.seat.begin()
+            self.reach("failed")
+        self.assertGreaterEqual(time.monotonic() - begun, 0.4)
+        self.assertEqual(self.server.heard, ["hello red"] * 3)
 
     def test_a_bid_stands_and_is_listed(self) -> None:
         self.begin()

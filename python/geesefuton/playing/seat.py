@@ -26,6 +26,9 @@ LEAST, MOST = 0.2, 2.0  # seconds from one look to the next; so a session's 65,5
 FRESH = 1.5  # seconds of waiting for the welcome after which it came as the game began
 READINGS = 2  # of the cash after a change: another caller's trade may be missing for a moment
 KEPT = 40  # answers that are kept
+# Seconds from one greeting to the next: all seats by hand share an address, whose first lines wait
+# once they are many.
+PAUSE = 4.0
 # Flights move before the hotel of their tick closes: so who saw it closed then sees them moved.
 ORDER = (*HOTELS, *FLIGHTS, *TICKETS)
 NOT_NOW = Answer(False, "There is no game now in which this could be asked.")
@@ -89,6 +92,7 @@ class Seat:
         self._state: Dict[str, Any] = {"phase": "idle"}
         self._asked: Optional[float] = None  # since when a reply is waited for
         self._thread: Optional[threading.Thread] = None
+        self._greets = 0.0  # when it may greet next
         self._reset()
 
     def _reset(self) -> None:
@@ -160,7 +164,9 @@ class Seat:
 
     def _play(self) -> None:
         """Plays a game, from its welcome to its end."""
+        time.sleep(max(0.0, self._greets - time.monotonic()))
         begun = time.monotonic()
+        self._greets = begun + PAUSE
         try:
             with self._greet() as link:
                 self._take(link, time.monotonic() - begun > FRESH)
