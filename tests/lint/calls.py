@@ -81,8 +81,8 @@ def items_in(text: str, module: str) -> Iterator[Tuple[str, str]]:
 
 @lru_cache(maxsize=None)
 def types_of(crate: Path) -> Dict[str, str]:
-    """What the crate in a folder gives to others, or all that is public in a program: each item with
-    its type, or with several types if several items have one name."""
+    """What the crate in a folder gives to others, or all that is public in a program: each item
+    with its type, or with several types if several items have one name."""
     texts: Dict[str, Set[str]] = defaultdict(set)
     for file in (crate / "src").glob("**/*.rt"):
         for item, text in items_in(text_of(file), file.stem):
