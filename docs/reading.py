@@ -1,10 +1,10 @@
 #!/usr/bin/env python3
 """The definitions on which the headline depends, and the places of each rule of the game.
 
-    docs/reading.py            checks the definitions, docs/READING.md and docs/RULES.md
+    docs/reading.py            checks the definitions and docs/READING.md
     docs/reading.py --print    prints the definitions, to be read beside docs/READING.md
     docs/reading.py --rows     prints them with their rows, and what each row states
-    docs/reading.py --write    writes the table of docs/RULES.md, from docs/rules.tsv
+    docs/reading.py --write    writes that page's "Rule by rule", from docs/rules.tsv
 
 From the clause `headline` of `tac` it follows each name through `specs/`. A definition is printed
 as it stands there, below those that it uses and below its rule, which is the comment above it. That
@@ -37,11 +37,12 @@ from definitions import Definitions, Module, Target, clauses_of, head_of  # noqa
 
 CRATES = DOCS.parent / "crates"
 TOP, LIMITS = CRATES / "tacd/src/top.rt", CRATES / "tac_base/src/limits.rt"
-PAGE, TABLE = DOCS / "READING.md", DOCS / "RULES.md"
+PAGE = DOCS / "READING.md"
 OF_LIMITS = "tac_base.specs.declared.limits.TheConstants"
 ROW = re.compile(r" *-- Row: (\w+) \((\w+)/proofs/(\w+)\.antt\)$")
 DEFINED = r"^ *(?:(?:pub|abbrev|unfoldable|record|data|fn|struct|enum|trait) )*%s[ :<(]"
 UNRULED = "Where this differs from TAC Classic"  # a heading of GAME.md that repeats rules
+MADE = "\n### "  # where the tables of rules begin in READING.md, which go on to its end
 COLUMNS = ["rule", "in words", "definition", "code", "clause", "refused edit", "worked row or test"]
 
 
@@ -231,7 +232,7 @@ class Reading:
 
 
 class Rules:
-    """The table of docs/RULES.md, and what is wrong with it."""
+    """The tables of rules in READING.md, and what is wrong with them."""
 
     def __init__(self, definitions: Definitions) -> None:
         self.all, self.faults, self.lines = definitions, list[str](), list[str]()
@@ -243,12 +244,12 @@ class Rules:
             anchors = [re.sub(r"[^\w -]", "", head.lower()).replace(" ", "-") for head in heads]
             self.anchors[page.stem] = dict(zip(heads, anchors))
         for heading, *rest in lines_of("rules.tsv"):
-            if f"## {heading}" not in self.lines:
-                self.lines += ["", f"## {heading}", "", f"| {' | '.join(COLUMNS)} |"]
+            if f"### {heading}" not in self.lines:
+                self.lines += ["", f"### {heading}", "", f"| {' | '.join(COLUMNS)} |"]
                 self.lines.append("|---" * len(COLUMNS) + "|")
             self.lines.append(f"| {' | '.join(self.row(heading, *rest))} |")
         for heading in self.anchors["GAME"]:
-            if heading != UNRULED and f"## {heading}" not in self.lines:
+            if heading != UNRULED and f"### {heading}" not in self.lines:
                 self.faults.append(f"docs/rules.tsv has no rule of the heading {heading}")
 
     def row(self, heading: str, rule: str, pages: str, *cells: str) -> Iterator[str]:
@@ -298,7 +299,7 @@ def main() -> int:
     parser = argparse.ArgumentParser(description=__doc__, formatter_class=kept)
     parser.add_argument("--print", action="store_true", help="print the definitions")
     parser.add_argument("--rows", action="store_true", help="print them with their rows")
-    parser.add_argument("--write", action="store_true", help="write the table of docs/RULES.md")
+    parser.add_argument("--write", action="store_true", help="write the tables of rules")
     options = parser.parse_args()
     reading = Reading(options.rows)
     printed = "\n".join(reading.printed())
@@ -309,11 +310,11 @@ def main() -> int:
         print(f"{printed}\n-- {size}")
         return 0
     rules = Rules(reading.all)
-    page = "\n".join([text_of(TABLE).partition("\n## ")[0].rstrip(), *rules.lines, ""])
+    page = "\n".join([text_of(PAGE).partition(MADE)[0].rstrip(), *rules.lines, ""])
     if options.write:
-        TABLE.write_text(page, encoding="utf-8")
+        PAGE.write_text(page, encoding="utf-8")
     faults = [*reading.faults, *reading.wrong_on_page(), *rules.faults]
-    faults += [] if text_of(TABLE) == page else ["docs/RULES.md is old: run it with --write"]
+    faults += [] if text_of(PAGE) == page else ["the tables of rules are old: run it with --write"]
     for fault in faults:
         print(f"reading.py: {fault}")
     print(f"reading.py: {len(faults) or 'no'} faults; {size}")

@@ -75,9 +75,9 @@ class PlantedFaults(Case):
     def test_a_definition_above_one_that_it_uses_and_a_table_that_is_old(self) -> None:
         self.change("docs/chapters.tsv", "The cash book\ttrade_ledger\n", "")
         self.change("docs/chapters.tsv", "The headline\t", "The headline\ttrade_ledger ")
-        self.change("docs/RULES.md", "| the closing |", "| the end |")
+        self.change("docs/READING.md", "| the closing |", "| the end |")
         self.assert_faults("uses trade_ledger.specs.CashHistory, which stands below it",
-                           "docs/RULES.md is old")
+                           "the tables of rules are old")
 
     def test_places_that_do_not_exist(self) -> None:
         for old, new in (
