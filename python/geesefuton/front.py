@@ -106,7 +106,13 @@ def build(clone: Path, name: str) -> Path:
 
 
 def _run_tac(words: List[str]) -> int:
-    """Becomes the program, so that its output and its exit status are untouched."""
+    """Becomes the program, so that its output and its exit status are untouched. Where it has no
+    such command it is neither run nor built."""
+    name = (words or [""])[0]
+    if name not in COMMANDS:
+        tell(f"geesefuton: tac has no command {name!r}{_meant(name)} (it has "
+             f"{', '.join(COMMANDS)})")
+        return 1
     clone = program.to_build()
     if clone is not None:
         build(clone, "geesefuton")
@@ -124,7 +130,7 @@ def main() -> int:
 
 def _main() -> int:
     name, words = (sys.argv[1:2] or ["--help"])[0], sys.argv[2:]
-    if name in ("-h", "--help"):
+    if name in ("-h", "--help", "help"):
         print(_help())
         return 0
     if name == "--version":

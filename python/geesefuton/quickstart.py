@@ -59,8 +59,9 @@ def listens(port: int) -> bool:
 def play(children: Children, out: Output) -> int:
     """Plays the game, and gives the exit status."""
     port, place, seed = free_port(), children.folder("quickstart"), deal_seed(new_secret(), 1)
-    (place / "my.game").write_text(made_game(seed).text())
     clone = program.to_build()
+    game = program.make(seed) if clone is None else made_game(seed).text()
+    (place / "my.game").write_text(game)
     server = start_server(children, place, port, clone)
     processes, end = [server], time.monotonic() + MOST
     try:

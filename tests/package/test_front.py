@@ -89,6 +89,13 @@ class Front(Case):
             self.refused(2, f"geesefuton: there is no part {name!r}{meant} (--help lists them)",
                          name)
 
+    def test_words_that_are_no_command_of_the_program_do_not_run_it(self) -> None:
+        tac = fake_program(self.place, "exit 9")
+        for words, meant in ((["lobby"], "; `geesefuton lobby`?"), ([], ""),
+                             (["mak"], "; `geesefuton tac make`?")):
+            self.refused(1, f"geesefuton: tac has no command {''.join(words)!r}{meant} (it has "
+                         f"{', '.join(front.COMMANDS)})", "tac", *words, TAC=tac)
+
     def test_an_option_that_a_part_does_not_have(self) -> None:
         self.refused(2, "doctor: unrecognized arguments: --fix (see --help)", "doctor", "--fix")
 
@@ -117,7 +124,7 @@ class Helps(unittest.TestCase):
         return out.getvalue().splitlines()
 
     def test_that_of_the_command(self) -> None:
-        for words in ((), ("-h",), ("--help",)):
+        for words in ((), ("-h",), ("--help",), ("help",)):
             lines = self.help_of(*words)
             self.assertLessEqual(len(lines), 24)
             self.assertLessEqual(max(map(len, lines)), 80)

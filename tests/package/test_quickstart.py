@@ -53,7 +53,7 @@ class Playing(unittest.TestCase):
         """The status, what is written, and what is told, with a server that does this."""
         self.tac = fake_program(
             self.place, f'echo "$@" >> {self.place}/asked\n'
-            f'if [ "$1" = audit ]; then echo sound; exit; fi\n{serve}')
+            f'case "$1" in make|audit) echo sound; exit; esac\n{serve}')
         file, told = self.place / "written", list[str]()
         with mock.patch.dict(os.environ, {"TAC": self.tac}), Children() as children, \
                 mock.patch("geesefuton.quickstart.tell", told.append), \
@@ -95,9 +95,9 @@ class Playing(unittest.TestCase):
         names = ["planner.py"] * 4 + ["trader.py"] * 3 + ["watcher.py"]
         self.assertEqual((self.place / "heard").read_text(), "".join(
             f"hello seat{seat} --pause 0.1 {name}\n" for seat, name in enumerate(names)))
-        served, audited = (self.place / "asked").read_text().splitlines()
-        self.assertEqual((served.split()[0], served.split()[3:], audited.split()[0]),
-                         ("serve", [str(quickstart.PACE)], "audit"))
+        made, served, audited = (self.place / "asked").read_text().splitlines()
+        self.assertEqual((made, served.split()[0], served.split()[3:], audited.split()[0]),
+                         (f"make {seed}", "serve", [str(quickstart.PACE)], "audit"))
 
     def test_a_quick_run_says_that_it_proves_nothing(self) -> None:
         clone = self.place / "clone"
@@ -123,6 +123,14 @@ class Playing(unittest.TestCase):
         scores = [Score(agent, 0, 0, 0, 10 * (agent < 2), ()) for agent in range(8)]
         self.assertEqual(quickstart.standings(scores)[0], "The planner in seat 0 and the planner "
                          "in seat 1 are ahead with 10 dollars each.")
+
+    def test_a_program_of_another_system(self) -> None:
+        file = self.place / "other"
+        file.write_bytes(b"\x7fELF\x02\x01\x01" + bytes(57))
+        file.chmod(0o755)
+        with mock.patch.dict(os.environ, {"TAC": str(file)}), Children() as children, \
+                self.assertRaisesRegex(program.ProgramError, "not a program for this system"):
+            quickstart.play(children, Output(self.place / "written"))
 
     def test_a_server_that_fails_is_told_with_what_it_said(self) -> None:
         status, written, told = self.play("echo fault links; exit 5")
