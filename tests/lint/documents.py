@@ -1,8 +1,8 @@
-"""Documents: what they name exists, and their lines are short."""
+"""Documents: what they name and link to exists, and their lines are short."""
 
 import re
 from pathlib import Path
-from typing import Iterator
+from typing import Iterator, Set
 
 from tree import CRATES, TOP, files, name_of, text_of
 
@@ -36,6 +36,20 @@ def missing_calls(text: str) -> Iterator[str]:
             yield f"{path} has no {name}" if found else f"there is no file {path}"
 
 
+def anchors(page: Path) -> Set[str]:
+    """How links name the headings of a page."""
+    heads = re.findall(r"(?m)^#+ (.*)$", text_of(page))
+    return {re.sub(r"[^\w -]", "", head.lower()).replace(" ", "-") for head in heads}
+
+
+def broken_links(file: Path) -> Iterator[str]:
+    """The links of a page to a file or a heading that is not there."""
+    for path, anchor in set(re.findall(r"\]\(([\w./-]*)(?:#([\w-]+))?\)", text_of(file))):
+        target = file.parent / path if path else file
+        if not target.exists() or (target.suffix == ".md" and anchor not in {"", *anchors(target)}):
+            yield f"it links to {path}#{anchor}, which is not there"
+
+
 def wide_lines(file: Path, is_prose: bool) -> Iterator[str]:
     """A fault for each line that is too wide; in prose tables, code and links may be."""
     fenced = False
@@ -50,11 +64,11 @@ def wide_lines(file: Path, is_prose: bool) -> Iterator[str]:
 def places() -> Iterator[str]:
     """The files, folders and calls that the documents name exist: a path in backquotes that begins
     with a folder of the repository, and `NAME` (`PATH`), a call, a type or a definition of that
-    file, where PATH may leave out `crates/`. No line of prose or of a script has more than 100
-    columns."""
+    file, where PATH may leave out `crates/`; and so do what they link to. No line of prose or of a
+    script has more than 100 columns."""
     for file in files("*.md", "docs/*.md", "examples/**/*.md", "python/*.md"):
         text = text_of(file)
-        for fault in (*missing_paths(text), *missing_calls(text)):
+        for fault in (*missing_paths(text), *missing_calls(text), *broken_links(file)):
             yield f"{name_of(file)}: {fault}"
         yield from wide_lines(file, is_prose=True)
     for file in files("**/*.py", "**/*.js", "**/*.mjs", "**/*.css", "tests/run", "tests/soak/run"):
