@@ -24,7 +24,7 @@ from tests.support import soaking
 from tests.support.trying import TOP
 
 PAGES = ("README.md", "docs/INSTALL.md", "docs/CLASS.md", "docs/FIRST_AGENT.md")
-MOST = 900.0  # seconds that a line may take, on a busy machine
+MOST = 1800.0  # seconds that a line may take, on a busy machine
 ERROR = re.compile(r"Traceback|[Ee]rror\b|[Nn]o such|there is no |not found|usage:")
 BLOCKS = {"@misc": "a citation", "agent   ": "output"}  # how these begin, which nobody types
 # How lines begin that are not typed here, and what is missing.
