@@ -39,7 +39,8 @@ SHORTER: Dict[str, str] = {
     "--pace 5000 --wait 15 ": "--pace 20 --wait 1 --games 1 ",
     "--pace 10000 --wait 300 ": "--pace 20 --wait 1 --games 1 ",
     "--slips term.html ": "--slips term.html --pace 20 --wait 1 --games 1 ",
-    "--games 4 ": "--games 2 ", "--games 8 ": "--games 3 ", "--games 240 ": "--games 6 "}
+    "--turns 40 ": "--turns 4 ", "--games 4 ": "--games 2 ", "--games 8 ": "--games 3 ",
+    "--games 240 ": "--games 6 "}
 # The student, who joins such games, has one of the words of a game, or of the teams.
 STUDENT = "python3 examples/starters/starter.py localhost 7000 seat3 &\n"
 JOINED = re.compile(r"geesefuton (room|lobby \S+ 7000 2000) ")
