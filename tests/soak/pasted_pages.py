@@ -67,9 +67,8 @@ def lines_of(block: str) -> Iterator[str]:
 
 
 def typed(page: str, clone: Path) -> Iterator[str]:
-    """The lines of a page, one after another; its blocks of Python are saved in between, the first
-    as an agent, and another one in place of that agent's loop, after which its games are played
-    anew."""
+    """The lines of a page. Its first block of Python is saved as an agent, and another one in place
+    of that agent's loop, after which its games are played anew."""
     file, games = clone / "mine" / "mine.py", ""
     for block in blocks_of(page):
         if block.startswith('"""'):
