@@ -13,9 +13,10 @@ from typing import Any, Dict, List, Optional, Tuple
 from unittest import mock
 
 from geesefuton.experiments.agent_host import PORT
-from geesefuton.experiments.agents import (AgentProcess, Agents, Job, Limits, folder_of, sandbox,
-                                           why_not)
+from geesefuton.experiments.agents import (AgentProcess, Agents, Job, Limits, copied, folder_of,
+                                           sandbox, why_not)
 from geesefuton.experiments.entrants import Entrant, environment, read_entrants
+from geesefuton.experiments.provenance import agent_of
 from geesefuton.processes import Children
 
 TAC = "/bin/true"
@@ -62,6 +63,49 @@ print(json.dumps({
 os.fork() or os.execvp("sleep", ["sleep", "600"])
 sys.exit(3)
 """
+# Tries what would tell of other games, or use more than its share. Prints the names of the faults.
+CHEAT = """
+import ctypes, errno, fcntl, json, os, socket
+system = ctypes.CDLL(None, use_errno=True)
+page = ctypes.create_string_buffer(8)
+file = os.open(json.__file__, os.O_RDONLY)
+def called(name, *words):
+    return 0 if getattr(system, name)(*words) >= 0 else errno.errorcode[ctypes.get_errno()]
+def tried(what, *words):
+    try:
+        return 0 * bool(what(*words))
+    except OSError as fault:
+        return errno.errorcode[fault.errno]
+def many(what):
+    while True:
+        what() or os.execvp("sleep", ["sleep", "600"])
+print(json.dumps({
+    "mincore": called("mincore", 0, 4096, page), "fadvise": tried(os.posix_fadvise, file, 0, 1, 4),
+    "no wait": tried(os.preadv, file, [bytearray(1)], 0, os.RWF_NOWAIT),
+    "page out": called("madvise", 0, 4096, 21), "cachestat": called("syscall", 451, 0, 0, 0, 0),
+    "readv": called("process_vm_readv", os.getpid(), None, 0, None, 0, 0),
+    "trace": called("ptrace", 0, 0, 0, 0), "flock": [
+        tried(fcntl.flock, os.open(json.__file__, os.O_RDONLY), 6) for _ in range(2)],
+    "lease": tried(fcntl.fcntl, file, fcntl.F_SETLEASE, fcntl.F_RDLCK),
+    "their lock": tried(fcntl.fcntl, file, 5, bytes(32)), "notes": tried(fcntl.fcntl, file, 1026, 1),
+    "watch": called("inotify_add_watch", 0, b"/usr", 1), "ring": called("syscall", 425, 1, page),
+    "vsock": tried(socket.socket, 40), "netlink": tried(socket.socket, 16, 3),
+    "x32": called("syscall", 0x40000027),
+    "own lock": tried(fcntl.lockf, os.open("/tmp/own", os.O_CREAT | os.O_RDWR), fcntl.LOCK_EX),
+    "own link": tried(socket.socketpair), "six": tried(socket.socket, socket.AF_INET6),
+    "folder": sorted(os.listdir(os.path.dirname(__file__))),
+    "files": tried(many, lambda: os.open("/dev/null", os.O_RDONLY)),
+    "processes": tried(many, os.fork)}))
+"""
+# What it comes to: calls that are missing, limits, and what a program may need.
+MISSING = ("mincore", "fadvise", "page out", "cachestat", "readv", "trace", "lease", "their lock",
+           "notes", "watch", "ring", "vsock", "netlink", "x32")
+FOREIGN = """
+import ctypes, mmap
+code = mmap.mmap(-1, 4096, prot=7)
+code.write(bytes.fromhex("b814000000cd80c3"))  # getpid as a call of 32 bits
+ctypes.CFUNCTYPE(ctypes.c_int)(ctypes.addressof(ctypes.c_char.from_buffer(code)))()
+"""
 
 
 # The folder in /tmp that each sandbox shows, if the Python that runs the tests is installed there.
@@ -93,7 +137,9 @@ class Places(unittest.TestCase):
 
     def seated(self, *entrants: Entrant, limits: Optional[Limits] = None) -> List[AgentProcess]:
         """The processes of agents, in one game after another."""
-        job = Job("1.0", self.run_folder / "games", "", entrants, (), (), (), limits)
+        copies = copied(entrants, {each.name: agent_of(each) for each in entrants},
+                        self.children.folder()) if limits else {}
+        job = Job("1.0", self.run_folder / "games", "", entrants, (), (), (), limits, copies)
         return self.agents.seated(job)
 
     def variables(self, port: int, **more: str) -> Dict[str, str]:
@@ -193,16 +239,41 @@ class Apart(Places):
                 status, seen = self.play(process, outside=outside.getsockname()[1])
                 self.assertEqual(status, 3)
                 self.assertEqual(
-                    {name: seen[name] for name in ("run", "own", "beside", "written",
-                                                   "temporary", "memory", "outside", "process",
-                                                   "others", "link", "marked", "shared", "set",
-                                                   "key")},
+                    {name: seen[name] for name in ("run", "own", "beside", "temporary", "memory",
+                                                   "outside", "process", "others", "link",
+                                                   "marked", "shared", "set", "key")},
                     {"run": "FileNotFoundError", "own": SPY[:3], "beside": "data",
-                     "written": "OSError", "temporary": sorted(HELD),
+                     "temporary": sorted(HELD),
                      "memory": "MemoryError", "outside": "ConnectionRefusedError",
                      "process": 2, "others": 0, "link": "hi", "marked": ["/dev/shm", "/tmp"],
                      "shared": [False, True], "set": "OSError", "key": -1})
                 self.assertNotIn(".bashrc", seen["home"])
+                self.assertIn("Error", str(seen["written"]))
+
+    def test_an_agent_lacks_the_calls_that_tell_of_others_and_has_limits(self) -> None:
+        (self.own / "spy.py").write_text(CHEAT)
+        for folder in (".hidden", "__pycache__", "below/.hidden"):
+            (self.own / folder).mkdir(parents=True)
+            (self.own / folder / "code.py").touch()
+        process, = self.seated(self.spy, limits=Limits())
+        with tempfile.TemporaryFile() as out:
+            process.begin([], self.variables(1), Limits().by_name(), out)
+            process.listener().close()
+            self.assertEqual(waited(process), 0)
+            out.seek(0)
+            self.assertEqual(json.loads(out.read()), {
+                **dict.fromkeys(MISSING, "ENOSYS"), "no wait": "ENOTSUP", "flock": [0, 0],
+                "own lock": 0, "own link": 0, "six": 0, "folder": ["data.txt", "other.py", "spy.py"],
+                "files": "EMFILE", "processes": "EAGAIN"})
+
+    @unittest.skipUnless(os.uname().machine == "x86_64", "it has calls in one form alone")
+    def test_a_call_in_the_form_of_another_machine_kills_its_process(self) -> None:
+        (self.own / "spy.py").write_text(FOREIGN)
+        process, = self.seated(self.spy, limits=Limits())
+        with tempfile.TemporaryFile() as out:
+            process.begin([], self.variables(1), {}, out)
+            process.listener().close()
+            self.assertEqual(waited(process), 128 + signal.SIGSYS)
 
     def test_an_agent_that_ends_all_that_it_can_has_only_crashed(self) -> None:
         (self.own / "spy.py").write_text("import os\nos.fork()\nfor one in (1, -1, os.getpid()):\n"
@@ -240,13 +311,12 @@ class Apart(Places):
             printed.read()  # until no process has the other end
 
     def test_agents_do_not_see_one_another(self) -> None:
-        one, two = self.seated(self.spy, self.spy, limits=Limits())
-        (self.own / "spy.py").write_text("import time\nprint(1, flush=True)\ntime.sleep(600)\n")
+        (self.own / "other.py").write_text("import time\nprint(1, flush=True)\ntime.sleep(600)\n")
+        one, two = self.seated(self.other, self.spy, limits=Limits())
         reading, writing = os.pipe()
         with open(reading, "rb") as printed, open(writing, "wb") as out:
             one.begin([], self.variables(1), {}, out)
             self.assertEqual(printed.readline(), b"1\n")
-            (self.own / "spy.py").write_text(SPY)
             one.listener().close()
             status, seen = self.play(two)
             self.assertEqual((status, seen["others"]), (3, 0))
@@ -261,8 +331,7 @@ class Apart(Places):
 
     def test_a_sandbox_that_does_not_start_is_told_in_a_line(self) -> None:
         missing = Entrant("gone", (sys.executable, "/nowhere/gone.py"), "gone", "gone")
-        words: List[str] = sandbox(missing, TAC, [])
-        words[1:1] = ["--ro-bind", "/nowhere", "/nowhere"]
+        words = ["--ro-bind", "/nowhere", "/nowhere", *sandbox(missing, TAC, {})]
         process = AgentProcess(self.children, missing, dict(os.environ), words)
         self.addCleanup(process.close)
         with self.assertRaisesRegex(OSError, "the process of gone did not start: .*nowhere"):

@@ -95,6 +95,7 @@ class Turns:
 
     passed: List[int] = [0] * 8
     script: Sequence[bytes] = (b"0 own 1\n", b"tick\n")
+    waited: Sequence[float] = [0.0] * 8
     given: Sequence[float] = ()
 
     def __init__(self, *given: float) -> None:
@@ -251,7 +252,7 @@ class Matches(PlaceCase):
         result = self.play('echo "$@" $AGENT_SEED $PYTHONHASHSEED $AGENT_LIMIT',
                            "echo $AGENT_SEED", turns=30, patience=2.5)
         self.assertEqual((result.kind, len(result.scores)), (Kind.TURNS, 8))
-        self.assertEqual((tuple(Turns.given), self.notes()), ((30, 2.5), ""))
+        self.assertEqual((tuple(Turns.given), self.notes()), ((30, 2.5, None), ""))
         printed = (self.place / "7.0.out.red0").read_text().split()
         self.assertEqual(printed, ["4321", "key0", "--pause", "0", "70", "0", "0"])
         self.assertEqual((self.place / "7.0.out.red1").read_text(), "71\n")

@@ -28,11 +28,12 @@ class Agents(PlaceCase):
     def digest(self, words: str = "") -> str:
         return self.agent(words).digest
 
-    def test_links_within_the_folder_count_once_and_others_are_refused_unread(self) -> None:
+    def test_links_to_files_of_the_folder_count_and_others_are_refused_unread(self) -> None:
         digest = self.digest()
         (self.place / "again").symlink_to(".")
-        (self.place / "same.py").symlink_to("helper.py")
         self.assertEqual(self.digest(), digest)
+        (self.place / "same.py").symlink_to("helper.py")
+        self.assertEqual(self.agent().files["same.py"], self.agent().files["helper.py"])
         for target in ("/proc/kmsg", "/usr", "../elsewhere"):
             (self.place / "notes").symlink_to(target)
             with self.assertRaisesRegex(EntrantError, "notes leads out of its folder"):

@@ -41,9 +41,6 @@ ROOM = b"size=64m,nr_inodes=16k"  # and how much
 # for /proc, and for what is seen at a second place; and what else `seclude` asks for.
 NAMESPACES, FILES, PROC, AGAIN = 0x7E020000, 0x6, 0xF, 0x5000
 MOUNT_SETATTR, HERE, ALL_BELOW, READ_ONLY = 442, -100, 0x8000, 1
-# By machine: its number, and the first of three calls for keys, which a user's processes share.
-KEYS = {"x86_64": (0xC000003E, 248), "aarch64": (0xC00000B7, 217)}
-SET_FILTER, ALLOWED, REFUSED = (22, 2), 0x7FFF0000, 0x50001
 CAPABILITIES, SET_FLAGS, UP = 0x20080522, 0x8914, 0x41
 
 
@@ -171,9 +168,9 @@ class Host:
 
 
 def seclude() -> None:
-    """Goes on in a process that sees no other one, no network and no keys. It can write temporary
-    files, and they are gone with it, as is all else that it leaves, such as shared memory. SIGTERM
-    to this process, which waits for it, kills all of them.
+    """Goes on in a process that sees no other one and no network. It can write temporary files, and
+    they are gone with it, as is all else that it leaves, such as shared memory. SIGTERM to this
+    process, which waits for it, kills all of them.
 
     Raises:
         OSError: The system does not allow it.
@@ -210,12 +207,6 @@ def seclude() -> None:
     os.chdir(os.getcwd())  # it may be one of these
     with socket.socket() as link:
         fcntl.ioctl(link, SET_FLAGS, struct.pack("16sH22x", b"lo", UP))
-    machine, first = KEYS[os.uname().machine]
-    steps = ((0x20, 0, 0, 4), (0x15, 1, 0, machine), (0x06, 0, 0, REFUSED),  # of another machine
-             (0x20, 0, 0, 0), (0x54, 0, 0, 0x3FFFFFFF), (0x35, 0, 2, first),
-             (0x25, 1, 0, first + 2), (0x06, 0, 0, REFUSED), (0x06, 0, 0, ALLOWED))
-    code = ctypes.create_string_buffer(b"".join(struct.pack("HBBI", *step) for step in steps))
-    do(system.prctl(*SET_FILTER, struct.pack("HxxxxxxP", len(steps), ctypes.addressof(code))))
     do(system.capset(struct.pack("II", CAPABILITIES, 0), bytes(24)))
 
 

@@ -2,9 +2,10 @@
 sees of this machine if it is kept apart, by Debian's `bubblewrap`.
 
 An agent that is kept apart sees the system's programs, Python, this package and the file of `tac`,
-and its own folder, all of which it cannot change. It does not see the folder of the run, other
-agents' folders, the home folder, or a network. In each game it has processes, a network and
-temporary files of its own, which its host makes in this sandbox (`agent_host.py`).
+and a copy of its own folder, all of which it cannot change. It does not see the folder of the run,
+other agents' folders, the home folder, or a network, and it lacks some system calls. In each game
+it has processes, a network and temporary files of its own, which its host makes in this sandbox
+(`agent_host.py`).
 """
 
 from __future__ import annotations
@@ -15,25 +16,37 @@ import shutil
 import socket
 import subprocess
 import sys
+import tempfile
 from collections import Counter
-from dataclasses import dataclass
+from dataclasses import dataclass, field
 from pathlib import Path
-from typing import IO, Any, Dict, List, NamedTuple, NoReturn, Optional, Sequence, Tuple
+from typing import (IO, Any, Dict, Iterator, List, Mapping, NamedTuple, NoReturn, Optional,
+                    Sequence, Tuple)
 
 from geesefuton import program
 from geesefuton.experiments.agent_host import Messages
 from geesefuton.experiments.entrants import PACKAGE, Entrant, environment
+from geesefuton.experiments.provenance import Agent
+from geesefuton.experiments.system_calls import filter_of
 from geesefuton.processes import Children
 
 HOST = str(Path(__file__).with_name("agent_host.py"))
-NAMESPACES = ["--unshare-all", "--uid", "65534", "--gid", "65534", "--die-with-parent",
-              "--new-session", "--cap-drop", "ALL", "--hostname", "agent"]
+NAMESPACES = ["--unshare-ipc", "--unshare-pid", "--unshare-net", "--unshare-uts",
+              "--unshare-cgroup-try", "--die-with-parent", "--new-session", "--cap-drop", "ALL",
+              "--hostname", "agent"]
+# In a sandbox everybody is `nobody`. What root runs has to become that by itself: for Linux a mere
+# name in a sandbox is still root, whose processes it does not limit.
+NOBODY, AS_NOBODY = (["--unshare-user", "--uid", "65534", "--gid", "65534"], list[str]()) \
+    if os.getuid() else (["--cap-add", "CAP_SETUID", "--cap-add", "CAP_SETGID"], [
+        "setpriv", "--reuid=65534", "--regid=65534", "--clear-groups"])
+FILTER = filter_of()
 SYSTEM = ("/usr", "/bin", "/sbin", "/lib", "/lib32", "/lib64", "/libx32")
 SETTINGS = ("/etc/alternatives", "/etc/hosts", "/etc/ld.so.cache", "/etc/localtime",
             "/etc/nsswitch.conf", "/etc/python3", "/etc/java-17-openjdk", "/etc/java-21-openjdk")
 START = 10.0  # seconds that a sandbox has to start
 KILLED = 10.0  # seconds until an agent has to have ended that was killed
 PATIENCE = 30.0  # seconds for the first line of a link, and in turns for each line
+MOST_OPEN = 1024  # files that a process of an agent may have open
 
 
 class Limits(NamedTuple):
@@ -45,7 +58,8 @@ class Limits(NamedTuple):
 
     def by_name(self) -> Dict[str, int]:
         """By the names of the module `resource`, without `RLIMIT_`."""
-        return {"DATA": self.memory, "NPROC": self.processes, "CPU": self.seconds, "CORE": 0}
+        return {"DATA": self.memory, "NPROC": self.processes, "CPU": self.seconds, "CORE": 0,
+                "NOFILE": MOST_OPEN}
 
 
 @dataclass(frozen=True)
@@ -62,6 +76,9 @@ class Job:
     seeds: Tuple[int, ...]  # what they draw from in a game in turns
     keys: Tuple[str, ...]  # the words that they say for their seats
     limits: Optional[Limits] = None  # what each may use; None if agents are not kept apart
+    copies: Mapping[Path, Path] = field(default_factory=dict)  # of the folders of such agents
+    # whether it waits, once it has had a tick, until the tournament tells that others have had it
+    is_in_step: bool = False
     form: str = "words"  # what they speak, `words` or `json`
     pace: int = 100  # the milliseconds from tick to tick
     start: float = 20.0  # the seconds that the game waits for its agents
@@ -71,16 +88,26 @@ class Job:
     patience: float = PATIENCE
 
 
+@contextlib.contextmanager
+def _begun() -> Iterator[Tuple[List[str], int]]:
+    """The words that begin a sandbox, and the number of a file that it reads."""
+    with tempfile.TemporaryFile() as calls:
+        calls.write(FILTER)
+        calls.seek(0)
+        yield ["bwrap", *NAMESPACES, *NOBODY,
+               *(["--seccomp", str(calls.fileno())] if FILTER else [])], calls.fileno()
+
+
 def why_not() -> str:
     """Why agents cannot be kept apart here, in a few words; "" if they can."""
-    program = shutil.which("bwrap")
-    if program is None:
+    if shutil.which("bwrap") is None:
         return "there is no `bwrap`: install Debian's `bubblewrap`"
     try:
-        tried = subprocess.run([program, *NAMESPACES, "--dev-bind", "/", "/", sys.executable,
-                                HOST],
-                               stdin=subprocess.DEVNULL, stdout=subprocess.DEVNULL,
-                               stderr=subprocess.PIPE, timeout=START, check=False)
+        with _begun() as (words, calls):
+            tried = subprocess.run([*words, *_shown({}), "--", *AS_NOBODY, sys.executable, HOST],
+                                   pass_fds=[calls], stdin=subprocess.DEVNULL,
+                                   stdout=subprocess.DEVNULL, stderr=subprocess.PIPE,
+                                   timeout=START, check=False)
     except (OSError, subprocess.TimeoutExpired) as fault:
         return f"`bwrap` cannot be run: {fault}"
     said = tried.stderr.decode("utf-8", "replace").strip().split("\n")[-1]
@@ -94,7 +121,7 @@ def own_files(entrant: Entrant) -> List[Path]:
             and not any(file.is_relative_to(folder) for folder in SYSTEM)]
 
 
-def folder_of(entrant: Entrant, secret: Sequence[Path]) -> Optional[Path]:
+def folder_of(entrant: Entrant, secret: Sequence[Path] = ()) -> Optional[Path]:
     """The folder that an agent sees as its own, that of its first file; None if it has none. Raises
     ValueError where the folder holds one of these, or the home folder."""
     files = own_files(entrant)
@@ -109,41 +136,73 @@ def folder_of(entrant: Entrant, secret: Sequence[Path]) -> Optional[Path]:
     return folder
 
 
-def sandbox(entrant: Entrant, tac: str, secret: Sequence[Path]) -> List[str]:
-    """The words before a command that let it run in an agent's sandbox, in its folder. Raises
-    ValueError where that holds one of the secret folders, such as that of the run."""
-    own, folder = own_files(entrant), folder_of(entrant, secret)
-    words = ["bwrap", *NAMESPACES, "--bind", "/proc", "/proc", "--dev", "/dev", "--dir", "/tmp"]
+def copied(entrants: Sequence[Entrant], agents: Mapping[str, Agent], place: Path
+           ) -> Dict[Path, Path]:
+    """Copies the agents' folders into a place, with the files that count as theirs and no others.
+    By each folder, its copy."""
+    copies: Dict[Path, Path] = {}
+    for entrant in entrants:
+        folder = folder_of(entrant)
+        if folder is None:
+            continue
+        copy = copies.setdefault(folder, place / str(len(copies)))
+        files = map(folder.joinpath, agents[entrant.name].files)
+        for file in [*files, *own_files(entrant)]:
+            if file.is_file() and file.is_relative_to(folder):
+                new = copy / file.relative_to(folder)
+                new.parent.mkdir(parents=True, exist_ok=True)
+                shutil.copyfile(file, new)
+        for each in [copy, *copy.rglob("*")]:
+            each.chmod(0o755)
+    return copies
+
+
+def _shown(sources: Mapping[str, str]) -> List[str]:
+    """The words by which a sandbox shows the system, Python and this package, and these sources,
+    each at a place."""
+    words = ["--bind", "/proc", "/proc", "--dev", "/dev", "--dir", "/tmp"]
     for place in SYSTEM:
         if os.path.islink(place):
             words += ["--symlink", os.readlink(place), place]
         elif os.path.isdir(place):
             words += ["--ro-bind", place, place]
-    shown = [*SETTINGS, sys.base_prefix, sys.prefix, str(PACKAGE / "geesefuton"),
-             os.path.realpath(tac), *([str(folder)] if folder else []), *map(str, own)]
-    for place in dict.fromkeys(shown):
-        if os.path.exists(place) and not any(Path(place).is_relative_to(each) for each in SYSTEM):
-            words += ["--ro-bind", place, place]
-    return [*words, "--chdir", str(folder or "/tmp"), "--"]
+    always = [*SETTINGS, sys.base_prefix, sys.prefix, str(PACKAGE / "geesefuton")]
+    for place, source in sorted({**dict(zip(always, always)), **sources}.items()):
+        if os.path.exists(source) and not any(Path(place).is_relative_to(each) for each in SYSTEM):
+            for above in reversed(Path(place).parents):  # which everybody can read
+                words += ["--dir", str(above)]
+            words += ["--ro-bind" if source == place else "--bind", source, place]
+    return words
+
+
+def sandbox(entrant: Entrant, tac: str, copies: Mapping[Path, Path]) -> List[str]:
+    """The words between those that begin a sandbox and a command, which let it run in the agent's
+    folder, by the copies of folders."""
+    folder = folder_of(entrant)
+    sources = {str(file): str(file) for file in [Path(os.path.realpath(tac)), *own_files(entrant)]
+               if folder is None or not file.is_relative_to(folder)}
+    if folder:
+        sources[str(folder)] = str(copies[folder])
+    return [*_shown(sources), "--chdir", str(folder or "/tmp"), "--", *AS_NOBODY]
 
 
 class AgentProcess:
     """An agent's process, in one game after another, by a host with these variables, and with the
-    words of its sandbox before, if it has one."""
+    words of its sandbox (`sandbox`), if it has one."""
 
     def __init__(self, children: Children, entrant: Entrant, variables: Dict[str, str],
-                 before: Sequence[str] = ()) -> None:
+                 apart: Sequence[str] = ()) -> None:
         self._children, self._entrant = children, entrant
         self._is_ready = False
         self._status: Optional[int] = None
         ours, theirs = socket.socketpair()
         self._messages = Messages(ours)
-        with theirs:
+        with theirs, _begun() as (words, calls):
             self._host = children.start(
-                [*before, sys.executable, HOST, str(theirs.fileno()),
-                 "" if before else str(children.groups)],
-                pass_fds=[theirs.fileno()], stdin=subprocess.DEVNULL, stdout=subprocess.DEVNULL,
-                stderr=subprocess.PIPE, env=variables)
+                [*([*words, *apart] if apart else []), sys.executable, HOST, str(theirs.fileno()),
+                 "" if apart else str(children.groups)],
+                pass_fds=[theirs.fileno(), calls], stdin=subprocess.DEVNULL,
+                stdout=subprocess.DEVNULL, stderr=subprocess.PIPE, env=variables)
         first, second, *_ = [*entrant.words, ""]
         self._say({"load": second if first == sys.executable else ""})
 
@@ -221,7 +280,7 @@ class Agents:
 
     def seated(self, job: Job) -> List[AgentProcess]:
         """The processes for the seats of a game, where an agent with several seats has as many.
-        Raises ProgramError where there is no file of `tac`, and ValueError as `sandbox` does."""
+        Raises ProgramError where there is no file of `tac`."""
         tac, is_apart = program.find(), job.limits is not None
         variables = environment(tac, Path("/tmp"), is_apart)
         if job.turns:
@@ -236,7 +295,7 @@ class Agents:
                 if found is not None:
                     found.close()
                 found = AgentProcess(self._children, entrant, variables, sandbox(
-                    entrant, tac, [job.folder.parent]) if is_apart else ())
+                    entrant, tac, job.copies) if is_apart else ())
                 self._running[key] = found
             seated.append(found)
         for process in seated:

@@ -94,11 +94,13 @@ def _how(exited: Exit, reason: Optional[End]) -> str:
 
 
 class Match:
-    """A game with its agents; `send` takes what is sent back."""
+    """A game with its agents; `send` takes what is sent back, and `others` tells which ticks other
+    games have had."""
 
     def __init__(self, job: Job, children: Children, agents: Agents,
-                 send: Callable[[Message], None]) -> None:
+                 send: Callable[[Message], None], others: Optional[Connection] = None) -> None:
         self._job, self._children, self._agents, self._send = job, children, agents, send
+        self._others = others if job.is_in_step else None
         self._running: Dict[int, AgentProcess] = {}
         self._printed: Dict[int, IO[bytes]] = {}  # what agents print
         self._exits: Dict[int, Exit] = {}
@@ -128,7 +130,7 @@ class Match:
                     journal=None if job.turns else self._file("journal"), orders=orders,
                     keys={key: seat for seat, key in enumerate(job.keys)},
                     listeners=[each.listener() for each in seated if job.limits])
-                turns = TurnServer(job.turns, job.patience) if job.turns else None
+                turns = TurnServer(job.turns, job.patience, self._others) if job.turns else None
                 lobby = Lobby(settings, turns)
                 if not job.limits:
                     self._start_agents(seated, lobby.port)
@@ -142,14 +144,14 @@ class Match:
                     watcher.join()
                 if turns:
                     self._file("script").write_bytes(b"".join(turns.script))
-            except (LobbyError, program.ProgramError, ValueError) as fault:
+            except (LobbyError, program.ProgramError) as fault:
                 return Result(fault=str(fault))
             finally:
                 for process in self._running.values():  # if there was no game
                     process.close()
                 for seat, printed in self._printed.items():
                     self._keep(seat, printed)
-        return self._result(status, turns.passed if turns else None)
+        return self._result(status, turns)
 
     def _take(self, event: events.Event) -> None:
         """Takes an event of the lobby."""
@@ -203,9 +205,8 @@ class Match:
         with contextlib.suppress(OSError):  # the lobby has ended
             self._orders.write(f"{line}\n".encode("ascii"))
 
-    def _result(self, status: int, passed: Optional[List[int]]) -> Result:
-        """What the game came to, by the lobby's status, and, in turns, how often each agent was
-        passed over."""
+    def _result(self, status: int, turns: Optional[TurnServer]) -> Result:
+        """What the game came to, by the lobby's status, and, in turns, by who served it."""
         job = self._job
         try:
             text = self._log.read_bytes() if self._log.exists() else b""
@@ -227,13 +228,18 @@ class Match:
             self._tell(seat, exited, reason, outcomes[-1])
             told = re.findall(r"missed ([0-9]{1,2}) of [0-9]+ ticks", self._last_printed(seat))
             missed.append(int(told[-1]) if told else None)
-        if passed is None:
-            return Result(scores, tuple(outcomes), missed=tuple(missed))
-        for seat, count in enumerate(passed):
-            if count:
-                self._send(Note(f"{self._name(seat)} was passed over in {count} turns, so the game "
-                                "cannot be repeated"))
-        kind = Kind.UNREPEATABLE if any(passed) else Kind.TURNS
+        if job.limits and Outcome.KILLED in outcomes:
+            return Result(fault="somebody killed an agent, or the system did for want of memory")
+        kind = Kind.SERVED
+        if turns:
+            for seat, (count, waited) in enumerate(zip(turns.passed, turns.waited)):
+                if count:
+                    self._send(Note(f"{self._name(seat)} was passed over in {count} turns, so the "
+                                    "game cannot be repeated"))
+                if waited > job.patience:
+                    self._send(Note(f"{self._name(seat)} kept the game waiting for {waited:.0f} "
+                                    "seconds"))
+            kind = Kind.UNREPEATABLE if any(turns.passed) else Kind.TURNS
         return Result(scores, tuple(outcomes), kind=kind, missed=tuple(missed))
 
     def _name(self, seat: int) -> str:
@@ -276,9 +282,11 @@ def _main() -> int:
     with contextlib.closing(Connection(int(sys.argv[1]))) as parent, Children() as children, \
             contextlib.closing(Agents(children)) as agents, contextlib.suppress(EOFError):
         while True:
-            job: Job = parent.recv()  # raises EOFError once there are no more
+            job = parent.recv()  # raises EOFError once there are no more
+            if not isinstance(job, Job):
+                continue  # the tick of a game that has ended
             try:
-                result = Match(job, children, agents, parent.send).play()
+                result = Match(job, children, agents, parent.send, parent).play()
             except OSError as fault:
                 where = f"{fault.filename}: " if fault.filename is not None else ""
                 result = Result(fault=where + why(fault))

@@ -68,6 +68,11 @@ class Plan:
             return [lineup[(deal + seat) % SEATS] for seat in range(SEATS)]
         return [self.entrants[number] for number in self.seating.game(deal, rotation)]
 
+    @property
+    def is_in_step(self) -> bool:
+        """Whether all games of a deal are played at the same time and go in step (`turns`)."""
+        return bool(self.turns and self.limits) and self.rotations <= SEATS and not self.rule.file
+
     def seconds(self) -> float:
         """The seconds that a game may take, and in turns those until it has its next tick."""
         asked = self.turns * SEATS * self.patience if self.turns else TICKS * self.pace / 1000

@@ -109,19 +109,18 @@ def agent_of(entrant: Entrant, patterns: Sequence[str] = (), also: Sequence[Path
 
 
 def _within(folder: Path, top: Optional[Path] = None) -> Iterator[Path]:
-    """The files of a folder, and of those below, that may be an agent's. A link to another place of
-    it is left out, since that place counts; one that leads out of it is refused, unread."""
+    """The files of a folder, and of those below, that may be an agent's, with links to files, but
+    not to folders, that are there. A link that leads out of the folder is refused, unread."""
     top = top or folder.resolve()
     for file in sorted(folder.iterdir()):
         if file.name[0] == "." or file.name == "__pycache__":
             continue
-        if file.is_symlink():
-            if top not in (file.resolve(), *file.resolve().parents):
-                raise EntrantError(f"the link {file} leads out of its folder: put a copy there")
-            continue
+        if file.is_symlink() and top not in (file.resolve(), *file.resolve().parents):
+            raise EntrantError(f"the link {file} leads out of its folder: put a copy there")
         if file.is_file():
             yield file
-        elif file.is_dir() and not any((file / name).exists() for name in NOT_OURS):
+        elif (file.is_dir() and not file.is_symlink()
+              and not any((file / name).exists() for name in NOT_OURS)):
             yield from _within(file, top)
 
 

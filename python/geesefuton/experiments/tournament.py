@@ -16,13 +16,14 @@ import sys
 import time
 from dataclasses import dataclass
 from functools import partial
+from itertools import groupby
 from multiprocessing.connection import Connection, Pipe, wait
 from pathlib import Path
 from typing import AbstractSet, Iterator, List, NamedTuple, Optional, Sequence, Tuple
 
 from geesefuton import program
 from geesefuton.arguments import Parser
-from geesefuton.experiments.agents import Job
+from geesefuton.experiments.agents import Job, copied
 from geesefuton.experiments.covariates import covariates_of
 from geesefuton.experiments.deals import SHORT, Table, place_of, tables
 from geesefuton.experiments.entrants import Entrant, seat_words
@@ -37,7 +38,7 @@ from geesefuton.experiments.summary import Summary, summarize
 from geesefuton.hosting import events
 from geesefuton.processes import (Children, Output, Stopped, command, python_words, tell,
                                   why)
-from geesefuton.records.games import SEATS
+from geesefuton.records.games import SEATS, TICKS
 from geesefuton.records.secret_deals import agent_seed, seat_key
 
 LEAVE = 5.0  # seconds that a game has to end its agents
@@ -62,6 +63,8 @@ class Running:
     deadline: float
     result: Optional[Result] = None
     has_answered: bool = False
+    tick: int = 0  # the last that it has had
+    told: int = 0  # the last that it knows all games of its deal to have had
 
 
 class Tournament:
@@ -99,15 +102,19 @@ class Tournament:
     def play(self, children: Children) -> None:
         """Plays all games."""
         plan = self._plan
-        waiting: Optional[Iterator[Table]] = tables(plan.rule, plan.games, plan.rotations,
-                                                    self._finished)
+        waiting: Optional[Iterator[Tuple[object, Iterator[Table]]]] = groupby(
+            tables(plan.rule, plan.games, plan.rotations, self._finished),
+            lambda table: table.deal.number if plan.is_in_step else table.name)
+        self._copies = copied(plan.entrants, plan.agents, children.folder("agents")) \
+            if plan.limits else {}
         running: List[Running] = []
         self._idle: List[Player] = []
         try:
             while running or waiting:
                 while waiting and len(running) < plan.at_once:
                     try:
-                        running.append(self._begin(children, next(waiting)))
+                        for table in next(waiting)[1]:
+                            running.append(self._begin(children, table))
                     except StopIteration:
                         waiting = None
                     except (program.CommandError, OSError) as fault:
@@ -121,6 +128,8 @@ class Tournament:
                     else:
                         _end_all([game.player], children)
                     self._finish(game)
+                if plan.is_in_step:
+                    self._tell_ticks(running)
         finally:
             _end_all([game.player for game in running] + self._idle, children)
 
@@ -132,7 +141,7 @@ class Tournament:
         keys = [seat_key(plan.rule.secret, table.name, seat) for seat in range(SEATS)]
         job = Job(table.name, plan.out / GAMES, table.deal.game.named(words).text(),
                   tuple(entrants), tuple(words), tuple(seeds), tuple(keys), plan.limits,
-                  plan.form, plan.pace, plan.start, plan.linger, plan.turns, plan.patience)
+                  self._copies, plan.is_in_step, plan.form, plan.pace, plan.start, plan.linger, plan.turns, plan.patience)
         while self._idle and self._idle[-1].process.poll() is not None:
             _end_all([self._idle.pop()], children)
         player = self._idle.pop() if self._idle else self._started(children)
@@ -167,7 +176,16 @@ class Tournament:
                 tell(f"game {game.table.name}: refused a link as {message.answer}: it sent "
                      f"{message.line!r}")
             elif isinstance(message, events.Ticked) and self._plan.turns:
-                game.deadline = time.monotonic() + self._plan.seconds()
+                game.tick, game.deadline = message.tick, time.monotonic() + self._plan.seconds()
+
+    def _tell_ticks(self, running: Sequence[Running]) -> None:
+        """Tells games which ticks all games of their deal have had."""
+        for game in running:
+            had = min(each.tick for each in running if each.table.deal is game.table.deal)
+            if game.told < had < TICKS:
+                game.told, game.deadline = had, time.monotonic() + self._plan.seconds()
+                with contextlib.suppress(OSError):
+                    game.player.connection.send(had)
 
     def _is_over(self, game: Running) -> bool:
         # A game whose messages were not read yet, as after ctrl-Z, may have ended in time.

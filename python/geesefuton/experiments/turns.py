@@ -3,8 +3,12 @@
 There is no clock, and no server at a port. In each turn every agent gets one request answered by a
 process of `tac step`, seat after seat, in the order of `records.order`; the number of turns between
 two ticks is fixed. Only an agent that sends nothing for a long time, `patience`, is passed over,
-and then in each turn until it sends a line again. So agents whose requests depend only on what they
-received play the same game on any machine, as long as no agent is passed over.
+and then in each turn until it sends a line again; one that was waited for `SILENCES` times as long
+in all is waited for no more. So agents whose requests depend only on what they received play the
+same game on any machine, as long as no agent is passed over.
+
+Games may go in step: after a tick each waits until all have had it, so that agents cannot tell one
+game what comes in another of the same deal.
 """
 
 from __future__ import annotations
@@ -12,6 +16,7 @@ from __future__ import annotations
 import contextlib
 import socket
 import time
+from multiprocessing.connection import Connection
 from typing import List, Optional
 
 from geesefuton import program
@@ -26,6 +31,8 @@ from geesefuton.records.order import first_seat, order_of_turn
 MOST_TURNS = 1000  # between two ticks, so that the 65,536 lines of a session last
 LAST_TURNS = 1024  # of each agent after the last tick
 MOST_READ = 4096  # bytes; a line that the relay passes on has fewer
+SILENCES = 10  # of an agent in a game, each as long as may be
+LOOK = 0.05  # seconds after which links are looked after while other games are waited for
 
 
 class Turner:
@@ -38,6 +45,7 @@ class Turner:
         self.is_silent = False  # whether it was so in its last one
         self.is_over = False  # whether it asks nothing more
         self.heard = time.monotonic()  # when it was last answered, or welcomed
+        self.waited = 0.0  # the seconds for which it was waited for
         self._held = b""
         link.setblocking(False)
 
@@ -73,10 +81,12 @@ class TurnServer:
         turns: How many turns each agent has between two ticks, 1 to `MOST_TURNS`, and before the
             first. After the last it has `LAST_TURNS`.
         patience: The seconds without a word after which an agent is passed over.
+        others: Tells the number of a tick once all games have had it that go in step with this one;
+            None if there are none.
     """
 
-    def __init__(self, turns: int, patience: float) -> None:
-        self._turns, self._patience = turns, patience
+    def __init__(self, turns: int, patience: float, others: Optional[Connection] = None) -> None:
+        self._turns, self._patience, self._others = turns, patience, others
         self.script: List[bytes] = []  # what was asked so far, and the ticks (docs/FORMATS.md)
         self._turners: List[Turner] = []
         self._first = 0  # the seat that is asked first
@@ -86,6 +96,11 @@ class TurnServer:
         """In how many turns each agent was passed over; with any at all, the game is not one that
         can be repeated."""
         return [turner.passed for turner in self._turners]
+
+    @property
+    def waited(self) -> List[float]:
+        """For how many seconds the game waited for each agent."""
+        return [turner.waited for turner in self._turners]
 
     def play(self, game: HostedGame) -> int:
         """Plays the game, and gives the exit status of its process, or `STOPPED`. Raises
@@ -117,6 +132,10 @@ class TurnServer:
                 return
             self._exchange(table, b"tick\n", 0)
             game.tick(tick, [turner.asked for turner in self._turners])
+            had = 0 if self._others else TICKS
+            while had < tick < TICKS and self._others and not game.is_stopped:
+                had = self._others.recv() if self._others.poll(LOOK) else had
+                game.turn(0)
         for turn in range(LAST_TURNS):
             self._take_turns(game, table, TICKS, range(turn, turn + 1))
             if all(turner.is_over or turner.is_silent for turner in self._turners):
@@ -149,9 +168,10 @@ class TurnServer:
 
     def _wait(self, game: HostedGame, turner: Turner) -> Optional[bytes]:
         """The line of an agent whose turn it is; None if it is over or passed over."""
-        line = turner.take()
+        line, began = turner.take(), time.monotonic()
+        most = began + SILENCES * self._patience - turner.waited
         while line is None and not turner.is_over and not game.is_stopped:
-            left = turner.heard + self._patience - time.monotonic()
+            left = min(turner.heard + self._patience, most) - time.monotonic()
             if game.control.phase is Phase.ENDING:
                 left = min(left, game.seconds_left())
             game.turn(max(0.0, left))
@@ -159,4 +179,5 @@ class TurnServer:
             if line is None and left <= 0 and not turner.is_over:
                 turner.pass_over()
                 break
+        turner.waited += time.monotonic() - began
         return line
