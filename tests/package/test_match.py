@@ -68,6 +68,8 @@ class Lobby:
 
     def __init__(self, settings, serving) -> None:  # type: ignore[no-untyped-def]
         self.settings = Lobby.last = settings
+        for listener in settings.listeners:
+            listener.close()
 
     def run(self, on_event: Callable[[events.Event], None]) -> int:
         Lobby.orders = [self.settings.orders.readline() for _ in range(self.awaited)]
@@ -222,6 +224,12 @@ class Matches(PlaceCase):
         self.assertEqual(sorted(file.name for file in self.place.glob("7.0.out.*")),
                          [f"7.0.out.red{seat}" for seat in range(8)])
 
+    @unittest.skipIf(WHY_NOT, WHY_NOT)
+    def test_a_game_is_lost_if_an_agent_was_killed_that_only_its_host_could_kill(self) -> None:
+        self.patch("experiments.match.outcome_of", lambda *_: Outcome.KILLED)
+        self.assertIn("somebody killed an agent", self.play(limits=Limits()).fault)
+        self.assertEqual(self.play().outcomes, (Outcome.KILLED,) * 8)
+
     def test_agents_read_nothing_of_what_the_tournament_is_given(self) -> None:
         (self.place / "typed").write_text("typed\n")
         before = os.dup(0)
@@ -259,11 +267,12 @@ class Matches(PlaceCase):
         self.assertIs(self.play().kind, Kind.SERVED)
 
     def test_an_agent_that_was_passed_over_marks_its_game(self) -> None:
-        self.turns.passed = [0, 0, 17, 0, 0, 0, 1, 0]
+        self.turns.passed, self.turns.waited = [0, 0, 17, 0, 0, 0, 1, 0], [30.0, 75.2, *[0.0] * 6]
         self.assertIs(self.play(turns=1).kind, Kind.UNREPEATABLE)
         self.assertEqual(self.notes().split("\n"), [
-            f"agent{seat} at seat {seat} (red{seat}) was passed over in {count} turns, so the game "
-            "cannot be repeated" for seat, count in ((2, 17), (6, 1))])
+            "agent1 at seat 1 (red1) kept the game waiting for 75 seconds", *(
+                f"agent{seat} at seat {seat} (red{seat}) was passed over in {count} turns, so the "
+                "game cannot be repeated" for seat, count in ((2, 17), (6, 1)))])
 
     def test_agents_that_fail_are_told_with_what_they_printed_last(self) -> None:
         self.lobby.ends = [End.GONE, End.HUNG, End.ABSENT, End.ABSENT, End.LEFT, End.GONE,

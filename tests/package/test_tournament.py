@@ -14,6 +14,7 @@ from typing import Any, Dict, List, Optional, Tuple
 from unittest import mock
 
 from geesefuton.experiments import tournament
+from geesefuton.experiments.agents import Limits
 from geesefuton.experiments.deals import Deal, Rule, Table
 from geesefuton.experiments.entrants import Entrant
 from geesefuton.experiments.forms import as_text
@@ -173,6 +174,40 @@ class Playing(PlaceCase):
             made.play(children)
         self.assertEqual({(row.place, row.run) for row in self.rows()}, {((2, 1), 2)})
         self.assertEqual(self.told[-1], "game 1 of 1 (deal 2, rotation 1): scored; 0:00 left")
+
+    def test_all_games_of_a_deal_begin_together_where_they_go_in_step(self) -> None:
+        plan = replace(self.plan(games=4, at_once=1, turns=1), limits=Limits())
+        counts: List[int] = []
+        for each, most in ((plan, 2), (replace(plan, limits=None), 1)):
+            counts.clear()
+            made = self.tournament(each)
+            hear = made._hear
+
+            def counted(running: Any, hear: Any = hear) -> None:
+                counts.append(len(running))
+                hear(running)
+
+            with Children() as children, mock.patch.object(made, "_hear", counted):
+                made.play(children)
+            self.assertEqual((len(self.rows()), counts[0], max(counts)), (32, most, most))
+
+    def test_games_are_told_a_tick_once_all_games_of_their_deal_have_had_it(self) -> None:
+        made, deals = self.tournament(self.plan()), [Deal(number, served_game()) for number in (1, 2)]
+        games = [Running(Table(deal, number), [], Player(mock.Mock(), mock.Mock()), 0.0, tick=tick)
+                 for deal, number, tick in zip(deals[:1] * 3 + deals[1:], range(4), (3, 3, 2, 9))]
+
+        def told() -> List[int]:
+            made._tell_ticks(games)
+            return [sum(call.args[0] for call in game.player.connection.send.call_args_list)
+                    for game in games]
+
+        self.assertEqual(told(), [2, 2, 2, 9])
+        self.assertEqual(told(), [2, 2, 2, 9])  # once
+        del games[2]  # it is lost
+        self.assertEqual(told(), [5, 5, 9])
+        games[2].tick = 54
+        self.assertEqual(told(), [5, 5, 9])  # it waits no more
+        self.assertGreater(games[0].deadline, time.monotonic())
 
     def test_what_games_tell_is_passed_on_and_their_settings_reach_them(self) -> None:
         self.play(games=1, rotations=1)

@@ -5,8 +5,9 @@ import random
 import socket
 import threading
 import time
+from multiprocessing.connection import Connection, Pipe
 from pathlib import Path
-from typing import Any, List, Sequence, Tuple, Type
+from typing import Any, List, Optional, Sequence, Tuple, Type
 from unittest import mock
 
 from geesefuton import program
@@ -56,10 +57,11 @@ class Agent:
 class Host:
     """A lobby in a thread."""
 
-    def __init__(self, folder: Path, count: int = 1, patience: float = MOST, **more: Any) -> None:
+    def __init__(self, folder: Path, count: int = 1, patience: float = MOST,
+                 others: Optional[Connection] = None, **more: Any) -> None:
         self.log = folder / "my.log"
         settings = {"port": 0, "pace": 1, "log": self.log, "linger": MOST, "start": MOST, **more}
-        self.server = TurnServer(count, patience)
+        self.server = TurnServer(count, patience, others)
         self.lobby = Lobby(LobbySettings(game=GAME, **settings), self.server)
         self.port, self.told = self.lobby.port, list[Event]()
         self.status, self.fault = -1, ""
@@ -168,6 +170,29 @@ class Turns(Case):
                 agents[seat].send(line)
         self.assertEqual(host.end(), [End.LEFT] * 8)
         self.assertEqual((host.asked(), host.server.passed), (due(2, *lines), [0] * 8))
+
+    def test_after_each_tick_it_waits_until_others_have_had_it(self) -> None:
+        ours, theirs = Pipe()
+        with ours, theirs:
+            host = Host(self.place, others=theirs)
+            agents = self.agents(host, *[["own 1", "own 2", "quit"]] * 8)
+            for tick in range(1, TICKS):
+                host.wait(events.Ticked, tick)
+                self.assertEqual(len(host.of(events.Ticked)), tick)
+                ours.send(tick)
+            self.assertEqual(host.end(), [End.LEFT] * 8)
+        self.assertEqual(agents[0].rest()[10:], ["@1 own 0 ()", "@2 own 0 ()", "bye"])
+
+    def test_one_that_was_waited_for_often_enough_is_waited_for_no_more(self) -> None:
+        ours, theirs = socket.socketpair()
+        with ours, theirs:
+            turner, game, server = Turner(0, theirs), mock.Mock(is_stopped=False), TurnServer(1, 5)
+            turner.waited = turns.SILENCES * 5.0
+            self.assertIsNone(server._wait(game, turner))
+            self.assertEqual((turner.passed, game.turn.call_args), (1, mock.call(0.0)))
+            ours.sendall(b"own 1\n")
+            self.assertEqual(server._wait(game, turner), b"own 1")
+        self.assertGreater(turner.waited, turns.SILENCES * 5.0)
 
     def test_ticks_tell_how_many_lines_each_has_sent(self) -> None:
         host, _ = self.played(["own 1"] * 7 + ["quit"], *[["own 0", "quit"]] * 7, count=2)

@@ -11,7 +11,7 @@ from typing import Any, Dict, List, Mapping, Optional, Sequence, Tuple
 
 from geesefuton import program
 from geesefuton.arguments import Parser, seconds, whole
-from geesefuton.experiments.agents import PATIENCE, Limits, folder_of, why_not
+from geesefuton.experiments.agents import FILTER, PATIENCE, Limits, folder_of, why_not
 from geesefuton.experiments.deals import (SHORT, Rule, Table, kept_secret, made_deal,
                                           read_rooms)
 from geesefuton.experiments.entrants import Entrant, read_entrants, refuse_twins
@@ -224,6 +224,9 @@ def _limits(parser: Parser, given: argparse.Namespace,
         folders = Counter(folder_of(entrant, [given.out or Path("run")]) for entrant in entrants)
     except ValueError as refused:
         parser.error(f"{refused} (or give --no-apart)")
+    if not FILTER:
+        tell("agents keep the system calls that tell of other games: those of this machine are not "
+             "known")
     for folder in [folder for folder, count in folders.items() if folder and count > 1][:1]:
         tell(f"agents that stand in one folder, such as {folder}, see each other's files: give "
              "each a folder of its own")
