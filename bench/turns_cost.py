@@ -67,8 +67,9 @@ def main() -> int:
         for agent in agents:
             agent.wait()
         others = spent(resource.RUSAGE_CHILDREN) - others - served
-    if status != program.OK or len(times) != TICKS + 1 or any(turns.passed):
-        print(f"turns_cost: exit status {status}, turns passed over: {turns.passed}")
+    passed = [turner.passed for turner in turns.turners]
+    if status != program.OK or len(times) != TICKS + 1 or any(passed):
+        print(f"turns_cost: exit status {status}, turns passed over: {passed}")
         return 1
     count = lines[-1]
     print(f"{count} requests of {SEATS} agents, {given.turns} turns between two ticks")

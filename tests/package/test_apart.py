@@ -13,10 +13,10 @@ from typing import Any, Dict, List, Optional, Tuple
 from unittest import mock
 
 from geesefuton.experiments.agent_host import PORT
-from geesefuton.experiments.agents import (AgentProcess, Agents, Job, Limits, copied, folder_of,
-                                           sandbox, why_not)
+from geesefuton.experiments.agents import (AgentProcess, Agents, Job, Limits, folder_of, sandbox,
+                                           why_not)
 from geesefuton.experiments.entrants import Entrant, environment, read_entrants
-from geesefuton.experiments.provenance import agent_of
+from geesefuton.experiments.provenance import Agent, agent_of
 from geesefuton.processes import Children
 
 TAC = "/bin/true"
@@ -87,7 +87,8 @@ print(json.dumps({
     "trace": called("ptrace", 0, 0, 0, 0), "flock": [
         tried(fcntl.flock, os.open(json.__file__, os.O_RDONLY), 6) for _ in range(2)],
     "lease": tried(fcntl.fcntl, file, fcntl.F_SETLEASE, fcntl.F_RDLCK),
-    "their lock": tried(fcntl.fcntl, file, 5, bytes(32)), "notes": tried(fcntl.fcntl, file, 1026, 1),
+    "their lock": tried(fcntl.fcntl, file, 5, bytes(32)),
+    "notes": tried(fcntl.fcntl, file, 1026, 1),
     "watch": called("inotify_add_watch", 0, b"/usr", 1), "ring": called("syscall", 425, 1, page),
     "vsock": tried(socket.socket, 40), "netlink": tried(socket.socket, 16, 3),
     "x32": called("syscall", 0x40000027),
@@ -137,9 +138,9 @@ class Places(unittest.TestCase):
 
     def seated(self, *entrants: Entrant, limits: Optional[Limits] = None) -> List[AgentProcess]:
         """The processes of agents, in one game after another."""
-        copies = copied(entrants, {each.name: agent_of(each) for each in entrants},
-                        self.children.folder()) if limits else {}
-        job = Job("1.0", self.run_folder / "games", "", entrants, (), (), (), limits, copies)
+        sandboxes = {each: sandbox(each, agent_of(each), self.children.folder())
+                     for each in entrants if limits}
+        job = Job("1.0", self.run_folder / "games", "", entrants, (), (), (), limits, sandboxes)
         return self.agents.seated(job)
 
     def variables(self, port: int, **more: str) -> Dict[str, str]:
@@ -263,8 +264,8 @@ class Apart(Places):
             out.seek(0)
             self.assertEqual(json.loads(out.read()), {
                 **dict.fromkeys(MISSING, "ENOSYS"), "no wait": "ENOTSUP", "flock": [0, 0],
-                "own lock": 0, "own link": 0, "six": 0, "folder": ["data.txt", "other.py", "spy.py"],
-                "files": "EMFILE", "processes": "EAGAIN"})
+                "own lock": 0, "own link": 0, "six": 0, "files": "EMFILE", "processes": "EAGAIN",
+                "folder": ["data.txt", "other.py", "spy.py"]})
 
     @unittest.skipUnless(os.uname().machine == "x86_64", "it has calls in one form alone")
     def test_a_call_in_the_form_of_another_machine_kills_its_process(self) -> None:
@@ -331,7 +332,7 @@ class Apart(Places):
 
     def test_a_sandbox_that_does_not_start_is_told_in_a_line(self) -> None:
         missing = Entrant("gone", (sys.executable, "/nowhere/gone.py"), "gone", "gone")
-        words = ["--ro-bind", "/nowhere", "/nowhere", *sandbox(missing, TAC, {})]
+        words = ["--ro-bind", "/nowhere", "/nowhere", *sandbox(missing, Agent("", "", (), {}), Path())]
         process = AgentProcess(self.children, missing, dict(os.environ), words)
         self.addCleanup(process.close)
         with self.assertRaisesRegex(OSError, "the process of gone did not start: .*nowhere"):

@@ -5,15 +5,17 @@ import time
 import unittest
 from concurrent.futures import ThreadPoolExecutor
 from contextlib import closing
+from dataclasses import replace
 from multiprocessing.connection import Pipe
 from pathlib import Path
 from typing import Any, Callable, List, Sequence
 from unittest import mock
 
 from geesefuton.experiments import match
-from geesefuton.experiments.agents import Agents, Job, Limits, why_not
+from geesefuton.experiments.agents import Agents, Job, Limits, sandbox, why_not
 from geesefuton.experiments.entrants import Entrant
 from geesefuton.experiments.match import Exit, Match, outcome_of
+from geesefuton.experiments.provenance import Agent
 from geesefuton.experiments.results import Kind, Message, Note, Outcome, Result
 from geesefuton.hosting import events
 from geesefuton.hosting.events import End
@@ -95,9 +97,8 @@ class Turns:
         given: What it was told.
     """
 
-    passed: List[int] = [0] * 8
+    turners: Sequence[Any] = ()
     script: Sequence[bytes] = (b"0 own 1\n", b"tick\n")
-    waited: Sequence[float] = [0.0] * 8
     given: Sequence[float] = ()
 
     def __init__(self, *given: float) -> None:
@@ -130,6 +131,10 @@ class Matches(PlaceCase):
         job = Job("7.0", self.place, SERVED_GAME.read_text(), entrants, tuple(words),
                   tuple(range(70, 78)), KEYS, pace=20, **more)
         with Children() as children, closing(Agents(children)) as agents:
+            if job.limits:
+                agent = Agent("", "", (), {})
+                job = replace(job, sandboxes={each: sandbox(each, agent, self.place)
+                                              for each in entrants})
             return Match(job, children, agents, self.sent.append).play()
 
     def events_of(self, kind: str) -> List[Any]:
@@ -267,7 +272,9 @@ class Matches(PlaceCase):
         self.assertIs(self.play().kind, Kind.SERVED)
 
     def test_an_agent_that_was_passed_over_marks_its_game(self) -> None:
-        self.turns.passed, self.turns.waited = [0, 0, 17, 0, 0, 0, 1, 0], [30.0, 75.2, *[0.0] * 6]
+        self.turns.turners = [
+            mock.Mock(seat=seat, passed=passed, waited=waited) for seat, passed, waited in (
+                (0, 0, 30.0), (1, 0, 75.2), (2, 17, 0.0), (6, 1, 0.0))]
         self.assertIs(self.play(turns=1).kind, Kind.UNREPEATABLE)
         self.assertEqual(self.notes().split("\n"), [
             "agent1 at seat 1 (red1) kept the game waiting for 75 seconds", *(

@@ -20,6 +20,7 @@ from geesefuton.experiments.entrants import Entrant
 from geesefuton.experiments.forms import as_text
 from geesefuton.experiments.covariates import covariates_of
 from geesefuton.experiments.plan import MARGIN, Plan
+from geesefuton.experiments.provenance import Agent
 from geesefuton.experiments.results import (HEAD, Kind, Message, Note, Outcome, Result, Row,
                                             read_rows)
 from geesefuton.experiments.runs import read_scores
@@ -176,7 +177,8 @@ class Playing(PlaceCase):
         self.assertEqual(self.told[-1], "game 1 of 1 (deal 2, rotation 1): scored; 0:00 left")
 
     def test_all_games_of_a_deal_begin_together_where_they_go_in_step(self) -> None:
-        plan = replace(self.plan(games=4, at_once=1, turns=1), limits=Limits())
+        plan = replace(self.plan(games=4, at_once=1, turns=1), limits=Limits(),
+                       agents={name: Agent(name, name, (), {}) for name in "ab"})
         counts: List[int] = []
         for each, most in ((plan, 2), (replace(plan, limits=None), 1)):
             counts.clear()
@@ -192,7 +194,8 @@ class Playing(PlaceCase):
             self.assertEqual((len(self.rows()), counts[0], max(counts)), (32, most, most))
 
     def test_games_are_told_a_tick_once_all_games_of_their_deal_have_had_it(self) -> None:
-        made, deals = self.tournament(self.plan()), [Deal(number, served_game()) for number in (1, 2)]
+        made = self.tournament(self.plan())
+        deals = [Deal(number, served_game()) for number in (1, 2)]
         games = [Running(Table(deal, number), [], Player(mock.Mock(), mock.Mock()), 0.0, tick=tick)
                  for deal, number, tick in zip(deals[:1] * 3 + deals[1:], range(4), (3, 3, 2, 9))]
 

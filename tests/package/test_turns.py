@@ -74,6 +74,10 @@ class Host:
         except program.ProgramError as fault:
             self.fault = str(fault)
 
+    @property
+    def passed(self) -> List[int]:
+        return [turner.passed for turner in self.server.turners]
+
     def of(self, kind: Type[Event]) -> List[Any]:
         return [event for event in self.told if isinstance(event, kind)]
 
@@ -146,7 +150,7 @@ class Turns(Case):
             self.assertEqual(host.asked(), due(count, *own))
             script = b"".join(host.server.script).decode("ascii").splitlines()
             self.assertEqual(script, host.asked())
-            self.assertEqual((host.status, host.server.passed), (0, [0] * 8))
+            self.assertEqual((host.status, host.passed), (0, [0] * 8))
             for seat, agent in enumerate(agents):
                 told = agent.rest()
                 self.assertEqual((told[0], len(told[:10])), (f"welcome {seat}", 10))
@@ -169,7 +173,7 @@ class Turns(Case):
                 time.sleep(0.02)
                 agents[seat].send(line)
         self.assertEqual(host.end(), [End.LEFT] * 8)
-        self.assertEqual((host.asked(), host.server.passed), (due(2, *lines), [0] * 8))
+        self.assertEqual((host.asked(), host.passed), (due(2, *lines), [0] * 8))
 
     def test_after_each_tick_it_waits_until_others_have_had_it(self) -> None:
         ours, theirs = Pipe()
@@ -206,7 +210,7 @@ class Turns(Case):
         agents = self.agents(host, ["own 1"] * 900 + ["quit"], [], *[["quit"]] * 6)
         for _ in range(10):
             agents[1].line()  # the welcome
-        while not host.server.passed[1]:
+        while not host.passed[1]:
             time.sleep(0.001)
         agents[1].send("own 2")
         self.assertEqual(agents[1].line(), "@2 own 0 ()")
@@ -214,15 +218,15 @@ class Turns(Case):
         asked = host.asked()
         self.assertEqual([line for line in asked if line != "1 own 2"],
                          due(1, ["own 1"] * 900 + ["quit"], [], *[["quit"]] * 6))
-        self.assertGreater(host.server.passed[1], 0)
-        self.assertEqual(host.server.passed[:1] + host.server.passed[2:], [0] * 7)
+        self.assertGreater(host.passed[1], 0)
+        self.assertEqual(host.passed[:1] + host.passed[2:], [0] * 7)
 
     def test_a_silent_agent_costs_its_patience_once(self) -> None:
         began = time.monotonic()
         host = Host(self.place, 5, patience=0.3)
         self.agents(host, *[[]] * 8)
         self.assertEqual(host.end(), [End.HUNG] * 8)
-        self.assertEqual(host.server.passed, [5 * TICKS + 1] * 8)
+        self.assertEqual(host.passed, [5 * TICKS + 1] * 8)
         self.assertLess(time.monotonic() - began, MOST / 4)
         self.assertEqual(host.asked(), ["tick"] * TICKS)
 
@@ -278,7 +282,7 @@ class Ends(Case):
             orders_file.write(b"without seat1\n")
             self.assertEqual(host.end(), [End.LEFT, End.GONE] + [End.LEFT] * 6)
         self.assertEqual(again.rest()[10:], ["@4 own 0 ()", "bye"])
-        self.assertEqual(host.server.passed, [0] * 8)
+        self.assertEqual(host.passed, [0] * 8)
         self.assertEqual(host.asked(), due(1, ["own 1", "own 4", "quit"], ["own 2"],
                                            *[["own 0", "quit"]] * 6))
 
@@ -289,18 +293,18 @@ class Ends(Case):
         reasons = host.end()
         self.assertEqual(reasons, [End.ABSENT] * 4 + [End.LEFT] + [End.ABSENT] * 3)
         self.assertEqual(host.asked()[:2], ["4 own 1", "tick"])
-        self.assertTrue(all(passed for seat, passed in enumerate(host.server.passed) if seat != 4))
+        self.assertTrue(all(passed for seat, passed in enumerate(host.passed) if seat != 4))
 
     def test_an_agent_that_never_quits(self) -> None:
         self.assertEqual((turns.MOST_TURNS, turns.LAST_TURNS), (1000, 1024))
         self.enter(mock.patch.object(turns, "LAST_TURNS", 20))
         host, _ = self.played(["own 1"] * 90, *[["quit"]] * 7, first=End.HUNG)
         self.assertEqual(host.asked().count("0 own 1"), TICKS + 20)
-        self.assertEqual(host.server.passed, [0] * 8)
+        self.assertEqual(host.passed, [0] * 8)
 
     def test_after_the_last_tick_nobody_is_waited_for_longer_than_asked(self) -> None:
         host, agents = self.played(["own 1"] * TICKS, *[["quit"]] * 7, first=End.HUNG, linger=0.1)
-        self.assertEqual(host.server.passed, [1] + [0] * 7)
+        self.assertEqual(host.passed, [1] + [0] * 7)
         self.assertEqual(len(agents[0].rest()), 10 + TICKS)
 
     def test_one_that_goes_after_the_last_tick_has_left(self) -> None:
@@ -361,7 +365,7 @@ class Real(PlaceCase):
         """The log of a game with eight wanderers."""
         host = Host(self.place, form=form)
         agents = [Wanderer(host, seat, form, random.Random(hurry + seat)) for seat in range(8)]
-        self.assertEqual((host.end(), host.server.passed), ([End.LEFT] * 8, [0] * 8), host.fault)
+        self.assertEqual((host.end(), host.passed), ([End.LEFT] * 8, [0] * 8), host.fault)
         for agent in agents:
             agent.join()
             self.assertEqual(len(agent.told), 60)

@@ -76,9 +76,9 @@ class Job:
     seeds: Tuple[int, ...]  # what they draw from in a game in turns
     keys: Tuple[str, ...]  # the words that they say for their seats
     limits: Optional[Limits] = None  # what each may use; None if agents are not kept apart
-    copies: Mapping[Path, Path] = field(default_factory=dict)  # of the folders of such agents
-    # whether it waits, once it has had a tick, until the tournament tells that others have had it
-    is_in_step: bool = False
+    # the words of their sandboxes (`sandbox`), if agents are kept apart
+    sandboxes: Mapping[Entrant, Sequence[str]] = field(default_factory=dict)
+    is_in_step: bool = False  # whether it goes on after a tick once it is told to
     form: str = "words"  # what they speak, `words` or `json`
     pace: int = 100  # the milliseconds from tick to tick
     start: float = 20.0  # the seconds that the game waits for its agents
@@ -136,30 +136,9 @@ def folder_of(entrant: Entrant, secret: Sequence[Path] = ()) -> Optional[Path]:
     return folder
 
 
-def copied(entrants: Sequence[Entrant], agents: Mapping[str, Agent], place: Path
-           ) -> Dict[Path, Path]:
-    """Copies the agents' folders into a place, with the files that count as theirs and no others.
-    By each folder, its copy."""
-    copies: Dict[Path, Path] = {}
-    for entrant in entrants:
-        folder = folder_of(entrant)
-        if folder is None:
-            continue
-        copy = copies.setdefault(folder, place / str(len(copies)))
-        files = map(folder.joinpath, agents[entrant.name].files)
-        for file in [*files, *own_files(entrant)]:
-            if file.is_file() and file.is_relative_to(folder):
-                new = copy / file.relative_to(folder)
-                new.parent.mkdir(parents=True, exist_ok=True)
-                shutil.copyfile(file, new)
-        for each in [copy, *copy.rglob("*")]:
-            each.chmod(0o755)
-    return copies
-
-
-def _shown(sources: Mapping[str, str]) -> List[str]:
-    """The words by which a sandbox shows the system, Python and this package, and these sources,
-    each at a place."""
+def _shown(places: Mapping[str, str]) -> List[str]:
+    """The words by which a sandbox shows the system, Python and this package, and what more is to
+    be seen at these places, by where it is."""
     words = ["--bind", "/proc", "/proc", "--dev", "/dev", "--dir", "/tmp"]
     for place in SYSTEM:
         if os.path.islink(place):
@@ -167,7 +146,7 @@ def _shown(sources: Mapping[str, str]) -> List[str]:
         elif os.path.isdir(place):
             words += ["--ro-bind", place, place]
     always = [*SETTINGS, sys.base_prefix, sys.prefix, str(PACKAGE / "geesefuton")]
-    for place, source in sorted({**dict(zip(always, always)), **sources}.items()):
+    for place, source in sorted({**dict(zip(always, always)), **places}.items()):
         if os.path.exists(source) and not any(Path(place).is_relative_to(each) for each in SYSTEM):
             for above in reversed(Path(place).parents):  # which everybody can read
                 words += ["--dir", str(above)]
@@ -175,15 +154,23 @@ def _shown(sources: Mapping[str, str]) -> List[str]:
     return words
 
 
-def sandbox(entrant: Entrant, tac: str, copies: Mapping[Path, Path]) -> List[str]:
+def sandbox(entrant: Entrant, agent: Agent, place: Path) -> List[str]:
     """The words between those that begin a sandbox and a command, which let it run in the agent's
-    folder, by the copies of folders."""
-    folder = folder_of(entrant)
-    sources = {str(file): str(file) for file in [Path(os.path.realpath(tac)), *own_files(entrant)]
-               if folder is None or not file.is_relative_to(folder)}
+    folder. Of that it has a copy, made at a place, of the files that count as the agent's. Raises
+    ProgramError where there is no file of `tac`."""
+    folder, own = folder_of(entrant), own_files(entrant)
+    places = {str(file): str(file) for file in [Path(program.find()).resolve(), *own]
+              if folder is None or folder not in file.parents}
     if folder:
-        sources[str(folder)] = str(copies[folder])
-    return [*_shown(sources), "--chdir", str(folder or "/tmp"), "--", *AS_NOBODY]
+        places[str(folder)] = str(place)
+        for file in [*map(folder.joinpath, agent.files), *own]:
+            if file.is_file() and folder in file.parents:
+                copy = place / file.relative_to(folder)
+                copy.parent.mkdir(parents=True, exist_ok=True)
+                shutil.copyfile(file, copy)
+        for each in [place, *place.rglob("*")]:
+            each.chmod(0o755)
+    return [*_shown(places), "--chdir", str(folder or "/tmp"), "--", *AS_NOBODY]
 
 
 class AgentProcess:
@@ -236,11 +223,12 @@ class AgentProcess:
         self._say({"run": [*self._entrant.words, *words], "variables": variables,
                    "limits": limits}, [out.fileno()])
 
-    def poll(self) -> Optional[int]:
-        """The exit status of the agent in this game, negative for a signal; None if it runs. For a
-        signal in a sandbox, which nobody else can have sent, it is 128 more than its number."""
+    def poll(self, seconds: float = 0.0) -> Optional[int]:
+        """The exit status of the agent in this game, negative for a signal; None if it still runs
+        after some seconds. For a signal in a sandbox, which nobody else can have sent, it is 128
+        more than its number."""
         if self._status is None:
-            message = self._messages.hear(0)
+            message = self._messages.hear(seconds)
             if message is not None:
                 self._status = int(message["status"])
             elif self.has_ended():  # its host was killed
@@ -255,13 +243,9 @@ class AgentProcess:
         """Ends the agent's process, if it has not ended. Its status in this game."""
         if self.poll() is None:
             self._say({"end": True})
-            message = self._messages.hear(KILLED)
-            if message is None:
+            if self.poll(KILLED) is None:
                 self.close()
-                return -9
-            self._status = int(message["status"])
-        assert self._status is not None
-        return self._status
+        return -9 if self._status is None else self._status
 
     def close(self) -> None:
         """Ends its host."""
@@ -281,8 +265,7 @@ class Agents:
     def seated(self, job: Job) -> List[AgentProcess]:
         """The processes for the seats of a game, where an agent with several seats has as many.
         Raises ProgramError where there is no file of `tac`."""
-        tac, is_apart = program.find(), job.limits is not None
-        variables = environment(tac, Path("/tmp"), is_apart)
+        variables = environment(program.find(), Path("/tmp"), job.limits is not None)
         if job.turns:
             variables["PYTHONHASHSEED"] = "0"  # holds from the start of a Python on
         counts: Counter[Entrant] = Counter()
@@ -294,9 +277,8 @@ class Agents:
             if found is None or found.has_ended():
                 if found is not None:
                     found.close()
-                found = AgentProcess(self._children, entrant, variables, sandbox(
-                    entrant, tac, job.copies) if is_apart else ())
-                self._running[key] = found
+                found = self._running[key] = AgentProcess(
+                    self._children, entrant, variables, job.sandboxes.get(entrant, ()))
             seated.append(found)
         for process in seated:
             process.wait()

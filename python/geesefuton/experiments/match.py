@@ -232,14 +232,14 @@ class Match:
             return Result(fault="somebody killed an agent, or the system did for want of memory")
         kind = Kind.SERVED
         if turns:
-            for seat, (count, waited) in enumerate(zip(turns.passed, turns.waited)):
-                if count:
-                    self._send(Note(f"{self._name(seat)} was passed over in {count} turns, so the "
-                                    "game cannot be repeated"))
-                if waited > job.patience:
-                    self._send(Note(f"{self._name(seat)} kept the game waiting for {waited:.0f} "
-                                    "seconds"))
-            kind = Kind.UNREPEATABLE if any(turns.passed) else Kind.TURNS
+            for turner in turns.turners:
+                if turner.passed:
+                    self._send(Note(f"{self._name(turner.seat)} was passed over in {turner.passed} "
+                                    "turns, so the game cannot be repeated"))
+                if turner.waited > job.patience:
+                    self._send(Note(f"{self._name(turner.seat)} kept the game waiting for "
+                                    f"{turner.waited:.0f} seconds"))
+            kind = Kind.UNREPEATABLE if any(each.passed for each in turns.turners) else Kind.TURNS
         return Result(scores, tuple(outcomes), kind=kind, missed=tuple(missed))
 
     def _name(self, seat: int) -> str:

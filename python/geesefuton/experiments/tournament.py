@@ -23,7 +23,7 @@ from typing import AbstractSet, Iterator, List, NamedTuple, Optional, Sequence, 
 
 from geesefuton import program
 from geesefuton.arguments import Parser
-from geesefuton.experiments.agents import Job, copied
+from geesefuton.experiments.agents import Job, sandbox
 from geesefuton.experiments.covariates import covariates_of
 from geesefuton.experiments.deals import SHORT, Table, place_of, tables
 from geesefuton.experiments.entrants import Entrant, seat_words
@@ -105,8 +105,9 @@ class Tournament:
         waiting: Optional[Iterator[Tuple[object, Iterator[Table]]]] = groupby(
             tables(plan.rule, plan.games, plan.rotations, self._finished),
             lambda table: table.deal.number if plan.is_in_step else table.name)
-        self._copies = copied(plan.entrants, plan.agents, children.folder("agents")) \
-            if plan.limits else {}
+        copies = children.folder("agents")
+        self._sandboxes = {entrant: sandbox(entrant, plan.agents[entrant.name], copies / str(number))
+                           for number, entrant in enumerate(plan.entrants) if plan.limits}
         running: List[Running] = []
         self._idle: List[Player] = []
         try:
@@ -141,7 +142,8 @@ class Tournament:
         keys = [seat_key(plan.rule.secret, table.name, seat) for seat in range(SEATS)]
         job = Job(table.name, plan.out / GAMES, table.deal.game.named(words).text(),
                   tuple(entrants), tuple(words), tuple(seeds), tuple(keys), plan.limits,
-                  self._copies, plan.is_in_step, plan.form, plan.pace, plan.start, plan.linger, plan.turns, plan.patience)
+                  self._sandboxes, plan.is_in_step, plan.form, plan.pace, plan.start, plan.linger,
+                  plan.turns, plan.patience)
         while self._idle and self._idle[-1].process.poll() is not None:
             _end_all([self._idle.pop()], children)
         player = self._idle.pop() if self._idle else self._started(children)

@@ -41,7 +41,8 @@ class Turner:
     def __init__(self, seat: int, link: socket.socket) -> None:
         self.seat, self.socket = seat, link
         self.asked = 0  # how many lines were asked in its turns
-        self.passed = 0  # in how many turns it was passed over
+        # in how many turns it was passed over; if it was, the game cannot be repeated
+        self.passed = 0
         self.is_silent = False  # whether it was so in its last one
         self.is_over = False  # whether it asks nothing more
         self.heard = time.monotonic()  # when it was last answered, or welcomed
@@ -88,19 +89,8 @@ class TurnServer:
     def __init__(self, turns: int, patience: float, others: Optional[Connection] = None) -> None:
         self._turns, self._patience, self._others = turns, patience, others
         self.script: List[bytes] = []  # what was asked so far, and the ticks (docs/FORMATS.md)
-        self._turners: List[Turner] = []
+        self.turners: List[Turner] = []  # by seat
         self._first = 0  # the seat that is asked first
-
-    @property
-    def passed(self) -> List[int]:
-        """In how many turns each agent was passed over; with any at all, the game is not one that
-        can be repeated."""
-        return [turner.passed for turner in self._turners]
-
-    @property
-    def waited(self) -> List[float]:
-        """For how many seconds the game waited for each agent."""
-        return [turner.waited for turner in self._turners]
 
     def play(self, game: HostedGame) -> int:
         """Plays the game, and gives the exit status of its process, or `STOPPED`. Raises
@@ -112,7 +102,7 @@ class TurnServer:
                 ours, theirs = socket.socketpair()
                 stack.callback(theirs.close)
                 sessions.append(Session(seat, ours, welcome(game.text, seat.number)))
-                self._turners.append(Turner(seat.number, theirs))
+                self.turners.append(Turner(seat.number, theirs))
             game.relay.begin(sessions)
             self._first = first_seat(game.text)
             game.control.phase = Phase.PLAYING
@@ -131,21 +121,21 @@ class TurnServer:
             if game.is_stopped:
                 return
             self._exchange(table, b"tick\n", 0)
-            game.tick(tick, [turner.asked for turner in self._turners])
+            game.tick(tick, [turner.asked for turner in self.turners])
             had = 0 if self._others else TICKS
             while had < tick < TICKS and self._others and not game.is_stopped:
                 had = self._others.recv() if self._others.poll(LOOK) else had
                 game.turn(0)
         for turn in range(LAST_TURNS):
             self._take_turns(game, table, TICKS, range(turn, turn + 1))
-            if all(turner.is_over or turner.is_silent for turner in self._turners):
+            if all(turner.is_over or turner.is_silent for turner in self.turners):
                 break
 
     def _take_turns(self, game: HostedGame, table: Stepped, tick: int, turns: range) -> None:
         """Gives each agent these turns after a tick."""
         for turn in turns:
             for seat in order_of_turn(tick, turn, self._first):
-                turner = self._turners[seat]
+                turner = self.turners[seat]
                 line = None if turner.is_over else self._wait(game, turner)
                 if game.is_stopped:
                     return
