@@ -312,7 +312,8 @@ class Apart(Places):
             printed.read()  # until no process has the other end
 
     def test_agents_do_not_see_one_another(self) -> None:
-        (self.own / "other.py").write_text("import time\nprint(1, flush=True)\ntime.sleep(600)\n")
+        (self.own / "other.py").write_text("import time\nprint(1, flush=True)\n"
+                                           "time.sleep(600)\n")
         one, two = self.seated(self.other, self.spy, limits=Limits())
         reading, writing = os.pipe()
         with open(reading, "rb") as printed, open(writing, "wb") as out:

@@ -208,8 +208,6 @@ class Playing(PlaceCase):
         self.assertEqual(told(), [2, 2, 2, 9])  # once
         del games[2]  # it is lost
         self.assertEqual(told(), [5, 5, 9])
-        games[2].tick = 54
-        self.assertEqual(told(), [5, 5, 9])  # it waits no more
         self.assertGreater(games[0].deadline, time.monotonic())
 
     def test_what_games_tell_is_passed_on_and_their_settings_reach_them(self) -> None:

@@ -180,7 +180,7 @@ class Turns(Case):
         with ours, theirs:
             host = Host(self.place, others=theirs)
             agents = self.agents(host, *[["own 1", "own 2", "quit"]] * 8)
-            for tick in range(1, TICKS):
+            for tick in range(1, TICKS + 1):
                 host.wait(events.Ticked, tick)
                 self.assertEqual(len(host.of(events.Ticked)), tick)
                 ours.send(tick)

@@ -146,16 +146,11 @@ class Host:
         return True
 
     def _reap(self) -> None:
-        """Waits for the processes that have ended, and tells the status of the agent's own."""
-        with contextlib.suppress(ChildProcessError):
-            while True:
-                process, status = os.waitpid(-1, os.WNOHANG)
-                if not process:
-                    return
-                if process == self._child:
-                    self._end()
-                    self._messages.say({"status": -os.WTERMSIG(status) if os.WIFSIGNALED(status)
-                                        else os.WEXITSTATUS(status)})
+        """Tells the status of the agent's process, if it has ended."""
+        ended, status = os.waitpid(self._child, os.WNOHANG) if self._child else (0, 0)
+        if ended:
+            self._end()
+            self._messages.say({"status": os.waitstatus_to_exitcode(status)})
 
     def _end(self) -> None:
         """Ends what is left of a game."""

@@ -38,7 +38,7 @@ from geesefuton.experiments.summary import Summary, summarize
 from geesefuton.hosting import events
 from geesefuton.processes import (Children, Output, Stopped, command, python_words, tell,
                                   why)
-from geesefuton.records.games import SEATS, TICKS
+from geesefuton.records.games import SEATS
 from geesefuton.records.secret_deals import agent_seed, seat_key
 
 LEAVE = 5.0  # seconds that a game has to end its agents
@@ -106,8 +106,8 @@ class Tournament:
             tables(plan.rule, plan.games, plan.rotations, self._finished),
             lambda table: table.deal.number if plan.is_in_step else table.name)
         copies = children.folder("agents")
-        self._sandboxes = {entrant: sandbox(entrant, plan.agents[entrant.name], copies / str(number))
-                           for number, entrant in enumerate(plan.entrants) if plan.limits}
+        self._sandboxes = {each: sandbox(each, plan.agents[each.name], copies / str(number))
+                           for number, each in enumerate(plan.entrants) if plan.limits}
         running: List[Running] = []
         self._idle: List[Player] = []
         try:
@@ -184,7 +184,7 @@ class Tournament:
         """Tells games which ticks all games of their deal have had."""
         for game in running:
             had = min(each.tick for each in running if each.table.deal is game.table.deal)
-            if game.told < had < TICKS:
+            if game.told < had:
                 game.told, game.deadline = had, time.monotonic() + self._plan.seconds()
                 with contextlib.suppress(OSError):
                     game.player.connection.send(had)

@@ -116,14 +116,14 @@ class TurnServer:
 
     def _play_ticks(self, game: HostedGame, table: Stepped) -> None:
         """Lets the ticks come, with the turns between them."""
+        had = 0
         for tick in range(1, TICKS + 1):
             self._take_turns(game, table, tick - 1, range(self._turns))
             if game.is_stopped:
                 return
             self._exchange(table, b"tick\n", 0)
             game.tick(tick, [turner.asked for turner in self.turners])
-            had = 0 if self._others else TICKS
-            while had < tick < TICKS and self._others and not game.is_stopped:
+            while self._others and had < tick and not game.is_stopped:
                 had = self._others.recv() if self._others.poll(LOOK) else had
                 game.turn(0)
         for turn in range(LAST_TURNS):
