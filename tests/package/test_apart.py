@@ -333,7 +333,8 @@ class Apart(Places):
 
     def test_a_sandbox_that_does_not_start_is_told_in_a_line(self) -> None:
         missing = Entrant("gone", (sys.executable, "/nowhere/gone.py"), "gone", "gone")
-        words = ["--ro-bind", "/nowhere", "/nowhere", *sandbox(missing, Agent("", "", (), {}), Path())]
+        words = ["--ro-bind", "/nowhere", "/nowhere",
+                 *sandbox(missing, Agent("", "", (), {}), Path())]
         process = AgentProcess(self.children, missing, dict(os.environ), words)
         self.addCleanup(process.close)
         with self.assertRaisesRegex(OSError, "the process of gone did not start: .*nowhere"):

@@ -70,6 +70,18 @@ class Settings(PlaceCase):
         self.assertEqual(self.settings("--game", copy), self.settings("--game", SERVED_GAME))
         self.assertNotEqual(self.settings("--game", copy), first)
 
+    def test_games_in_sandboxes_go_in_step_and_what_these_lack_is_told(self) -> None:
+        self.patch("experiments.plan.why_not", str)
+        for words, is_in_step in ((["--turns", "2"], True), ([], False),
+                                  (["--turns", "2", "--no-apart"], False),
+                                  (["--turns", "2", "--game", SERVED_GAME], False),
+                                  (["--turns", "2"] + ["--against", "sh"] * 7, True)):
+            self.assertEqual(plan_of("--apart", "--out", "x", *words).is_in_step, is_in_step)
+        self.patch("experiments.plan.FILTER", b"")
+        with mock.patch("geesefuton.experiments.plan.tell") as tell:
+            plan_of("--apart", "--out", "x")
+        self.assertIn("those of this machine are not known", tell.call_args_list[0].args[0])
+
     def test_a_folder_has_its_games(self) -> None:
         plan = plan_of("--out", "runs/1", "--resume")
         self.assertEqual((plan.out, plan.is_resumed), (Path("runs/1"), True))
