@@ -114,7 +114,7 @@ class Plans(unittest.TestCase):
         self.assertEqual(self.plans(54), [[row.score, row.cash, 0, 0] for row in LOG.scores])
 
     def test_before_it_the_clocks_later_calls_do_not_count(self) -> None:
-        ticks = ticks_by_log(GAME, LOG).entries
+        ticks = ticks_by_log(GAME, LOG)
         for tick in (0, 30):
             accounts, cash = Books(GAME), [0] * 8
             for good, history in enumerate(LOG.histories):

@@ -123,7 +123,7 @@ class Whole(unittest.TestCase):
 class ByLog(unittest.TestCase):
     def test_tickets_have_the_ticks_of_trades_before_them(self) -> None:
         for game, log in GAMES:
-            for good, ticks in enumerate(ticks_by_log(game, log).entries):
+            for good, ticks in enumerate(ticks_by_log(game, log)):
                 self.assertEqual(len(ticks), len(log.histories[good]))
                 self.assertEqual(ticks, sorted(ticks))
                 if good in TICKETS:
@@ -146,6 +146,6 @@ class Times(unittest.TestCase):
         posts = [(21, 1), (0, 2), (1, 1), (20, 1), (8, 2), (22, 1)]  # goods, and positions there
         log = replace(served_log(), histories=tuple(histories),
                       cash=tuple(Post(2, good, at, (0,) * 9) for good, at in posts))
-        ticks = ticks_by_log(GAME, log).entries
+        ticks = ticks_by_log(GAME, log)
         self.assertEqual([ticks[good] for good in (0, 1, 8, 20, 21, 22)], [
             [1, 2, 2, 3], [1, 1], [0, 6, 6], [0, 2, 2, 54], [0, 0, 54], [0, 6, 54]])

@@ -1,5 +1,5 @@
-"""The tables that `data` writes of a tournament: scores, trades and cash are those of the
-logs to the dollar, each seat and each call alone.
+"""The tables that `data` writes of a tournament: scores and trades are those of the logs to the
+dollar, each seat and each call alone.
 
 The logs are read here once more, by their lines alone. Each script is also played again by
 `tac play`, which has to write the kept log.
@@ -9,8 +9,8 @@ import csv
 from collections import Counter, defaultdict
 from typing import Counter as CounterOf, Dict, List, Tuple
 
-from geesefuton.records.data import read_data
 from tests.package.helpers import TOP, Case, completed, needs_program
+from tests.package.test_data import read_tables
 from tests.support.trying import COMMAND, ran
 
 AGENTS = [TOP / "examples" / "agents" / f"{name}.py" for name in ("planner", "baseline")]
@@ -30,7 +30,7 @@ class Tables(Case):
         folder, out = self.place / "run", self.place / "out"
         for tool in (["tournament", "--out", folder, *words, *AGENTS], ["data", folder, out]):
             completed(*COMMAND, *tool, check=True)
-        tables = read_data(out)
+        tables = read_tables(out)
         with open(folder / "scores.csv", encoding="utf-8", newline="") as text:
             names = {(row["deal"], row["rotation"], row["seat"]): (row["agent"], row["score"])
                      for row in csv.DictReader(text)}
@@ -66,15 +66,13 @@ class Tables(Case):
                 scores.append(tuple(map(int, words)))
             elif what in "01234567" and words[0] in ("bid", "withdraw"):
                 calls[good, int(what)] += 1
-        cash: Dict[Tuple[str, int], int] = defaultdict(int)
-        for table in ("trades", "cash"):
-            for row in tables[table]:
-                if row.get("what") != "read":
-                    cash[table, int(str(row["seat"]))] += int(str(row["dollars"]))
+        cash: Dict[int, int] = defaultdict(int)
+        for row in tables["trades"]:
+            cash[int(str(row["seat"]))] += int(str(row["dollars"]))
         self.assertEqual([tuple(row[column] for column in (
             "seat", "utility", "cash", "short", "score")) for row in tables["scores"]], scores)
         for seat, _, dollars, *_ in scores:
-            self.assertEqual((cash["trades", seat], cash["cash", seat]), (dollars, dollars))
+            self.assertEqual(cash[seat], dollars)
         self.assertEqual(Counter((row["good"], row["seat"], row["units"], row["price"])
                                  for row in tables["trades"]), trades)
         found = {(row["good"], row["seat"], row["position"]) for row in tables["bids"]}

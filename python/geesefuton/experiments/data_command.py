@@ -1,5 +1,5 @@
 """Writes the games of a tournament as CSV tables: `games`, `deals`, `goods`,
-`quotes`, `bids`, `trades`, `cash`, `scores` and `trips`.
+`quotes`, `bids`, `trades`, `scores` and `trips`.
 
     geesefuton data runs/1 tables
 
@@ -17,9 +17,9 @@ from geesefuton.arguments import Parser
 from geesefuton.experiments.joining import read_source
 from geesefuton.experiments.runs import KeptGame, read_games
 from geesefuton.processes import Output, command, tell, why
-from geesefuton.records.data import SCHEMA, TABLES, file_of, schema_text
+from geesefuton.records.data import SCHEMA, TABLES, schema_text
 from geesefuton.records.games import AUCTIONS, CLOCK, FLIGHTS, GOODS, HOTELS, HOUSE, TICKETS, Game
-from geesefuton.records.logs import Entry, Post, gains_of
+from geesefuton.records.logs import Entry, gains_of
 from geesefuton.records.replies import No, entry_words
 from geesefuton.records.rules import PENALTY
 from geesefuton.records.tables import csv_of
@@ -30,7 +30,7 @@ Cells = Sequence[object]
 
 def _write(folder: Path, games: Iterable[KeptGame]) -> List[str]:
     """Writes the tables of games, and their schema, to a new or empty folder; gives what failed."""
-    files = {table: Output(file_of(folder, table)) for table in TABLES}
+    files = {table: Output(folder / f"{table}.csv") for table in TABLES}
     for table, columns in TABLES.items():
         files[table].write(csv_of([list(columns)]))
     deals: Set[str] = set()
@@ -108,18 +108,7 @@ def _entries(kept: KeptGame) -> Iterator[Tuple[int, int, int, Entry]]:
     """All entries of auctions, each with its tick, its good and its position."""
     for good in GOODS:
         for position, entry in enumerate(kept.log.histories[good]):
-            yield kept.ticks.entries[good][position], good, position, entry
-
-
-def _cash(kept: KeptGame) -> Iterator[Cells]:
-    for position, (tick, entry) in enumerate(zip(kept.ticks.cash, kept.log.cash)):
-        if not isinstance(entry, Post):
-            yield (tick, position, entry.agent, kept.agents[entry.agent], "read", "",
-                   entry.dollars)
-            continue
-        for seat, dollars in enumerate(entry.nets[:HOUSE]):
-            if dollars:
-                yield tick, position, seat, kept.agents[seat], "post", entry.good, dollars
+            yield kept.ticks[good][position], good, position, entry
 
 
 def _scores(kept: KeptGame) -> Iterator[Cells]:
@@ -138,7 +127,7 @@ def _trips(kept: KeptGame) -> Iterator[Cells]:
 
 
 DEALS = {"deals": _clients, "goods": _goods}  # a table with rows of each deal
-ROWS = {"games": _game, "quotes": _quotes, "bids": _bids, "trades": _trades, "cash": _cash,
+ROWS = {"games": _game, "quotes": _quotes, "bids": _bids, "trades": _trades,
         "scores": _scores, "trips": _trips}
 
 

@@ -4,8 +4,8 @@ A log has no times, but a script has the ticks between the requests, and a journ
 they were passed on: an entry has the tick of its request, as far as the clock's calls around it
 leave that possible. By the log alone, an entry of a flight or a hotel has the tick of the clock's
 last call there. A trade of a ticket has the tick of the last such trade before it in the cash book,
-which has all trades in order; another entry of tickets, and a reading of cash, has the tick of the
-trade before it. These may have come later.
+which has all trades in order; another entry of tickets has the tick of the trade before it. These
+may have come later.
 
 Prices over the ticks are recomputed by the books of a game from its log, which has the calls, but
 not the prices that were shown. A trade of a ticket has no tick there.
@@ -22,17 +22,11 @@ from geesefuton.records.rules import clock_ticks
 
 Placed = Tuple[int, int, Entry]  # good, position and entry
 Timed = Tuple[int, int, Optional[Request]]  # a tick, an agent, and what it asked
+Ticks = List[List[int]]  # the ticks, 0 to 54, of the entries of each auction
 
 
 class TicksError(Exception):
     """Requests that are not those of a log."""
-
-
-class Ticks(NamedTuple):
-    """The ticks, 0 to 54, of the entries of each auction, and of those of the cash book."""
-
-    entries: List[List[int]]
-    cash: List[int]
 
 
 def ticks_by_log(game: Game, log: Log) -> Ticks:
@@ -50,7 +44,7 @@ def ticks_by_log(game: Game, log: Log) -> Ticks:
         for position, entry in enumerate(log.histories[good]):
             last = TICKS if entry.caller == CLOCK else max(last, ticks[good][position])
             ticks[good][position] = last
-    return Ticks(ticks, ticks_of_cash(log, ticks))
+    return ticks
 
 
 def ticks_by_clock(game: Game, good: int, history: Sequence[Entry]) -> List[int]:
@@ -60,21 +54,6 @@ def ticks_by_clock(game: Game, good: int, history: Sequence[Entry]) -> List[int]
         now = next(clock, now) if entry.caller == CLOCK else now
         ticks.append(now)
     return ticks
-
-
-def ticks_of_cash(log: Log, ticks: Sequence[Sequence[int]],
-                  readings: Sequence[Optional[int]] = ()) -> List[int]:
-    """The ticks of the entries of the cash book, by those of the auctions' entries, and those of
-    the readings in their order, as far as they are known."""
-    known, cash, now = iter(readings), [], 0
-    for entry in log.cash:
-        if isinstance(entry, Post):
-            now = max(now, ticks[entry.good][entry.position])
-        else:
-            tick = next(known, None)
-            now = max(now, tick or 0)
-        cash.append(now)
-    return cash
 
 
 def ticks_by_requests(game: Game, log: Log, requests: Iterable[Timed]) -> Ticks:
@@ -96,10 +75,7 @@ def ticks_by_requests(game: Game, log: Log, requests: Iterable[Timed]) -> Ticks:
                 low = min(max(low, _asked(asked, good, position, entry)), high)
             now.append(low)
         ticks.append(now)
-    readings = (asked[entry.agent, None, "cash"] for entry in log.cash
-                if not isinstance(entry, Post))
-    return Ticks(ticks, ticks_of_cash(log, ticks, [
-        each.popleft()[0] if each else None for each in readings]))
+    return ticks
 
 
 def _asked(asked: Dict[Tuple[int, Optional[int], str], Deque[Tuple[int, Request]]], good: int,
@@ -126,7 +102,7 @@ def entries_by_tick(ticks: Ticks, log: Log) -> List[List[Placed]]:
     """For each tick, 0 to 54, its entries, each with its good and its position there."""
     by_tick: List[List[Placed]] = [[] for _ in range(TICKS + 1)]
     for good in GOODS:
-        for position, (tick, entry) in enumerate(zip(ticks.entries[good], log.histories[good])):
+        for position, (tick, entry) in enumerate(zip(ticks[good], log.histories[good])):
             by_tick[tick].append((good, position, entry))
     return by_tick
 
