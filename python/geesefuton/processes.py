@@ -188,23 +188,24 @@ def why(fault: Exception) -> str:
     return fault.strerror or str(fault) if isinstance(fault, OSError) else str(fault)
 
 
-def write_whole(file: Path, data: bytes) -> None:
-    """Writes a file that only its owner may read, so that it is there whole, and on the disk, or is
-    as it was before.
+def write_whole(file: Path, data: bytes, mode: int = 0o600) -> None:
+    """Writes a file so that it is there whole, and on the disk, or is as it was before. Only its
+    owner may read it, or by another mode those whom the umask does not exclude.
 
     Raises:
         OSError: The disk takes no more, for instance.
     """
-    number, new = tempfile.mkstemp(UNFINISHED, f".{file.name}.", file.parent)
+    new = file.with_name(f".{file.name}{UNFINISHED}")
+    new.unlink(missing_ok=True)
     try:
-        with open(number, "wb") as out:
+        with open(new, "xb", opener=lambda path, how: os.open(path, how, mode)) as out:
             out.write(data)
             out.flush()
             os.fsync(out.fileno())
         os.replace(new, file)
     except OSError:
         with contextlib.suppress(OSError):
-            os.unlink(new)
+            new.unlink()
         raise
     folder = os.open(file.parent, os.O_RDONLY)
     try:

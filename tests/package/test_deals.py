@@ -1,5 +1,4 @@
 import hashlib
-import stat
 import tempfile
 import unittest
 from pathlib import Path
@@ -7,8 +6,7 @@ from typing import List
 from unittest import mock
 
 from geesefuton.experiments import deals
-from geesefuton.experiments.deals import (Deal, DealError, Rule, kept_secret, read_rooms,
-                                          shared_secret, tables)
+from geesefuton.experiments.deals import Deal, DealError, Rule, kept_secret, read_rooms, tables
 from geesefuton.records.drawing import classic_endowments, drawn_rooms
 from geesefuton.records.games import read_game
 from geesefuton.records.secret_deals import commitment, deal_seed
@@ -47,12 +45,6 @@ class Tables(unittest.TestCase):
         self.assertEqual(Deal(5, game.named([f"a{seat}" for seat in range(8)])).name, name)
         self.assertNotEqual(Deal(1, game.with_rooms([9] * 8, True)).name, name)
 
-    def test_replays_of_a_file_are_of_one_deal(self) -> None:
-        played = list(tables(Rule(file=SERVED_GAME), 4, 2))
-        self.assertEqual([table.name for table in played], ["1.0", "1.1", "1.2", "1.3"])
-        self.assertEqual({table.deal.name for table in played}, {Deal(1, served_game()).name})
-        self.assertEqual(played[3].deal.game, served_game())
-
     def test_deals_are_drawn_from_a_secret(self) -> None:
         asked: List[int] = []
         with mock.patch("geesefuton.program.make", lambda seed: asked.append(seed) or MADE):
@@ -86,14 +78,6 @@ class Tables(unittest.TestCase):
         self.assertEqual([(game.version, game.live, game.rooms) for game in games],
                          [(2, True, (16,) * 8), (1, False, (16,) * 8), (1, False, (16,) * 8)])
 
-    def test_files_that_are_none(self) -> None:
-        with tempfile.TemporaryDirectory() as folder:
-            file = Path(folder, "my.game")
-            with self.assertRaisesRegex(DealError, "my.game: No such file"):
-                deals.made_deal(Rule(file=file), 1)
-            file.write_bytes(MADE.encode().replace(b"tac 2", b"tac 9"))
-            with self.assertRaisesRegex(DealError, "my.game: line 1: version '9'"):
-                deals.made_deal(Rule(file=file), 1)
 
 
 class Rooms(unittest.TestCase):
@@ -116,16 +100,12 @@ class Endowments(unittest.TestCase):
 
 
 class Secrets(unittest.TestCase):
-    def test_a_secret_is_made_once_and_is_private(self) -> None:
+    def test_a_folder_may_have_one(self) -> None:
         with tempfile.TemporaryDirectory() as folder:
-            file = Path(folder, "study", "secret")
-            secret = bytes(range(32))
-            self.assertEqual(shared_secret(file, secret), secret)
-            self.assertEqual(shared_secret(file, bytes(32)), secret)
-            self.assertEqual(kept_secret(file.parent), secret)
-            self.assertEqual(stat.S_IMODE(file.stat().st_mode), 0o600)
-            self.assertEqual([each.name for each in file.parent.iterdir()], ["secret"])
+            self.assertIsNone(kept_secret(Path(folder)))
+            file = Path(folder, "secret")
+            file.write_text(bytes(range(32)).hex() + "\n")
+            self.assertEqual(kept_secret(Path(folder)), bytes(range(32)))
             file.write_text("12\n")
             with self.assertRaisesRegex(DealError, "it has no secret of a run"):
-                shared_secret(file, secret)
-            self.assertIsNone(kept_secret(Path(folder)))
+                kept_secret(Path(folder))

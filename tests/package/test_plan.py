@@ -56,25 +56,15 @@ class Settings(PlaceCase):
     def test_what_does_not_decide_is_not(self) -> None:
         first = self.settings()
         for words in (["--seed", "9"], ["--games", "8"], ["--at-once", "1"],
-                      ["--summary", "x.txt"], ["--detect", "100"], ["--out", "x"]):
+                      ["--summary", "x.json"], ["--detect", "100"], ["--out", "x"]):
             self.assertEqual(self.settings(*words), first)
         self.assertEqual(self.settings("--turns", "40", "--patience", "9"),
                          self.settings("--turns", "40"))
-
-    def test_a_game_file_counts_by_what_it_says_and_not_by_its_words(self) -> None:
-        first = self.settings("--game", TOP / "examples" / "first.game")
-        self.assertEqual(first.keys() & {"game", "rooms", "live"}, {"game"})
-        text = SERVED_GAME.read_text()
-        copy = self.place / "copy.game"
-        copy.write_text(text.replace("words twotrips ", "words onetrip "))
-        self.assertEqual(self.settings("--game", copy), self.settings("--game", SERVED_GAME))
-        self.assertNotEqual(self.settings("--game", copy), first)
 
     def test_games_in_sandboxes_go_in_step_and_what_these_lack_is_told(self) -> None:
         self.patch("experiments.plan.why_not", str)
         for words, is_in_step in ((["--turns", "2"], True), ([], False),
                                   (["--turns", "2", "--no-apart"], False),
-                                  (["--turns", "2", "--game", SERVED_GAME], False),
                                   (["--turns", "2"] + ["--against", "sh"] * 7, True)):
             self.assertEqual(plan_of("--apart", "--out", "x", *words).is_in_step, is_in_step)
         self.patch("experiments.plan.FILTER", b"")

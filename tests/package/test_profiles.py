@@ -1,10 +1,8 @@
 import contextlib
-import fcntl
 import functools
 import json
 import os
 import pickle
-import shutil
 import signal
 import sys
 from collections import Counter
@@ -108,7 +106,7 @@ class Commands(PlaceCase):
         text, told = self.run_profiles("--players", "8")
         games = {f"{deal}.{profile}" for deal in (1, 2, 3) for profile in range(9)}
         self.assertEqual((set(self.begun()), len(self.begun())), (games, 27))
-        rows = read_scores(self.out / "part-1-of-1").rows
+        rows = read_scores(self.out).rows
         for row in rows:  # profile p has p hawks
             hawks = sum(other.game == row.game and other.agent == "hawk" for other in rows)
             self.assertEqual(hawks, row.rotation)
@@ -118,16 +116,13 @@ class Commands(PlaceCase):
         # Over the deals a payoff is 20 +- 10 more than one deal's, 24.8 by 4.30 times 5.77.
         self.assertRegex(text, r"\n8\+0 +62 \+- 25 +-\n7\+1 +58 \+- 25 +69 \+- 25\n")
         self.assertIn("Other deals would most likely give the same equilibria.", text)
-        value = json.loads((self.out / "payoffs.json").read_text())
-        self.assertEqual((value["players"], len(value["profiles"])), ({"all": 8}, 9))
-        self.assertEqual(len((self.out / "payoffs.nfg").read_text().split("\n")), 4 + 256 + 1)
         self.assertEqual(len((self.out / "payoffs.csv").read_text().split("\n")),
                          1 + 3 * (2 * 9 - 2) + 1)
 
     def test_seats_move_on_by_deals_and_profiles_differ_in_few(self) -> None:
         self.run_profiles("--players", "2")
         seats: Dict[Tuple[int, int], Set[int]] = {}
-        for row in read_scores(self.out / "part-1-of-1").rows:
+        for row in read_scores(self.out).rows:
             seats.setdefault(row.place, set())
             if row.agent == "hawk":
                 seats[row.place].add(row.seat)
@@ -139,7 +134,7 @@ class Commands(PlaceCase):
         text, told = self.run_profiles(status=1, LOSE="2.1")
         self.assertIn("profiles: 1 deal left out: not every profile was scored", told)
         self.assertIn("2 deals of 4 profiles, reduced to 2 players", text)
-        scores = self.out / "part-1-of-1" / "scores.csv"
+        scores = self.out / "scores.csv"
         scores.write_text(scores.read_text()[:-5])  # the last row is half written
         before = self.begun()
         joined, told = self.run_profiles("--resume")
@@ -156,29 +151,23 @@ class Commands(PlaceCase):
             text, told = self.run_profiles(status=128 + signal.SIGTERM)
         self.assertEqual((text, told.splitlines()[-1]), ("", "profiles: stopped"))
 
-    def test_parts_are_joined_by_the_same_command(self) -> None:
-        for part in ("1/5", "2/5", "4/5", "5/5"):  # one of them does not run
-            self.assertEqual(self.run_profiles("--part", part)[0], "")
-        self.assertEqual(len(self.begun()), 10)  # of 12 games not the numbers 2 and 7
-        self.assertFalse((self.out / "payoffs.csv").exists())
-        text, _ = self.run_profiles()
+    def test_studies_of_different_deals_are_joined(self) -> None:
+        self.run_profiles()
+        for seed in ("1", "2", "3"):
+            self.run_profiles("--games", "1", "--seed", seed, "--out", f"of{seed}")
+        agents = ("of3", "of1", "of2")
+        text, _ = self.run_profiles("--join", "--out", "all", agents=agents)
         self.assertIn("3 deals of 4 profiles", text)
-        self.assertEqual((len(self.begun()), len(set(self.begun()))), (12, 12))
-        for folder in self.out.glob("part-*"):
-            shutil.rmtree(folder)
-        self.assertEqual(self.run_profiles()[0], text)  # in one piece
-
-    def test_parts_draw_from_one_secret(self) -> None:
-        with mock.patch.dict(globals(), WORDS=WORDS[:2] + WORDS[4:]), mock.patch(
-                "geesefuton.experiments.plan.new_secret", return_value=bytes(range(32))):
-            self.run_profiles("--part", "1/2")
-            secret = (self.out / "secret").read_text()
-            self.run_profiles("--part", "2/2")
-            self.assertIn("3 deals of 4 profiles", self.run_profiles()[0])
-        self.assertEqual((self.out / "secret").read_text(), secret)
-        told = {json.loads((self.out / f"part-{part}-of-2" / "run.json").read_text())["deals"][
-            "secret"] for part in (1, 2)}
-        self.assertEqual(told, {secret.strip()})
+        self.assertRegex(text, r"\n1\. +\S+ +\S+ +\d+ of 20\n")
+        # The stand-in's scores depend on a deal's number, which is 1 in each of them.
+        self.assertEqual(*({line.rsplit(",", 2)[0] for line in
+                            (self.place / name / "payoffs.csv").read_text().splitlines()}
+                           for name in ("study", "all")))
+        self.refused("study and of1 both have game 1.0 and 3 more", "--join",
+                     agents=("of1", "study"))
+        self.refused("of9: it is not the folder of a tournament's run", "--join", agents=("of9",))
+        self.run_profiles("--players", "8", "--out", "full")
+        self.refused("players is 8, not 2", "--join", agents=("of1", "full"))
 
     def test_seats_that_did_not_play_and_a_single_deal_are_told(self) -> None:
         text, _ = self.run_profiles("--games", "1", CRASH="1.1")
@@ -188,43 +177,26 @@ class Commands(PlaceCase):
             self.assertIn(told, text)
 
     def test_what_does_not_belong_together_is_refused(self) -> None:
-        self.run_profiles("--part", "1/2")
-        self.refused("it has a run: continue it with --resume", "--part", "1/2")
-        self.refused("its run began differently: players is 8, not 2", "--players", "8")
-        self.refused("turns is 40, not set", "--turns", "40")
+        self.run_profiles()
+        self.refused("it has a run: continue it with --resume")
+        self.refused("its run began differently: players is 8, not 2", "--players", "8",
+                     "--resume")
+        self.refused("turns is 40, not set", "--turns", "40", "--resume")
         self.refused("there is no file owl2.py", agents=("dove.py", "owl2.py"))
         hawk = self.place / "hawk.py"
         hawk.write_text("import os\n")
-        self.refused("the files, libraries or words of hawk differ", "--part", "1/2", "--resume")
+        self.refused("the files, libraries or words of hawk differ", "--resume")
         hawk.write_text("pass\n")
         tac, self.tac = self.tac, fake_program(self.place, f"cat '{SERVED_GAME}' # another")
-        self.refused("began differently: tac is")
+        self.refused("began differently: tac is", "--resume")
         self.tac = tac
-        (self.out / "part-1-of-2" / "run.json").write_text("{}")
+        (self.out / "run.json").write_text("{}")
         self.refused("run.json is not of a tournament of this version")
 
     def test_a_folder_of_something_else_is_refused(self) -> None:
         self.out.mkdir()
         (self.out / "thesis.txt").write_text("mine")
-        self.refused("it is not a folder of profiles: it has thesis.txt")
-
-    def test_a_game_that_two_parts_have_is_refused(self) -> None:
-        self.run_profiles("--part", "1/2")
-        copy = self.out / "part-2-of-3"
-        copy.mkdir()
-        for name in ("run.json", "scores.csv"):
-            (copy / name).write_bytes((self.out / "part-1-of-2" / name).read_bytes())
-        self.refused("both have game")
-
-    def test_a_part_that_is_being_written(self) -> None:
-        self.run_profiles("--part", "1/2")
-        number = os.open(self.out / "part-1-of-2", os.O_RDONLY)
-        try:
-            fcntl.flock(number, fcntl.LOCK_EX)
-            self.refused("it is still being written")
-            self.run_profiles("--part", "2/2")
-        finally:
-            os.close(number)
+        self.refused("it is not the folder of a tournament: it has thesis.txt")
 
     def test_another_strategy_plays_its_new_profiles_alone(self) -> None:
         self.run_profiles("--games", "2")
@@ -234,14 +206,14 @@ class Commands(PlaceCase):
         self.assertIn("2 deals of 9 profiles", text)
         new = self.begun()[len(before):]
         self.assertEqual((len(before), len(new), len(set(before + new))), (8, 10, 18))
-        rows = read_scores(self.out / "part-1-of-1").rows
+        rows = read_scores(self.out).rows
         for name in new:
             self.assertIn("owl", {row.agent for row in rows
                                   if f"{row.number}.{row.rotation}" == name})
         # A stand-in plays as a dove unless it is called hawk, so an owl has what a dove has there.
         # Each has 15 more in the mean of the deals: 42 among doves or owls.
         self.assertRegex(text, r"\n0\+0\+8 +- +- +57 \+- 64\n")
-        record = json.loads((self.out / "part-1-of-1" / "run.json").read_text())
+        record = json.loads((self.out / "run.json").read_text())
         self.assertEqual([agent["name"] for agent in record["agents"]], ["dove", "hawk", "owl"])
         less, _ = self.run_profiles("--games", "2", "--resume", agents=("dove.py", "owl.py"))
         self.assertIn("2 deals of 4 profiles", less)
@@ -255,17 +227,14 @@ class Commands(PlaceCase):
         self.assertIn("the others have only dove, hawk: equilibria with other strategies were not "
                       "searched", text)
         profiles = {tuple(sorted(Counter(row.agent for row in rows).items()))
-                    for rows in games_of(read_scores(self.out / "part-1-of-1").rows)}
+                    for rows in games_of(read_scores(self.out).rows)}
         self.assertEqual(profiles, {tuple(sorted(profile.items())) for profile in (
             {"dove": 8}, {"dove": 7, "owl": 1}, {"dove": 7, "hawk": 1}, {"hawk": 8},
             {"hawk": 7, "dove": 1}, {"hawk": 7, "owl": 1})})
         self.assertEqual(len(self.begun()), 18)
-        value = json.loads((self.out / "payoffs.json").read_text())
-        self.assertEqual(value["strategies"], {"all": ["dove", "hawk"]})
         again, _ = self.run_profiles("--search", "--resume",
                                      agents=("dove.py", "owl.py", "hawk.py"))
         self.assertEqual((again, len(self.begun())), (text, 18))
-        self.refused("leave --part out", "--search", "--part", "1/2")
 
     def test_a_study_without_a_whole_deal_knows_nothing(self) -> None:
         text, told = self.run_profiles("--games", "1", status=1, LOSE="1.1")
@@ -277,10 +246,7 @@ class Commands(PlaceCase):
             self.refused("payoffs and equilibria need numpy and scipy and pandas: install them by")
 
     def test_words_that_are_refused(self) -> None:
-        for told, words in (("expected a part I/N", ["--part", "3/2"]),
-                            ("expected a part", ["--part", "x"]),
-                            ("invalid choice", ["--players", "3"])):
-            self.refused(told, *words)
+        self.refused("invalid choice", "--players", "3")
         self.refused("name two or more strategies, each once", agents=("dove.py",))
         self.refused("dove.py and ./dove.py are the same agent",
                      agents=("dove.py", "hawk.py", "./dove.py"))
@@ -288,13 +254,13 @@ class Commands(PlaceCase):
     def test_a_tournament_does_not_sum_it_up(self) -> None:
         self.run_profiles()
         self.assert_refused("it has the games of profiles", "tournament", "--join",
-                            self.out / "part-1-of-1", status=1)
+                            self.out, status=1)
 
     def test_what_cannot_be_written_is_told(self) -> None:
         self.run_profiles()
         (self.out / "payoffs.csv").unlink()
         (self.out / "payoffs.csv").mkdir()
         text, told = self.run_profiles("--resume", status=1)
-        self.assertIn("payoffs.csv was not written: ", told)
+        self.assertRegex(told, "payoffs.csv.*: Is a directory")
         text, told = self.run_profiles("--resume", status=1, out="/dev/full")
         self.assertIn("standard output: No space left on device", told)

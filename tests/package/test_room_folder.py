@@ -82,7 +82,6 @@ class Files(Case):
         new.symlink_to(victim)
         write_whole(file, b"passwords")
         self.assertEqual((victim.read_text(), file.is_symlink()), ("keep me", False))
-        new.unlink()
         new.touch()
         new.chmod(0o666)
         write_whole(file, b"passwords")

@@ -4,7 +4,6 @@ import os
 import pickle
 import random
 import signal
-import socket
 import sys
 import time
 from dataclasses import replace
@@ -20,8 +19,7 @@ from geesefuton.experiments.plan import Plan
 from geesefuton.experiments.provenance import Agent
 from geesefuton.experiments.results import (HEAD, Outcome, Result, ResultsError, Row, read_rows,
                                             text_of)
-from geesefuton.experiments.runs import (RunError, RunFolder, is_being_written, is_run,
-                                         read_scores)
+from geesefuton.experiments.runs import RunError, RunFolder, is_run, read_scores
 from geesefuton.experiments.seating import Seating
 from geesefuton.records.tables import csv_of
 from tests.package.run_cases import PlaceCase
@@ -192,23 +190,11 @@ class Folders(PlaceCase):
         run.end(0, 0, [])
         self.begin(is_resumed=True).end(0, 0, [])
 
-    def test_where_a_file_system_has_no_locks_a_file_stands_for_one(self) -> None:
+    def test_a_file_system_may_have_no_locks(self) -> None:
         with mock.patch("fcntl.flock", side_effect=OSError(errno.ENOLCK, "No locks available")):
             run = self.begin()
             run.out.write(text_of(rows_of((1, 0))))
-            (self.out / "games" / "2.0.log").write_text("being played")
-            self.assertTrue(is_being_written(self.out))
-            self.refused(f"writing to it, process {os.getpid()} of {socket.gethostname()}",
-                         is_resumed=True)
             run.end(0, 1, [])
-            self.assertFalse(is_being_written(self.out))
-            ended = get_context("fork").Process(target=int)
-            ended.start()
-            ended.join()
-            (self.out / ".lock").write_text(f"{socket.gethostname()} {ended.pid}")
-            self.begin(is_resumed=True).end(0, 0, [])
-            (self.out / ".lock").write_text("elsewhere 1")
-            self.refused("process 1 of elsewhere; if that has ended, remove", is_resumed=True)
 
     def test_rows_are_sorted_at_the_end(self) -> None:
         run = self.begin()

@@ -154,16 +154,15 @@ class Differences(unittest.TestCase):
 
 @needs_study
 class Luck(unittest.TestCase):
-    def test_means_are_adjusted_to_the_luck_of_all(self) -> None:
+    def test_means_are_adjusted_to_the_luck_of_all_made_games(self) -> None:
         scores = {"a": [100, 140, 210], "b": [50, 90, 20]}
         lucks = {"a": [1000, 1100, 1300], "b": [900, 1000, 800]}
         rows = [row(str(deal), 0, seat, agent, scores[agent][deal], luck=lucks[agent][deal])
                 for deal in range(3) for seat, agent in enumerate("ab")]
-        centre = sum(lucks["a"] + lucks["b"]) / 6
         summary = summarize(rows)
         for standing in summary.standings:
             self.assertEqual(standing.adjusted, adjusted(scores[standing.agent],
-                                                         [lucks[standing.agent]], [centre]))
+                                                         [lucks[standing.agent]], [2153.43]))
             self.assertEqual(standing.luck, sum(lucks[standing.agent]) / 3)
         pair = summary.differences[0]
         self.assertEqual(pair.adjusted, adjusted([50, 50, 190], [[100, 100, 500]], [0.0]))
@@ -193,16 +192,6 @@ class Luck(unittest.TestCase):
         assert a.adjusted is not None
         self.assertAlmostEqual(a.adjusted.mean, 2.0 * 2153.43 + 30.0 * 2.0, places=5)
 
-    def test_luck_of_all_seats_counts(self) -> None:
-        # A score is its luck less 50, so at the mean luck of 100, 200, 600 and 1100 it is 450.
-        rows = [row(str(deal), 0, 0, "a", luck - 50, luck=luck)
-                for deal, luck in enumerate((100, 200, 600))]
-        rows.append(row("0", 0, 1, "b", 0, Outcome.ABSENT, luck=1100))
-        first, second = summarize(rows).standings
-        assert first.adjusted is not None
-        self.assertAlmostEqual(first.adjusted.mean, 450.0)
-        self.assertEqual((first.luck, second.luck), (300.0, 1100.0))
-
 
 @needs_study
 class Draws(unittest.TestCase):
@@ -231,13 +220,6 @@ class Draws(unittest.TestCase):
         pair = summary.differences[0].adjusted
         assert pair is not None and pair.half is not None
         self.assertAlmostEqual(pair.mean, 1000.0, delta=1.0)
-
-    def test_other_games_are_adjusted_to_their_own_draws(self) -> None:
-        for settings, delta in (("game=0123", 1e-7), ("rooms=3..6", 2.0)):
-            standing = summarize(self.drawn(16, "a", settings)).standings[0]
-            due = standing.score.mean if "game" in settings else 1000.0
-            assert standing.adjusted is not None
-            self.assertAlmostEqual(standing.adjusted.mean, due, delta=delta)
 
     def test_swapped_pairs_are_adjusted_by_the_draws_that_both_had(self) -> None:
         rows = self.drawn(16, "ab")

@@ -9,7 +9,7 @@ from geesefuton.experiments.forms import as_text
 from geesefuton.experiments.plan import Plan, make_parser, read_plan
 from geesefuton.experiments.results import Outcome, Row
 from geesefuton.experiments.summary import summarize
-from tests.package.run_cases import PlaceCase, read_csv, write_run
+from tests.package.run_cases import PlaceCase, write_run
 from tests.package.helpers import SERVED_GAME, TOP, refusal, run, served_game
 
 
@@ -32,14 +32,10 @@ class Commands(PlaceCase):
                 ("seeds are at most", "--seed", "18446744073709551613", "sh"),  # of four deals
                 ("--pace is for games with a clock", "--turns", "5", "--pace", "100", "sh"),
                 ("--patience needs --turns", "--patience", "3", "sh"),
-                ("expected rooms", "--rooms", "0..3"),
-                ("/nowhere/my.game: No such file", "--game", "/nowhere/my.game"),
-                ("line 3: expected a line `tac`", "--game", TOP / "README.md"),
-                ("for made games", "--game", SERVED_GAME, "--live"),
-                ("for made games", "--game", SERVED_GAME, "--rooms", "4"),
-                ("unrecognized arguments: --gam", "--gam", "4"),  # words are not abbreviated
-                ("unrecognized arguments: --sum", "--sum", "x.txt"),
-                ("expected a name ending in", "--summary", "x.html", "sh"),
+                ("expected rooms", "--rooms", "0..3", "sh"),
+                ("the following arguments are required: AGENT", "--games", "4"),
+                ("unrecognized arguments: --gam", "sh", "--gam", "4"),  # words are not abbreviated
+                ("unrecognized arguments: --sum", "--sum", "x.json", "sh"),
                 ("sh and sh are the same agent: name each once", "sh", "sh"),
                 ("65 agents: at most 64", *(f"sh {number}" for number in range(65)))):
             self.refused(told, *words)
@@ -76,7 +72,6 @@ class Commands(PlaceCase):
             plan = plan_of("sh", "cat", "--games", "3")
             self.assertEqual((plan.games, plan.rotations), (4, 2))
             self.assertIn("playing 4 games", str(tell.call_args_list))
-            self.assertEqual(plan_of().games, 6)  # three agents
             many = [f"sh {number}" for number in range(20)]
             for words, games, rotations in ((["sh", "cat", "ls"], 4, 3), (["sh", "cat"], 4, 2),
                                             (["sh"], 4, 1), (many, 60, 3),
@@ -87,24 +82,20 @@ class Commands(PlaceCase):
                                                                 rotations), words)
         plan = plan_of("sh", "--rooms", "3..6", "--live", "--json", "--seed", "9", "--start", "3",
                        "--after", "4", "--pace", "60", "--at-once", "5")
-        self.assertEqual(plan.rule, Rule(b"9", 9, None, (3, 6), True))
+        self.assertEqual(plan.rule, Rule(b"9", 9, (3, 6), True))
         self.assertEqual((plan.form, plan.start, plan.linger, plan.pace, plan.at_once),
                          ("json", 3.0, 4.0, 60, 5))
         self.assertEqual(plan.turns, 0)
         plan = plan_of("sh", "--seed", "18446744073709551612")
         self.assertEqual((plan.rule.seed, plan.games), (2 ** 64 - 4, 4))
-        plan = plan_of("sh", "--game", SERVED_GAME, "--start", "0", "--games", "1")
-        self.assertEqual((plan.rule.file, plan.start, plan.games), (SERVED_GAME, 0.0, 1))
         plan = plan_of("sh", "--turns", "20")
         self.assertEqual((plan.turns, plan.patience, plan.linger), (20, 30.0, 30.0))
         plan = plan_of("sh", "--turns", "20", "--patience", "3", "--after", "0")
         self.assertEqual((plan.patience, plan.linger), (3.0, 0.0))
-        plan = plan_of("--games", "6")
+        plan = plan_of("sh", "cat", "ls", "--games", "6")
         self.assertEqual((plan.pace, plan.linger, plan.games, plan.rotations, plan.at_once,
                           plan.turns, plan.form, plan.start),
                          (100, 5.0, 6, 3, os.cpu_count(), 0, "words", 20.0))
-        self.assertEqual([entrant.name for entrant in plan.entrants],
-                         ["planner", "trader", "watcher"])
 
     def test_agents_of_a_pool_have_names_of_their_own(self) -> None:
         parser = make_parser("")
@@ -121,7 +112,7 @@ class Commands(PlaceCase):
     def test_the_help(self) -> None:
         done = run("experiments.tournament", "--help")
         self.assertEqual(done.returncode, 0)
-        for option in ("--rooms", "--live", "--game ", "--out", "--summary", "--join", "--against",
+        for option in ("--rooms", "--live", "--games", "--out", "--summary", "--join", "--against",
                        "--plan", "--turns", "--patience", "--partial"):
             self.assertIn(option, done.stdout)
         with open("/dev/full", "wb") as full:
@@ -138,25 +129,22 @@ class Joining(PlaceCase):
                         enumerate((self.rows[:16], self.rows[16:]))]
 
     def test_several_tournaments_are_summarized_as_one(self) -> None:
-        done = run("experiments.tournament", "--summary", self.place / "s.json", "--summary",
-                   self.place / "s.csv", "--join", "--summary", self.place / "s.txt",
+        done = run("experiments.tournament", "--summary", self.place / "s.json", "--join",
                    *self.folders)
         self.assertEqual((done.returncode, done.stderr), (0, ""))
         summary = summarize(self.rows)
         self.assertEqual(done.stdout, as_text(summary))
-        self.assertEqual((self.place / "s.txt").read_text(), done.stdout)
         self.assertEqual(json.loads((self.place / "s.json").read_text())["deals"], 4)
-        self.assertEqual(len(read_csv((self.place / "s.csv").read_text())), 3)
 
     def test_what_fails_is_told(self) -> None:
         for path in (self.place / "none", TOP / "README.md"):
             self.assert_refused("is not the folder of a tournament", "tournament", "--join", path,
                                 status=1)
         self.assertEqual(refusal("experiments.tournament", "--join")[0], 2)
-        done = run("experiments.tournament", "--summary", "/nowhere/s.txt", "--join",
+        done = run("experiments.tournament", "--summary", "/nowhere/s.json", "--join",
                    *self.folders)
         self.assertEqual((done.returncode, done.stderr),
-                         (1, "tournament: the summary was not written to /nowhere/s.txt: No such "
+                         (1, "tournament: the summary was not written to /nowhere/s.json: No such "
                              "file or directory\n"))
         with open("/dev/full", "wb") as full:
             done = run("experiments.tournament", "--join", *self.folders, stdout=full)

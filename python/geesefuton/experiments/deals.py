@@ -1,22 +1,19 @@
 """The deals of a tournament: clients, tickets, flights and the order of hotels, before a game. They
-are drawn from a secret (`records.secret_deals`) or known seeds, or a game file has the
-one deal. Deals with the same text are the same deal, in whatever run.
+are drawn from a secret (`records.secret_deals`) or are those of known seeds. Deals with the same
+text are the same deal, in whatever run.
 """
 
 import argparse
-import contextlib
 import hashlib
 import json
-import os
 from dataclasses import dataclass
 from functools import cached_property
 from pathlib import Path
 from typing import Container, Dict, Iterator, Optional, Tuple
 
 from geesefuton import program
-from geesefuton.processes import why
 from geesefuton.records.drawing import varied
-from geesefuton.records.games import MOST_ROOMS, Game, GameError, read_game
+from geesefuton.records.games import MOST_ROOMS, Game, read_game
 from geesefuton.records.secret_deals import commitment, deal_seed, read_secret
 
 SHORT = 12  # digits of a digest in a row
@@ -34,7 +31,6 @@ class Rule:
     secret: bytes = bytes(32)  # what deals and agents' seeds are drawn from
     # the seed of the first deal, if the seeds are known; then each has the next one
     seed: Optional[int] = None
-    file: Optional[Path] = None  # a game file that is played each time in place of made games
     # the least and the most rooms of a hotel night; None for 16
     rooms: Optional[Tuple[int, int]] = None
     live: bool = False  # whether each admitted bid publishes a hotel's price
@@ -56,7 +52,7 @@ class Deal:
     """A deal."""
 
     number: int  # its number in the run, from 1
-    game: Game  # its game, with the seat words of the file or of made games
+    game: Game  # its game, with the seat words of made games
 
     @cached_property
     def name(self) -> str:
@@ -91,20 +87,15 @@ def read_rooms(text: str) -> Tuple[int, int]:
 
 
 def made_deal(rule: Rule, number: int) -> Deal:
-    """The deal of a number, from 1. Raises DealError for the file, and ProgramError for `tac`."""
-    if rule.file is not None:
-        try:
-            return Deal(number, read_game(rule.file.read_bytes().decode("latin-1")))
-        except (OSError, GameError) as fault:
-            raise DealError(f"{rule.file}: {why(fault)}") from None
+    """The deal of a number, from 1. Raises ProgramError for `tac`."""
     seed = rule.seed_of(number)
     return Deal(number, varied(read_game(program.make(seed)), seed, rule.rooms, rule.live,
                                rule.is_clumped))
 
 
-def place_of(rule: Rule, number: int, rotations: int) -> Tuple[int, int]:
+def place_of(number: int, rotations: int) -> Tuple[int, int]:
     """The number of the deal, and the rotation, of the game of a number, from 0."""
-    return (1, number) if rule.file else (number // rotations + 1, number % rotations)
+    return number // rotations + 1, number % rotations
 
 
 def tables(rule: Rule, games: int, rotations: int,
@@ -112,52 +103,23 @@ def tables(rule: Rule, games: int, rotations: int,
     """The games of a tournament in order, without those that are finished."""
     deal: Optional[Deal] = None
     for game in range(games):
-        number, rotation = place_of(rule, game, rotations)
+        number, rotation = place_of(game, rotations)
         if (number, rotation) not in finished:
             if deal is None or deal.number != number:
                 deal = made_deal(rule, number)
             yield Table(deal, rotation)
 
 
-def write_whole(file: Path, text: str, mode: int = 0o666) -> None:
-    """Writes a file so that it is there whole, or as it was."""
-    new = file.with_name(f".{file.name}.new")
-    new.unlink(missing_ok=True)
-    with open(new, "w", encoding="utf-8",
-              opener=lambda path, how: os.open(path, how | os.O_EXCL, mode)) as out:
-        out.write(text)
-        out.flush()
-        os.fsync(out.fileno())
-    os.replace(new, file)
-
-
-def shared_secret(file: Path, secret: bytes) -> bytes:
-    """The secret of a private file, which gets this one if it is not there. Raises DealError where
-    it has something else."""
-    file.parent.mkdir(parents=True, exist_ok=True)
-    new = file.with_name(f".{file.name}.{os.getpid()}")
-    write_whole(new, secret.hex() + "\n", 0o600)
-    try:
-        with contextlib.suppress(FileExistsError):  # if two make it, the first one counts
-            os.link(new, file)
-    finally:
-        new.unlink()
-    return _read_secret(file)
-
-
 def kept_secret(folder: Path) -> Optional[bytes]:
     """The secret of a run that is in a folder; None if it has none. Raises DealError where a file
     has something else."""
-    if (folder / SECRET).exists():
-        return _read_secret(folder / SECRET)
+    file = folder / SECRET
+    if file.exists():
+        try:
+            return read_secret(file.read_text(encoding="ascii").strip())
+        except ValueError:
+            raise DealError(f"{file}: it has no secret of a run") from None
     try:
         return read_secret(json.loads((folder / RUN).read_bytes())["deals"][SECRET])
     except (FileNotFoundError, ValueError, LookupError, TypeError):
         return None
-
-
-def _read_secret(file: Path) -> bytes:
-    try:
-        return read_secret(file.read_text(encoding="ascii").strip())
-    except ValueError:
-        raise DealError(f"{file}: it has no secret of a run") from None

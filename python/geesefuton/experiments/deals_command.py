@@ -23,8 +23,6 @@ def _main() -> int:
     folder: Path = parser.parse_args().folder
     record = read_record(folder)
     settings, deals = record["settings"], record["deals"]
-    if "game" in settings:
-        raise RunError(f"{folder}: its games are those of a file")
     if "commitment" not in deals:
         raise RunError(f"{folder}: its deals are of the seed {deals.get('seed')}")
     if SECRET not in deals:

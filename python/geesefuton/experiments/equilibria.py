@@ -212,9 +212,6 @@ class Findings:
     equilibria: List[Equilibrium]
     resamples: int  # how many resamples there were; 0 with a single deal
     others: int  # in how many of them there is one that is near to none of these, or none
-    # for each strategy the least and the most share that it has in the equilibria of resamples,
-    # without the outermost twentieth at each end; none without resamples
-    shares: List[Tuple[float, float]]
 
     @property
     def are_known(self) -> bool:
@@ -240,9 +237,7 @@ def find(players: int, samples: Array, mixed: int = 0, resamples: int = RESAMPLE
         [Equilibrium(mixture, gains(players, samples, mixture),
                      sum(not _is_apart(mixture, found) for found in again),
                      _is_single(mean, mixture)) for mixture in mixtures],
-        len(again), others,
-        [(shares[len(shares) // 20], shares[-1 - len(shares) // 20]) for shares in
-         (sorted(each) for each in zip(*(each for found in again for each in found)))])
+        len(again), others)
 
 
 def _is_apart(mixture: Mixture, others: Sequence[Mixture]) -> bool:

@@ -1,10 +1,10 @@
-"""A summary as text, as CSV and as JSON, and the grades of its agents."""
+"""A summary as text and as JSON, and the grades of its agents."""
 
 import json
 import math
 from dataclasses import asdict
 from string import ascii_uppercase
-from typing import Any, Callable, Dict, List, Optional, Sequence
+from typing import List, Optional, Sequence
 
 from geesefuton.experiments.comparisons import LEVEL, POWER, Estimate
 from geesefuton.experiments.results import Kind, Outcome
@@ -158,34 +158,6 @@ def as_text(summary: Summary, most: float = math.inf) -> str:
     return "\n".join([*lines, *([""] if told else []), *told]) + "\n"
 
 
-def _cells(value: Optional[Estimate]) -> List[Any]:
-    """The mean and half of an estimate, to a hundredth of a dollar, empty where there is none."""
-    if value is None:
-        return ["", ""]
-    return [round(value.mean, 2), "" if value.half is None else round(value.half, 2)]
-
-
-def as_csv(summary: Summary) -> str:
-    """The summary as CSV: a line for each agent, and one for each pair."""
-    head = ["what", "agent", "other", "mean", "half", "adjusted", "adjusted_half", "deals", "seats",
-            *(end.value for end in Outcome), "luck", "played_mean", "played_half",
-            "paired_by", "left_out", "all_pairs_half", "student_p", "holm_p", "wilcoxon_p",
-            "deals_needed"]
-    lines: List[List[Any]] = [head]
-    lines += [["mean", standing.agent, "", *_cells(standing.score), *_cells(standing.adjusted),
-               standing.score.count, standing.seats,
-               *(standing.ends.get(end, 0) for end in Outcome), round(standing.luck, 2),
-               *_cells(standing.played), *[""] * 7] for standing in summary.standings]
-    lines += [["difference", pair.first, pair.second, *_cells(pair.score), *_cells(pair.adjusted),
-               pair.score.count if pair.score else 0, *[""] * (len(Outcome) + 4),
-               _way(pair) if pair.score else "", pair.left_out,
-               None if pair.bonferroni is None else round(pair.bonferroni, 2),
-               *(None if chance is None else f"{chance:.6g}"
-                 for chance in (pair.student, pair.holm, pair.wilcoxon)), pair.needed]
-              for pair in summary.differences]
-    return csv_of(lines)
-
-
 def as_json(summary: Summary) -> str:
     """The summary as one JSON object, in exact numbers."""
     told = asdict(summary)
@@ -211,6 +183,3 @@ def letters_of(summary: Summary, agent: str) -> str:
     common, by Holm's test over all pairs."""
     return "".join(ascii_uppercase[number] if number < len(ascii_uppercase) else f"({number + 1})"
                    for number, group in enumerate(summary.groups) if agent in group)
-
-
-FORMS: Dict[str, Callable[[Summary], str]] = {".txt": as_text, ".csv": as_csv, ".json": as_json}

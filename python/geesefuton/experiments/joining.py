@@ -61,18 +61,10 @@ def missing(source: Source) -> str:
 
 def whole_deals(source: Source) -> Tuple[Source, int]:
     """A source with the deals alone of which it has all games, and how many it has only in part."""
-    settings = read_settings(source.rows[0].settings)
-    size = int(settings.get("rotations", 1))
-
-    def deal_of(row: Row) -> Tuple[int, int]:
-        return (row.number, row.rotation // size) if "game" in settings else (row.number, 0)
-
-    games: Dict[Tuple[int, int], Set[int]] = {}
-    for row in source.rows:
-        games.setdefault(deal_of(row), set()).add(row.rotation)
-    whole = {deal for deal, rotations in games.items() if len(rotations) == size}
-    return replace(source, rows=[row for row in source.rows if deal_of(row) in whole]), \
-        len(games) - len(whole)
+    size = int(read_settings(source.rows[0].settings).get("rotations", 1))
+    games = Counter(number for number, _ in {row.place for row in source.rows})
+    whole = [row for row in source.rows if games[row.number] == size]
+    return replace(source, rows=whole), sum(count < size for count in games.values())
 
 
 def differences(first: Source, other: Source) -> List[str]:

@@ -1,17 +1,14 @@
-"""The payoffs of strategies in games of eight seats, and the files that hold them. It needs the
-extra `study`.
+"""The payoffs of strategies in games of eight seats. It needs the extra `study`.
 
 A strategy's payoff is the mean over its seats of the score less what the same seat had more than
 the mean in the games in which all have one strategy, where each rival's strategy counts by its
 share. A single seat that leaves a profile of one strategy is thus compared with itself.
 """
 
-import json
 import math
 from collections import Counter, defaultdict
-from itertools import product
 from statistics import fmean
-from typing import Any, Callable, Dict, Iterable, List, Optional, Sequence, Set, Tuple
+from typing import Any, Dict, Iterable, List, Optional, Sequence, Set, Tuple
 
 import numpy as np
 
@@ -21,9 +18,6 @@ from geesefuton.experiments.reduction import (Counts, counts_of, needed_profiles
 from geesefuton.experiments.results import Outcome, Row
 from geesefuton.records.games import SEATS
 from geesefuton.records.tables import csv_of
-
-MOST_OUTCOMES = 1 << 16  # of a game in Gambit's form
-ROLE = "all"
 
 
 class Payoffs:
@@ -100,13 +94,6 @@ class Payoffs:
                  if count else None
                  for strategy, count in enumerate(profile)] for profile in self.profiles]
 
-    def _mean_payoffs(self) -> Dict[Tuple[int, Counts], float]:
-        """The mean payoff of each strategy that rivals have, by the counts of all players."""
-        means = self.samples().mean(axis=0)
-        return {(strategy, with_one(rivals, strategy)): means[strategy][place]
-                for strategy in range(self.mixed)
-                for place, rivals in enumerate(counts_of(self.players - 1, self.mixed))}
-
     def as_csv(self) -> str:
         """Every game that was scored: a line for each strategy in it."""
         lines = [[deal, text_of_profile(profile), self.names[strategy], count,
@@ -115,30 +102,3 @@ class Payoffs:
                  for deal, profile in self._games
                  for strategy, count in enumerate(profile) if count]
         return csv_of([["deal", "profile", "strategy", "seats", "payoff", "by_seat"], *lines])
-
-    def as_json(self) -> str:
-        """The game of the mean payoffs, as the gameanalysis tools read it."""
-        payoffs, names = self._mean_payoffs(), self.names[:self.mixed]
-        profiles = [{ROLE: [[names[place], count, round(payoffs[place, counts], 4)]
-                            for place, count in enumerate(counts) if count]}
-                    for counts in counts_of(self.players, self.mixed)]
-        return json.dumps({"players": {ROLE: self.players}, "strategies": {ROLE: names},
-                           "profiles": profiles, "type": "game.1"}, indent=1) + "\n"
-
-    def as_nfg(self) -> str:
-        """The same as a strategic game of Gambit; "" if it has too many outcomes."""
-        if self.mixed ** self.players > MOST_OUTCOMES:
-            return ""
-        payoffs = self._mean_payoffs()
-        title = json.dumps("; ".join(self.names[:self.mixed]).replace('"', "'"))
-        players = " ".join(f'"{player + 1}"' for player in range(self.players))
-        lines = [f"NFG 1 R {title}", f"{{ {players} }}",
-                 f"{{ {' '.join([str(self.mixed)] * self.players)} }}", ""]
-        for choices in product(range(self.mixed), repeat=self.players):
-            counts = tuple(map(choices.count, range(self.mixed)))
-            lines.append(" ".join(f"{payoffs[choice, counts]:.4f}" for choice in choices[::-1]))
-        return "\n".join(lines) + "\n"
-
-
-FILES: Dict[str, Callable[[Payoffs], str]] = {
-    "payoffs.csv": Payoffs.as_csv, "payoffs.json": Payoffs.as_json, "payoffs.nfg": Payoffs.as_nfg}

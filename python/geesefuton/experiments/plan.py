@@ -7,7 +7,7 @@ import platform
 from collections import Counter
 from dataclasses import dataclass, field, replace
 from pathlib import Path
-from typing import Any, Dict, List, Mapping, Optional, Sequence, Tuple
+from typing import Dict, List, Mapping, Optional, Sequence, Tuple
 
 from geesefuton import program
 from geesefuton.arguments import Parser, seconds, whole
@@ -15,7 +15,6 @@ from geesefuton.experiments.agents import FILTER, PATIENCE, Limits, folder_of, w
 from geesefuton.experiments.deals import (SHORT, Rule, Table, kept_secret, made_deal,
                                           read_rooms)
 from geesefuton.experiments.entrants import Entrant, read_entrants, refuse_twins
-from geesefuton.experiments.forms import FORMS
 from geesefuton.experiments.provenance import (Agent, agent_of, digest_of, names_text,
                                                package_digest)
 from geesefuton.experiments.seating import MOST, Seating
@@ -25,7 +24,6 @@ from geesefuton.records.drawing import MOST_SEED
 from geesefuton.records.games import ROOMS, SEATS, TICKS
 from geesefuton.records.secret_deals import new_secret
 
-AGENTS = ("planner", "trader", "watcher")  # those of examples/agents that play by default
 CLASSIC = "classic"
 MARGIN = 300.0  # seconds that a game may take beyond what it is given, on a machine that is full
 PACE = 100  # milliseconds
@@ -61,8 +59,6 @@ class Plan:
     def seated(self, table: Table) -> List[Entrant]:
         """The agents of the eight seats of a game."""
         deal, rotation = table.deal.number - 1, table.rotation
-        if self.rule.file:
-            deal, rotation = divmod(rotation, self.rotations)
         if self.lineups:
             lineup = self.lineups[rotation]
             return [lineup[(deal + seat) % SEATS] for seat in range(SEATS)]
@@ -71,7 +67,7 @@ class Plan:
     @property
     def is_in_step(self) -> bool:
         """Whether all games of a deal are played at the same time and go in step (`turns`)."""
-        return bool(self.turns and self.limits) and self.rotations <= SEATS and not self.rule.file
+        return bool(self.turns and self.limits) and self.rotations <= SEATS
 
     def seconds(self) -> float:
         """The seconds that a game may take, and in turns those until it has its next tick."""
@@ -79,29 +75,16 @@ class Plan:
         return self.start + asked + self.linger + MARGIN
 
 
-def _summary_file(text: str) -> Path:
-    if Path(text).suffix not in FORMS:
-        raise argparse.ArgumentTypeError(f"expected a name ending in {', '.join(FORMS)}, "
-                                         f"not {text}")
-    return Path(text)
-
-
-def add_playing(parser: Parser, games: Optional[int] = None) -> None:
-    """Adds the words that say which games are played, and how. The help shows them unless `games`
-    says how many there are where no number is given."""
-    def add(name: str, **how: Any) -> None:
-        how["help"] = how["help"] if games is None else argparse.SUPPRESS
-        parser.add_argument(name, **how)
-
-    add("--games", type=whole(1), default=games, metavar="N",
-        help="N games, rounded up to fair rounds (default: 4 or more)")
+def add_playing(parser: Parser, games: str) -> None:
+    """Adds the words that say how many `games` are played, as its help tells, which, and how."""
+    add = parser.add_argument
+    add("--games", type=whole(1), metavar="N", help=games)
     add("--seed", type=whole(0, MOST_SEED), metavar="N",
         help="use the seeds N, N + 1, .. for deals, not a secret")
     add("--rooms", type=read_rooms, metavar="N..M",
         help="draw the rooms of each night from N..M (default: 16)")
     add("--live", action="store_true", help="let hotel prices move with each bid")
     add("--endow", choices=(CLASSIC,), help="endow tickets in clumps, as in the original game")
-    add("--game", type=Path, metavar="FILE", help="play this game file instead of made games")
     add("--at-once", type=whole(1), default=os.cpu_count() or 1, metavar="N",
         help="games at a time (default: one for each processor)")
     add("--pace", type=whole(1, 60000), metavar="MILLISECONDS",
@@ -129,24 +112,22 @@ def add_playing(parser: Parser, games: Optional[int] = None) -> None:
         help="count this file or folder as each agent's own, too")
     add("--resume", action="store_true",
         help="play what FOLDER lacks, with the same words and files")
-    parser.set_defaults(shared=None, against=[], plan=False, summary=[], pool=False,
-                        partial=False)
+    parser.set_defaults(against=[], summary=None)
 
 
 def make_parser(description: Optional[str]) -> Parser:
     """The parser of the command, whose help begins with the description."""
     parser = Parser("tournament", description or "")
     add = parser.add_argument
-    add("agents", nargs="*", metavar="AGENT",
+    add("agents", nargs="+", metavar="AGENT",
         help="a Python file, a program, or a command in quotes")
-    add_playing(parser)
+    add_playing(parser, "N games, rounded up to fair rounds (default: 4 or more)")
     add("--against", action="append", default=[], metavar="AGENT",
         help="play each alone among these agents, in each seat")
     add("--plan", action="store_true", help="only print who would sit where, and how fair it is")
     add("--out", type=Path, metavar="FOLDER",
         help="keep settings, scores and games in this new folder")
-    add("--summary", type=_summary_file, action="append", default=[], metavar="FILE",
-        help="also write the summary to this .txt, .csv or .json")
+    add("--summary", type=Path, metavar="FILE", help="also write the summary to this file, as JSON")
     add("--detect", type=whole(1), metavar="DOLLARS",
         help="estimate how many games detect such a difference")
     add("--join", action="store_true",
@@ -159,13 +140,8 @@ def make_parser(description: Optional[str]) -> Parser:
 
 def _entrants(parser: Parser, given: argparse.Namespace) -> Tuple[List[Entrant], int]:
     """The agents with those of the pool, and how many of them are in it."""
-    commands, clone = given.agents, program.top()
-    if not commands and clone is None:
-        parser.error("name the agents: each is a Python file, a program, or a command in quotes")
-    if not commands:
-        commands = [f"'{clone}/examples/agents/{name}.py'" for name in AGENTS]
-    entrants = read_entrants([*commands, *given.against])
-    own, pool = entrants[:len(commands)], entrants[len(commands):]
+    entrants = read_entrants([*given.agents, *given.against])
+    own, pool = entrants[:len(given.agents)], entrants[len(given.agents):]
     refuse_twins(own)
     if len(own) > MOST:
         parser.error(f"{len(own)} agents: at most {MOST} play in a tournament")
@@ -178,12 +154,10 @@ def read_plan(parser: Parser, given: argparse.Namespace, are_deals: bool = False
     _refuse(parser, given)
     try:
         entrants, pool = _entrants(parser, given)
-        folder = given.shared or (given.out if given.resume else None)
         secret = str(given.seed).encode() if given.seed is not None else \
-            folder and kept_secret(folder) or new_secret()
-        rule = Rule(secret, given.seed, given.game, given.rooms, given.live,
-                    given.endow == CLASSIC)
-        first = made_deal(rule, 1)  # tells whether deals can be made
+            given.resume and given.out and kept_secret(given.out) or new_secret()
+        rule = Rule(secret, given.seed, given.rooms, given.live, given.endow == CLASSIC)
+        made_deal(rule, 1)  # tells whether deals can be made
         tac = digest_of(Path(program.find()))
         agents = {entrant.name: agent_of(entrant, given.files, given.also, given.summary)
                   for entrant in entrants}
@@ -205,7 +179,7 @@ def read_plan(parser: Parser, given: argparse.Namespace, are_deals: bool = False
                 "json" if given.json else "words", given.start,
                 linger if given.after is None else given.after, given.out or Path(), seating,
                 given.resume, {}, agents, limits=_limits(parser, given, entrants))
-    return replace(plan, settings=_settings(plan, pool, first.name, tac))
+    return replace(plan, settings=_settings(plan, pool, tac))
 
 
 def _limits(parser: Parser, given: argparse.Namespace,
@@ -233,19 +207,18 @@ def _limits(parser: Parser, given: argparse.Namespace,
     return Limits(given.memory << 20, given.processes, given.processor)
 
 
-def _settings(plan: Plan, pool: int, first: str, tac: str) -> Dict[str, object]:
+def _settings(plan: Plan, pool: int, tac: str) -> Dict[str, object]:
     """What decides, beside the deals, what can be compared with the results of a plan, of whose
     agents some are in the pool."""
     rule = plan.rule
     names = [entrant.name for entrant in plan.entrants]
     pace: Dict[str, object] = {"turns": plan.turns} if plan.turns else {"pace": plan.pace}
-    dealt: Dict[str, object] = {"game": first} if rule.file else {
-        "rooms": "{}..{}".format(*(rule.rooms or (ROOMS, ROOMS))), "live": str(rule.live).lower(),
-        "endow": CLASSIC if rule.is_clumped else ""}
     told: Dict[str, object] = {
         "agents": names_text(names[:len(names) - pool]),
         "against": names_text(names[len(names) - pool:]), "rotations": plan.rotations, **pace,
-        **dealt, "apart": "{}/{}/{}".format(*plan.limits) if plan.limits else "",
+        "rooms": "{}..{}".format(*(rule.rooms or (ROOMS, ROOMS))), "live": str(rule.live).lower(),
+        "endow": CLASSIC if rule.is_clumped else "",
+        "apart": "{}/{}/{}".format(*plan.limits) if plan.limits else "",
         "form": plan.form, "start": f"{plan.start:g}", "after": f"{plan.linger:g}",
         "python": ".".join(platform.python_version_tuple()[:2]),
         "tac": tac[:SHORT], "package": package_digest()[:SHORT]}
@@ -270,12 +243,8 @@ def text_of(plan: Plan) -> str:
 def _refuse(parser: Parser, given: argparse.Namespace) -> None:
     """Refuses words that do not go together."""
     for is_wrong, told in (
-            (given.game and (given.rooms or given.live or given.endow),
-             "--rooms, --live and --endow are for made games, not for a game file"),
             (given.turns and given.pace is not None,
              "--pace is for games with a clock, and --turns for games without one"),
-            (given.patience is not None and not given.turns, "--patience needs --turns"),
-            (given.pool, "--pool needs --join"), (given.partial, "--partial needs --join"),
-            (not given.out and not given.plan, "name a new folder for the run with --out")):
+            (given.patience is not None and not given.turns, "--patience needs --turns")):
         if is_wrong:
             parser.error(told)

@@ -1,8 +1,6 @@
 """The games of the command `profiles`, and what it prints. It needs the extra `study`."""
 
 import argparse
-import os
-import re
 from dataclasses import replace
 from pathlib import Path
 from typing import List, Sequence, Tuple
@@ -11,21 +9,21 @@ import numpy as np
 
 from geesefuton.arguments import Parser
 from geesefuton.experiments.comparisons import Estimate
-from geesefuton.experiments.deals import SECRET, place_of, shared_secret, write_whole
-from geesefuton.experiments.entrants import Entrant
+from geesefuton.experiments.deals import place_of
 from geesefuton.experiments.equilibria import NEAR, SymmetricGame, equilibria, find, gains
 from geesefuton.experiments.forms import columns, count_text, number_text, printed
-from geesefuton.experiments.joining import Source, read_source, twice
-from geesefuton.experiments.payoffs import FILES, Payoffs
+from geesefuton.experiments.joining import joined, read_source
+from geesefuton.experiments.payoffs import Payoffs
 from geesefuton.experiments.plan import read_plan
+from geesefuton.experiments.provenance import read_settings
 from geesefuton.experiments.reduction import needed_profiles, text_of_profile
 from geesefuton.experiments.results import Row
-from geesefuton.experiments.runs import RunError, compare, is_being_written, is_run, read_record
+from geesefuton.experiments.runs import RunError, is_run, read_record
 from geesefuton.experiments.tournament import play_in_folder
-from geesefuton.processes import shown, tell, why
+from geesefuton.processes import shown, tell, write_whole
 from geesefuton.records.games import SEATS
 
-PART = re.compile(r"part-([0-9]+)-of-([0-9]+)")
+PAYOFFS = "payoffs.csv"
 
 
 class Study:
@@ -40,75 +38,21 @@ class Study:
     """
 
     def __init__(self, parser: Parser, given: argparse.Namespace) -> None:
-        self._parser, self._folder, self.players = parser, given.out, given.players
-        part: Tuple[int, int] = given.part or (1, 1)
-        self._part, self._parts = part
-        given.shared = given.out  # all parts draw from one secret
-        given.out = given.out / f"part-{self._part}-of-{self._parts}"
+        self._parser, self.players = parser, given.players
         plan = read_plan(parser, given, are_deals=True)
         if len(plan.agents) < max(2, len(plan.entrants)):
             parser.error("name two or more strategies, each once")
         self.names = [entrant.name for entrant in plan.entrants]
-        folders = self._part_folders()
-        self._universe = list(dict.fromkeys([*self._known(folders), *self.names]))
+        known = read_record(plan.out)["agents"] if is_run(plan.out) else []
+        self._universe = list(dict.fromkeys([*(agent["name"] for agent in known), *self.names]))
         self._profiles = needed_profiles(len(self._universe), self.players)
         by_name = {entrant.name: entrant for entrant in plan.entrants}
-        lineups: List[List[Entrant]] = [
-            [by_name[name] for name, count in zip(self._universe, profile) for _ in range(count)
-             if name in by_name] for profile in self._profiles]
+        lineups = [[by_name[name] for name, count in zip(self._universe, profile)
+                    for _ in range(count) if name in by_name] for profile in self._profiles]
         settings = {name: value for name, value in plan.settings.items()
                     if name not in ("agents", "rotations")}
-        self.plan = replace(plan, games=plan.games * len(lineups), rotations=len(lineups),
-                            settings={**settings, "players": self.players}, lineups=lineups)
-        sources = self._sources(folders)
-        if twice(sources):
-            parser.error(f"--out {self._folder}: {'; '.join(twice(sources))}")
-        self._others = [row for source in sources for row in source.rows]
-        if plan.rule.seed is None:
-            secret = shared_secret(self._folder / SECRET, plan.rule.secret)
-            self.plan = replace(self.plan, rule=replace(plan.rule, secret=secret))
-
-    def _part_folders(self) -> List[Path]:
-        """The folders of parts that have games. Refuses a folder of something else."""
-        names = sorted(os.listdir(self._folder)) if self._folder.is_dir() else []
-        for name in (name for name in names if name[0] != "." and name not in (*FILES, SECRET)):
-            if not PART.fullmatch(name):
-                self._parser.error(
-                    f"--out {self._folder}: it is not a folder of profiles: it has {name}")
-        return [self._folder / name for name in names if is_run(self._folder / name)]
-
-    def _known(self, folders: Sequence[Path]) -> List[str]:
-        """The strategies that the folders have, in the order in which they came."""
-        known: List[str] = []
-        for folder in folders:
-            names = [str(agent["name"]) for agent in read_record(folder)["agents"]]
-            shared = min(len(names), len(known))
-            if names[:shared] != known[:shared]:
-                self._parser.error(f"--out {folder}: its strategies came in another order than "
-                                   "those of other parts")
-            known = max(known, names, key=len)
-        return known
-
-    def _sources(self, folders: Sequence[Path]) -> List[Source]:
-        """What the folders of parts have, but for the plan's own. Refuses what does not belong
-        there, and, where the plan shares no games with it, what is still being written."""
-        own, sources = self.plan.out.name, []
-        for folder in folders:
-            try:
-                compare(folder, self.plan)
-            except RunError as fault:
-                self._parser.error(f"--out {folder}: {fault}")
-            if folder.name == own:
-                continue
-            if is_being_written(folder):
-                if folder.name.rpartition("-")[2] != own.rpartition("-")[2]:
-                    self._parser.error(f"--out {folder}: it is still being written")
-                continue
-            source, told = read_source(folder)
-            sources += [source] if source else []
-            for text in told if source else ():
-                tell(f"profiles: {text}")
-        return sources
+        self._plan = replace(plan, games=plan.games * len(lineups), rotations=len(lineups),
+                             settings={**settings, "players": self.players}, lineups=lineups)
 
     def play(self, names: Sequence[str], mixed: int) -> Tuple[int, List[Row]]:
         """Plays what is missing of the profiles in which rivals have the first `mixed` of these
@@ -117,15 +61,26 @@ class Study:
         due = {tuple(dict(zip(places, profile)).get(place, 0)
                      for place in range(len(self._universe)))
                for profile in needed_profiles(len(names), self.players, mixed)}
-        plan = self.plan
-        elsewhere = {row.place for row in self._others} | {
-            place_of(plan.rule, number, plan.rotations)
-            for number in range(plan.games)
-            if number % self._parts != self._part - 1
-            or self._profiles[number % plan.rotations] not in due}
-        status, own, _ = play_in_folder(self._parser, plan, elsewhere)
-        self.plan = replace(plan, is_resumed=True)
-        return status, self._others + own
+        plan = self._plan
+        status, rows, _ = play_in_folder(self._parser, plan, {
+            place_of(number, plan.rotations) for number in range(plan.games)
+            if self._profiles[number % plan.rotations] not in due})
+        self._plan = replace(plan, is_resumed=True)
+        return status, rows
+
+
+def _joined(parser: Parser, folders: Sequence[str]) -> Payoffs:
+    """The payoffs of studies of the same strategies, each with deals of its own."""
+    read = [read_source(Path(folder)) for folder in folders]
+    sources = [source for source, _ in read if source]
+    told = [text for _, texts in read for text in texts]
+    rows, refused = joined(sources)
+    players = read_settings(rows[0].settings).get("players") if rows else None
+    if told or refused or players is None:
+        parser.error("; ".join([*told, *refused]) or "--join needs the folders of studies")
+    # The strategies as they came: a profile's number is the higher, the later they did.
+    names = dict.fromkeys(row.agent for row in sorted(rows, key=lambda row: row.rotation))
+    return Payoffs(list(names), int(players), rows)
 
 
 def _gain_text(value: Estimate) -> str:
@@ -148,9 +103,6 @@ def _of_equilibria(payoffs: Payoffs) -> List[str]:
                   f"{findings.others} of {findings.resamples}"]]
         lines = ["", f"An equilibrium of a resample counts as one of these if their shares differ "
                  f"by at most {NEAR:g}."]
-    if findings.shares:
-        rows += [["90 % of all shares lie in", *(f"{low:.2f} to {high:.2f}"
-                                                for low, high in findings.shares), *nobody, ""]]
     if not findings.equilibria:
         verdict = "NOT KNOWN: the search found no equilibrium, though there is one."
     elif not findings.resamples:
@@ -190,21 +142,6 @@ def _text_of(payoffs: Payoffs) -> str:
                       *_of_equilibria(payoffs)]) + "\n"
 
 
-def _write(folder: Path, payoffs: Payoffs) -> List[str]:
-    """Writes the files of payoffs, and returns what failed."""
-    failed = []
-    for name, form in FILES.items():
-        text, file = form(payoffs), folder / name
-        if not text:
-            tell(f"profiles: skipped {file}: it would have too many outcomes")
-            continue
-        try:
-            write_whole(file, text)
-        except OSError as fault:
-            failed.append(f"{file} was not written: {why(fault)}")
-    return failed
-
-
 def _best_response(payoffs: Payoffs) -> int:
     """The strategy that gains most in an equilibrium of those that rivals have; one of these where
     none gains."""
@@ -232,23 +169,25 @@ def _searched(study: Study) -> Tuple[int, Payoffs]:
 
 
 def run(parser: Parser, given: argparse.Namespace) -> int:
-    """Plays what is missing, writes and prints; the exit status."""
-    folder: Path = given.out
+    """Plays what is missing, or joins what was played, prints and writes; the exit status."""
+    status = 0
     try:
-        study = Study(parser, given)
+        if given.join:
+            payoffs = _joined(parser, given.agents)
+            given.out.mkdir(parents=True, exist_ok=True)
+        elif given.search:
+            status, payoffs = _searched(Study(parser, given))
+        else:
+            study = Study(parser, given)
+            status, rows = study.play(study.names, len(study.names))
+            payoffs = Payoffs(study.names, study.players, rows)
     except RunError as fault:
-        parser.error(f"--out {folder}: {fault}")
-    if given.search:
-        status, payoffs = _searched(study)
-    else:
-        status, rows = study.play(study.names, len(study.names))
-        payoffs = Payoffs(study.names, study.players, rows)
+        parser.error(f"--out {given.out}: {fault}")
     if status > 128:
         return status  # it was stopped
-    if given.part and given.part[1] > 1:
-        tell("profiles: the same command without --part takes the games of all parts")
-        return status
     failed = [f"{count_text(len(payoffs.incomplete), 'deal')} left out: not every profile was "
               "scored"] if payoffs.incomplete else []
-    failed += _write(folder, payoffs) if payoffs.deals else []
-    return max(status, printed("profiles", _text_of(payoffs), failed))
+    status = max(status, printed("profiles", _text_of(payoffs), failed))
+    if payoffs.deals:
+        write_whole(given.out / PAYOFFS, payoffs.as_csv().encode(), 0o666)
+    return status

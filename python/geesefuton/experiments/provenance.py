@@ -20,7 +20,7 @@ from geesefuton.experiments.entrants import PACKAGE, Entrant, EntrantError
 
 MOST_FILES, MOST_BYTES = 2000, 1 << 30  # of an agent
 # A folder that has one of these files has none of an agent.
-NOT_OURS = ("run.json", "secret", "payoffs.json", "pyvenv.cfg", "schema.json")
+NOT_OURS = ("run.json", "secret", "payoffs.csv", "pyvenv.cfg", "schema.json")
 
 
 def digest_of(file: Path) -> str:
@@ -61,7 +61,7 @@ class Agent:
 
 
 def agent_of(entrant: Entrant, patterns: Sequence[str] = (), also: Sequence[Path] = (),
-             without: Sequence[Path] = ()) -> Agent:
+             without: Optional[Path] = None) -> Agent:
     """What an agent is.
 
     Its files are those of the folder of the first file that its command names, and of the folders
@@ -72,7 +72,7 @@ def agent_of(entrant: Entrant, patterns: Sequence[str] = (), also: Sequence[Path
     Args:
         patterns: If there are any, the files of its folder are those whose names match one.
         also: Further files and folders.
-        without: Files that are written, which are not an agent's.
+        without: A file that is written, which is not an agent's.
 
     Raises EntrantError where they are too many for an agent, or something is not there."""
     words = [word for word in entrant.words if word != sys.executable]
@@ -83,9 +83,9 @@ def agent_of(entrant: Entrant, patterns: Sequence[str] = (), also: Sequence[Path
     folder = None
     for word, path in named.items():
         if folder is None and path.is_file() and word not in by_name:
-            folder, written = path.resolve().parent, {each.resolve() for each in without}
+            folder, written = path.resolve().parent, without and without.resolve()
             files.update({str(file.relative_to(folder)): file for file in _within(folder)
-                          if file not in written and (not patterns or any(
+                          if file != written and (not patterns or any(
                               fnmatch.fnmatch(file.name, each) for each in patterns))})
     for path in [*named.values(), *also]:
         if path.is_dir():

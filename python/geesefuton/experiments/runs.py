@@ -15,7 +15,6 @@ import fcntl
 import json
 import os
 import re
-import socket
 import time
 from collections import defaultdict
 from dataclasses import asdict, dataclass
@@ -23,12 +22,12 @@ from datetime import datetime, timezone
 from pathlib import Path
 from typing import Any, Dict, Iterable, Iterator, List, Sequence, Set, Tuple
 
-from geesefuton.experiments.deals import RUN, SECRET, DealError, kept_secret, write_whole
+from geesefuton.experiments.deals import RUN, SECRET, DealError, kept_secret
 from geesefuton.experiments.plan import Plan
 from geesefuton.experiments.provenance import commit, digest_of, machine, package_digest, unlike
 from geesefuton.experiments.results import HEAD, Found, ResultsError, Row, read_rows, text_of
 from geesefuton.hosting.journal import JournalError, read_journal
-from geesefuton.processes import Output, why
+from geesefuton.processes import Output, why, write_whole
 from geesefuton.program import CommandError, find
 from geesefuton.records.games import Game, GameError, read_game
 from geesefuton.records.logs import Log, LogError, read_log
@@ -39,7 +38,7 @@ from geesefuton.records.ticks import (Ticks, Timed, TicksError, requests_of, tic
 
 FORM = 2  # of run.json
 MOST_WAIT = 10.0  # seconds for the games of an earlier run to end
-SCORES, GAMES, LOCK = "scores.csv", "games", ".lock"
+SCORES, GAMES = "scores.csv", "games"
 FILE = re.compile(r"(.+)\.(?:game|log|events|script|journal|out\.[a-z0-9]+)")
 
 
@@ -50,20 +49,6 @@ class RunError(CommandError):
 def is_run(folder: Path) -> bool:
     """Whether a folder is that of a run."""
     return (folder / RUN).is_file()
-
-
-def is_being_written(folder: Path) -> bool:
-    """Whether a tournament, or one of its games, holds the lock of a folder."""
-    number = os.open(folder, os.O_RDONLY)
-    try:
-        fcntl.flock(number, fcntl.LOCK_SH | fcntl.LOCK_NB)
-        return False
-    except BlockingIOError:
-        return True
-    except OSError:
-        return (folder / LOCK).exists()  # a file system that has no locks
-    finally:
-        os.close(number)
 
 
 def read_scores(folder: Path) -> Found:
@@ -133,7 +118,6 @@ class RunFolder:
         self._folder, self._plan = plan.out, plan
         self._is_begun(plan.is_resumed)
         self._folder.mkdir(parents=True, exist_ok=True)
-        self._has_file = False
         self.lock = self._locked()
         try:  # another may have begun it meanwhile
             self._value = compare(self._folder, plan) if self._is_begun(plan.is_resumed) else {
@@ -145,7 +129,7 @@ class RunFolder:
                                       in plan.agents.items() if name not in known]
             self._begin(arguments)
         except BaseException:
-            self._unlock()
+            os.close(self.lock)
             raise
 
     def _begin(self, arguments: Sequence[str]) -> None:
@@ -201,7 +185,7 @@ class RunFolder:
                 (self._folder / SECRET).unlink(missing_ok=True)
         finally:
             os.close(self._scores)
-            self._unlock()
+            os.close(self.lock)
 
     def _is_begun(self, is_resumed: bool) -> bool:
         """Whether the folder has a run, which is refused unless it is to be gone on with."""
@@ -219,10 +203,9 @@ class RunFolder:
         return bool(names)
 
     def _locked(self) -> int:
-        """Locks the folder, and gives the number of its open file.
+        """Locks the folder, if its file system has locks, and gives the number of its open file.
 
-        Games hold the lock, too, so those of a run that was killed have ended when it is had. Where
-        a file system has no locks, a file stands for it, which has the host and the process.
+        Games hold the lock, too, so those of a run that was killed have ended when it is had.
         """
         number = os.open(self._folder, os.O_RDONLY)
         deadline = time.monotonic() + MOST_WAIT
@@ -236,31 +219,10 @@ class RunFolder:
                         raise RunError("another tournament is writing to it") from None
                     time.sleep(0.1)
                 except OSError:
-                    self._make_lock()
                     return number
         except BaseException:
             os.close(number)
             raise
-
-    def _make_lock(self) -> None:
-        """Makes the file that stands for a lock."""
-        file, own = self._folder / LOCK, socket.gethostname()
-        try:
-            with open(file, "x", encoding="utf-8") as out:
-                out.write(f"{own} {os.getpid()}")
-            self._has_file = True
-        except FileExistsError:
-            host, _, process = file.read_text(encoding="utf-8", errors="replace").partition(" ")
-            if host != own or not process.isdigit() or os.path.exists(f"/proc/{process}"):
-                raise RunError(f"another tournament is writing to it, process {process} of {host}; "
-                               f"if that has ended, remove {file}") from None
-            file.unlink()
-            self._make_lock()
-
-    def _unlock(self) -> None:
-        if self._has_file:
-            (self._folder / LOCK).unlink()
-        os.close(self.lock)
 
     def _clear(self) -> None:
         """Removes the files of games that were not finished."""
@@ -274,7 +236,7 @@ class RunFolder:
         self._replace(RUN, json.dumps(self._value, indent=1) + "\n")
 
     def _replace(self, name: str, text: str, mode: int = 0o666) -> None:
-        write_whole(self._folder / name, text, mode)
+        write_whole(self._folder / name, text.encode(), mode)
 
 
 def _now() -> str:

@@ -24,6 +24,7 @@ Cells = Dict[str, Dict[int, List[Row]]]  # of one agent: its rows by deal and se
 Value = Callable[[Row], float]
 SCORE: Value = attrgetter("score")
 COVARIATES: Sequence[Value] = tuple(map(attrgetter, ("luck", "nights", "first_price")))
+CENTRE = MEAN_LUCK, MEAN_NIGHTS, MEAN_FIRST_PRICE  # those of all made games
 UNTAKEN = (Outcome.ABSENT, Outcome.REFUSED)  # seats that nobody took, or played
 
 
@@ -106,11 +107,10 @@ def summarize(rows: Sequence[Row], lost: Sequence[str] = (), detect: Optional[fl
         by_agent[row.agent].append(row)
         cells[row.agent][row.deal][row.seat].append(row)
     missing = missing_libraries("figures that are adjusted for the draw")
-    centre = [] if missing or not rows else _centre(rows)
-    standings = [_standing(agent, own, centre) for agent, own in by_agent.items()]
+    standings = [_standing(agent, own, not missing) for agent, own in by_agent.items()]
     standings.sort(key=lambda standing: (standing.untaken == standing.seats, -standing.score.mean))
     names = [standing.agent for standing in standings]
-    differences = [_difference(first, second, cells[first], cells[second], centre, detect)
+    differences = [_difference(first, second, cells[first], cells[second], not missing, detect)
                    for first, second in combinations(names, 2)]
     differences = [replace(each, holm=chance, bonferroni=half) for each, chance, half in zip(
         differences, holm([each.student for each in differences]),
@@ -141,37 +141,29 @@ def _by_deal(rows: Sequence[Row], value: Value) -> List[float]:
     return list(map(fmean, deals.values()))
 
 
-def _centre(rows: Sequence[Row]) -> List[float]:
-    """The draws to which figures are adjusted: those of all made games, or for other games those
-    of all their seats."""
-    if all("rooms" in read_settings(text) for text in {row.settings for row in rows}):
-        return [MEAN_LUCK, MEAN_NIGHTS, MEAN_FIRST_PRICE]
-    return [fmean(map(value, rows)) for value in COVARIATES]
-
-
-def _adjusted(scores: Sequence[float], sides: Sequence[Tuple[Seats, Seats]],
-              centre: Sequence[float]) -> Optional[Estimate]:
+def _adjusted(scores: Sequence[float], sides: Sequence[Tuple[Seats, Seats]]
+              ) -> Optional[Estimate]:
     """A difference that is adjusted, by the two sides of each deal that are compared."""
     luck, nights, first_price = ([[_mean_of_seats(side, value) for side in both] for both in sides]
                                  for value in COVARIATES)
     drawn = [*([ours - theirs for ours, theirs in value] for value in (luck, nights)),
              *([(ours + theirs) / 2.0 for ours, theirs in value]
                for value in (first_price, nights, luck))]
-    return adjusted(scores, drawn, [0.0, 0.0, *centre[::-1]])
+    return adjusted(scores, drawn, [0.0, 0.0, *CENTRE[::-1]])
 
 
-def _standing(agent: str, rows: Sequence[Row], centre: Sequence[float]) -> Standing:
+def _standing(agent: str, rows: Sequence[Row], has_study: bool) -> Standing:
     ends = dict(Counter(row.end for row in rows))
     scores = _by_deal(rows, SCORE)
     drawn = [_by_deal(rows, value) for value in COVARIATES]
     played = _by_deal([row for row in rows if row.end is Outcome.PLAYED], SCORE)
     missed = [row.missed for row in rows if row.missed is not None]
     return Standing(agent, len(rows), ends, estimate(scores), estimate(played) if played else None,
-                    fmean(drawn[0]), adjusted(scores, drawn, centre) if centre else None,
+                    fmean(drawn[0]), adjusted(scores, drawn, CENTRE) if has_study else None,
                     fmean(missed) if missed else None)
 
 
-def _difference(first: str, second: str, ours: Cells, theirs: Cells, centre: Sequence[float],
+def _difference(first: str, second: str, ours: Cells, theirs: Cells, has_study: bool,
                 detect: Optional[float]) -> Difference:
     """The difference of two agents. Those that had the same clients in most deals that both had, as
     with swapped seats, are compared by such clients alone: others may be worth more or less."""
@@ -190,9 +182,9 @@ def _difference(first: str, second: str, ours: Cells, theirs: Cells, centre: Seq
     scores = [_mean_of_seats(our, SCORE) - _mean_of_seats(their, SCORE) for our, their in sides]
     score = estimate(scores)
     return Difference(first, second, by_clients, left_out, score,
-                      _adjusted(scores, sides, centre) if centre else None,
+                      _adjusted(scores, sides) if has_study else None,
                       student_p(score), signed_rank_p(scores) if score.half is not None else None,
-                      needed=deals_to_detect(score, detect) if detect and centre else None)
+                      needed=deals_to_detect(score, detect) if detect and has_study else None)
 
 
 def _mean_of_seats(seats: Seats, value: Value) -> float:

@@ -2,13 +2,13 @@
 
     geesefuton tournament --games 20 --out FOLDER mine.py theirs.py
 
-In a clone, planner, trader and watcher of the examples play if none is named.
---against, --files, --also and --summary may be repeated. The exit status is 0
-if every game was scored and everything was written.
+--against, --files and --also may be repeated. The exit status is 0 if every
+game was scored and everything was written.
 """
 
 import argparse
 import contextlib
+import math
 import os
 import shutil
 import subprocess
@@ -27,7 +27,7 @@ from geesefuton.experiments.agents import Job, sandbox
 from geesefuton.experiments.covariates import covariates_of
 from geesefuton.experiments.deals import SHORT, Table, place_of, tables
 from geesefuton.experiments.entrants import Entrant, seat_words
-from geesefuton.experiments.forms import FORMS, as_grades, as_text, printed
+from geesefuton.experiments.forms import as_grades, as_json, as_text, printed
 from geesefuton.experiments.joining import joined, missing, pooled, read_source, whole_deals
 from geesefuton.experiments.plan import Plan, make_parser, read_plan, text_of
 from geesefuton.experiments.provenance import read_settings, settings_text
@@ -89,7 +89,7 @@ class Tournament:
         self._digests = {name: agent.digest[:SHORT] for name, agent in plan.agents.items()}
         self.rows: List[Row] = []
         self.lost: List[str] = []
-        self.games = plan.games - sum(place_of(plan.rule, number, plan.rotations) in self._finished
+        self.games = plan.games - sum(place_of(number, plan.rotations) in self._finished
                                       for number in range(plan.games))
         self._done = 0
         self._began = time.monotonic()
@@ -241,7 +241,7 @@ def _join(given: argparse.Namespace) -> int:
         source, lines = read_source(Path(name))
         told += lines
         if source and "players" in read_settings(source.rows[0].settings):
-            told.append(f"{name}: it has the games of profiles: use the command profiles")
+            told.append(f"{name}: it has the games of profiles: use `profiles --join`")
         elif source and missing(source):
             told.append(missing(source))
             source, parts = whole_deals(source)
@@ -261,30 +261,30 @@ def _join(given: argparse.Namespace) -> int:
     return _print_summary(summary, given.summary) or int(bool(told))
 
 
-def _print_summary(summary: Summary, files: Sequence[Path], grades: Optional[Path] = None) -> int:
-    """Writes the summary to standard output and to files, in the forms of their suffixes, and the
-    grades; tells what failed, and gives the exit status."""
-    shown = as_text(summary, shutil.get_terminal_size().columns)
-    if os.isatty(2) and not os.isatty(1):  # it goes to a file, but somebody looks on
-        tell(shown.rstrip())
-    targets = [(Output(1), shown if os.isatty(1) else as_text(summary)),
-               *((Output(file), FORMS[file.suffix](summary)) for file in files)]
-    targets += [(Output(grades), as_grades(summary))] if grades else []
-    for out, text in targets:
+def _print_summary(summary: Summary, file: Optional[Path], grades: Optional[Path] = None) -> int:
+    """Writes the summary to standard output and to a file, and the grades; tells what failed, and
+    gives the exit status."""
+    width = shutil.get_terminal_size().columns if os.isatty(1) else math.inf
+    targets = [(1, as_text(summary, width)), (file, as_json(summary)), (grades, as_grades(summary))]
+    outs = [(Output(target), text) for target, text in targets if target is not None]
+    for out, text in outs:
         out.write(text)
         out.close()
         if out.fault:
             tell(f"tournament: the summary was not written to {out.name}: {out.fault}")
-    return int(any(out.fault for out, _ in targets))
+    return int(any(out.fault for out, _ in outs))
 
 
 def _main() -> int:
     parser = make_parser(__doc__)
     given = parser.parse_args()
     if given.join:
-        if not given.agents:
-            parser.error("--join needs the folders of runs")
         return _join(given)
+    for word in ("pool", "partial"):
+        if getattr(given, word):
+            parser.error(f"--{word} needs --join")
+    if not given.out and not given.plan:
+        parser.error("name a new folder for the run with --out")
     plan = read_plan(parser, given)
     if given.plan:
         return printed("tournament", text_of(plan))
