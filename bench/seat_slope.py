@@ -68,11 +68,9 @@ def main() -> int:
     parser = Parser("seat_slope", __doc__ or "")
     parser.add_argument("folder", type=Path)
     given = parser.parse_args()
-    source, told = read_source(given.folder)
-    for text in told:
+    source = read_source(given.folder)
+    for text in source.told:
         tell(f"seat_slope: {text}")
-    if source is None:
-        return 1
     games = []
     for rows in games_of(source.rows):
         file = given.folder / GAMES / f"{rows[0].game_name}.game"

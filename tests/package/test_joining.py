@@ -5,8 +5,9 @@ from pathlib import Path
 from typing import Any, Dict, List, Optional
 
 from geesefuton.experiments.joining import (Source, differences, joined, missing, pooled,
-                                            read_source, twice, whole_deals)
+                                            read_source, twice)
 from geesefuton.experiments.results import Kind, Outcome, Row
+from geesefuton.experiments.runs import RunError
 from geesefuton.experiments.summary import summarize
 from geesefuton.processes import Output
 from tests.package.run_cases import PlaceCase, write_run
@@ -118,36 +119,25 @@ class Reading(PlaceCase):
         return [str(status), *text.splitlines()]
 
     def test_what_can_be_read_and_what_cannot(self) -> None:
-        read, told = read_source(self.run_of("run", 2))
-        assert read is not None
-        self.assertEqual((read.rows, told, missing(read)), (source("", 2).rows, [], ""))
+        read = read_source(self.run_of("run", 2))
+        self.assertEqual((read.rows, read.told, missing(read)), (source("", 2).rows, [], ""))
         old = self.run_of("old", 1)
         (old / "run.json").write_text('{"tournament": 1}')
         for path, text in ((self.place / "none", "not the folder of a tournament's run"),
                            (TOP / "README.md", "not the folder of a tournament's run"),
                            (self.run_of("empty"), "empty: it has no games"),
                            (old, "run.json is not of a tournament of this version"),
-                           (self.place, "not the folder of a tournament's run, but contains")):
-            read, told = read_source(path)
-            self.assertIsNone(read)
-            self.assertEqual(len(told), 1)
-            self.assertIn(text, told[0])
-
-    def test_runs_within_a_folder_are_named(self) -> None:
-        for part in (1, 2):
-            self.run_of(f"part-{part}-of-2", part)
-        self.assertEqual(read_source(self.place), (None, [
-            f"{self.place}: it is not the folder of a tournament's run, but contains part-1-of-2, "
-            "part-2-of-2"]))
+                           (self.place, "not the folder of a tournament's run")):
+            with self.assertRaisesRegex(RunError, text):
+                read_source(path)
 
     def test_a_half_written_row_is_left_out_with_its_game(self) -> None:
         folder = self.run_of("run", 1, 2)
         (folder / "scores.csv").write_text((folder / "scores.csv").read_text()[:-9])
-        read, told = read_source(folder)
-        assert read is not None
+        read = read_source(folder)
         self.assertEqual({row.deal for row in read.rows}, {"1"})
-        self.assertEqual(len(told), 2)
-        self.assertIn("game 2.0 has 7 rows, not 8; its game is left out", told[1])
+        self.assertEqual(len(read.told), 2)
+        self.assertIn("game 2.0 has 7 rows, not 8; its game is left out", read.told[1])
 
     def test_runs_that_lack_games_are_refused(self) -> None:
         whole = self.run_of("a", 3, 4)

@@ -167,22 +167,21 @@ class Games(Case):
         sections = dict(re.findall(r"<h2>(.*?)</h2>(.*?)(?=<h2>|</html>)", text, re.DOTALL))
         self.assertEqual(list(sections)[:3], ["Ranking", "Differences", "Errors of predicted room "
                                               "prices"])
-        self.assertEqual(len(sections), 9)
+        self.assertEqual(len(sections), 7)
         for name, section in sections.items():
             pictures = max(section.count('class="bar"'), section.count("<figure>"))
             self.assertGreater(pictures, 0 if name != "Differences" else -1, name)
             self.assertGreaterEqual(section.count("<table>"), 1, name)
-        self.assertEqual(sections["Prices"].count("<figure>"), 16)
         rows = cells_of(sections["The parts of scores"].split("</table>")[1])[1:]
         best = self.overview.order[0]
         means = self.by_agent[best][["score", *PARTS]].mean()
         self.assertEqual(rows[0], [best, "3", *map(number, means)])
 
     def test_games_without_trades_have_all_sections(self) -> None:
-        empty = overview_of([{**figures, "trades": [], "fills": []} for figures in self.figures])
+        empty = overview_of([{**figures, "fills": []} for figures in self.figures])
         for each in sections(empty):
             self.assertTrue(all(kind.kind in "fi" for kind in each.shown.dtypes), each.name)
-        self.assertEqual(page(empty, "run", self.rows[0], summarize(self.rows)).count("<h2>"), 9)
+        self.assertEqual(page(empty, "run", self.rows[0], summarize(self.rows)).count("<h2>"), 7)
 
     def test_names_are_escaped(self) -> None:
         rows = [replace(row, agent=f"<zz{row.agent} & co") for row in self.rows]
@@ -221,15 +220,15 @@ class Games(Case):
         done = run("experiments.report_command", "--over", self.folder, "--figures", place)
         self.assertEqual((done.returncode, done.stderr), (0, ""))
         names = {file.stem for file in place.iterdir()}
-        self.assertEqual(names, {"ranking", "differences", "errors", "parts", "flights", "rooms",
-                                 "tickets", "fills", "distances", "efficiencies"})
+        self.assertEqual(names, {"ranking", "differences", "errors", "parts", "fills", "distances",
+                                 "efficiencies"})
         with open(place / "parts.csv", newline="", encoding="utf-8") as text:
             lines = list(csv.DictReader(text))
         self.assertEqual([line["of"] for line in lines], self.overview.order)
         self.assertAlmostEqual(float(lines[0]["trips"]),
                                self.by_agent[self.overview.order[0]].trips.mean())
         if importlib.util.find_spec("matplotlib") is not None:
-            self.assertEqual(len(list(place.iterdir())), 30)
+            self.assertEqual(len(list(place.iterdir())), 21)
             svg = (place / "ranking.svg").read_bytes()
             run("experiments.report_command", "--over", self.folder, "--figures", place)
             self.assertEqual((place / "ranking.svg").read_bytes(), svg)

@@ -6,7 +6,7 @@ from dataclasses import replace
 from typing import Dict, List, Tuple
 
 from geesefuton.experiments.comparisons import missing_libraries
-from geesefuton.experiments.reduction import (counts_of, expanded, needed_profiles, profiles_of,
+from geesefuton.experiments.reduction import (counts_of, needed_profiles, profile_of,
                                               text_of_profile)
 from geesefuton.experiments.results import Outcome, Row
 from tests.package.helpers import needs_study
@@ -29,17 +29,8 @@ def rows_of(games: Dict[Tuple[str, int], str], scores: Dict[Tuple[str, int, str]
 
 class Reduction(unittest.TestCase):
     def test_rivals_stand_for_seven_seats(self) -> None:
-        self.assertEqual([expanded(rivals) for rivals in ((1, 0), (0, 1))], [[(7, 0)], [(0, 7)]])
-        self.assertEqual(expanded((3, 4)), [(3, 4)])
-        # Of three rivals each stands for 7/3 seats: 4 2/3 and 2 1/3 for two and one of them.
-        self.assertEqual([expanded(rivals) for rivals in ((3, 0), (2, 1), (1, 2))],
-                         [[(7, 0)], [(5, 2)], [(2, 5)]])
-        self.assertEqual(profiles_of(1, (2, 1)), [(5, 3)])
-        self.assertEqual(profiles_of(0, (0, 1, 0)), [(1, 7, 0)])
-
-    def test_equal_rests_are_rounded_in_all_ways(self) -> None:
-        self.assertEqual(expanded((1, 1, 1)), [(3, 2, 2), (2, 3, 2), (2, 2, 3)])
-        self.assertEqual(expanded((1, 0, 1, 1)), [(3, 0, 2, 2), (2, 0, 3, 2), (2, 0, 2, 3)])
+        self.assertEqual(profile_of(1, (3, 4)), (3, 5))
+        self.assertEqual(profile_of(0, (0, 1, 0)), (1, 7, 0))
 
     def test_choices_are_counted(self) -> None:
         self.assertEqual(counts_of(2, 2), [(2, 0), (1, 1), (0, 2)])
@@ -49,13 +40,12 @@ class Reduction(unittest.TestCase):
     def test_profiles_that_are_due(self) -> None:
         self.assertEqual(needed_profiles(2, 2), [(8, 0), (7, 1), (1, 7), (0, 8)])
         self.assertEqual(needed_profiles(2, 8), [(most, 8 - most) for most in range(8, -1, -1)])
-        self.assertEqual([most for most, _ in needed_profiles(2, 4)], [8, 7, 6, 5, 3, 2, 1, 0])
         self.assertEqual([[len(needed_profiles(count, players)) for count in (2, 3, 4)]
-                          for players in (2, 4, 8)], [[4, 9, 16], [8, 33, 100], [9, 45, 165]])
+                          for players in (2, 8)], [[4, 9, 16], [9, 45, 165]])
         self.assertEqual(text_of_profile((7, 1)), "7+1")
 
     def test_another_strategy_changes_no_number(self) -> None:
-        for players in (2, 4, 8):
+        for players in (2, 8):
             few, more = needed_profiles(2, players), needed_profiles(3, players)
             self.assertEqual([(*profile, 0) for profile in few], more[:len(few)])
 
@@ -131,16 +121,15 @@ class Tables(unittest.TestCase):
         self.assertLess(gain.half, one[1].half / 2)
 
     def test_a_game_that_is_alike_for_all_strategies_has_a_mixture_of_equal_shares(self) -> None:
-        """Payoffs fall with the number of rivals who have the same strategy, and seats are
-        rounded: with --players 4 no strategy gains by standing first."""
+        """Payoffs fall with the number of rivals who have the same strategy."""
         rows = []
         for deal in "12":
-            for number, profile in enumerate(needed_profiles(3, 4)):
+            for number, profile in enumerate(needed_profiles(3, 8)):
                 seats = [place for place, count in enumerate(profile) for _ in range(count)]
                 rows += [Row(deal, number, seat, "abc"[place],
                              1000 - 10 * (profile[place] - 1) ** 2, Outcome.PLAYED, 0)
                          for seat, place in enumerate(seats)]
-        found = find(4, Payoffs(list("abc"), 4, rows).samples(), resamples=1)
+        found = find(8, Payoffs(list("abc"), 8, rows).samples(), resamples=1)
         self.assertEqual(len(found.equilibria), 1)
         for share in found.equilibria[0].mixture:
             self.assertAlmostEqual(share, 1 / 3, places=6)

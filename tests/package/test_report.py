@@ -159,17 +159,11 @@ class Page(unittest.TestCase):
 class Scripts(unittest.TestCase):
     def test_a_game_from_a_script(self) -> None:
         game = report.read_game((TOP / "examples" / "first.game").read_text())
-        log = read_log(report.log_in(PLAYED.read_bytes()))
+        text = PLAYED.read_text()
+        log = read_log(text[text.index("taclog"):])
         text = report_page.page(game, log, all_events(game, log), Heading("g", "t"), game.words)
         self.assertIn("played from a script or in turns", text)
         self.assertNotIn("Rooms:", text)
-
-    def test_reply_lines_before_a_log_are_left_out(self) -> None:
-        text = PLAYED.read_bytes()
-        log = report.log_in(text)
-        self.assertTrue(log.startswith(b"taclog 1\n") and text.endswith(log))
-        self.assertEqual(report.log_in(log), log)
-        self.assertEqual(report.log_in(b"nothing"), b"nothing")
 
 
 class Command(PlaceCase):
@@ -222,10 +216,6 @@ class Command(PlaceCase):
         self.tac = fake_program(self.place, "echo unsound score 3; exit 9")
         self.refused("served.log is not sound by", SERVED_GAME, SERVED_LOG)
         self.refused("unsound score 3", SERVED_GAME, SERVED_LOG)
-        done = self.ran("--unaudited", SERVED_GAME, SERVED_LOG)
-        self.assertEqual(done.returncode, 0)
-        self.assertIn('<p class="warning">This log is not that of a game by the rules: `tac audit` '
-                      "says `unsound score 3`.</p>", done.stdout)
 
     def test_a_log_that_the_audit_refuses(self) -> None:
         self.tac = fake_program(self.place, "echo text 5 1; exit 8")
@@ -234,23 +224,17 @@ class Command(PlaceCase):
     def test_no_program(self) -> None:
         self.tac = "/nowhere/tac"
         self.refused("there is no program /nowhere/tac", SERVED_GAME, SERVED_LOG)
-        done = self.ran("--unaudited", SERVED_GAME, SERVED_LOG)
-        self.assertIn('<p class="warning">This log was not audited.</p>', done.stdout)
 
     def test_files_that_are_none(self) -> None:
         cut = self.place / "cut.log"
         lines = SERVED_LOG.read_text().splitlines(keepends=True)
         cut.write_text("".join(lines[:-30]))
-        for flags in ((), ("--unaudited",)):
-            self.refused(f"cut.log is not a complete log: line {len(lines) - 29}: ", *flags,
-                         SERVED_GAME, cut)
-            self.refused("is not a game file: line 1", *flags, SERVED_LOG, SERVED_LOG)
-            self.refused("is not a complete log: line 1", *flags, SERVED_GAME, SERVED_GAME)
-            self.refused("/nowhere/log: No such file", *flags, SERVED_GAME, "/nowhere/log")
-            self.refused("/nowhere/game: No such file", *flags, "/nowhere/game", SERVED_LOG)
-            self.refused("Is a directory", *flags, SERVED_GAME, self.place)
-        cut.write_bytes(b"0 @0 done\n\xff\n" + SERVED_LOG.read_bytes()[:100])
-        self.refused("counted after 2 lines", SERVED_GAME, cut)
+        self.refused(f"cut.log is not a complete log: line {len(lines) - 29}: ", SERVED_GAME, cut)
+        self.refused("is not a game file: line 1", SERVED_LOG, SERVED_LOG)
+        self.refused("is not a complete log: line 1", SERVED_GAME, SERVED_GAME)
+        self.refused("/nowhere/log: No such file", SERVED_GAME, "/nowhere/log")
+        self.refused("/nowhere/game: No such file", "/nowhere/game", SERVED_LOG)
+        self.refused("Is a directory", SERVED_GAME, self.place)
         cut.write_bytes(b"")
         self.refused("line 1: expected a line `taclog 1`, but the text ends", SERVED_GAME, cut)
 
@@ -289,6 +273,3 @@ class Real(unittest.TestCase):
             self.assertEqual(done.returncode, 1)
             self.assertIn("unsound score 0", done.stderr)
 
-    def test_what_play_writes_is_shown_as_it_is(self) -> None:
-        done = run("experiments.report_command", TOP / "examples" / "first.game", PLAYED)
-        self.assertEqual((done.returncode, done.stderr), (0, ""))

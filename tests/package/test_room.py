@@ -163,7 +163,7 @@ class Games(Case):
         self.until(lambda: room.poll() is not None)
         self.assertEqual(self.manifests()[0]["players"],
                          ["seat0", "", "house mine", "", "house mine", "", "house mine", ""])
-        self.assertIn("bad did not take seat1: no luck", (self.place / "said").read_text())
+        self.assertIn("bad did not take seat1, but ended", (self.place / "said").read_text())
 
     def test_the_page_has_the_standings_then_the_game_and_its_scores_before_the_room_ends(
             self) -> None:

@@ -250,10 +250,9 @@ class Standings(unittest.TestCase):
         games = [game_of(1, ["red", "blue", "house", "house"], [10, 10, 1, 2]),
                  game_of(2, ["blue", "", "red"], [11, 99, 10]), game_of(4, ["blue"], [9])]
         rows = standings_of(games)
-        self.assertEqual([(row.rank, row.name, row.games, row.average, row.last, row.best)
-                          for row in rows], [(1, "blue", 3, Fraction(10), 9, 11),
-                                             (1, "red", 2, Fraction(10), 10, 10),
-                                             (3, "house", 2, Fraction(3, 2), 2, 2)])
+        self.assertEqual([(row.rank, row.name, row.games, row.average) for row in rows],
+                         [(1, "blue", 3, Fraction(10)), (1, "red", 2, Fraction(10)),
+                          (3, "house", 2, Fraction(3, 2))])
         self.assertAlmostEqual(rows[0].half or 0.0, 4.302652729911275 / 3 ** 0.5)
         self.assertIsNone(rows[2].half)  # two seats of one game
 
@@ -270,7 +269,7 @@ class Teams(Case):
 
     def test_words_are_made_and_kept(self) -> None:
         folder = self.folder()
-        teams = self.read("name,word\nRed Foxes\nBlau,b4\n\n", folder=folder)
+        teams = self.read("Red Foxes\nBlau,b4\n\n", folder=folder)
         self.assertEqual([(team.name, team.key) for team in teams],
                          [("Red Foxes", "redfoxes"), ("Blau", "blau")])
         self.assertRegex(teams[0].word, "^[a-z2-9]{10}$")

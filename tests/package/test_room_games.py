@@ -152,8 +152,7 @@ class Rooms(Case):
         last = self.shown_rooms()[-1]
         self.assertEqual((last["game"], last["played"], last["phase"]), (3, 2, "room"))
         self.assertEqual([row[:2] + row[3:] for row in last["table"]],
-                         [[1, "seat0", first, None, first, first],
-                          [2, "seat1", second, None, second, second]])
+                         [[1, "seat0", first, None], [2, "seat1", second, None]])
         self.assertEqual((last["commitment"], last["last"][:2]), ("", [2, "8"]))
         self.assertEqual(self.told, [
             "game 1 of `tac make 7` counts; first of 1: seat0",

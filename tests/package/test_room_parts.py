@@ -156,10 +156,10 @@ class Houses(Case):
         self.assertEqual(self.game.relay.seats.own, {})  # a word that others have seen is worthless
         self.assertEqual(sorted(own.values()), [0, 1, 3, 4, 5, 6, 7])
         self.assertFalse(set(own) & set(WORDS))
-        self.assertEqual([each[4:7] for each in words], [
+        self.assertEqual([each[:3] for each in words], [
             [f"run-{'ab'[seat % 2]}", "localhost", "7000"] for seat in (0, 1, 3, 4, 5, 6, 7)])
-        self.assertEqual([own[each[7]] for each in words], [0, 1, 3, 4, 5, 6, 7])
-        self.assertEqual(words[0][8:], ["--pause", "0.25"])
+        self.assertEqual([own[each[3]] for each in words], [0, 1, 3, 4, 5, 6, 7])
+        self.assertEqual(words[0][4:], ["--pause", "0.25"])
         self.game.warn.assert_not_called()
         self.game.children.end.assert_not_called()
 
@@ -193,12 +193,12 @@ class Houses(Case):
                 while relay.seats.seats[0].holder is None:
                     relay.turn(MOST)
                 for words in self.started():
-                    hello(words[7])
+                    hello(words[3])
             relay.turn(MOST)
 
         self.game.relay, self.game.turn = relay, turn
         self.game.children.start.side_effect = lambda words, **_: mock.Mock(
-            poll=lambda: None, word=words[7])
+            poll=lambda: None, word=words[3])
         self.game.children.end.side_effect = lambda process: links[process.word].close()
         self.house.play(self.game)
         seat = relay.seats.seats[0]
@@ -220,14 +220,10 @@ class Houses(Case):
                                                "temporarily unavailable")
 
     def test_one_that_has_ended_is_told_once_and_the_game_is_played(self) -> None:
-        def start(words: List[str], stdout: Any, **how: Any) -> Any:
-            stdout.write(b"first\nno luck \n")
-            return mock.Mock(poll=lambda: 1)
-
-        self.game.children.start = start
+        self.game.children.start = lambda words, **how: mock.Mock(poll=lambda: 1)
         self.assertEqual(self.house.play(self.game), 6)
         self.assertEqual([call[0][0] for call in self.game.warn.call_args_list], [
-            f"the house agent {'ab'[seat % 2]} did not take seat{seat}: no luck"
+            f"the house agent {'ab'[seat % 2]} did not take seat{seat}, but ended"
             for seat in (0, 1, 3, 4, 5, 6, 7)])
 
     def test_one_that_does_not_come_is_waited_for_a_while(self) -> None:

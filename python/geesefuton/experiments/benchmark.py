@@ -29,14 +29,13 @@ from geesefuton.experiments.plan import Plan, make_parser, read_plan
 from geesefuton.experiments.results import Row
 from geesefuton.experiments.summary import summarize
 from geesefuton.experiments.tournament import play_in_folder
-from geesefuton.processes import Output, command, shown, tell
+from geesefuton.processes import command, shown, write_whole
 
 LISTS = ("classic", "scarce")
 RESULT = "benchmark.json"
 
 
 def _list(name: str) -> bytes:
-    """The text of a list's file."""
     return (program.examples() / "benchmarks" / f"{name}.json").read_bytes()
 
 
@@ -78,11 +77,7 @@ def _written(plan: Plan, name: str, rows: List[Row]) -> str:
                       else f"{pair.student:.3f}"])
     told = {"benchmark": name, "sha256": hashlib.sha256(_list(name)).hexdigest(),
             "deals": summary.deals, "settings": plan.settings, "agents": agents}
-    out = Output(plan.out / RESULT)
-    out.write(json.dumps(told, indent=1) + "\n")
-    out.close()
-    if out.fault:
-        tell(f"benchmark: {out.name}: {out.fault}")
+    write_whole(plan.out / RESULT, (json.dumps(told, indent=1) + "\n").encode(), 0o666)
     return "\n".join([f"{name}, {count_text(summary.deals, 'deal')}; dollars with 95 % intervals "
                       "by deals (Student's t)", *columns(table)]) + "\n"
 

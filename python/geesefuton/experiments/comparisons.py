@@ -22,6 +22,7 @@ HOW = ("install them by `apt-get install python3-numpy python3-scipy python3-pan
        "/usr/bin/python3, or by `pip install numpy scipy pandas`")
 UNITS = 4  # that there have to be for each covariate but the first
 FAR = 40.0  # standard errors, by which a difference is told for sure
+SURE = 100.0  # the same of few values
 MOST_EXACT = 50  # values of Wilcoxon's test; above, the normal distribution is close enough
 
 
@@ -171,7 +172,7 @@ def adjusted(values: Sequence[float], covariates: Sequence[Sequence[float]],
     return Estimate(float(slopes @ point), float(student_quantile(freedom) * error), count)
 
 
-def power(deals: int, errors: float) -> float:
+def power(deals: float, errors: float) -> float:
     """How often the 95 % interval of a mean of values excludes 0, where the true mean is so many
     standard deviations of a value."""
     import numpy as np
@@ -189,20 +190,11 @@ def deals_to_detect(value: Estimate, difference: float) -> Optional[int]:
     it is taken at the upper limit that is above the true variance for 80 % of pilots."""
     if value.half is None:
         return None
-    from scipy import stats
+    from scipy import optimize, stats
     freedom = value.count - 1
     variance = (value.half / student_quantile(freedom)) ** 2 * value.count
     limit = math.sqrt(variance * freedom / stats.chi2.ppf(1.0 - POWER, freedom))
-    if limit == 0.0:
+    if limit == 0.0 or power(2, difference / limit) >= POWER:
         return 2
-    high = 2
-    while power(high, difference / limit) < POWER:
-        high *= 2
-    low = high // 2
-    while high - low > 1:
-        middle = (low + high) // 2
-        if power(middle, difference / limit) < POWER:
-            low = middle
-        else:
-            high = middle
-    return high
+    return math.ceil(optimize.brentq(lambda deals: power(deals, difference / limit) - POWER, 2,
+                                     2.0 + (SURE * limit / difference) ** 2, xtol=1e-6))

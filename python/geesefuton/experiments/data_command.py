@@ -16,7 +16,7 @@ from typing import Iterable, Iterator, List, Sequence, Set, Tuple
 from geesefuton.arguments import Parser
 from geesefuton.experiments.joining import read_source
 from geesefuton.experiments.runs import KeptGame, read_games
-from geesefuton.processes import Output, command, tell, why
+from geesefuton.processes import Output, command, tell
 from geesefuton.records.data import SCHEMA, TABLES, schema_text
 from geesefuton.records.games import AUCTIONS, CLOCK, FLIGHTS, GOODS, HOTELS, HOUSE, TICKETS, Game
 from geesefuton.records.logs import Entry, gains_of
@@ -136,18 +136,13 @@ def _main() -> int:
     parser.add_argument("folder", type=Path, metavar="FOLDER", help="the folder of a run")
     parser.add_argument("out", type=Path, metavar="OUT", help="a new folder for the tables")
     given = parser.parse_args()
-    if not given.folder.is_dir():
-        parser.error(f"{given.folder} is not a folder")
-    source, told = read_source(given.folder)
-    if source is not None:
-        try:
-            given.out.mkdir(parents=True, exist_ok=True)
-            names = sorted(os.listdir(given.out))
-        except OSError as fault:
-            parser.error(f"{given.out}: {why(fault)}")
-        if names:
-            parser.error(f"{given.out} is not empty (it has {names[0]}): name a new folder")
-        told += _write(given.out, read_games(given.folder, source.rows, told))
+    source = read_source(given.folder)
+    given.out.mkdir(parents=True, exist_ok=True)
+    names = sorted(os.listdir(given.out))
+    if names:
+        parser.error(f"{given.out} is not empty (it has {names[0]}): name a new folder")
+    told = list(source.told)
+    told += _write(given.out, read_games(given.folder, source.rows, told))
     for text in told:
         tell(f"data: {text}")
     return 1 if told else 0

@@ -6,6 +6,7 @@ text are the same deal, in whatever run.
 import argparse
 import hashlib
 import json
+import re
 from dataclasses import dataclass
 from functools import cached_property
 from pathlib import Path
@@ -77,12 +78,11 @@ class Table:
 
 def read_rooms(text: str) -> Tuple[int, int]:
     """Reads `4` or `3..6`, the numbers of rooms, 1 to 64, that a hotel night may have."""
-    ends = text.split("..")
-    if not all(end.isascii() and end.isdigit() for end in ends) or len(ends) > 2:
-        raise DealError(f"expected rooms as a number or a range such as 3..6, not {text!r}")
-    low, high = int(ends[0]), int(ends[-1])
+    found = re.fullmatch(r"([0-9]{1,9})(?:\.\.([0-9]{1,9}))?", text)
+    low, high = (int(found[1]), int(found[2] or found[1])) if found else (0, 0)
     if not 1 <= low <= high <= MOST_ROOMS:
-        raise DealError(f"expected rooms from 1 to {MOST_ROOMS}, the least first, not {text}")
+        raise DealError(f"expected rooms as a number or a range such as 3..6, from 1 to "
+                        f"{MOST_ROOMS}, not {text!r}")
     return low, high
 
 

@@ -71,7 +71,6 @@ def _way(pair: Difference) -> str:
 
 
 def _of_pairs(pairs: Sequence[Difference], summary: Summary) -> List[List[str]]:
-    """The cells of the table of pairs, with its head."""
     are_many, detect = len(pairs) > 1, summary.detect
     ways = set(map(_way, pairs))
     told = {"clients": ", by clients that both had", "games": ", by games"}
@@ -93,7 +92,6 @@ def _of_pairs(pairs: Sequence[Difference], summary: Summary) -> List[List[str]]:
 
 
 def _below_pairs(pairs: Sequence[Difference], summary: Summary) -> List[str]:
-    """What is said below the table of pairs."""
     lines = []
     if len(pairs) > 1:
         groups = [", ".join(map(shown, group)) for group in summary.groups if len(group) > 1]

@@ -7,12 +7,11 @@ same agents with the same files, and no game occurs twice.
 from collections import Counter
 from dataclasses import dataclass, replace
 from pathlib import Path
-from typing import Dict, List, Optional, Sequence, Set, Tuple
+from typing import Dict, List, Sequence, Set, Tuple
 
 from geesefuton.experiments.provenance import read_settings, unlike
 from geesefuton.experiments.results import Kind, Row
-from geesefuton.experiments.runs import (SCORES, RunError, is_run, read_record, read_scores)
-from geesefuton.processes import why
+from geesefuton.experiments.runs import SCORES, RunError, is_run, read_record, read_scores
 
 WAYS = {Kind.SERVED: "by the clock", Kind.TURNS: "in turns", Kind.UNREPEATABLE: "in turns"}
 
@@ -26,28 +25,21 @@ class Source:
     planned: int = 0  # how many games it was to have
     is_stopped: bool = False  # whether its last run did not end by itself
     lost: Sequence[str] = ()  # what its last run lost, each in a line
+    told: Sequence[str] = ()  # what of its rows is left out, each in a line
 
 
-def read_source(path: Path) -> Tuple[Optional[Source], List[str]]:
-    """What the folder of a run has, if anything, and what is to be told, each in a line."""
-    try:
-        if not is_run(path):
-            within = sorted(each.name for each in path.iterdir() if is_run(each)) \
-                if path.is_dir() else []
-            return None, [f"{path}: it is not the folder of a tournament's run"
-                          + (f", but contains {', '.join(within)}" if within else "")]
-        record, found = read_record(path), read_scores(path)
-    except RunError as fault:
-        return None, [str(fault)]
-    except OSError as fault:
-        return None, [f"{path}: {why(fault)}"]
+def read_source(path: Path) -> Source:
+    """What the folder of a run has. Raises RunError where it is none, or has no games."""
+    if not is_run(path):
+        raise RunError(f"{path}: it is not the folder of a tournament's run")
+    record, found = read_record(path), read_scores(path)
     told = [f"{path / SCORES}: {text}; its game is left out" for text in found.told]
     if not found.rows:
-        return None, [*told, f"{path}: it has no games"]
+        raise RunError("; ".join([*told, f"{path}: it has no games"]))
     last = record["runs"][-1] if record["runs"] else {}
     return Source(str(path), found.rows, int(record.get("planned", 0)),
                   last.get("ended") is None or last.get("status", 0) > 128,
-                  last.get("lost", [])), told
+                  last.get("lost", []), told)
 
 
 def missing(source: Source) -> str:

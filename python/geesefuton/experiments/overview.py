@@ -47,15 +47,14 @@ PARTS = ["trips", "flights", "rooms", "tickets", "penalties"]  # of a score, whi
 
 # In dollars, for each seat of each game: the parts of its score, and by how much it is less than
 # its best plan at the game's closing prices; for each seat and each of SIDES the units that were
-# asked for, and those that traded; for each flight and hotel night of each game the tick at which
-# it closes, and its prices at the ticks; the trades of tickets; and for each game what its 64
-# clients have, where seats cost the flights' first prices, the most that is known that they might
-# have, and a bound that is never passed.
+# asked for, and those that traded; for each hotel night of each game the tick at which it closes,
+# and its prices at the ticks; and for each game what its 64 clients have, where seats cost the
+# flights' first prices, the most that is known that they might have, and a bound that is never
+# passed.
 COLUMNS: Dict[str, List[object]] = {
     "seats": ["deal", "agent", *PARTS, "score", "distance"],
     "fills": ["agent", "side", "asked", "got"],
     "prices": ["deal", "good", "closes", *range(TICKS + 1)],
-    "trades": ["good", "units", "price"],
     "games": ["agents", "had", "best", "bound"]}
 TEXTS = ("deal", "agent", "side", "agents")  # columns that are no numbers
 Figures = Dict[str, List[Sequence[object]]]  # of a game: rows of each table
@@ -126,7 +125,6 @@ class Overview(NamedTuple):
     seats: Frame
     fills: Frame
     prices: Frame
-    trades: Frame
     games: Frame
 
     @property
@@ -138,9 +136,9 @@ class Overview(NamedTuple):
     def errors(self) -> Frame:
         """For each of PREDICTORS by how many dollars it is wrong at each of MINUTES, in the mean
         over the nights that are still open; NaN where there is nothing to predict by."""
-        found, rooms = {}, self.prices[self.prices.good.isin(HOTELS)]
+        found = {}
         for tick in MINUTES:
-            now = rooms[rooms.closes > tick]
+            now = self.prices[self.prices.closes > tick]
             of_good, of_deal = now.groupby("good"), now.groupby(["good", "deal"])
             games, close, here = (of_good[column].transform(how) - of_deal[column].transform(how)
                                   for column, how in (("deal", "size"), (TICKS, "sum"),
@@ -148,11 +146,6 @@ class Overview(NamedTuple):
             predicted = (now[tick], close / games, now[tick] + (close - here) / games)
             found[tick] = [(each - now[TICKS]).abs().mean() for each in predicted]
         return pd.DataFrame(found, PREDICTORS, dtype=float).T.rename_axis("tick")
-
-    def quartiles(self, good: int) -> Frame:
-        """The lower quartile, the median and the upper quartile of a good's prices at each tick."""
-        paths = self.prices[self.prices.good == good]
-        return paths[list(range(TICKS + 1))].quantile([0.25, 0.5, 0.75]).T
 
 
 def overview_of(games: Iterable[Figures]) -> Overview:
@@ -170,15 +163,13 @@ def figures_of(kept: KeptGame, best: Optimum) -> Figures:
     """The figures of a game, with the optimum of its deal."""
     game, log, deal = kept.game, kept.log, kept.rows[0].deal
     boards = boards_by_tick(game, log, kept.ticks)
-    prices = [(deal, good, game.hotels[good - HOTELS.start].closes if good in HOTELS else TICKS,
-               *(board[good][1] for board in boards)) for good in range(HOTELS.stop)]
-    trades = [(good, trade.units, trade.price) for good in TICKETS
-              for entry in log.histories[good] for trade in entry.trades]
+    prices = [(deal, good, night.closes, *(board[good][1] for board in boards))
+              for good, night in zip(HOTELS, game.hotels)]
     closing: List[Optional[int]] = [boards[-1][good][1] for good in range(HOTELS.stop)]
     for good in TICKETS:
-        each = [(units, price) for other, units, price in trades if other == good]
-        count = sum(units for units, _ in each)
-        closing.append(round(sum(units * price for units, price in each) / count)
+        trades = [trade for entry in log.histories[good] for trade in entry.trades]
+        count = sum(trade.units for trade in trades)
+        closing.append(round(sum(trade.units * trade.price for trade in trades) / count)
                        if count else None)
     seats: List[Sequence[object]] = []
     for agent, clients, endow, score, gains in zip(kept.agents, game.clients, game.endow,
@@ -192,7 +183,7 @@ def figures_of(kept: KeptGame, best: Optimum) -> Figures:
     had = sum(score.best - PENALTY * score.short for score in log.scores)
     had -= sum(trade.units * game.flights[good].first for good in FLIGHTS
                for entry in log.histories[good] for trade in entry.trades)
-    return {"seats": seats, "fills": list(fills), "prices": list(prices), "trades": list(trades),
+    return {"seats": seats, "fills": list(fills), "prices": list(prices),
             "games": [(table_of(kept.agents), had, *best)]}
 
 
@@ -257,9 +248,8 @@ def gathered(folder: Path, rows: Sequence[Row]) -> Tuple[Overview, List[str]]:
 def work() -> None:
     """What a further process does: it writes its part of the figures to standard output."""
     folder, part, parts = Path(sys.argv[1]), int(sys.argv[2]), int(sys.argv[3])
-    source, _ = read_source(folder)
     sys.stdout.buffer.write(pickle.dumps(
-        _figures(folder, source.rows if source else [], part, parts)))
+        _figures(folder, read_source(folder).rows, part, parts)))
 
 
 def _figures(folder: Path, rows: Sequence[Row], part: int, parts: int

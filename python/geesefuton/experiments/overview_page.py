@@ -4,7 +4,7 @@ of a game, and its pictures for a paper, as SVG and PDF, each with the CSV behin
 import html
 from importlib.util import find_spec
 from pathlib import Path
-from typing import Any, Dict, Iterator, List, NamedTuple, Tuple
+from typing import Any, Dict, Iterator, List, NamedTuple
 
 import numpy as np
 import pandas as pd
@@ -16,22 +16,19 @@ from geesefuton.experiments.results import Row
 from geesefuton.experiments.comparisons import deals_to_detect
 from geesefuton.experiments.summary import Difference, Summary
 from geesefuton.processes import why
-from geesefuton.records.games import FLIGHTS, HOTELS, TICKETS, TICKS, name_of
-from geesefuton.records.report_page import (Cell, bar, chart, chart_rows, document, half_text,
-                                            number, round_up, scale_of, table)
+from geesefuton.records.report_page import (Cell, bar, chart, document, half_text, number, round_up,
+                                            table)
 
 Frame = Any  # of pandas
 HOW = ("pictures need matplotlib: install it by `apt-get install python3-matplotlib`, for "
        "/usr/bin/python3, or by `pip install matplotlib`")
-SHOWN = range(0, TICKS + 1, 6)  # the ticks of a table of prices
-LOWER, UPPER = ", lower quartile", ", upper quartile"
 
 
 class Section(NamedTuple):
     """A section of the overview."""
 
     name: str  # that of its picture
-    title: str  # what stands above it; "" where it goes on with the one before
+    title: str  # what stands above it
     note: str  # what it says, as HTML
     shown: Frame  # the data of the picture
     told: Frame  # the table, if it has others; texts, and numbers that are shown in whole dollars
@@ -40,8 +37,8 @@ class Section(NamedTuple):
 
 def sections(overview: Overview) -> List[Section]:
     """The sections of an overview."""
-    return [_errors(overview), _parts(overview), *_prices(overview), _tickets(overview),
-            _fills(overview), _distances(overview), _efficiencies(overview)]
+    return [_errors(overview), _parts(overview), _fills(overview), _distances(overview),
+            _efficiencies(overview)]
 
 
 def page(overview: Overview, name: str, row: Row, summary: Summary) -> str:
@@ -54,7 +51,7 @@ def page(overview: Overview, name: str, row: Row, summary: Summary) -> str:
         f"of {count_text(deals, 'deal')}, played {WAYS[row.kind]}. All amounts are in dollars.</p>",
         *_ranking(summary), *_differences(summary)]
     for each in sections(overview):
-        parts.append((f"<h2>{each.title}</h2><p>{each.note}</p>" if each.title else "")
+        parts.append(f"<h2>{each.title}</h2><p>{each.note}</p>"
                      + (each.picture or _bars(each.shown)))
         told = each.told.reset_index()
         parts.append(table([str(column).replace("|", "<br>") for column in told],
@@ -127,7 +124,6 @@ def _differences(summary: Summary) -> Iterator[str]:
 
 
 def _more_deals(pair: Difference) -> Cell:
-    """How many deals more would separate two neighbours."""
     if pair.is_shown:
         return "separated"
     if pair.score is None or pair.score.half is None or not pair.score.mean:
@@ -160,40 +156,6 @@ def _parts(overview: Overview) -> Section:
         "Means over an agent's seats: what the trips are worth, what was earned less what was paid "
         "for each kind of goods, and 200 for each ticket short. The score is their sum."),
         means[PARTS], told)
-
-
-def _prices(overview: Overview) -> Iterator[Section]:
-    note = ("The median of all games at each tick, 0 at the left to 54, in the band of the middle "
-            "half of the games. A night that is closed keeps its price.")
-    for name, goods in (("flights", FLIGHTS), ("rooms", HOTELS)):
-        bands = pd.concat({good: overview.quartiles(good) for good in goods}, axis=1)
-        scale = scale_of(goods, bands.to_numpy().ravel().tolist())
-
-        def chart_of(good: int, title: str, bands: Frame = bands,
-                     scale: Tuple[int, int] = scale) -> str:
-            below, middle, above = (list(bands[good][part].items()) for part in (.25, .5, .75))
-            return chart(f"{title}: <b>{number(middle[0][1])} to {number(middle[-1][1])}</b>",
-                         middle, *scale, False, (below, above))
-
-        shown = pd.DataFrame({f"{name_of(good)}{end}": bands[good][part]
-                              for part, end in ((.5, ""), (.25, LOWER), (.75, UPPER))
-                              for good in goods}).rename_axis("tick")
-        medians = shown.loc[list(SHOWN), list(map(name_of, goods))].T
-        yield Section(name, "Prices" if goods is FLIGHTS else "", note, shown,
-                      medians.rename_axis("median at tick"), "".join(chart_rows(goods, chart_of)))
-
-
-def _tickets(overview: Overview) -> Section:
-    trades = overview.trades.assign(cost=overview.trades.units * overview.trades.price)
-    goods = trades.groupby("good")
-    units, cost = goods.units.sum(), goods.cost.sum()
-    told = pd.DataFrame({"traded": units / len(overview.games), "lowest": goods.price.min(),
-                         "mean": cost / units, "highest": goods.price.max()}, list(TICKETS))
-    told.index = pd.Index(map(name_of, TICKETS), name="ticket")
-    told["traded"] = told.traded.fillna(0).map("{:.1f}".format)
-    return Section("tickets", "Ticket prices",
-                   "Mean number of units traded a game, and the price of each.",
-                   told[["mean"]].rename(columns={"mean": "mean price"}), told)
 
 
 def _fills(overview: Overview) -> Section:
@@ -266,7 +228,6 @@ def write_figures(folder: Path, overview: Overview, summary: Summary) -> List[st
 
 
 def _draw(frame: Frame, file: Path) -> None:
-    """Draws a table: lines over ticks, dots with intervals, or bars."""
     import matplotlib
     matplotlib.use("Agg")
     from matplotlib import pyplot
@@ -274,7 +235,7 @@ def _draw(frame: Frame, file: Path) -> None:
     figure, axes = pyplot.subplots(figsize=(7.0, 2.0 + 0.3 * min(40, len(frame))))
     names = [str(name).replace("$", r"\$") for name in frame.index]
     if frame.index.name == "tick":
-        frame[[name for name in frame if "quartile" not in name]].plot(ax=axes)
+        frame.plot(ax=axes)
     elif "half" in frame:
         axes.errorbar(frame["mean"], names, xerr=frame["half"].fillna(0.0), fmt="o", capsize=3)
     else:

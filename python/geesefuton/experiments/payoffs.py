@@ -13,7 +13,7 @@ from typing import Any, Dict, Iterable, List, Optional, Sequence, Set, Tuple
 import numpy as np
 
 from geesefuton.experiments.comparisons import Estimate, estimate
-from geesefuton.experiments.reduction import (Counts, counts_of, needed_profiles, profiles_of,
+from geesefuton.experiments.reduction import (Counts, counts_of, needed_profiles, profile_of,
                                               text_of_profile, with_one)
 from geesefuton.experiments.results import Outcome, Row
 from geesefuton.records.games import SEATS
@@ -81,11 +81,9 @@ class Payoffs:
     def samples(self) -> Any:
         """The payoffs of each deal, as `equilibria` takes them."""
         fill = (0,) * (len(self.names) - self.mixed)
-        return np.array([[[
-            fmean(self._by_seat(deal, profile, strategy)
-                  for profile in profiles_of(strategy, rivals + fill))
-            for rivals in counts_of(self.players - 1, self.mixed)]
-            for strategy in range(len(self.names))] for deal in self.deals])
+        return np.array([[[self._by_seat(deal, profile_of(strategy, rivals + fill), strategy)
+                           for rivals in counts_of(self.players - 1, self.mixed)]
+                          for strategy in range(len(self.names))] for deal in self.deals])
 
     def estimates(self) -> List[List[Optional[Estimate]]]:
         """For each profile the mean score of each strategy over deals; None where nobody plays

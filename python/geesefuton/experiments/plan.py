@@ -241,7 +241,6 @@ def text_of(plan: Plan) -> str:
 
 
 def _refuse(parser: Parser, given: argparse.Namespace) -> None:
-    """Refuses words that do not go together."""
     for is_wrong, told in (
             (given.turns and given.pace is not None,
              "--pace is for games with a clock, and --turns for games without one"),

@@ -18,7 +18,7 @@ from geesefuton.experiments.plan import read_plan
 from geesefuton.experiments.provenance import read_settings
 from geesefuton.experiments.reduction import needed_profiles, text_of_profile
 from geesefuton.experiments.results import Row
-from geesefuton.experiments.runs import RunError, is_run, read_record
+from geesefuton.experiments.runs import is_run, read_record
 from geesefuton.experiments.tournament import play_in_folder
 from geesefuton.processes import shown, tell, write_whole
 from geesefuton.records.games import SEATS
@@ -71,13 +71,12 @@ class Study:
 
 def _joined(parser: Parser, folders: Sequence[str]) -> Payoffs:
     """The payoffs of studies of the same strategies, each with deals of its own."""
-    read = [read_source(Path(folder)) for folder in folders]
-    sources = [source for source, _ in read if source]
-    told = [text for _, texts in read for text in texts]
+    sources = [read_source(Path(folder)) for folder in folders]
     rows, refused = joined(sources)
-    players = read_settings(rows[0].settings).get("players") if rows else None
-    if told or refused or players is None:
-        parser.error("; ".join([*told, *refused]) or "--join needs the folders of studies")
+    told = [text for source in sources for text in source.told] + refused
+    players = read_settings(rows[0].settings).get("players")
+    if told or players is None:
+        parser.error("; ".join(told) or "--join needs the folders of studies")
     # The strategies as they came: a profile's number is the higher, the later they did.
     names = dict.fromkeys(row.agent for row in sorted(rows, key=lambda row: row.rotation))
     return Payoffs(list(names), int(players), rows)
@@ -88,7 +87,6 @@ def _gain_text(value: Estimate) -> str:
 
 
 def _of_equilibria(payoffs: Payoffs) -> List[str]:
-    """The lines on equilibria."""
     findings = find(payoffs.players, payoffs.samples(), payoffs.mixed)
     names = list(map(shown, payoffs.names))
     rows = [["symmetric equilibria, by shares", *names, "of resamples"]]
@@ -118,7 +116,6 @@ def _of_equilibria(payoffs: Payoffs) -> List[str]:
 
 
 def _text_of(payoffs: Payoffs) -> str:
-    """What is printed."""
     names = list(map(shown, payoffs.names))
     size = "the full game" if payoffs.players == SEATS else \
         f"reduced to {payoffs.players} players"
@@ -171,18 +168,15 @@ def _searched(study: Study) -> Tuple[int, Payoffs]:
 def run(parser: Parser, given: argparse.Namespace) -> int:
     """Plays what is missing, or joins what was played, prints and writes; the exit status."""
     status = 0
-    try:
-        if given.join:
-            payoffs = _joined(parser, given.agents)
-            given.out.mkdir(parents=True, exist_ok=True)
-        elif given.search:
-            status, payoffs = _searched(Study(parser, given))
-        else:
-            study = Study(parser, given)
-            status, rows = study.play(study.names, len(study.names))
-            payoffs = Payoffs(study.names, study.players, rows)
-    except RunError as fault:
-        parser.error(f"--out {given.out}: {fault}")
+    if given.join:
+        payoffs = _joined(parser, given.agents)
+        given.out.mkdir(parents=True, exist_ok=True)
+    elif given.search:
+        status, payoffs = _searched(Study(parser, given))
+    else:
+        study = Study(parser, given)
+        status, rows = study.play(study.names, len(study.names))
+        payoffs = Payoffs(study.names, study.players, rows)
     if status > 128:
         return status  # it was stopped
     failed = [f"{count_text(len(payoffs.incomplete), 'deal')} left out: not every profile was "

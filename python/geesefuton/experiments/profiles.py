@@ -28,7 +28,7 @@ def _main() -> int:
     add_playing(parser, "N deals, on each of which each profile is played (default: 4)")
     parser.set_defaults(games=4)
     add("--players", type=int, choices=PLAYERS, default=PLAYERS[0],
-        help="8: all profiles, fewer: the reduced game (default: 2)")
+        help="8: all profiles, 2: the reduced game (default: 2)")
     add("--out", type=Path, required=True, metavar="FOLDER", help="keep the games in this folder")
     add("--search", action="store_true",
         help="play only what leads to one equilibrium by best responses")

@@ -2,16 +2,15 @@
 
 A profile says how many of the seats have each strategy. In the full game a strategy's payoff
 against seven opponents is its payoff in the profile of all eight. In the deviation-preserving
-reduction there are 2 or 4 players: a player is one seat, and its 1 or 3 opponents stand for seven
-seats, in the same shares. So a single seat gains as much by another strategy as in the full game.
+reduction there are two players: one is one seat, and its opponent stands for the seven others. So a
+single seat gains as much by another strategy as in the full game.
 """
 
-from itertools import combinations
 from typing import List, Sequence, Set, Tuple
 
 from geesefuton.records.games import SEATS
 
-PLAYERS = (2, 4, SEATS)  # of the two reductions, and of the full game
+PLAYERS = (2, SEATS)  # of the reduction, and of the full game
 Counts = Tuple[int, ...]  # how many players chose each strategy
 
 
@@ -23,39 +22,22 @@ def counts_of(players: int, strategies: int) -> List[Counts]:
             for rest in counts_of(players - first, strategies - 1)]
 
 
-def expanded(rivals: Sequence[int]) -> List[Counts]:
-    """Seven rivals in the shares of fewer, rounded: those with the largest rests get one more.
-    Where rests are equal there are several ways, which count equally."""
-    players, seats = sum(rivals), SEATS - 1
-    counts = [count * seats // players for count in rivals]
-    rests = [count * seats % players for count in rivals]
-    left = seats - sum(counts)
-    least = sorted(rests, reverse=True)[left - 1] if left else players
-    sure = [rest > least for rest in rests]
-    ties = [place for place, rest in enumerate(rests) if rest == least]
-    return [tuple(count + (is_sure or place in chosen)
-                  for place, (count, is_sure) in enumerate(zip(counts, sure)))
-            for chosen in combinations(ties, left - sum(sure))]
-
-
 def with_one(rivals: Sequence[int], strategy: int) -> Counts:
     """The counts of rivals and of one player more."""
     return tuple(count + (place == strategy) for place, count in enumerate(rivals))
 
 
-def profiles_of(strategy: int, rivals: Sequence[int]) -> List[Counts]:
-    """The profiles of eight seats whose mean gives a strategy its payoff beside rivals."""
-    return [with_one(seats, strategy) for seats in expanded(rivals)]
+def profile_of(strategy: int, rivals: Sequence[int]) -> Counts:
+    """The profile of eight seats that gives a strategy its payoff beside one rival, or seven."""
+    return with_one([count * (SEATS - 1) // sum(rivals) for count in rivals], strategy)
 
 
 def needed_profiles(strategies: int, players: int, mixed: int = 0) -> List[Counts]:
     """The profiles that give all payoffs. Those of fewer strategies, the first ones, come first, so
     one more strategy changes the number of none."""
     fill = (0,) * (strategies - (mixed or strategies))
-    needed: Set[Counts] = {
-        profile for strategy in range(strategies)
-        for rivals in counts_of(players - 1, mixed or strategies)
-        for profile in profiles_of(strategy, rivals + fill)}
+    needed: Set[Counts] = {profile_of(strategy, rivals + fill) for strategy in range(strategies)
+                           for rivals in counts_of(players - 1, mixed or strategies)}
 
     def last(profile: Counts) -> int:
         return max(place for place, count in enumerate(profile) if count)

@@ -14,7 +14,7 @@ call there, and trades of tickets have none.
 import time
 from functools import partial
 from pathlib import Path
-from typing import List, Optional, Tuple
+from typing import Optional, Tuple
 
 from geesefuton import program
 from geesefuton.arguments import Parser
@@ -31,67 +31,39 @@ from geesefuton.records.seat_names import names_of
 from geesefuton.records.tables import csv_of
 from geesefuton.records.ticks import MarketEvent, all_events
 
-START = b"taclog 1\n"
 
-
-def log_in(text: bytes) -> bytes:
-    """The log of what `tac play` wrote, without the reply lines before it."""
-    place = (b"\n" + text).find(b"\n" + START)
-    return text if place < 0 else text[place:]
-
-
-def _flaw_of(game: Path, log: bytes) -> str:
-    """Why a log is not sound; "" if it is."""
-    try:
-        said = program.audit(game, log)
-    except program.ProgramError as fault:
-        if fault.status is None:  # there is no program
-            raise
-        return str(fault)
-    return "" if said == "sound" else f"`tac audit` says `{said}`"
-
-
-def _read_both(game_file: Path, log_file: Path) -> Tuple[Game, Log, bytes]:
-    """Reads a game file, and a log with its text."""
+def _read_both(game_file: Path, log_file: Path) -> Tuple[Game, Log]:
     try:
         game = read_game(game_file.read_bytes().decode("latin-1"))
     except GameError as fault:
         raise program.CommandError(f"{game_file} is not a game file: {fault}") from None
-    whole = log_file.read_bytes()
-    text = log_in(whole)
-    before = whole[:len(whole) - len(text)].count(b"\n")
     try:
-        return game, read_log(text), text
+        return game, read_log(log_file.read_bytes())
     except LogError as fault:
-        where = f", counted after {before} lines" if before else ""
-        raise program.CommandError(
-            f"{log_file} is not a complete log: {fault}{where}") from None
+        raise program.CommandError(f"{log_file} is not a complete log: {fault}") from None
 
 
 def _csv_text(game: Game, log: Log) -> str:
-    """The prices, trades and scores as CSV."""
     lines = [MarketEvent._fields, *all_events(game, log)]
     scores = [("score", "", "", "", score.agent, "", score.score) for score in log.scores]
     return csv_of([*lines, *scores])
 
 
-def _over(folder: Path, figures: Optional[Path]) -> Tuple[str, List[str]]:
-    """The page of a run's folder, "" if it has no games, and its faults, each in a line; a folder
-    of figures gets the page's pictures."""
+def _over(folder: Path, figures: Optional[Path]) -> int:
+    """Prints the page of a run's folder, if it has games, and gives the exit status; a folder of
+    figures gets the page's pictures."""
     missing = missing_libraries("pages and pictures of a run")
-    if missing or not folder.is_dir():
-        return "", [missing or f"{folder} is not a folder"]
-    source, told = read_source(folder)
-    if source is None:
-        return "", told
+    if missing:
+        raise program.CommandError(missing)
+    source = read_source(folder)
     from geesefuton.experiments import overview, overview_page  # which need the libraries
     found, faults = overview.gathered(folder, source.rows)
-    if found.games.empty:
-        return "", told + faults
-    summary = summarize(source.rows)
-    if figures is not None:
-        faults += overview_page.write_figures(figures, found, summary)
-    return overview_page.page(found, folder.name, source.rows[0], summary), told + faults
+    faults, text = [*source.told, *faults], ""
+    if not found.games.empty:
+        summary = summarize(source.rows)
+        text = overview_page.page(found, folder.name, source.rows[0], summary)
+        faults += overview_page.write_figures(figures, found, summary) if figures else []
+    return printed("report", text, faults)
 
 
 def _main() -> int:
@@ -100,7 +72,6 @@ def _main() -> int:
     add("--csv", action="store_true", help="write CSV instead of a page")
     add("--why", action="store_true",
         help="show each team over the ticks, and what cost it most")
-    add("--unaudited", action="store_true", help="also show a log that is not sound or not audited")
     add("--names", action="store_true", help="show agents by their seat words, which are passwords")
     add("--over", type=Path, metavar="FOLDER",
         help="show an overview of the games of a tournament")
@@ -116,24 +87,17 @@ def _main() -> int:
     if given.over is None and given.log is None:
         parser.error("give a game file and a log, or --over and a folder")
     if given.over is not None:
-        return printed("report", *_over(given.over, given.figures))
-    game, log, text = _read_both(given.game, given.log)
-    warning = "This log was not audited." if given.unaudited else ""
-    try:
-        flaw = _flaw_of(given.game, text)
-        warning = f"This log is not that of a game by the rules: {flaw}." if flaw else ""
-    except program.ProgramError as fault:
-        if not given.unaudited:
-            raise program.CommandError(
-                f"{fault}; to report without an audit, add --unaudited") from None
-    if warning and not given.unaudited:
-        raise program.CommandError(f"{given.log} is not sound by {given.game}: {flaw}; to report "
-                                   "on it anyway, add --unaudited")
+        return _over(given.over, given.figures)
+    game, log = _read_both(given.game, given.log)
+    said = program.audit(given.game, given.log)
+    if said != "sound":
+        raise program.CommandError(f"{given.log} is not sound by {given.game}: `tac audit` says "
+                                   f"`{said}`")
     if given.csv:
         return printed("report", _csv_text(game, log))
     written = time.strftime("%Y-%m-%d at %H:%M", time.localtime(given.log.stat().st_mtime))
     return printed("report", page(
-        game, log, all_events(game, log), Heading(given.game.name, written, warning),
+        game, log, all_events(game, log), Heading(given.game.name, written),
         names_of(game.words, given.names), stories(game, log) if given.why else []))
 
 

@@ -120,7 +120,6 @@ def text_of(rows: Iterable[Row]) -> str:
 
 
 def _read_row(words: Sequence[str]) -> Row:
-    """Reads the cells of a row. Raises ValueError where they are no row."""
     (deal, rotation, seat, agent, score, end, luck, kind, nights, first_price, run, settings, files,
      missed, number) = words
     return Row(deal, int(rotation), int(seat), agent, int(score), Outcome(end), int(luck),

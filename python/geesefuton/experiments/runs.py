@@ -207,25 +207,21 @@ class RunFolder:
 
         Games hold the lock, too, so those of a run that was killed have ended when it is had.
         """
-        number = os.open(self._folder, os.O_RDONLY)
-        deadline = time.monotonic() + MOST_WAIT
-        try:
-            while True:
-                try:
-                    fcntl.flock(number, fcntl.LOCK_EX | fcntl.LOCK_NB)
-                    return number
-                except BlockingIOError:
-                    if time.monotonic() > deadline:
-                        raise RunError("another tournament is writing to it") from None
+        number, deadline = os.open(self._folder, os.O_RDONLY), time.monotonic() + MOST_WAIT
+        while True:
+            try:
+                fcntl.flock(number, fcntl.LOCK_EX | fcntl.LOCK_NB)
+            except BlockingIOError:
+                if time.monotonic() < deadline:
                     time.sleep(0.1)
-                except OSError:
-                    return number
-        except BaseException:
-            os.close(number)
-            raise
+                    continue
+                os.close(number)
+                raise RunError("another tournament is writing to it") from None
+            except OSError:
+                pass  # there are no locks
+            return number
 
     def _clear(self) -> None:
-        """Removes the files of games that were not finished."""
         finished = {row.game_name for row in self.rows}
         for file in (self._folder / GAMES).iterdir():
             match = FILE.fullmatch(file.name)
@@ -301,7 +297,6 @@ def _read_kept(games: Path, rows: Sequence[Row]) -> KeptGame:
 
 
 def _requests(file: Path) -> Iterator[Timed]:
-    """The requests of a script or a journal."""
     if file.suffix == ".script":
         yield from requests_of(file.read_bytes().decode("latin-1"))
         return

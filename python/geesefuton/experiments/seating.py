@@ -143,7 +143,6 @@ def _exchange(games: List[Game], drawn: Random) -> List[Move]:
 
 
 def _swap(games: List[Game], drawn: Random) -> List[Move]:
-    """Exchanges two seats of a game."""
     game = games[int(drawn.random() * len(games))]
     one, other = (int(drawn.random() * SEATS) for _ in range(2))
     return [(game, one, game[other]), (game, other, game[one])]

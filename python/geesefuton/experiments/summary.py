@@ -188,5 +188,4 @@ def _difference(first: str, second: str, ours: Cells, theirs: Cells, has_study: 
 
 
 def _mean_of_seats(seats: Seats, value: Value) -> float:
-    """The mean over seats of the mean over each one's rows."""
     return fmean(fmean(map(value, rows)) for rows in seats.values())

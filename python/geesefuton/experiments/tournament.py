@@ -152,7 +152,6 @@ class Tournament:
         return Running(table, entrants, player, time.monotonic() + plan.seconds())
 
     def _started(self, children: Children) -> Player:
-        """A new process that plays games."""
         ours, theirs = Pipe()
         with theirs:
             return Player(ours, children.start(
@@ -160,7 +159,6 @@ class Tournament:
                 stdin=subprocess.DEVNULL, stdout=subprocess.DEVNULL))
 
     def _hear(self, running: Sequence[Running]) -> None:
-        """Takes the messages that the games send."""
         by_connection = {game.player.connection: game for game in running}
         for connection in wait(list(by_connection), 0.5):
             assert isinstance(connection, Connection)
@@ -197,7 +195,6 @@ class Tournament:
         return game.result is not None
 
     def _finish(self, game: Running) -> None:
-        """Takes the result of a game."""
         result, table = game.result, game.table
         assert result is not None
         self._done += 1
@@ -235,22 +232,24 @@ def _end_all(players: Sequence[Player], children: Children) -> None:
 
 
 def _join(given: argparse.Namespace) -> int:
-    """Summarizes earlier tournaments."""
     sources, told = [], []
     for name in given.agents:
-        source, lines = read_source(Path(name))
-        told += lines
-        if source and "players" in read_settings(source.rows[0].settings):
+        try:
+            source = read_source(Path(name))
+        except RunError as fault:
+            told.append(str(fault))
+            continue
+        told += source.told
+        if "players" in read_settings(source.rows[0].settings):
             told.append(f"{name}: it has the games of profiles: use `profiles --join`")
-        elif source and missing(source):
+            continue
+        if missing(source):
             told.append(missing(source))
             source, parts = whole_deals(source)
             if given.partial:
                 tell(f"tournament: {name}: {len({row.deal for row in source.rows})} deals were "
                      f"played whole; {parts} are left out")
-                sources += [source] if source.rows else []
-        else:
-            sources += [source] if source else []
+        sources += [source] if source.rows else []
     rows, refused = (pooled if given.pool else joined)(sources)
     for text in told + refused:
         tell(f"tournament: {text}")
@@ -264,15 +263,15 @@ def _join(given: argparse.Namespace) -> int:
 def _print_summary(summary: Summary, file: Optional[Path], grades: Optional[Path] = None) -> int:
     """Writes the summary to standard output and to a file, and the grades; tells what failed, and
     gives the exit status."""
+    faults = []
+    for target, form in ((grades, as_grades), (file, as_json)):
+        if target is not None:
+            out = Output(target)
+            out.write(form(summary))
+            out.close()
+            faults += [f"{out.name}: {out.fault}"] if out.fault else []
     width = shutil.get_terminal_size().columns if os.isatty(1) else math.inf
-    targets = [(1, as_text(summary, width)), (file, as_json(summary)), (grades, as_grades(summary))]
-    outs = [(Output(target), text) for target, text in targets if target is not None]
-    for out, text in outs:
-        out.write(text)
-        out.close()
-        if out.fault:
-            tell(f"tournament: the summary was not written to {out.name}: {out.fault}")
-    return int(any(out.fault for out, _ in outs))
+    return printed("tournament", as_text(summary, width), faults)
 
 
 def _main() -> int:

@@ -191,7 +191,6 @@ class Environment(Parallel):
         return self._observations(), infos
 
     def _made(self, seed: int) -> Tuple[Game, str]:
-        """The game of a seed, and its canonical text."""
         if self._last is None or self._last[0] != seed:
             game = varied(made_game(seed), seed, self._rooms, self._live, self._endow is not None)
             self._last = seed, game, game.text()
@@ -223,7 +222,6 @@ class Environment(Parallel):
             raise
 
     def _asked(self, actions: Actions) -> Dict[int, List[str]]:
-        """The requests of each seat. Raises ActionError where an action cannot be asked."""
         if self._market is None:
             raise ActionError("no game has begun: call reset first")
         if not isinstance(actions, (dict, abc.Mapping)):
@@ -268,7 +266,6 @@ class Environment(Parallel):
         return replies
 
     def _told(self, market: Market, replies: Replies) -> Step:
-        """What a step returns."""
         agents = self.agents
         observations = self._observations()
         # Copies take a fifth of the time of new dictionaries.
@@ -288,7 +285,6 @@ class Environment(Parallel):
         return observations, rewards, are_over, are_cut, infos
 
     def _observations(self) -> Values:
-        """What each agent sees."""
         books, tick, round_, boards = self._books, self.tick, self.round, self._boards
         assert books is not None
         if self._moves != books.moves:

@@ -139,7 +139,6 @@ class Market:
 
 
 def _size(line: str) -> int:
-    """The bytes of a line."""
     return len(line) if line.isascii() else len(line.encode())
 
 
@@ -165,7 +164,6 @@ class Scorer:
                 for seat, (held, cash, short) in enumerate(zip(end.holdings, end.cash, owed))]
 
     def _best(self, seat: int, held: Tuple[int, ...]) -> int:
-        """The best total of a seat with these holdings."""
         if (seat, held) not in self._known:
             total = solve(held, self._game.clients[seat])
             if total is None:

@@ -128,7 +128,6 @@ class Seats(Environment):
 
     @cached_property
     def _numeric(self) -> Dict[str, Tuple[Any, Any]]:
-        """For each agent the spaces of its observations and of its actions."""
         return {agent: (observation_space(), action_space()) for agent in self.possible_agents}
 
     def observation_space(self, agent: str) -> Any:

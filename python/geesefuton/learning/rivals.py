@@ -97,7 +97,6 @@ def maker_of(rival: Union[str, Maker]) -> Maker:
 
 
 def _shipped(name: str, link: SeatLink) -> Acting:
-    """Makes a shipped agent for its seat."""
     folder = str(program.examples() / "agents")
     sys.path.insert(0, folder)  # one takes parts of another
     try:

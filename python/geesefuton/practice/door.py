@@ -145,7 +145,6 @@ class Door:
             self._poll.register(link, select.EPOLLIN | select.EPOLLRDHUP | select.EPOLLET)
 
     def _look(self, visitor: OuterLink, has_ended: bool) -> None:
-        """Looks at what a link has sent."""
         said = self._said(visitor)
         if has_ended or not said:
             self._drop(visitor)

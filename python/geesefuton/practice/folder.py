@@ -64,8 +64,6 @@ class Standing:
     average: Fraction
     rank: int  # 1 plus the number of players with a greater average
     half: Optional[float]  # of the average's 95 % interval; None for several seats in a game
-    last: int  # the score of its last seat
-    best: int
 
 
 class Folder:
@@ -173,7 +171,6 @@ class Folder:
         self.finished.append(game)
 
     def _founded(self, seed: Optional[int]) -> Rule:
-        """Makes the files of a new room."""
         rule = Rule(new_secret(), seed)
         if seed is None:
             write_whole(self.path / SECRET, f"{rule.secret.hex()}\n".encode("ascii"))
@@ -246,5 +243,5 @@ def standings_of(games: Sequence[Finished]) -> List[Standing]:
         has_one_each = len(dict(seats[name])) == len(own)
         rank = 1 + sum(other > averages[name] for other in averages.values())
         half = estimate(own).half if has_one_each else None
-        rows.append(Standing(name, len(own), averages[name], rank, half, own[-1], max(own)))
+        rows.append(Standing(name, len(own), averages[name], rank, half))
     return sorted(rows, key=lambda row: (row.rank, row.name))

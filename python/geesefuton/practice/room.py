@@ -93,7 +93,6 @@ class Room:
         return max((table.close(at_once) for table in list(self._tables)), default="")
 
     def _host_table(self) -> None:
-        """Plays game after game."""
         count = 0
         while not self._is_closing and count != self._games:
             try:
@@ -109,7 +108,6 @@ class Room:
                 time.sleep(AGAIN)
 
     def _host_tables(self) -> None:
-        """Plays games at several tables, and takes the links of all."""
         number, begun, listener = self._next_number(), 0, listener_at(self._given.port)
         port, places = listener.getsockname()[1], list[str]()
         self._tell(f"{self._most} tables wait for guests at port {port}")
@@ -140,7 +138,6 @@ class Room:
                 self._door.turn(0.0 if keys else LOOK)
 
     def _play(self, table: Table, handed: Handed) -> None:
-        """Plays a game of several, in a thread of its own."""
         try:
             self._take(table.play())
         except (LobbyError, OSError, program.ProgramError) as fault:
@@ -184,7 +181,6 @@ class Room:
                      self._changed.set if handed else self._show, lambda: self._is_closing)
 
     def _keep_words(self, table: Table) -> None:
-        """Keeps the words that the host has changed in a game."""
         new = {table.words[seat]: word for word, seat in table.keys.items()}
         changed = [team for team in self._teams if new.get(team.key, team.word) != team.word]
         for team in changed:
@@ -238,12 +234,8 @@ class Room:
                            f"{len(self._rows)}: {' and '.join(first) or 'nobody'}")
 
     def _judged(self, game: Finished) -> Finished:
-        """A game with its scores, by its audited log, or with what is wrong with it.
-
-        Raises:
-            OSError: The log cannot be read.
-            program.ProgramError: The log cannot be audited.
-        """
+        """A game with its scores, by its audited log, or with what is wrong with it. Raises OSError
+        or ProgramError where the log cannot be read, or audited."""
         fault, file = game.fault, self._folder.file(game.number, "log")
         log, scores = file.read_bytes(), tuple[int, ...]()
         try:
@@ -260,16 +252,14 @@ class Room:
                        files={**game.files, "log": digest_of(file)})
 
     def _named(self, names: Sequence[str]) -> List[str]:
-        """How players are shown."""
         return [self._shown.get(name, name) for name in names]
 
     def _show(self) -> None:
-        """Shows the state of the room on its page."""
         finished = self._folder.finished
         room: Dict[str, Any] = {
             "phase": "room", "played": len(finished), "commitment": self._folder.commitment,
-            "table": [[row.rank, *self._named([row.name]), row.games, float(row.average), row.half,
-                       row.last, row.best] for row in self._rows], "last": None, "begins": None}
+            "table": [[row.rank, *self._named([row.name]), row.games, float(row.average), row.half]
+                      for row in self._rows], "last": None, "begins": None}
         for last in finished[-1:]:  # its number, its seed, and who won it with how many dollars
             score, _, winner = max((row for row in zip(last.scores, range(0, -SEATS, -1),
                                                        last.players) if row[2]), default=(0, 0, ""))

@@ -72,11 +72,7 @@ def _arguments() -> argparse.Namespace:
 
 
 def _house(commands: Optional[List[str]]) -> List[Entrant]:
-    """The house agents. A name of the examples may stand for its file.
-
-    Raises:
-        EntrantError: One of them cannot be run.
-    """
+    """The house agents. A name of the examples may stand for its file."""
     try:
         agents = program.examples() / "agents"
     except program.ProgramError:

@@ -15,7 +15,6 @@ import io
 import subprocess
 import time
 from dataclasses import dataclass, field, replace
-from pathlib import Path
 from typing import Callable, Dict, Iterable, List, Optional, Sequence, Tuple
 
 from geesefuton import program
@@ -35,17 +34,13 @@ from geesefuton.hosting.teller import Teller
 from geesefuton.network.addresses import new_token
 from geesefuton.practice.door import Handed
 from geesefuton.practice.folder import Finished, Folder
-from geesefuton.processes import shown, why, write_whole
+from geesefuton.processes import why, write_whole
 from geesefuton.records.games import GameError, read_game
-
 
 COMING = 15.0  # seconds that house agents have to take their seats
 LOOK = 0.05  # seconds between two looks at them
-MOST_PRINTED = 2048  # blocks of 512 bytes that one may print, as `ulimit -f` counts
-# A house agent that was started: its process, its seat, the word by which it takes that, and the
-# file of what it prints.
-Started = Tuple["subprocess.Popen[bytes]", Seat, str, Path]
-LIMITED = ["sh", "-c", f'ulimit -f {MOST_PRINTED}; exec "$@"', "agent"]
+# A house agent that was started: its process, its seat, and the word by which it takes that.
+Started = Tuple["subprocess.Popen[bytes]", Seat, str]
 
 
 class HouseServer:
@@ -82,17 +77,16 @@ class HouseServer:
             if seat.holder is not None:
                 continue
             word, agent = new_token(), self._agent(seat.number)
-            self.words[word], printed = seat.number, game.folder / f"out.{seat.number}"
+            self.words[word] = seat.number
             try:
-                with printed.open("wb") as out:
-                    process = game.children.start(
-                        [*LIMITED, *agent.words, "localhost", str(self.port), word, "--pause",
-                         str(game.settings.pace / 1000)], stdin=subprocess.DEVNULL, stdout=out,
-                        stderr=subprocess.STDOUT, env=variables)
+                process = game.children.start(
+                    [*agent.words, "localhost", str(self.port), word, "--pause",
+                     str(game.settings.pace / 1000)], stdin=subprocess.DEVNULL,
+                    stdout=subprocess.DEVNULL, stderr=subprocess.DEVNULL, env=variables)
             except OSError as fault:  # such as too many processes
                 game.warn(f"cannot start the house agent {agent.name}: {why(fault)}")
                 continue
-            started.append((process, seat, word, printed))
+            started.append((process, seat, word))
         return started
 
     def _wait(self, game: HostedGame, started: List[Started]) -> None:
@@ -102,7 +96,7 @@ class HouseServer:
             game.turn(LOOK)
             is_late = time.monotonic() > deadline
             for agent in started[:]:
-                process, seat, word, printed = agent
+                process, seat, word = agent
                 has_ended, holder = process.poll() is not None, seat.holder
                 if holder is None and not has_ended and not is_late:
                     continue
@@ -110,16 +104,10 @@ class HouseServer:
                 del self.words[word]
                 if holder is None:
                     game.warn(f"the house agent {self._agent(seat.number).name} did not take "
-                              + seat.word + (f": {_last_line(printed) or 'it printed nothing'}"
-                                             if has_ended else f" within {COMING:g} seconds"))
+                              + seat.word + (", but ended" if has_ended else
+                                             f" within {COMING:g} seconds"))
                 if holder is None or game.relay.links[holder].source != OWN:
                     game.children.end(process)
-
-
-def _last_line(file: Path) -> str:
-    """The end of the last line that an agent printed."""
-    text = file.read_bytes()[-2000:].decode("utf-8", "replace").strip()
-    return shown(text.split("\n")[-1][:120])
 
 
 @dataclass(eq=False)
@@ -191,7 +179,6 @@ class Table:
                 for seat, name in enumerate(names)]
 
     def _host(self, lobby: Lobby) -> int:
-        """Hosts the game, and gives the lobby's status."""
         teller = Teller(self.words)
         teller.say(f"game {self.game.number} waits for guests at port {lobby.port}")
 
@@ -210,7 +197,6 @@ class Table:
             self._lobby = None
 
     def _take(self, event: Event) -> None:
-        """Takes an event of the lobby."""
         if isinstance(event, (events.Arrived, events.Rejoined)):
             self.sources[event.seat] = event.source
             self.first = self.first or event.at

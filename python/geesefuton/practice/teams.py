@@ -42,8 +42,6 @@ def read_teams(file: Path, known: Mapping[str, str], most: int = SEATS) -> List[
         rows = [row for row in csv.reader(file.read_text("utf-8-sig").splitlines()) if any(row)]
     except (UnicodeDecodeError, csv.Error):
         raise TeamsError(f"{file} is not a CSV file in UTF-8") from None
-    if rows and [cell.strip().lower() for cell in rows[0]] in (["name"], ["name", "word"]):
-        del rows[0]
     for row in rows:
         name, word = row[0].strip(), row[1].strip() if len(row) > 1 else ""
         key = re.sub("[^a-z0-9]", "", name.lower())[:16]

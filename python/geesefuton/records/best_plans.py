@@ -55,12 +55,10 @@ class Plan:
 
 @lru_cache(maxsize=1024)
 def _worths(client: Client) -> List[int]:
-    """What each trip is worth to a client."""
     return [client.worth(trip) for trip in _TRIPS]
 
 
 def _costs(prices: Sequence[float]) -> List[float]:
-    """What each trip costs, where each unit has a price."""
     price = [*prices, 0.0].__getitem__
     stays = [sum(map(price, goods)) for goods in _STAYS]
     tickets = [sum(map(price, goods)) for goods in _TICKETS]

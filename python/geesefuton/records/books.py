@@ -238,7 +238,6 @@ class Books:
                               if side[0] != HOUSE])
 
     def _take_clock(self, good: int, call: Call) -> None:
-        """Works through a call of the clock."""
         auction = self._auction(good)
         if isinstance(auction, FlightBook):
             if call.do == "update":

@@ -102,7 +102,6 @@ def _read_object(line: str) -> "dict[str, Any]":
 
 
 def _depth(text: str) -> int:
-    """How deep a JSON text is nested."""
     depth = most = 0
     for bracket in re.findall(r"[\[\]{}]", re.sub(r'"(?:[^"\\]|\\.)*"', "", text)):
         depth += 1 if bracket in "[{" else -1

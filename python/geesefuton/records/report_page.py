@@ -5,7 +5,7 @@ import json
 from collections import defaultdict
 from dataclasses import dataclass
 from importlib.resources import files
-from typing import Callable, Dict, Iterable, Iterator, List, Optional, Sequence, Tuple, Union
+from typing import Dict, Iterable, Iterator, List, Optional, Sequence, Tuple, Union
 
 from geesefuton.records.games import (AUCTIONS, CLIENTS, FLIGHTS, GOODS, HOTELS, ROOMS, TICKETS,
                                       TICKS, Game, name_of)
@@ -142,7 +142,6 @@ def _scores(names: Sequence[str], log: Log, events: Sequence[MarketEvent]) -> st
 
 
 def _spending(names: Sequence[str], log: Log, events: Sequence[MarketEvent]) -> str:
-    """What each agent paid and earned, by kind of goods."""
     sums, rows = sums_of(events), list[List[Cell]]()
     for agent in [score.agent for score in _order(log)]:
         paid = [sum(sums[agent, good, False][1] for good in goods) for _, goods in KINDS]
@@ -153,7 +152,6 @@ def _spending(names: Sequence[str], log: Log, events: Sequence[MarketEvent]) -> 
 
 
 def _tickets(events: Sequence[MarketEvent]) -> str:
-    """The prices of each ticket."""
     rows: List[List[Cell]] = []
     for good in TICKETS:
         prices = [event.dollars for event in events if event.good == good
@@ -173,7 +171,7 @@ def round_up(number: float, step: int) -> int:
 
 
 def chart(title: str, points: PricePath, low: int, high: int, steps: bool,
-          band: Tuple[PricePath, PricePath] = ([], []), more: Sequence[PricePath] = ()) -> str:
+          more: Sequence[PricePath] = ()) -> str:
     """A small chart of one price over the ticks, with its labels in HTML, so that they keep their
     size.
 
@@ -182,7 +180,6 @@ def chart(title: str, points: PricePath, low: int, high: int, steps: bool,
         points: Ticks and dollars.
         low: The least dollars that are shown, and `high` the most.
         steps: Whether a price holds until the next point, and the last point has a dot.
-        band: Points below and above between which the chart is shaded.
         more: Up to two further lines, the first dashed, the second dotted.
     """
     def y(dollars: float) -> float:
@@ -194,8 +191,6 @@ def chart(title: str, points: PricePath, low: int, high: int, steps: bool,
             path += f"H{tick}V{y(dollars):.1f}" if steps else f"L{tick} {y(dollars):.1f}"
         return f'<path class="line" d="{path}"/>'
 
-    corners = " ".join(f"{tick} {y(dollars):.1f}" for tick, dollars in [*band[0], *band[1][::-1]])
-    shade = f'<path class="band" d="M{corners}Z"/>' if corners else ""
     grid = "".join(f"M0 {level}H{TICKS}" for level in (0, 50, 100))
     grid += "".join(f"M{tick} 0V100" for tick in range(0, TICKS + 1, 18))
     last, dollars = points[-1]
@@ -203,29 +198,19 @@ def chart(title: str, points: PricePath, low: int, high: int, steps: bool,
            if steps else "")
     return (f'<figure><figcaption>{title}</figcaption><div class="plot">'
             f'<svg viewBox="0 0 {TICKS} 100" preserveAspectRatio="none" aria-hidden="true">'
-            f'{shade}<path class="grid" d="{grid}"/>'
+            f'<path class="grid" d="{grid}"/>'
             f'{"".join(map(line, [points, *more]))}</svg>{dot}'
             f'<span class="top">{number(high)}</span><span class="low">{number(low)}</span></div>'
             "</figure>")
 
 
-def scale_of(goods: range, prices: Iterable[float]) -> Tuple[int, int]:
+def _scale_of(goods: range, prices: List[int]) -> Tuple[int, int]:
     """The least and the most dollars of the charts of flights, or of hotel nights, which begin at
     0."""
-    step, all_prices = 50 if goods is FLIGHTS else 100, list(prices)
-    high, low = round_up(max([step, *all_prices]), step), 0
-    if goods is FLIGHTS:
-        low = int(min(all_prices)) // step * step
-        high = max(high, low + step)
-    return low, high
-
-
-def chart_rows(goods: range, chart_of: Callable[[int, str], str]) -> Iterator[str]:
-    """The charts of flights, or of hotel nights, of which each is given its good and its name."""
-    for group in (goods[:4], goods[4:]):
-        charts = "".join(chart_of(good, f"{'day' if good in FLIGHTS else 'night'} "
-                                        f"{AUCTIONS[good].day}") for good in group)
-        yield f'<h3>{AUCTIONS[group[0]].group}</h3><div class="charts">{charts}</div>'
+    if goods is HOTELS:
+        return 0, round_up(max(100, *prices), 100)
+    low = min(prices) // 50 * 50
+    return low, max(round_up(max(prices), 50), low + 50)
 
 
 def _prices(game: Game, events: Sequence[MarketEvent]) -> Iterator[str]:
@@ -239,15 +224,16 @@ def _prices(game: Game, events: Sequence[MarketEvent]) -> Iterator[str]:
     for good in FLIGHTS:
         paths[good].append((TICKS, paths[good][-1][1]))
     for goods in (FLIGHTS, HOTELS):
-        scale = scale_of(goods, (dollars for good in goods for _, dollars in paths[good]))
-
-        def chart_of(good: int, title: str, scale: Tuple[int, int] = scale) -> str:
-            first, last = (number(paths[good][place][1]) for place in (0, -1))
-            closes = (f"{last} at tick {game.hotels[good - 8].closes}" if good in HOTELS
-                      else f"{first} to {last}")
-            return chart(f"{title}: <b>{closes}</b>", paths[good], *scale, good in HOTELS)
-
-        yield from chart_rows(goods, chart_of)
+        low, high = _scale_of(goods, [dollars for good in goods for _, dollars in paths[good]])
+        for group in (goods[:4], goods[4:]):
+            yield f'<h3>{AUCTIONS[group[0]].group}</h3><div class="charts">'
+            for good in group:
+                first, last = (number(paths[good][place][1]) for place in (0, -1))
+                told = (f"night {AUCTIONS[good].day}: <b>{last} at tick "
+                        f"{game.hotels[good - 8].closes}</b>" if good in HOTELS else
+                        f"day {AUCTIONS[good].day}: <b>{first} to {last}</b>")
+                yield chart(told, paths[good], low, high, good in HOTELS)
+            yield "</div>"
 
 
 def _client_rows(game: Game, score: Score) -> Iterator[List[Cell]]:
@@ -301,7 +287,6 @@ def story_html(story: Story) -> str:
 
 
 def _moment(moment: Moment) -> Dict[str, object]:
-    """A moment as the page's script reads it."""
     goods = [[name_of(good), moment.held[good] or "", moment.wanted[good] or "",
               moment.bids.get(good, "")]
              for good in GOODS if moment.held[good] or moment.wanted[good] or good in moment.bids]

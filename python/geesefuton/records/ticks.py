@@ -80,7 +80,6 @@ def ticks_by_requests(game: Game, log: Log, requests: Iterable[Timed]) -> Ticks:
 
 def _asked(asked: Dict[Tuple[int, Optional[int], str], Deque[Tuple[int, Request]]], good: int,
            position: int, entry: Entry) -> int:
-    """The tick of the request of an entry."""
     waiting = asked[entry.caller, good, entry.call.do]
     while waiting:
         tick, request = waiting.popleft()
