@@ -12,7 +12,7 @@ from typing import Any, Dict, List, Tuple
 from unittest import mock
 
 from geesefuton.experiments.results import Outcome, Row
-from geesefuton.records.data import SCHEMA, TABLES
+from geesefuton.records.data import TABLES
 from geesefuton.records.rules import prices_of
 from tests.package.run_cases import PlaceCase, write_run
 from tests.package.helpers import DATA, PLAYED, SERVED_GAME, SERVED_LOG, TOP, refusal, served_game
@@ -33,12 +33,13 @@ HAS_PANDAS = Path("/usr/lib/python3/dist-packages/pandas").is_dir()
 
 
 def read_tables(folder: Path) -> Dict[str, List[Dict[str, Any]]]:
-    """The rows of all tables of a folder, with None for an empty cell."""
+    """The rows of all tables of a folder, with None for an empty cell, and whole numbers."""
     tables: Dict[str, List[Dict[str, Any]]] = {}
-    for table, kinds in TABLES.items():
+    for table in TABLES:
         with open(folder / f"{table}.csv", encoding="utf-8", newline="") as text:
-            tables[table] = [{name: kinds[name](cell) if cell else None
-                              for name, cell in row.items()} for row in csv.DictReader(text)]
+            tables[table] = [{name: int(cell) if name != "deal" and re.fullmatch("-?[0-9]+", cell)
+                              else cell or None for name, cell in row.items()}
+                             for row in csv.DictReader(text)]
     return tables
 
 
@@ -159,13 +160,12 @@ class Sums(Case):
 
 
 class Reading(Case):
-    def test_a_table_has_the_columns_of_the_schema(self) -> None:
+    def test_a_table_has_a_cell_for_each_column(self) -> None:
         self.data()
-        columns = json.loads((self.out / SCHEMA).read_text())["tables"]
-        for table, kinds in TABLES.items():
+        for table, columns in TABLES.items():
             with open(self.out / f"{table}.csv", encoding="utf-8", newline="") as text:
-                self.assertEqual(next(csv.reader(text)), list(columns[table]))
-            self.assertEqual(list(columns[table]), list(kinds))
+                head, *rows = csv.reader(text)
+            self.assertEqual((head, {len(row) for row in rows}), (columns, {len(columns)}))
 
     @unittest.skipUnless(HAS_PANDAS, "Debian's Python has no pandas")
     def test_pandas_reads_a_table_in_a_line(self) -> None:
@@ -233,4 +233,3 @@ class Refusals(Case):
         with mock.patch("os.write", side_effect=OSError(28, "No space left on device")):
             self.assertEqual(self.data(), (1, f"data: {self.out}/games.csv: No space left on "
                                               "device\n"))
-        self.assertFalse((self.out / SCHEMA).exists())

@@ -161,15 +161,13 @@ class Arguments(unittest.TestCase):
                              environment.action_space(environment.possible_agents[4]))
             self.assertEqual(list(environment.action_spaces), environment.possible_agents)
             self.assertRaises(KeyError, environment.action_space, "nobody")
-            self.assertIs(environment.state_space, environment.state_space)
 
     def test_without_gymnasium_there_are_no_spaces(self) -> None:
         with mock.patch.dict(sys.modules, {"gymnasium": None, "numpy": None}):
             sys.modules.pop("geesefuton.learning.spaces", None)
             environment = Environment(FIRST)
-            for ask in (lambda: environment.action_space(environment.possible_agents[0]),
-                        lambda: environment.state_space, environment.state):
-                self.assertRaises(ModuleNotFoundError, ask)
+            self.assertRaises(ModuleNotFoundError, environment.action_space,
+                              environment.possible_agents[0])
 
 
 @needs_program

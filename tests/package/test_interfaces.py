@@ -45,8 +45,6 @@ class Case(unittest.TestCase):
                         if not (terminations[agent] or truncations[agent])}
                 self.assertEqual(set(environment.agents), left)
                 self.assertEqual(environment.num_agents, len(left))
-                state = environment.state()
-                self.assertEqual(len(state), environment.state_space.shape[0])
                 if not left:
                     break
             self.assertFalse(environment.agents)

@@ -72,9 +72,10 @@ class Pools(unittest.TestCase):
         self.assertEqual(refused, [])
         summary = summarize(rows)
         self.assertEqual({standing.agent for standing in summary.standings},
-                         {"mine in one", "planner in one", "mine in seven", "planner in seven"})
+                         {"mine in p/one", "planner in p/one", "mine in p/seven",
+                          "planner in p/seven"})
         by_name = {standing.agent: standing for standing in summary.standings}
-        self.assertEqual((by_name["mine in one"].seats, by_name["mine in seven"].seats), (12, 14))
+        self.assertEqual((by_name["mine in p/one"].seats, by_name["mine in p/seven"].seats), (12, 14))
         counts = {pair.score.count if pair.score else 0 for pair in summary.differences}
         self.assertEqual(counts, {2, 3})
 
@@ -86,12 +87,6 @@ class Pools(unittest.TestCase):
         summary = summarize(rows)
         self.assertEqual((summary.games, summary.deals), (80, 40))
         self.assertEqual(len({row.game for row in rows}), 80)
-
-    def test_names_that_are_alike_are_told_whole(self) -> None:
-        other = SETTINGS.replace("turns=40", "turns=20")
-        rows, _ = pooled([source("x/scores", 1), source("y/scores", 1, settings=other)])
-        self.assertEqual({row.agent for row in rows if row.seat == 0},
-                         {"mine in x/scores", "mine in y/scores"})
 
     def test_a_pool_has_no_game_twice(self) -> None:
         self.assertEqual(pooled([source("a.csv", 1), source("b.csv", 1)])[1],
@@ -179,4 +174,4 @@ class Reading(PlaceCase):
         status, text = refusal("experiments.tournament", "--pool", "--summary",
                                self.place / "s.json", "--join", *folders)
         self.assertEqual((status, text), (0, ""))
-        self.assertIn("mine in b", (self.place / "s.json").read_text())
+        self.assertIn(f"mine in {folders[1]}", (self.place / "s.json").read_text())

@@ -153,11 +153,7 @@ class Spaces(unittest.TestCase):
             self.assertNotIn(wrong, space)
 
     def test_spaces_are_pickled(self) -> None:
-        for space in (self.spaces.observation_space(1), self.spaces.action_space(),
-                      self.spaces.state_space(5)):
+        for space in (self.spaces.observation_space(1), self.spaces.action_space()):
             self.assertEqual(type(pickle.loads(pickle.dumps(space))), type(space))
         copy = pickle.loads(pickle.dumps(self.spaces.action_space()))
         self.assertIn(["own 8"], copy)
-
-    def test_the_state_is_an_array_of_whole_numbers(self) -> None:
-        self.assertEqual(self.spaces.state_space(700).shape, (700,))

@@ -15,6 +15,7 @@ from geesefuton.hosting.journal import Journal
 from geesefuton.practice.folder import Finished, Folder, FolderError, standings_of
 from geesefuton.practice.teams import Team, TeamsError, read_teams, slips_of
 from geesefuton.processes import write_whole
+from geesefuton.program import CommandError
 from geesefuton.records.secret_deals import commitment, deal_seed, read_secret
 from tests.package.helpers import TOP
 
@@ -99,7 +100,7 @@ class Folders(Case):
         journal.close()
 
     def refused(self, told: str, seed: Optional[int] = None, path: Optional[Path] = None) -> None:
-        with self.assertRaisesRegex(FolderError, told):
+        with self.assertRaisesRegex(CommandError, told):
             Folder(path or self.path, seed)
 
     def test_games_are_kept_and_found_again_in_the_order_of_their_numbers(self) -> None:
@@ -226,12 +227,12 @@ class Folders(Case):
     def test_another_secret_or_none_is_refused(self) -> None:
         self.folder().close()
         file = self.path / "secret"
-        for text, told in (("00" * 32, "has another secret"), ("short", "does not have the room's"),
-                           ("\u00e9", "does not have the room's")):
+        for text, told in (("00" * 32, "does not have the secret to which"),
+                           ("short", "it has no secret"), ("\u00e9", "it has no secret")):
             file.write_text(text)
             self.refused(told)
         file.unlink()
-        self.refused("does not have the room's secret")
+        self.refused("does not have the secret to which")
         self.refused("has a room with secret deals", 7)
 
     def test_a_room_that_is_over_shows_its_secret_and_goes_on_no_more(self) -> None:

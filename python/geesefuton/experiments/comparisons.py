@@ -196,5 +196,6 @@ def deals_to_detect(value: Estimate, difference: float) -> Optional[int]:
     limit = math.sqrt(variance * freedom / stats.chi2.ppf(1.0 - POWER, freedom))
     if limit == 0.0 or power(2, difference / limit) >= POWER:
         return 2
-    return math.ceil(optimize.brentq(lambda deals: power(deals, difference / limit) - POWER, 2,
-                                     2.0 + (SURE * limit / difference) ** 2, xtol=1e-6))
+    least: float = optimize.brentq(lambda deals: power(deals, difference / limit) - POWER, 2,
+                                   2.0 + (SURE * limit / difference) ** 2, xtol=1e-6)
+    return math.ceil(least)

@@ -17,7 +17,7 @@ from geesefuton.arguments import Parser
 from geesefuton.experiments.joining import read_source
 from geesefuton.experiments.runs import KeptGame, read_games
 from geesefuton.processes import Output, command, tell
-from geesefuton.records.data import SCHEMA, TABLES, schema_text
+from geesefuton.records.data import TABLES
 from geesefuton.records.games import AUCTIONS, CLOCK, FLIGHTS, GOODS, HOTELS, HOUSE, TICKETS, Game
 from geesefuton.records.logs import Entry, gains_of
 from geesefuton.records.replies import No, entry_words
@@ -29,10 +29,10 @@ Cells = Sequence[object]
 
 
 def _write(folder: Path, games: Iterable[KeptGame]) -> List[str]:
-    """Writes the tables of games, and their schema, to a new or empty folder; gives what failed."""
+    """Writes the tables of games to a new or empty folder; gives what failed."""
     files = {table: Output(folder / f"{table}.csv") for table in TABLES}
     for table, columns in TABLES.items():
-        files[table].write(csv_of([list(columns)]))
+        files[table].write(csv_of([columns]))
     deals: Set[str] = set()
     for number, kept in enumerate(games, 1):
         deal = kept.rows[0].deal
@@ -42,13 +42,9 @@ def _write(folder: Path, games: Iterable[KeptGame]) -> List[str]:
                 files[table].write(csv_of((deal, *row) for row in of_game(kept.game)))
         for table, rows in ROWS.items():
             files[table].write(csv_of((number, *row) for row in rows(kept)))
-    written = list(files.values())
-    if all(file.fault is None for file in written):
-        written.append(Output(folder / SCHEMA))
-        written[-1].write(schema_text())
-    for file in written:
+    for file in files.values():
         file.close()
-    return [f"{file.name}: {file.fault}" for file in written if file.fault is not None][:1]
+    return [f"{file.name}: {file.fault}" for file in files.values() if file.fault is not None][:1]
 
 
 def _clients(game: Game) -> Iterator[Cells]:

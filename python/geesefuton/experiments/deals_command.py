@@ -27,10 +27,7 @@ def _main() -> int:
         raise RunError(f"{folder}: its deals are of the seed {deals.get('seed')}")
     if SECRET not in deals:
         raise RunError(f"{folder}: its secret is told when all of its games are scored")
-    secret = kept_secret(folder)
-    if secret is None:
-        raise RunError(f"{folder / RUN}: its secret is none")
-    rule = Rule(secret, rooms=read_rooms(str(settings["rooms"])),
+    rule = Rule(kept_secret(folder) or b"", rooms=read_rooms(str(settings["rooms"])),
                 live=settings["live"] == "true", is_clumped="endow" in settings)
     if rule.drawn != {"commitment": deals["commitment"]}:
         raise RunError(f"{folder / RUN}: its secret is not the one of its commitment")

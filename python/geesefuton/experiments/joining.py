@@ -112,11 +112,6 @@ def pooled(sources: Sequence[Source]) -> Tuple[List[Row], List[str]]:
             pool = []
             pools.append(pool)
         pool.append(source)
-    short = Counter(Path(pool[0].name).name for pool in pools)  # names, if they are not alike
-    rows = []
-    for pool in pools:
-        label = Path(pool[0].name).name
-        label = label if label and short[label] == 1 else pool[0].name
-        rows += [replace(row, agent=f"{row.agent} in {label}", source=label)
-                 for source in pool for row in source.rows]
+    rows = [replace(row, agent=f"{row.agent} in {pool[0].name}", source=pool[0].name)
+            for pool in pools for source in pool for row in source.rows]
     return rows, [line for pool in pools for line in twice(pool)]

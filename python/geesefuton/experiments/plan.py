@@ -108,8 +108,6 @@ def add_playing(parser: Parser, games: str) -> None:
         help=f"close links after the end (default: {LINGER:g}, in turns {LINGER_IN_TURNS:g})")
     add("--files", action="append", default=[], metavar="PATTERN",
         help="an agent's own files, as '*.py' (default: its folder)")
-    add("--also", type=Path, action="append", default=[], metavar="FILE",
-        help="count this file or folder as each agent's own, too")
     add("--resume", action="store_true",
         help="play what FOLDER lacks, with the same words and files")
     parser.set_defaults(against=[], summary=None)
@@ -159,7 +157,7 @@ def read_plan(parser: Parser, given: argparse.Namespace, are_deals: bool = False
         rule = Rule(secret, given.seed, given.rooms, given.live, given.endow == CLASSIC)
         made_deal(rule, 1)  # tells whether deals can be made
         tac = digest_of(Path(program.find()))
-        agents = {entrant.name: agent_of(entrant, given.files, given.also, given.summary)
+        agents = {entrant.name: agent_of(entrant, given.files, given.summary)
                   for entrant in entrants}
     except program.CommandError as fault:
         parser.error(str(fault))

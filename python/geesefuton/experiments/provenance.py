@@ -20,7 +20,7 @@ from geesefuton.experiments.entrants import PACKAGE, Entrant, EntrantError
 
 MOST_FILES, MOST_BYTES = 2000, 1 << 30  # of an agent
 # A folder that has one of these files has none of an agent.
-NOT_OURS = ("run.json", "secret", "payoffs.csv", "pyvenv.cfg", "schema.json")
+NOT_OURS = ("run.json", "secret", "payoffs.csv", "pyvenv.cfg", "quotes.csv")
 
 
 def digest_of(file: Path) -> str:
@@ -60,7 +60,7 @@ class Agent:
                               **{f"library {name}": each for name, each in self.libraries.items()}})
 
 
-def agent_of(entrant: Entrant, patterns: Sequence[str] = (), also: Sequence[Path] = (),
+def agent_of(entrant: Entrant, patterns: Sequence[str] = (),
              without: Optional[Path] = None) -> Agent:
     """What an agent is.
 
@@ -71,10 +71,9 @@ def agent_of(entrant: Entrant, patterns: Sequence[str] = (), also: Sequence[Path
 
     Args:
         patterns: If there are any, the files of its folder are those whose names match one.
-        also: Further files and folders.
         without: A file that is written, which is not an agent's.
 
-    Raises EntrantError where they are too many for an agent, or something is not there."""
+    Raises EntrantError where they are too many for an agent."""
     words = [word for word in entrant.words if word != sys.executable]
     named = {word: Path(word.rpartition("=")[2]) for word in words if word.rpartition("=")[2]}
     named = {word: path for word, path in named.items() if path.exists()}
@@ -87,11 +86,9 @@ def agent_of(entrant: Entrant, patterns: Sequence[str] = (), also: Sequence[Path
             files.update({str(file.relative_to(folder)): file for file in _within(folder)
                           if file != written and (not patterns or any(
                               fnmatch.fnmatch(file.name, each) for each in patterns))})
-    for path in [*named.values(), *also]:
+    for path in named.values():
         if path.is_dir():
             files.update({f"{path.name}/{file.relative_to(path)}": file for file in _within(path)})
-        elif not path.exists():
-            raise EntrantError(f"there is no file or folder {path}")
         elif path.resolve() not in files.values():
             files[str(path) if path.name in files else path.name] = path.resolve()
     if len(files) > MOST_FILES or sum(file.stat().st_size for file in files.values()) > MOST_BYTES:

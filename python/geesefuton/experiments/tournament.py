@@ -2,8 +2,8 @@
 
     geesefuton tournament --games 20 --out FOLDER mine.py theirs.py
 
---against, --files and --also may be repeated. The exit status is 0 if every
-game was scored and everything was written.
+--against and --files may be repeated. The exit status is 0 if every game was
+scored and everything was written.
 """
 
 import argparse

@@ -30,7 +30,7 @@ from geesefuton.learning.market import LimitError, Market, Scorer
 from geesefuton.learning.rivals import Maker, Players, Rivals, maker_of
 from geesefuton.records.books import Board, Books, text_of
 from geesefuton.records.drawing import MOST_SEED, made_game, varied
-from geesefuton.records.games import CLIENTS, GOODS, MOST_ROOMS, SEATS, TICKS, Game, read_game
+from geesefuton.records.games import MOST_ROOMS, SEATS, TICKS, Game, read_game
 from geesefuton.records.order import order_of_turn
 
 MOST_ROUNDS = 1000  # in a tick
@@ -109,7 +109,7 @@ class Environment(Parallel):
         self._has_hindsight = hindsight
         self._seeds: Optional[random.Random] = None  # draws those of games that have none given
         self._last: Optional[Tuple[int, Game, str]] = None  # the last made game and its seed
-        self._spaces: Dict[Tuple[str, Optional[int]], Any] = {}
+        self._spaces: Dict[Tuple[str, int], Any] = {}
         self._market: Optional[Market] = None
         self.agents: List[str] = []
         self.seed: Optional[int] = None
@@ -134,11 +134,6 @@ class Environment(Parallel):
         """The requests and ticks of the game so far, as a script for `tac play`."""
         return (self._market.script if self._market else self._script).decode()
 
-    @property
-    def state_space(self) -> Any:
-        """The space of `state`. As the other spaces it needs `gymnasium`."""
-        return self._space("state_space", None, len(self._numbers()))
-
     def observation_space(self, agent: str) -> Any:
         """The space of an agent's observations, the same at each call. Raises ModuleNotFoundError
         where `gymnasium` is not installed."""
@@ -149,7 +144,7 @@ class Environment(Parallel):
         Raises ModuleNotFoundError where `gymnasium` is not installed."""
         return self._space("action_space", self._seats[agent])
 
-    def _space(self, name: str, seat: Optional[int], *given: int) -> Any:
+    def _space(self, name: str, seat: int, *given: int) -> Any:
         if (name, seat) not in self._spaces:
             make = getattr(import_module("geesefuton.learning.spaces"), name)
             self._spaces[name, seat] = make(*given)
@@ -315,26 +310,6 @@ class Environment(Parallel):
         in dollars; a closed auction has `x` after these.
         """
         return f"tick {self.tick} of {TICKS}\n{text_of(self._boards)}"
-
-    def state(self) -> Any:
-        """What the environment knows of the whole game, as an array of whole numbers: the tick and
-        the round; of each good its bid, its ask and whether it is closed; and of each of the eight
-        seats its holdings, its cash, and six numbers for each client. Raises ModuleNotFoundError
-        where `numpy` is not installed."""
-        numpy = import_module("numpy")
-        return numpy.array(self._numbers(), dtype=numpy.int64)
-
-    def _numbers(self) -> List[int]:
-        """The numbers of the state; before the first game they are 0."""
-        boards = self._boards or [(0, 0, False)] * len(GOODS)
-        numbers = [self.tick, self.round, *(int(number) for board in boards for number in board)]
-        for seat in range(SEATS):
-            if self._books is None:
-                numbers += [0] * (len(GOODS) + 1 + 6 * CLIENTS)
-            else:
-                numbers += [*self._books.holdings[seat], self._books.cash[seat],
-                            *(number for client in self._clients[seat] for number in client)]
-        return numbers
 
     def close(self) -> None:
         """Ends the game that is played. Another may be begun."""

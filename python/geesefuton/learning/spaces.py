@@ -55,8 +55,3 @@ def observation_space(rounds: int) -> spaces.Space:
         "holdings": Numbers(-MOST_UNITS, MOST_UNITS, len(GOODS)),
         "cash": Numbers(-MOST_CASH, MOST_CASH),
         "clients": Numbers(0, MOST_WISH, CLIENTS, 6)})
-
-
-def state_space(count: int) -> spaces.Space:
-    """The space of the state of a whole game, so many whole numbers."""
-    return Numbers(-MOST_CASH, MOST_CASH, count)

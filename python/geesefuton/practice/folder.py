@@ -22,13 +22,13 @@ from pathlib import Path
 from typing import Any, Dict, List, Optional, Sequence, Tuple
 
 from geesefuton.experiments.comparisons import estimate
-from geesefuton.experiments.deals import SECRET, Rule
+from geesefuton.experiments.deals import SECRET, Rule, kept_secret
 from geesefuton.hosting.journal import JournalError, read_journal
 from geesefuton.practice.teams import Team
 from geesefuton.processes import UNFINISHED, write_whole
 from geesefuton.program import CommandError
 from geesefuton.records.games import SEATS
-from geesefuton.records.secret_deals import new_secret, read_secret
+from geesefuton.records.secret_deals import new_secret
 
 VERSION = 2  # of the form of a room's files
 ABOUT, LOCK, WORDS = "room.json", "lock", "words.json"
@@ -179,7 +179,7 @@ class Folder:
 
     def _resumed(self, seed: Optional[int]) -> Rule:
         """Takes over the seed or the secret of the room that the folder has."""
-        about, file = self._read(self.path / ABOUT), self.path / SECRET
+        about = self._read(self.path / ABOUT)
         first, due = about.get("seed"), about.get("commitment")
         if about.get("room") != VERSION or isinstance(first, int) == isinstance(due, str):
             raise FolderError(f"{self.path / ABOUT} does not describe a practice room")
@@ -188,14 +188,9 @@ class Folder:
         if seed not in (None, first):
             known = "secret deals" if first is None else f"the first seed {first}"
             raise FolderError(f"{self.path} has a room with {known}, not the first seed {seed}")
-        if first is not None:
-            return Rule(seed=first)
-        try:
-            rule = Rule(read_secret(file.read_text("ascii").strip()))
-        except (FileNotFoundError, ValueError):
-            raise FolderError(f"{file} does not have the room's secret") from None
-        if rule.drawn["commitment"] != due:
-            raise FolderError(f"{file} has another secret than that to which "
+        rule = Rule(kept_secret(self.path) or b"", first)
+        if first is None and rule.drawn["commitment"] != due:
+            raise FolderError(f"{self.path / SECRET} does not have the secret to which "
                               f"{self.path / ABOUT} commits")
         return rule
 
