@@ -80,11 +80,11 @@ class Benchmarks(PlaceCase):
         self.assertRegex(self.printed, "1. +starter +4555 .- 237 +-390 .- 203 +0.000")
 
     def test_two_fresh_folders_have_the_same_file(self) -> None:
-        first, second = (self.run_list("scarce", self.mine, "--deals", "4")[2] for _ in range(2))
+        first, second = (self.run_list("scarce", self.mine)[2] for _ in range(2))
         self.assertEqual(first, second)
         rule = self.plans[0].rule
         self.assertEqual((rule.rooms, rule.live, rule.is_clumped), ((3, 6), True, False))
-        self.assertEqual(self.plans[0].games, 28)
+        self.assertEqual(self.plans[0].games, 224)
 
     def test_a_reference_agent_is_played_once(self) -> None:
         file = os.path.relpath(TOP / "examples" / "agents" / "planner.py")

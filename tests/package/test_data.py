@@ -188,7 +188,7 @@ class Refusals(Case):
                                           "tournament's run\n"))
         self.assertFalse(self.out.exists())
         shutil.rmtree(self.folder)
-        self.assertEqual(self.data()[0], 2)
+        self.assertEqual(self.data()[0], 1)
 
     def test_nothing_is_written_over(self) -> None:
         self.out.mkdir()

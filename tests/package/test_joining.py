@@ -75,7 +75,8 @@ class Pools(unittest.TestCase):
                          {"mine in p/one", "planner in p/one", "mine in p/seven",
                           "planner in p/seven"})
         by_name = {standing.agent: standing for standing in summary.standings}
-        self.assertEqual((by_name["mine in p/one"].seats, by_name["mine in p/seven"].seats), (12, 14))
+        self.assertEqual([by_name[f"mine in p/{name}"].seats for name in ("one", "seven")],
+                         [12, 14])
         counts = {pair.score.count if pair.score else 0 for pair in summary.differences}
         self.assertEqual(counts, {2, 3})
 
@@ -96,7 +97,7 @@ class Pools(unittest.TestCase):
 class Reading(PlaceCase):
     def setUp(self) -> None:
         super().setUp()
-        self.patch("experiments.tournament.Output",
+        self.patch("experiments.forms.Output",
                    lambda target: Output(os.devnull if target == 1 else target))
 
     def run_of(self, name: str, *deals: int, planned: Optional[int] = None,

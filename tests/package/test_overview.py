@@ -7,7 +7,7 @@ import re
 import unittest
 from collections import defaultdict
 from dataclasses import replace
-from typing import Any, Dict, List, Optional, Tuple
+from typing import Any, Dict, List, Optional
 
 from geesefuton.experiments.comparisons import missing_libraries
 from geesefuton.experiments.runs import read_games, read_scores
@@ -15,8 +15,6 @@ from geesefuton.experiments.summary import summarize
 from geesefuton.records.best_plans import best_plan
 from geesefuton.records.drawing import made_game
 from geesefuton.records.games import GOODS, Client, read_game
-from geesefuton.records.logs import Call, Entry, Trade
-from geesefuton.records.replies import read_entry_reply
 from geesefuton.records.report_page import number
 from geesefuton.records.rules import prices_of
 from tests.package.helpers import cells_of, needs_study, refusal, run, served_game
@@ -25,32 +23,9 @@ from tests.package.test_data import NAMES, TEXTS, Case, numbers
 from tests.package.test_summary import row
 
 if not missing_libraries("these tests"):
-    from geesefuton.experiments.overview import (PARTS, PREDICTORS, SIDES, best_allocation,
-                                                 figures_of, fills_of, optimum, overview_of,
-                                                 table_of)
-    from geesefuton.experiments.overview_page import page, sections
-
-TAKEN, DONE = read_entry_reply("taken 0 0"), read_entry_reply("done")
-
-
-def bid(agent: int, *points: Tuple[int, int], trades: Tuple[Trade, ...] = ()) -> Entry:
-    return Entry(agent, Call("bid", points), TAKEN, trades)
-
-
-@needs_study
-class Fills(unittest.TestCase):
-    def test_a_bid_that_stands_is_asked_once(self) -> None:
-        history = [bid(2, (3, 50)), bid(2, (3, 60)), bid(2, (4, 70)), bid(2, (1, 70)),
-                   Entry(8, Call("close"), DONE, (Trade(2, 8, 1, 40),))]
-        self.assertEqual(fills_of(history), {(2, False): [4, 1]})
-
-    def test_what_has_traded_may_be_asked_again(self) -> None:
-        sold = (Trade(2, 5, 2, 50),)
-        history = [bid(5, (-2, 50), (1, 20)), bid(2, (2, 50), trades=sold), bid(2, (2, 50)),
-                   Entry(2, Call("withdraw"), DONE), bid(2, (1, 50)),
-                   Entry(5, Call("bid", ((-9, 1),)), read_entry_reply("no closed"))]
-        self.assertEqual(fills_of(history), {(5, True): [2, 2], (5, False): [1, 0],
-                                             (2, False): [5, 2]})
+    from geesefuton.experiments.overview import (PARTS, best_allocation, figures_of, optimum,
+                                                 overview_of, table_of)
+    from geesefuton.experiments.overview_page import page
 
 
 @needs_study
@@ -165,30 +140,22 @@ class Games(Case):
         text = page(self.overview, "<run>", self.rows[0], summarize(self.rows))
         self.assertIn("&lt;run&gt;: 3 games of 3 deals, played by the clock.", text)
         sections = dict(re.findall(r"<h2>(.*?)</h2>(.*?)(?=<h2>|</html>)", text, re.DOTALL))
-        self.assertEqual(list(sections)[:3], ["Ranking", "Differences", "Errors of predicted room "
-                                              "prices"])
-        self.assertEqual(len(sections), 7)
+        self.assertEqual(list(sections)[:3], ["Ranking", "Differences", "The parts of scores"])
+        self.assertEqual(len(sections), 5)
         for name, section in sections.items():
-            pictures = max(section.count('class="bar"'), section.count("<figure>"))
-            self.assertGreater(pictures, 0 if name != "Differences" else -1, name)
+            self.assertGreater(section.count('class="bar"'), 0 if name != "Differences" else -1,
+                               name)
             self.assertGreaterEqual(section.count("<table>"), 1, name)
         rows = cells_of(sections["The parts of scores"].split("</table>")[1])[1:]
         best = self.overview.order[0]
         means = self.by_agent[best][["score", *PARTS]].mean()
         self.assertEqual(rows[0], [best, "3", *map(number, means)])
 
-    def test_games_without_trades_have_all_sections(self) -> None:
-        empty = overview_of([{**figures, "fills": []} for figures in self.figures])
-        for each in sections(empty):
-            self.assertTrue(all(kind.kind in "fi" for kind in each.shown.dtypes), each.name)
-        self.assertEqual(page(empty, "run", self.rows[0], summarize(self.rows)).count("<h2>"), 7)
-
     def test_names_are_escaped(self) -> None:
         rows = [replace(row, agent=f"<zz{row.agent} & co") for row in self.rows]
-        overview = overview_of([{**figures, "seats": [
-            (deal, f"<zz{agent} & co", *more) for deal, agent, *more in figures["seats"]],
-            "fills": [(f"<zz{agent} & co", *more) for agent, *more in figures["fills"]]}
-            for figures in self.figures])
+        overview = overview_of([
+            ([(deal, f"<zz{agent} & co", *more) for deal, agent, *more in seats],
+             (f"<zz{agents}", *rest)) for seats, (agents, *rest) in self.figures])
         text = page(overview, "<zz & run", rows[0], summarize(rows))
         self.assertNotIn("<zz", text)
         self.assertNotIn("& ", re.sub("(?s)<script>.*?</script>", "", text))
@@ -220,15 +187,14 @@ class Games(Case):
         done = run("experiments.report_command", "--over", self.folder, "--figures", place)
         self.assertEqual((done.returncode, done.stderr), (0, ""))
         names = {file.stem for file in place.iterdir()}
-        self.assertEqual(names, {"ranking", "differences", "errors", "parts", "fills", "distances",
-                                 "efficiencies"})
+        self.assertEqual(names, {"ranking", "differences", "parts", "distances", "efficiencies"})
         with open(place / "parts.csv", newline="", encoding="utf-8") as text:
             lines = list(csv.DictReader(text))
         self.assertEqual([line["of"] for line in lines], self.overview.order)
         self.assertAlmostEqual(float(lines[0]["trips"]),
                                self.by_agent[self.overview.order[0]].trips.mean())
         if importlib.util.find_spec("matplotlib") is not None:
-            self.assertEqual(len(list(place.iterdir())), 21)
+            self.assertEqual(len(list(place.iterdir())), 15)
             svg = (place / "ranking.svg").read_bytes()
             run("experiments.report_command", "--over", self.folder, "--figures", place)
             self.assertEqual((place / "ranking.svg").read_bytes(), svg)
@@ -251,18 +217,3 @@ class Games(Case):
         self.assertEqual((done.returncode, done.stderr.count("\n")), (1, 2))
         self.assertIn("10.0.game: line 1: ", done.stderr)
         self.assertIn("The folder run: 1 game of 1 deal", done.stdout)
-
-
-@needs_study
-class Errors(unittest.TestCase):
-    def test_three_predictions_of_a_night(self) -> None:
-        # Night 8 of three games of two deals closes at tick 48, the others at once.
-        errors = overview_of([{"prices": [(deal, 8, 48, *[start] * 48, *[end] * 7)]} for
-                              deal, start, end in (("1", 10, 50), ("1", 20, 40), ("2", 30, 100))
-                              ]).errors()
-        # The quotes err by 40, 20 and 70. The other deal closes at 100, or at 45 in the mean, and
-        # rises by 70, or by 30.
-        self.assertEqual([errors[way][0] for way in PREDICTORS],
-                         [(40 + 20 + 70) / 3, (50 + 60 + 55) / 3, (30 + 50 + 40) / 3])
-        self.assertEqual(errors.shape, (8, 3))
-        self.assertEqual(len(SIDES), 4)

@@ -5,7 +5,6 @@ from unittest import mock
 from geesefuton.experiments.plan import Plan, make_parser, read_plan, text_of
 from geesefuton.experiments.provenance import digest_of, package_digest
 from tests.package.run_cases import PlaceCase
-from tests.package.helpers import SERVED_GAME, TOP
 
 
 def plan_of(*words: object) -> Plan:

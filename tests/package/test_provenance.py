@@ -137,7 +137,7 @@ class Settings(unittest.TestCase):
                           "pace is 9, not set"])
 
     def test_names(self) -> None:
-        self.assertEqual(names_text(["a", "b", "b", "a"]), "a+b*2+a")
+        self.assertEqual(names_text(["a", "b", "b", "a"]), "a+b+b+a")
         self.assertEqual(names_text(["x.py --set A=1.0, b*2"]), "x.py%20--set%20A%3D1.0%2C%20b%2A2")
 
     def test_what_a_record_has(self) -> None:

@@ -12,8 +12,8 @@ from typing import Any, List, Optional, Sequence
 from unittest import mock
 
 from geesefuton.hosting.journal import Journal
-from geesefuton.practice.folder import Finished, Folder, FolderError, standings_of
-from geesefuton.practice.teams import Team, TeamsError, read_teams, slips_of
+from geesefuton.practice.folder import Finished, Folder, standings_of
+from geesefuton.practice.teams import Team, read_teams, slips_of
 from geesefuton.processes import write_whole
 from geesefuton.program import CommandError
 from geesefuton.records.secret_deals import commitment, deal_seed, read_secret
@@ -293,11 +293,11 @@ class Teams(Case):
                                  ("a,x\nb,x\n", 8, "the same word"),
                                  ("a,Not\n", 8, "is not a team"), ("\u00fc\n", 8, "is not a team"),
                                  ("a,b,c\n", 8, "is not a team")):
-            with self.subTest(text=text[:20]), self.assertRaisesRegex(TeamsError, told):
+            with self.subTest(text=text[:20]), self.assertRaisesRegex(CommandError, told):
                 self.read(text, most)
         folder = self.folder()
         (self.path / "words.json").write_text("[")
-        with self.assertRaisesRegex(FolderError, "words.json does not have the words of teams"):
+        with self.assertRaisesRegex(CommandError, "words.json does not have the words of teams"):
             folder.words()
 
     def test_slips(self) -> None:

@@ -17,10 +17,10 @@ from geesefuton.experiments import tournament
 from geesefuton.experiments.deals import Rule
 from geesefuton.experiments.plan import Plan
 from geesefuton.experiments.provenance import Agent
-from geesefuton.experiments.results import (HEAD, Outcome, Result, ResultsError, Row, read_rows,
-                                            text_of)
+from geesefuton.experiments.results import HEAD, Outcome, Result, Row, read_rows, text_of
 from geesefuton.experiments.runs import RunError, RunFolder, is_run, read_scores
 from geesefuton.experiments.seating import Seating
+from geesefuton.program import CommandError
 from geesefuton.records.tables import csv_of
 from tests.package.run_cases import PlaceCase
 from tests.package.helpers import SERVED_GAME, worker
@@ -211,7 +211,7 @@ class Folders(PlaceCase):
         for head in ("deal,rotation,seat,agent,score,end,luck,kind",
                      "deal,rotation,seat,agent,score,end,luck,kind,nights,first_price,run,settings,"
                      "files"):
-            with self.assertRaisesRegex(ResultsError, "of this version"):
+            with self.assertRaisesRegex(CommandError, "of this version"):
                 read_rows(head + "\n")
 
     def test_a_folder_that_cannot_be_made(self) -> None:

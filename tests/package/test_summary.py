@@ -5,9 +5,9 @@ from typing import Any, List
 
 from geesefuton.experiments.comparisons import (adjusted, bonferroni_halves, estimate, holm,
                                                 signed_rank_p, student_p)
-from geesefuton.experiments.results import (HEAD, Kind, Outcome, ResultsError, Row, read_rows,
-                                            text_of)
+from geesefuton.experiments.results import HEAD, Kind, Outcome, Row, read_rows, text_of
 from geesefuton.experiments.summary import summarize
+from geesefuton.program import CommandError
 from geesefuton.records.tables import csv_of
 from tests.package.helpers import needs_study
 
@@ -255,7 +255,7 @@ class Rows(unittest.TestCase):
     def test_other_texts_are_refused_and_other_rows_left_out(self) -> None:
         head = csv_of([HEAD])
         for text in (text_of(SWAPPED), "seed,seat,agent,score\n1,0,a,5\n"):
-            with self.assertRaisesRegex(ResultsError, "line 1 is not the head"):
+            with self.assertRaisesRegex(CommandError, "line 1 is not the head"):
                 read_rows(text)
         whole = "1,0,0,a,5,played,100,served,0,0,1,,,,1\n"
         for text in ("1,0,0,a,5,played,100\n", whole.replace("5", "x"),

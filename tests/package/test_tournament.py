@@ -108,8 +108,9 @@ class Playing(PlaceCase):
         (self.place / "games").mkdir(parents=True)
         self.told: List[str] = []
         self.patch("experiments.tournament.PLAYER", [sys.executable, "-c", WORKER])
-        self.patch("experiments.tournament.tell",
-                   lambda line, is_passing=False: self.told.append(line))
+        for module in ("tournament", "forms"):
+            self.patch(f"experiments.{module}.tell",
+                       lambda line, is_passing=False: self.told.append(line))
         self.patch("program.make", lambda seed: SERVED_GAME.read_text())
         self.left = 0
 
@@ -304,7 +305,7 @@ class Playing(PlaceCase):
                                      "cat"]), \
                 mock.patch.dict(os.environ, variables), \
                 mock.patch("geesefuton.processes.stop_on_signals"), \
-                mock.patch("geesefuton.experiments.tournament.Output",
+                mock.patch("geesefuton.experiments.forms.Output",
                            lambda target: Output(printed if target == 1 else target)):
             return tournament.main()
 

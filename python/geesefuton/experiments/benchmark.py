@@ -22,7 +22,7 @@ from pathlib import Path
 from typing import List
 
 from geesefuton import program
-from geesefuton.arguments import Parser, whole
+from geesefuton.arguments import Parser
 from geesefuton.experiments.comparisons import Estimate
 from geesefuton.experiments.forms import columns, count_text, number_text, printed
 from geesefuton.experiments.plan import Plan, make_parser, read_plan
@@ -39,8 +39,8 @@ def _list(name: str) -> bytes:
     return (program.examples() / "benchmarks" / f"{name}.json").read_bytes()
 
 
-def _words(name: str, agent: str, deals: int) -> List[str]:
-    """The words of the tournament that plays a list, or some of its deals."""
+def _words(name: str, agent: str) -> List[str]:
+    """The words of the tournament that plays a list."""
     told, folder = json.loads(_list(name)), program.examples()
     others = [folder / file for file in told["references"]]
     own = Path(agent).resolve()
@@ -48,7 +48,7 @@ def _words(name: str, agent: str, deals: int) -> List[str]:
         others.remove(own)
         agent = shlex.quote(str(own))
     return [*told["settings"], "--seed", str(told["seed"]),
-            "--games", str((deals or told["deals"]) * (1 + len(others))),
+            "--games", str(told["deals"] * (1 + len(others))),
             *(f"--against={shlex.quote(str(folder / file))}" for file in told["pool"]),
             agent, *(shlex.quote(str(file)) for file in others)]
 
@@ -89,10 +89,8 @@ def _main() -> int:
     parser.add_argument("--out", type=Path, required=True, metavar="FOLDER",
                         help="keep the games in this folder")
     parser.add_argument("--resume", action="store_true", help="play what FOLDER lacks")
-    parser.add_argument("--deals", type=whole(1), default=0, metavar="N",
-                        help="play only so many of the deals, to try it")
     given = parser.parse_args()
-    words = _words(given.list, given.agent, given.deals)
+    words = _words(given.list, given.agent)
     more = ["--resume"] if given.resume else []
     plan = read_plan(parser, make_parser(None).parse_args(
         [*words, *more, f"--out={given.out}"]))

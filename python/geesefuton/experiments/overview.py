@@ -10,11 +10,10 @@ import os
 import pickle
 import subprocess
 import sys
-from collections import defaultdict
 from functools import lru_cache
 from itertools import groupby
 from pathlib import Path
-from typing import Any, Dict, Iterable, List, NamedTuple, Optional, Sequence, Tuple
+from typing import Any, List, NamedTuple, Optional, Sequence, Tuple
 
 import numpy as np
 import pandas as pd
@@ -26,38 +25,26 @@ from geesefuton.experiments.joining import read_source
 from geesefuton.experiments.results import Row
 from geesefuton.experiments.runs import KeptGame, games_of, read_games
 from geesefuton.processes import Children
-from geesefuton.records.games import (FLIGHTS, GOODS, HOTELS, PACKAGES, SEATS, TICKETS, TICKS,
-                                      Client, Game, ticket)
-from geesefuton.records.logs import Entry, gains_of
-from geesefuton.records.replies import No
-from geesefuton.records.rules import MINUTE, PENALTY
+from geesefuton.records.games import (FLIGHTS, GOODS, HOTELS, PACKAGES, TICKETS, Client, Game,
+                                      ticket)
+from geesefuton.records.logs import gains_of
+from geesefuton.records.rules import PENALTY
 from geesefuton.records.ticks import boards_by_tick
 
 Frame = Any  # of pandas
-MINUTES = range(0, MINUTE * len(HOTELS), MINUTE)  # the ticks at which prices of rooms are predicted
 FEW = 8  # deals for each process, at least
 SECONDS = 20.0  # that a search takes at most
 STAYS = [package for package in PACKAGES if not any(package.nights)]
 SEATED = [(kind, night) for kind in range(3) for night in range(1, 5)]  # a ticket's type and night
 CHOICES = len(STAYS) + len(SEATED)  # of a client
 PROGRAM = "from geesefuton.experiments.overview import work; work()"
-SIDES = ("flights", "rooms", "tickets to buy", "tickets to sell")
-PREDICTORS = ("the quote", "the mean of other deals", "the quote and its mean rise in other deals")
 PARTS = ["trips", "flights", "rooms", "tickets", "penalties"]  # of a score, which is their sum
-
-# In dollars, for each seat of each game: the parts of its score, and by how much it is less than
-# its best plan at the game's closing prices; for each seat and each of SIDES the units that were
-# asked for, and those that traded; for each hotel night of each game the tick at which it closes,
-# and its prices at the ticks; and for each game what its 64 clients have, where seats cost the
-# flights' first prices, the most that is known that they might have, and a bound that is never
-# passed.
-COLUMNS: Dict[str, List[object]] = {
-    "seats": ["deal", "agent", *PARTS, "score", "distance"],
-    "fills": ["agent", "side", "asked", "got"],
-    "prices": ["deal", "good", "closes", *range(TICKS + 1)],
-    "games": ["agents", "had", "best", "bound"]}
-TEXTS = ("deal", "agent", "side", "agents")  # columns that are no numbers
-Figures = Dict[str, List[Sequence[object]]]  # of a game: rows of each table
+# For each seat of a game the parts of its score, and by how much it is less than its best plan at
+# the game's closing prices; and what the 64 clients have, where seats cost the flights' first
+# prices, the most that is known that they might have, and a bound that is never passed.
+SEAT_COLUMNS = ["deal", "agent", *PARTS, "score", "distance"]
+GAME_COLUMNS = ["agents", "had", "best", "bound"]
+Figures = Tuple[List[Sequence[object]], Sequence[object]]  # of a game: rows of both tables
 
 
 class Optimum(NamedTuple):
@@ -120,12 +107,10 @@ def best_allocation(clients: Sequence[Client], held: Sequence[int],
 
 
 class Overview(NamedTuple):
-    """The figures of all games of a run: a table of each of COLUMNS."""
+    """The figures of all games of a run, in dollars."""
 
-    seats: Frame
-    fills: Frame
-    prices: Frame
-    games: Frame
+    seats: Frame  # has SEAT_COLUMNS
+    games: Frame  # has GAME_COLUMNS
 
     @property
     def order(self) -> List[str]:
@@ -133,39 +118,19 @@ class Overview(NamedTuple):
         means = self.seats.groupby("agent").score.mean()
         return list(means.sort_values(ascending=False, kind="stable").index)
 
-    def errors(self) -> Frame:
-        """For each of PREDICTORS by how many dollars it is wrong at each of MINUTES, in the mean
-        over the nights that are still open; NaN where there is nothing to predict by."""
-        found = {}
-        for tick in MINUTES:
-            now = self.prices[self.prices.closes > tick]
-            of_good, of_deal = now.groupby("good"), now.groupby(["good", "deal"])
-            games, close, here = (of_good[column].transform(how) - of_deal[column].transform(how)
-                                  for column, how in (("deal", "size"), (TICKS, "sum"),
-                                                      (tick, "sum")))
-            predicted = (now[tick], close / games, now[tick] + (close - here) / games)
-            found[tick] = [(each - now[TICKS]).abs().mean() for each in predicted]
-        return pd.DataFrame(found, PREDICTORS, dtype=float).T.rename_axis("tick")
 
-
-def overview_of(games: Iterable[Figures]) -> Overview:
+def overview_of(games: Sequence[Figures]) -> Overview:
     """The figures of games together."""
-    rows: Figures = {table: [] for table in COLUMNS}
-    for game in games:
-        for table, more in game.items():
-            rows[table] += more
-    return Overview(*(pd.DataFrame(rows[table], columns=columns).astype(
-        {column: float for column in columns if column not in TEXTS})
-                      for table, columns in COLUMNS.items()))
+    return Overview(pd.DataFrame([seat for seats, _ in games for seat in seats],
+                                 columns=SEAT_COLUMNS),
+                    pd.DataFrame([game for _, game in games], columns=GAME_COLUMNS))
 
 
 def figures_of(kept: KeptGame, best: Optimum) -> Figures:
     """The figures of a game, with the optimum of its deal."""
     game, log, deal = kept.game, kept.log, kept.rows[0].deal
-    boards = boards_by_tick(game, log, kept.ticks)
-    prices = [(deal, good, night.closes, *(board[good][1] for board in boards))
-              for good, night in zip(HOTELS, game.hotels)]
-    closing: List[Optional[int]] = [boards[-1][good][1] for good in range(HOTELS.stop)]
+    boards = boards_by_tick(game, log, kept.ticks)[-1]
+    closing: List[Optional[int]] = [boards[good][1] for good in range(HOTELS.stop)]
     for good in TICKETS:
         trades = [trade for entry in log.histories[good] for trade in entry.trades]
         count = sum(trade.units for trade in trades)
@@ -177,36 +142,10 @@ def figures_of(kept: KeptGame, best: Optimum) -> Figures:
         plan = best_allocation(clients, [0] * TICKETS.start + list(endow), closing)
         seats.append((deal, agent, score.best, *gains, -PENALTY * score.short, score.score,
                       plan.value - score.score))
-    fills = [(kept.agents[seat], SIDES[2 + is_selling if good in TICKETS else good in HOTELS],
-              *fill) for good in GOODS
-             for (seat, is_selling), fill in fills_of(log.histories[good]).items()]
     had = sum(score.best - PENALTY * score.short for score in log.scores)
     had -= sum(trade.units * game.flights[good].first for good in FLIGHTS
                for entry in log.histories[good] for trade in entry.trades)
-    return {"seats": seats, "fills": list(fills), "prices": list(prices),
-            "games": [(table_of(kept.agents), had, *best)]}
-
-
-def fills_of(history: Iterable[Entry]) -> Dict[Tuple[int, bool], List[int]]:
-    """How many units each seat asked for in an auction, to buy and to sell, and how many traded. A
-    bid asks for the units by which it exceeds those that its agent had standing there."""
-    standing: Dict[Tuple[int, bool], int] = defaultdict(int)
-    fills: Dict[Tuple[int, bool], List[int]] = defaultdict(lambda: [0, 0])
-    for entry in history:
-        if entry.call.do in ("bid", "withdraw") and not isinstance(entry.reply, No):
-            for is_selling in (False, True):
-                key = entry.caller, is_selling
-                units = sum(abs(count) for count, _ in entry.call.points
-                            if (count < 0) == is_selling)
-                if units > standing[key]:
-                    fills[key][0] += units - standing[key]
-                standing[key] = units
-        for trade in entry.trades:
-            for key in ((trade.buyer, False), (trade.seller, True)):
-                if key[0] < SEATS:
-                    standing[key] -= trade.units
-                    fills[key][1] += trade.units
-    return dict(fills)
+    return seats, (table_of(kept.agents), had, *best)
 
 
 def optimum(game: Game) -> Optimum:

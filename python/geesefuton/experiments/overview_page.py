@@ -11,13 +11,12 @@ import pandas as pd
 
 from geesefuton.experiments.forms import count_text, letters_of, undecided
 from geesefuton.experiments.joining import WAYS
-from geesefuton.experiments.overview import PARTS, PREDICTORS, SIDES, Overview
+from geesefuton.experiments.overview import PARTS, Overview
 from geesefuton.experiments.results import Row
 from geesefuton.experiments.comparisons import deals_to_detect
 from geesefuton.experiments.summary import Difference, Summary
 from geesefuton.processes import why
-from geesefuton.records.report_page import (Cell, bar, chart, document, half_text, number, round_up,
-                                            table)
+from geesefuton.records.report_page import Cell, bar, document, half_text, number, table
 
 Frame = Any  # of pandas
 HOW = ("pictures need matplotlib: install it by `apt-get install python3-matplotlib`, for "
@@ -31,14 +30,12 @@ class Section(NamedTuple):
     title: str  # what stands above it
     note: str  # what it says, as HTML
     shown: Frame  # the data of the picture
-    told: Frame  # the table, if it has others; texts, and numbers that are shown in whole dollars
-    picture: str = ""  # as HTML; "" for bars
+    told: Frame  # the table, of numbers that are shown in whole dollars
 
 
 def sections(overview: Overview) -> List[Section]:
     """The sections of an overview."""
-    return [_errors(overview), _parts(overview), _fills(overview), _distances(overview),
-            _efficiencies(overview)]
+    return [_parts(overview), _distances(overview), _efficiencies(overview)]
 
 
 def page(overview: Overview, name: str, row: Row, summary: Summary) -> str:
@@ -51,24 +48,15 @@ def page(overview: Overview, name: str, row: Row, summary: Summary) -> str:
         f"of {count_text(deals, 'deal')}, played {WAYS[row.kind]}. All amounts are in dollars.</p>",
         *_ranking(summary), *_differences(summary)]
     for each in sections(overview):
-        parts.append(f"<h2>{each.title}</h2><p>{each.note}</p>"
-                     + (each.picture or _bars(each.shown)))
-        told = each.told.reset_index()
-        parts.append(table([str(column).replace("|", "<br>") for column in told],
-                           [list(map(_cell, line)) for line in told.itertuples(index=False)],
-                           range(each.told.index.nlevels)))
+        rows = [[html.escape(name), *map(number, line)] for name, *line in each.told.itertuples()]
+        parts += [f"<h2>{each.title}</h2><p>{each.note}</p>{_bars(each.shown)}",
+                  table([each.told.index.name, *each.told], rows, (0,))]
     return document(f"Games of {agents}", parts)
-
-
-def _cell(value: object) -> str:
-    if isinstance(value, str):
-        return html.escape(value)
-    return "–" if pd.isna(value) else number(value)  # type: ignore[arg-type]
 
 
 def _bars(frame: Frame) -> str:
     """Bars of the values of each row, all on one scale."""
-    numbers = frame.fillna(0).round().astype(int)
+    numbers = frame.round().astype(int)
     low, high = min(0, int(numbers.min().min())), max(1, int(numbers.max().max()))
     rows = [[html.escape(str(name)), *(bar(value, low, high) for value in line)]
             for name, line in zip(numbers.index, numbers.to_numpy().tolist())]
@@ -131,22 +119,6 @@ def _more_deals(pair: Difference) -> Cell:
     return max(1, (deals_to_detect(pair.score, abs(pair.score.mean)) or 0) - pair.score.count)
 
 
-def _errors(overview: Overview) -> Section:
-    note = ("The mean error in dollars of three predictions of a night's closing price, over the "
-            "nights that are open after a tick, 0 at the left to 54: the quote, the mean closing "
-            "price of that night in the games of other deals, and the quote plus its mean rise in "
-            "those games.")
-    errors = overview.errors()
-    paths = {f"{predictor} ({line})": list(errors[predictor].dropna().items())
-             for predictor, line in zip(PREDICTORS, ("line", "dashed", "dotted"))}
-    title = "; ".join(f"{name}: <b>{number(path[0][1])} to {number(path[-1][1])}</b>"
-                      for name, path in paths.items() if path)
-    first, *more = filter(None, paths.values())
-    picture = chart(title, first, 0, round_up(max(1.0, errors.max().max()), 50), False, more=more)
-    return Section("errors", "Errors of predicted room prices", note, errors,
-                   errors.T.rename_axis("mean error at tick"), picture)
-
-
 def _parts(overview: Overview) -> Section:
     seats = overview.seats.groupby("agent")
     means = seats[["score", *PARTS]].mean().loc[overview.order]
@@ -156,20 +128,6 @@ def _parts(overview: Overview) -> Section:
         "Means over an agent's seats: what the trips are worth, what was earned less what was paid "
         "for each kind of goods, and 200 for each ticket short. The score is their sum."),
         means[PARTS], told)
-
-
-def _fills(overview: Overview) -> Section:
-    sides = pd.MultiIndex.from_product([overview.order, SIDES], names=["agent", "side"])
-    sums = overview.fills.groupby(["agent", "side"]).sum().reindex(sides, fill_value=0)
-    seats = overview.seats.groupby("agent").size().reindex(sides, level="agent")
-    rates = 100 * sums.got / sums.asked.replace(0, np.nan)
-    told = pd.DataFrame({
-        **{f"{name}|a seat": (sums[column] / seats).map("{:.1f}".format)
-           for column, name in (("asked", "asked for"), ("got", "got"))},
-        "rate": rates.map(lambda rate: "–" if pd.isna(rate) else f"{rate:.0f} %")})
-    return Section("fills", "Units asked for, and got", (
-        "A bid asks for the units by which it exceeds its agent's standing units there. The bars "
-        "show what share of them traded."), rates.unstack().loc[overview.order, list(SIDES)], told)
 
 
 def _distances(overview: Overview) -> Section:
@@ -218,8 +176,7 @@ def write_figures(folder: Path, overview: Overview, summary: Summary) -> List[st
         folder.mkdir(parents=True, exist_ok=True)
         for name, frame in _pictures(overview, summary).items():
             if len(frame):
-                index = "tick" if frame.index.name == "tick" else "of"
-                frame.to_csv(folder / f"{name}.csv", index_label=index)
+                frame.to_csv(folder / f"{name}.csv", index_label="of")
                 if can_draw:
                     _draw(frame, folder / name)
     except OSError as fault:
@@ -234,9 +191,7 @@ def _draw(frame: Frame, file: Path) -> None:
     matplotlib.rcParams["svg.hashsalt"] = file.name  # so that the same data give the same file
     figure, axes = pyplot.subplots(figsize=(7.0, 2.0 + 0.3 * min(40, len(frame))))
     names = [str(name).replace("$", r"\$") for name in frame.index]
-    if frame.index.name == "tick":
-        frame.plot(ax=axes)
-    elif "half" in frame:
+    if "half" in frame:
         axes.errorbar(frame["mean"], names, xerr=frame["half"].fillna(0.0), fmt="o", capsize=3)
     else:
         frame.set_axis(names, axis=0).plot.barh(ax=axes, stacked=file.name == "parts")

@@ -79,10 +79,8 @@ def add_playing(parser: Parser, games: str) -> None:
     """Adds the words that say how many `games` are played, as its help tells, which, and how."""
     add = parser.add_argument
     add("--games", type=whole(1), metavar="N", help=games)
-    add("--seed", type=whole(0, MOST_SEED), metavar="N",
-        help="use the seeds N, N + 1, .. for deals, not a secret")
-    add("--rooms", type=read_rooms, metavar="N..M",
-        help="draw the rooms of each night from N..M (default: 16)")
+    add("--seed", type=whole(0, MOST_SEED), metavar="N", help="use deals of the seeds N, N + 1, ..")
+    add("--rooms", type=read_rooms, metavar="N..M", help="draw the rooms of a night (default: 16)")
     add("--live", action="store_true", help="let hotel prices move with each bid")
     add("--endow", choices=(CLASSIC,), help="endow tickets in clumps, as in the original game")
     add("--at-once", type=whole(1), default=os.cpu_count() or 1, metavar="N",
@@ -108,8 +106,7 @@ def add_playing(parser: Parser, games: str) -> None:
         help=f"close links after the end (default: {LINGER:g}, in turns {LINGER_IN_TURNS:g})")
     add("--files", action="append", default=[], metavar="PATTERN",
         help="an agent's own files, as '*.py' (default: its folder)")
-    add("--resume", action="store_true",
-        help="play what FOLDER lacks, with the same words and files")
+    add("--resume", action="store_true", help="play what FOLDER lacks, with the same words")
     parser.set_defaults(against=[], summary=None)
 
 
@@ -117,22 +114,17 @@ def make_parser(description: Optional[str]) -> Parser:
     """The parser of the command, whose help begins with the description."""
     parser = Parser("tournament", description or "")
     add = parser.add_argument
-    add("agents", nargs="+", metavar="AGENT",
-        help="a Python file, a program, or a command in quotes")
+    add("agents", nargs="+", metavar="AGENT", help="a Python file, a program, or a quoted command")
     add_playing(parser, "N games, rounded up to fair rounds (default: 4 or more)")
     add("--against", action="append", default=[], metavar="AGENT",
         help="play each alone among these agents, in each seat")
     add("--plan", action="store_true", help="only print who would sit where, and how fair it is")
-    add("--out", type=Path, metavar="FOLDER",
-        help="keep settings, scores and games in this new folder")
+    add("--out", type=Path, metavar="FOLDER", help="keep settings, scores and games here")
     add("--summary", type=Path, metavar="FILE", help="also write the summary to this file, as JSON")
-    add("--detect", type=whole(1), metavar="DOLLARS",
-        help="estimate how many games detect such a difference")
-    add("--join", action="store_true",
-        help="play nothing: AGENT .. are folders of runs to summarize")
+    add("--detect", type=whole(1), metavar="DOLLARS", help="tell how many games detect so much")
+    add("--join", action="store_true", help="play nothing: AGENT .. are runs to summarize")
     add("--pool", action="store_true", help="with --join: also runs that do not belong together")
-    add("--partial", action="store_true",
-        help="with --join: take the deals that were played whole")
+    add("--partial", action="store_true", help="with --join: take deals that were played whole")
     return parser
 
 
@@ -149,7 +141,10 @@ def _entrants(parser: Parser, given: argparse.Namespace) -> Tuple[List[Entrant],
 def read_plan(parser: Parser, given: argparse.Namespace, are_deals: bool = False) -> Plan:
     """The plan of a command line; ends with status 2 where there is none. If the number of games
     is one of deals, each has one game."""
-    _refuse(parser, given)
+    if given.turns and given.pace is not None:
+        parser.error("--pace is for games with a clock, and --turns for games without one")
+    if given.patience is not None and not given.turns:
+        parser.error("--patience needs --turns")
     try:
         entrants, pool = _entrants(parser, given)
         secret = str(given.seed).encode() if given.seed is not None else \
@@ -236,12 +231,3 @@ def text_of(plan: Plan) -> str:
         lines.append(f"all is as equal as it can be after each {seating.round * plan.rotations} "
                      "games")
     return "\n".join(lines) + "\n"
-
-
-def _refuse(parser: Parser, given: argparse.Namespace) -> None:
-    for is_wrong, told in (
-            (given.turns and given.pace is not None,
-             "--pace is for games with a clock, and --turns for games without one"),
-            (given.patience is not None and not given.turns, "--patience needs --turns")):
-        if is_wrong:
-            parser.error(told)

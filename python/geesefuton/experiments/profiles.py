@@ -7,8 +7,7 @@ FOLDER keeps the games: --resume continues after a stop, a larger --games adds
 games, and one strategy more plays only the profiles that it is in. The command
 prints payoffs, a seat's gain by another strategy, and the equilibria, each with
 its number of occurrences in resamples of the deals, and writes payoffs.csv. The
-options of games, from --games to --resume, and the exit status are those of
-`tournament`. It needs numpy, scipy and pandas.
+exit status is as of `tournament`. It needs numpy, scipy and pandas.
 """
 
 from functools import partial
@@ -17,8 +16,8 @@ from pathlib import Path
 from geesefuton.arguments import Parser
 from geesefuton.experiments.comparisons import missing_libraries
 from geesefuton.experiments.plan import add_playing
-from geesefuton.experiments.reduction import PLAYERS
 from geesefuton.processes import command
+from geesefuton.records.games import SEATS
 
 
 def _main() -> int:
@@ -27,7 +26,7 @@ def _main() -> int:
     add("agents", nargs="+", metavar="AGENT", help="the strategies, two or more")
     add_playing(parser, "N deals, on each of which each profile is played (default: 4)")
     parser.set_defaults(games=4)
-    add("--players", type=int, choices=PLAYERS, default=PLAYERS[0],
+    add("--players", type=int, choices=(2, SEATS), default=2,
         help="8: all profiles, 2: the reduced game (default: 2)")
     add("--out", type=Path, required=True, metavar="FOLDER", help="keep the games in this folder")
     add("--search", action="store_true",

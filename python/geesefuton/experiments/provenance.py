@@ -10,7 +10,6 @@ import sys
 from dataclasses import dataclass, field
 from functools import lru_cache
 from importlib import metadata
-from itertools import groupby
 from pathlib import Path
 from typing import Any, Dict, Iterable, Iterator, List, Mapping, Optional, Sequence, Tuple
 from urllib.parse import quote
@@ -133,10 +132,8 @@ def _installed() -> Dict[str, List[Tuple[str, str]]]:
 
 
 def names_text(names: Sequence[str]) -> str:
-    """The names of agents in their order, each as in an address, with how often in a row."""
-    runs = [(name, len(list(run))) for name, run in groupby(names)]
-    return "+".join(quote(name, safe="") + (f"*{count}" if count > 1 else "")
-                    for name, count in runs)
+    """The names of agents in their order, each as in an address."""
+    return "+".join(quote(name, safe="") for name in names)
 
 
 def settings_text(settings: Mapping[str, object]) -> str:

@@ -10,7 +10,6 @@ from typing import List, Sequence, Set, Tuple
 
 from geesefuton.records.games import SEATS
 
-PLAYERS = (2, SEATS)  # of the reduction, and of the full game
 Counts = Tuple[int, ...]  # how many players chose each strategy
 
 

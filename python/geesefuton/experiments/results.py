@@ -8,6 +8,7 @@ from dataclasses import astuple, dataclass, field, fields
 from typing import Dict, Iterable, List, Optional, Sequence, Tuple, Union
 
 from geesefuton.hosting import events
+from geesefuton.program import CommandError
 from geesefuton.records.games import SEATS
 from geesefuton.records.tables import csv_of
 
@@ -97,10 +98,6 @@ class Row:
 HEAD = [each.name for each in fields(Row)][:-1]
 
 
-class ResultsError(Exception):
-    """A text that has no rows of a tournament."""
-
-
 @dataclass
 class Found:
     """What a CSV has."""
@@ -128,14 +125,14 @@ def _read_row(words: Sequence[str]) -> Row:
 
 
 def read_rows(text: str) -> Found:
-    """Reads the text of a scores.csv, which may lack its end. Raises ResultsError where it begins
+    """Reads the text of a scores.csv, which may lack its end. Raises CommandError where it begins
     otherwise."""
     whole, _, half = text.rpartition("\n")
     if not whole and csv_of([HEAD]).startswith(half):
         return Found()
     lines = csv.reader(io.StringIO(whole, newline="\n"))
     if next(lines, None) != HEAD:
-        raise ResultsError("line 1 is not the head of a tournament's CSV of this version")
+        raise CommandError("line 1 is not the head of a tournament's CSV of this version")
     found = Found()
     games: Dict[Tuple[str, int, int], List[Row]] = {}
     for words in lines:

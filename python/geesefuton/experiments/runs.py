@@ -1,10 +1,8 @@
 """The folder of a run that can be stopped at any time and resumed.
 
-FOLDER/run.json has the settings, how the deals are drawn, the SHA-256 of the program, the package
-and each agent's files, and for each run its words, machine, load and times; FOLDER/scores.csv the
-rows of the games; FOLDER/games the games' files; and FOLDER/secret what the deals are drawn from,
-until all games are scored. A resumed run plays the games that scores.csv lacks. A row that was half
-written, as on a full disk, is reported and removed with its game, and the game is played again.
+docs/FORMATS.md says what is in it. A resumed run plays the games that scores.csv lacks. A row that
+was half written, as on a full disk, is reported and removed with its game, and the game is played
+again.
 
 A game in turns keeps its script, and a game by the clock its journal, from which the ticks of its
 calls follow; where there is neither they come from the log.
@@ -20,12 +18,12 @@ from collections import defaultdict
 from dataclasses import asdict, dataclass
 from datetime import datetime, timezone
 from pathlib import Path
-from typing import Any, Dict, Iterable, Iterator, List, Sequence, Set, Tuple
+from typing import Any, Dict, Iterable, Iterator, List, Sequence, Tuple
 
 from geesefuton.experiments.deals import RUN, SECRET, DealError, kept_secret
 from geesefuton.experiments.plan import Plan
 from geesefuton.experiments.provenance import commit, digest_of, machine, package_digest, unlike
-from geesefuton.experiments.results import HEAD, Found, ResultsError, Row, read_rows, text_of
+from geesefuton.experiments.results import HEAD, Found, Row, read_rows, text_of
 from geesefuton.hosting.journal import JournalError, read_journal
 from geesefuton.processes import Output, why, write_whole
 from geesefuton.program import CommandError, find
@@ -58,7 +56,7 @@ def read_scores(folder: Path) -> Found:
         return read_rows((folder / SCORES).read_bytes().decode("utf-8", "replace"))
     except FileNotFoundError:
         return Found()
-    except (ResultsError, OSError) as fault:
+    except (CommandError, OSError) as fault:
         raise RunError(f"{folder / SCORES}: {why(fault)}") from None
 
 
@@ -108,6 +106,8 @@ class RunFolder:
     Attributes:
         number: The number of this run among those of the folder, from 1.
         rows: What earlier runs played.
+        finished: The numbers of deals and rotations that they finished.
+        is_told: Whether the secret of the deals has been told.
         told: What is told of the folder, each in a line.
         out: Where rows are appended.
         lock: The number of the open file that holds the lock, which games are to hold, too.
@@ -135,14 +135,15 @@ class RunFolder:
     def _begin(self, arguments: Sequence[str]) -> None:
         """Takes out what is not whole, and writes that this run has begun."""
         found = read_scores(self._folder)
-        self.rows = found.rows
+        self.rows, self.finished = found.rows, {row.place for row in found.rows}
+        self.is_told = SECRET in self._value["deals"]
         self.told = [f"{self._folder / SCORES}: {text}; its game is played again"
                      for text in found.told]
         self.number = len(self._value["runs"]) + 1
         self._value["runs"].append({
             "run": self.number, "arguments": list(arguments), "began": _now(), "commit": commit(),
             **machine(), "ended": None})
-        if self._plan.rule.seed is None and SECRET not in self._value["deals"]:
+        if self._plan.rule.seed is None and not self.is_told:
             self._replace(SECRET, self._plan.rule.secret.hex() + "\n", 0o600)
         self._write_record()
         if found.told or not self.rows:
@@ -151,16 +152,6 @@ class RunFolder:
         self._clear()
         self._scores = os.open(self._folder / SCORES, os.O_WRONLY | os.O_APPEND)
         self.out = Output(self._scores, str(self._folder / SCORES))
-
-    @property
-    def finished(self) -> Set[Tuple[int, int]]:
-        """The numbers of deals and rotations that earlier runs finished."""
-        return {row.place for row in self.rows}
-
-    @property
-    def is_told(self) -> bool:
-        """Whether the secret of its deals has been told."""
-        return SECRET in self._value["deals"]
 
     def plan_games(self, planned: int) -> None:
         """Writes how many games the folder is to have."""

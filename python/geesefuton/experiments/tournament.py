@@ -73,7 +73,7 @@ class Tournament:
     Args:
         plan: The plan.
         folder: The folder, which takes the rows of each game.
-        elsewhere: The games that are played elsewhere, by the numbers of their deals and their
+        without: The games that are not to be played, by the numbers of their deals and their
             rotations.
 
     Attributes:
@@ -83,9 +83,9 @@ class Tournament:
     """
 
     def __init__(self, plan: Plan, folder: RunFolder,
-                 elsewhere: AbstractSet[Tuple[int, int]] = frozenset()) -> None:
+                 without: AbstractSet[Tuple[int, int]] = frozenset()) -> None:
         self._plan, self._folder = plan, folder
-        self._finished = folder.finished | elsewhere
+        self._finished = folder.finished | without
         self._digests = {name: agent.digest[:SHORT] for name, agent in plan.agents.items()}
         self.rows: List[Row] = []
         self.lost: List[str] = []
@@ -261,15 +261,15 @@ def _join(given: argparse.Namespace) -> int:
 
 
 def _print_summary(summary: Summary, file: Optional[Path], grades: Optional[Path] = None) -> int:
-    """Writes the summary to standard output and to a file, and the grades; tells what failed, and
-    gives the exit status."""
+    """Prints the summary, writes it and the grades to files, and gives the exit status."""
     faults = []
     for target, form in ((grades, as_grades), (file, as_json)):
         if target is not None:
             out = Output(target)
             out.write(form(summary))
             out.close()
-            faults += [f"{out.name}: {out.fault}"] if out.fault else []
+            if out.fault:
+                faults.append(f"the summary was not written to {out.name}: {out.fault}")
     width = shutil.get_terminal_size().columns if os.isatty(1) else math.inf
     return printed("tournament", as_text(summary, width), faults)
 
@@ -292,9 +292,9 @@ def _main() -> int:
     return max(status, _print_summary(summary, given.summary, plan.out / GRADES))
 
 
-def play_in_folder(parser: Parser, plan: Plan, elsewhere: AbstractSet[Tuple[int, int]] = frozenset()
+def play_in_folder(parser: Parser, plan: Plan, without: AbstractSet[Tuple[int, int]] = frozenset()
                    ) -> Tuple[int, List[Row], List[str]]:
-    """Plays what the folder of a plan lacks, but for games that are played elsewhere.
+    """Plays what the folder of a plan lacks, but for some games.
 
     Returns the exit status, the rows of all runs of the folder, and what was lost."""
     try:
@@ -308,7 +308,7 @@ def play_in_folder(parser: Parser, plan: Plan, elsewhere: AbstractSet[Tuple[int,
              + (", and agents can guess them" if what == "seed" else ""))
     if folder.finished:
         tell(f"{len(folder.finished)} games were finished by earlier runs")
-    tournament = Tournament(plan, folder, elsewhere)
+    tournament = Tournament(plan, folder, without)
     folder.plan_games(len(folder.finished) + tournament.games)
     if folder.is_told and tournament.games:
         tell("the secret has been told, so agents may know the deals that are still to be played")

@@ -34,10 +34,6 @@ VERSION = 2  # of the form of a room's files
 ABOUT, LOCK, WORDS = "room.json", "lock", "words.json"
 
 
-class FolderError(CommandError):
-    """A folder that is not this room's."""
-
-
 @dataclass(frozen=True)
 class Finished:
     """What a game came to."""
@@ -74,7 +70,7 @@ class Folder:
         seed: The seed of the first game; None for that of the folder, and a secret for a new one.
 
     Raises:
-        FolderError: The folder is another's, in use, over, or not as a room leaves it.
+        CommandError: The folder is another's, in use, over, or not as a room leaves it.
         OSError: It cannot be made, read or written. The methods that write raise it too, and may
             be called again then.
 
@@ -91,7 +87,7 @@ class Folder:
         names = {name for name in os.listdir(path)
                  if name not in (LOCK, SECRET) and not name.endswith(UNFINISHED)}
         if names and ABOUT not in names:
-            raise FolderError(f"{path} has files, but is not the folder of a practice room")
+            raise CommandError(f"{path} has files, but is not the folder of a practice room")
         self._lock = open(path / LOCK, "ab")
         try:
             fcntl.flock(self._lock, fcntl.LOCK_EX | fcntl.LOCK_NB)
@@ -101,7 +97,7 @@ class Folder:
             games = self._read_games()
         except BlockingIOError:
             self._lock.close()
-            raise FolderError(f"another room is using {path}") from None
+            raise CommandError(f"another room is using {path}") from None
         except BaseException:
             self._lock.close()
             raise
@@ -182,15 +178,15 @@ class Folder:
         about = self._read(self.path / ABOUT)
         first, due = about.get("seed"), about.get("commitment")
         if about.get("room") != VERSION or isinstance(first, int) == isinstance(due, str):
-            raise FolderError(f"{self.path / ABOUT} does not describe a practice room")
+            raise CommandError(f"{self.path / ABOUT} does not describe a practice room")
         if "secret" in about:
-            raise FolderError(f"the room of {self.path} is over: choose another folder")
+            raise CommandError(f"the room of {self.path} is over: choose another folder")
         if seed not in (None, first):
             known = "secret deals" if first is None else f"the first seed {first}"
-            raise FolderError(f"{self.path} has a room with {known}, not the first seed {seed}")
+            raise CommandError(f"{self.path} has a room with {known}, not the first seed {seed}")
         rule = Rule(kept_secret(self.path) or b"", first)
         if first is None and rule.drawn["commitment"] != due:
-            raise FolderError(f"{self.path / SECRET} does not have the secret to which "
+            raise CommandError(f"{self.path / SECRET} does not have the secret to which "
                               f"{self.path / ABOUT} commits")
         return rule
 
@@ -205,7 +201,7 @@ class Folder:
                 if len(game.players) != SEATS or len(game.scores) not in (0, SEATS):
                     raise ValueError
             except (KeyError, TypeError, ValueError):
-                raise FolderError(f"{file} is not the manifest of a game") from None
+                raise CommandError(f"{file} is not the manifest of a game") from None
             games.append(game)
         return sorted(games, key=lambda game: game.number)
 
@@ -216,7 +212,7 @@ class Folder:
         except ValueError:
             what = None
         if not isinstance(what, dict):
-            raise FolderError(f"{file} {fault}")
+            raise CommandError(f"{file} {fault}")
         return what
 
 

@@ -14,6 +14,7 @@ import json
 import os
 import sys
 import time
+from functools import partial
 from pathlib import Path
 from typing import Any, Callable, Dict, Optional
 
@@ -197,6 +198,4 @@ def _main() -> int:
         return run(_run(given, Player(children.folder("page"))))
 
 
-def main() -> int:
-    """The page's process. A line of standard input says what it shows."""
-    return command("page", _main)
+main = partial(command, "page", _main)  # a line of its standard input says what it shows

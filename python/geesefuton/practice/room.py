@@ -260,10 +260,8 @@ class Room:
             "phase": "room", "played": len(finished), "commitment": self._folder.commitment,
             "table": [[row.rank, *self._named([row.name]), row.games, float(row.average), row.half]
                       for row in self._rows], "last": None, "begins": None}
-        for last in finished[-1:]:  # its number, its seed, and who won it with how many dollars
-            score, _, winner = max((row for row in zip(last.scores, range(0, -SEATS, -1),
-                                                       last.players) if row[2]), default=(0, 0, ""))
-            room["last"] = [last.number, str(last.seed), *self._named([winner]), score]
+        for last in finished[-1:]:
+            room["last"] = [last.number, str(last.seed)]
         if self._door is not None:
             room["tables"] = [[table.game.number, self._named(table.names())]
                               for table in self._tables]

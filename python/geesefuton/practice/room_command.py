@@ -11,6 +11,7 @@ import contextlib
 import os
 import signal
 import sys
+from functools import partial
 from pathlib import Path
 from types import FrameType
 from typing import Callable, List, Optional
@@ -36,8 +37,7 @@ def _arguments() -> argparse.Namespace:
     parser = Parser("room", __doc__)
     add = parser.add_argument
     add("--port", type=whole(1, 65535), default=7000, help="the port for agents (default: 7000)")
-    add("--page", type=whole(1, 65535), metavar="PORT",
-        help="show the room on a page, for a projector")
+    add("--page", type=whole(1, 65535), metavar="PORT", help="show a page, for a projector")
     add("--pace", type=whole(1, 60000), default=1000, metavar="MILLISECONDS",
         help="the time from tick to tick (default: 1000)")
     add("--wait", type=seconds, default=30.0, metavar="SECONDS",
@@ -46,19 +46,14 @@ def _arguments() -> argparse.Namespace:
         help="close links this long after the end (default: 10)")
     add("--house", action="append", metavar="AGENT",
         help=f"for empty seats; '' for none (default: {USUAL})")
-    add("--folder", type=Path, default=Path("room"),
-        help="keep the games in this folder (default: room)")
-    add("--seed", type=whole(0), metavar="NUMBER",
-        help="use this seed and the next ones, not a secret")
-    add("--end", action="store_true",
-        help="play no game, but end the room, and show its secret")
+    add("--folder", type=Path, default=Path("room"), help="keep the games here (default: room)")
+    add("--seed", type=whole(0), metavar="NUMBER", help="use this seed and the next, not a secret")
+    add("--end", action="store_true", help="end the room without a game, and show its secret")
     add("--games", type=whole(1), metavar="NUMBER", help="end after this many games")
-    add("--teams", type=Path, metavar="FILE",
-        help="read teams from this CSV file, NAME or NAME,WORD a line")
+    add("--teams", type=Path, metavar="FILE", help="of teams: CSV, NAME or NAME,WORD a line")
     add("--tables", type=whole(1, 8), default=1, metavar="NUMBER",
         help="games at once, for up to 64 teams (default: 1)")
-    add("--slips", type=Path, metavar="FILE",
-        help="write a page to print, with the word of each team")
+    add("--slips", type=Path, metavar="FILE", help="write a page to print, with the teams' words")
     add("--address", help="show this address of the host (default: this machine's)")
     add("--late", type=whole(0, TICKS), default=6, metavar="TICKS",
         help="delay of what agents cannot ask (default: 6)")
@@ -137,10 +132,4 @@ def _main() -> int:
     return 128 + numbers[-1] if numbers else 0
 
 
-def main() -> int:
-    """The command `room`."""
-    return command("room", _main)
-
-
-if __name__ == "__main__":
-    sys.exit(main())
+main = partial(command, "room", _main)

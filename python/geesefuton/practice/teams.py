@@ -16,10 +16,6 @@ from geesefuton.records.games import SEATS, is_seat_word
 MOST = 64  # teams of a room with several tables
 
 
-class TeamsError(CommandError):
-    """A file that has no teams."""
-
-
 @dataclass
 class Team:
     """A team."""
@@ -34,29 +30,29 @@ def read_teams(file: Path, known: Mapping[str, str], most: int = SEATS) -> List[
     word keeps the word that `known` has for its key, or gets a new one.
 
     Raises:
-        TeamsError: The file has no teams, too many, or a name or word that cannot be one.
+        CommandError: The file has no teams, too many, or a name or word that cannot be one.
         OSError: It cannot be read.
     """
     teams: List[Team] = []
     try:
         rows = [row for row in csv.reader(file.read_text("utf-8-sig").splitlines()) if any(row)]
     except (UnicodeDecodeError, csv.Error):
-        raise TeamsError(f"{file} is not a CSV file in UTF-8") from None
+        raise CommandError(f"{file} is not a CSV file in UTF-8") from None
     for row in rows:
         name, word = row[0].strip(), row[1].strip() if len(row) > 1 else ""
         key = re.sub("[^a-z0-9]", "", name.lower())[:16]
         if len(row) > 2 or not key or word and not is_seat_word(word):
-            raise TeamsError(f"{file}: {','.join(row)!r} is not a team: give a name with letters a "
-                             "to z or digits, and optionally a word of 1 to 16 of these")
+            raise CommandError(f"{file}: {','.join(row)!r} is not a team: give a name with letters "
+                               "a to z or digits, and optionally a word of 1 to 16 of these")
         teams.append(Team(name, key, word or known.get(key) or new_token()))
     if not 1 <= len(teams) <= most:
-        raise TeamsError(f"{file} has {len(teams)} teams, but " + (
+        raise CommandError(f"{file} has {len(teams)} teams, but " + (
             f"a room has 1 to {most}" if most > SEATS else
             f"a game has 1 to {SEATS}: with --tables a room has up to {MOST}"))
     for what, values in (("name", [team.key for team in teams]),
                          ("word", [team.word for team in teams])):
         if len(set(values)) < len(values):
-            raise TeamsError(f"{file}: two teams have the same {what}")
+            raise CommandError(f"{file}: two teams have the same {what}")
     return teams
 
 

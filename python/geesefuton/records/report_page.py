@@ -170,8 +170,7 @@ def round_up(number: float, step: int) -> int:
     return -int(-number // step) * step
 
 
-def chart(title: str, points: PricePath, low: int, high: int, steps: bool,
-          more: Sequence[PricePath] = ()) -> str:
+def _chart(title: str, points: PricePath, low: int, high: int, steps: bool) -> str:
     """A small chart of one price over the ticks, with its labels in HTML, so that they keep their
     size.
 
@@ -180,17 +179,13 @@ def chart(title: str, points: PricePath, low: int, high: int, steps: bool,
         points: Ticks and dollars.
         low: The least dollars that are shown, and `high` the most.
         steps: Whether a price holds until the next point, and the last point has a dot.
-        more: Up to two further lines, the first dashed, the second dotted.
     """
     def y(dollars: float) -> float:
         return 100 - 100 * (dollars - low) / (high - low)
 
-    def line(points: PricePath) -> str:
-        path = f"M{points[0][0]} {y(points[0][1]):.1f}"
-        for tick, dollars in points[1:]:
-            path += f"H{tick}V{y(dollars):.1f}" if steps else f"L{tick} {y(dollars):.1f}"
-        return f'<path class="line" d="{path}"/>'
-
+    path = f"M{points[0][0]} {y(points[0][1]):.1f}"
+    for tick, dollars in points[1:]:
+        path += f"H{tick}V{y(dollars):.1f}" if steps else f"L{tick} {y(dollars):.1f}"
     grid = "".join(f"M0 {level}H{TICKS}" for level in (0, 50, 100))
     grid += "".join(f"M{tick} 0V100" for tick in range(0, TICKS + 1, 18))
     last, dollars = points[-1]
@@ -198,8 +193,7 @@ def chart(title: str, points: PricePath, low: int, high: int, steps: bool,
            if steps else "")
     return (f'<figure><figcaption>{title}</figcaption><div class="plot">'
             f'<svg viewBox="0 0 {TICKS} 100" preserveAspectRatio="none" aria-hidden="true">'
-            f'<path class="grid" d="{grid}"/>'
-            f'{"".join(map(line, [points, *more]))}</svg>{dot}'
+            f'<path class="grid" d="{grid}"/><path class="line" d="{path}"/></svg>{dot}'
             f'<span class="top">{number(high)}</span><span class="low">{number(low)}</span></div>'
             "</figure>")
 
@@ -232,7 +226,7 @@ def _prices(game: Game, events: Sequence[MarketEvent]) -> Iterator[str]:
                 told = (f"night {AUCTIONS[good].day}: <b>{last} at tick "
                         f"{game.hotels[good - 8].closes}</b>" if good in HOTELS else
                         f"day {AUCTIONS[good].day}: <b>{first} to {last}</b>")
-                yield chart(told, paths[good], low, high, good in HOTELS)
+                yield _chart(told, paths[good], low, high, good in HOTELS)
             yield "</div>"
 
 
