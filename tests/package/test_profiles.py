@@ -94,12 +94,12 @@ class Commands(PlaceCase):
     def files(self) -> Dict[Path, bytes]:
         return {file: file.read_bytes() for file in self.out.rglob("*") if file.is_file()}
 
-    def refused(self, told: str, *words: str, agents: Tuple[str, ...] = ("dove.py", "hawk.py")
-                ) -> None:
+    def refused(self, told: str, *words: str, agents: Tuple[str, ...] = ("dove.py", "hawk.py"),
+                status: int = 2) -> None:
         """It is refused in one line, and no file changes."""
         before = self.files()
         with mock.patch.dict(os.environ, {"TAC": self.tac}):
-            self.assert_refused(told, "profiles", *agents, *WORDS, *words)
+            self.assert_refused(told, "profiles", *agents, *WORDS, *words, status=status)
         self.assertEqual(before, self.files())
 
     def test_a_study_of_two_strategies(self) -> None:
@@ -165,7 +165,8 @@ class Commands(PlaceCase):
                            for name in ("study", "all")))
         self.refused("study and of1 both have game 1.0 and 3 more", "--join",
                      agents=("of1", "study"))
-        self.refused("of9: it is not the folder of a tournament's run", "--join", agents=("of9",))
+        self.refused("of9: it is not the folder of a tournament's run", "--join", agents=("of9",),
+                     status=1)
         self.run_profiles("--players", "8", "--out", "full")
         self.refused("players is 8, not 2", "--join", agents=("of1", "full"))
 
@@ -191,7 +192,7 @@ class Commands(PlaceCase):
         self.refused("began differently: tac is", "--resume")
         self.tac = tac
         (self.out / "run.json").write_text("{}")
-        self.refused("run.json is not of a tournament of this version")
+        self.refused("run.json is not of a tournament of this version", status=1)
 
     def test_a_folder_of_something_else_is_refused(self) -> None:
         self.out.mkdir()
