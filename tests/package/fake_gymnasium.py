@@ -5,10 +5,11 @@ import contextlib
 import random
 import sys
 import types
-import unittest
 from importlib import import_module
 from typing import Any, Dict as Mapping, Iterator, Optional, Sequence as Several, Tuple
 from unittest import mock
+
+from tests.package.cases import Case
 
 
 class Space:
@@ -143,11 +144,6 @@ def register(*, id: str, entry_point: str) -> None:
     REGISTERED[id] = entry_point
 
 
-def same(numbers: Any) -> Any:
-    """A list in place of an array of the same numbers."""
-    return numbers
-
-
 @contextlib.contextmanager
 def installed() -> Iterator[None]:
     """Lets these stand for `gymnasium` and `numpy`, and their importers be imported anew."""
@@ -156,19 +152,25 @@ def installed() -> Iterator[None]:
                         MultiDiscrete=MultiDiscrete)
     gymnasium, numpy = types.ModuleType("gymnasium"), types.ModuleType("numpy")
     vars(gymnasium).update(spaces=spaces, Env=Env, register=register)
-    vars(numpy).update(array=array, int64="int64", float32="float32", asarray=same)
-    ours = ("geesefuton.learning.spaces", "geesefuton.learning.numeric",
-            "geesefuton.learning.interfaces")
+    vars(numpy).update(array=array, int64="int64", float32="float32", asarray=lambda each: each)
     with mock.patch.dict(sys.modules, {"gymnasium": gymnasium, "gymnasium.spaces": spaces,
                                        "numpy": numpy}):
-        for name in ours:
-            sys.modules.pop(name, None)
+        for name in ("spaces", "numeric", "interfaces"):
+            sys.modules.pop(f"geesefuton.learning.{name}", None)
         yield
 
 
-def imported(case: unittest.TestCase, name: str) -> Any:
-    """A module of `learning` that imports these, for a test."""
-    context = installed()
-    context.__enter__()
-    case.addCleanup(context.__exit__, None, None, None)
-    return import_module(f"geesefuton.learning.{name}")
+class NumericCase(Case):
+    """A test of `learning.numeric` and `learning.spaces`, which import these."""
+
+    def setUp(self) -> None:
+        super().setUp()
+        self.enter(installed())
+        self.numeric: Any = import_module("geesefuton.learning.numeric")
+        self.spaces: Any = import_module("geesefuton.learning.spaces")
+
+    def made(self, kind: str, *words: object, **how: object) -> Any:
+        """A `Seat` or `Seats`, which is closed at the test's end."""
+        made = getattr(self.numeric, kind)(*words, **how)
+        self.addCleanup(made.close)
+        return made

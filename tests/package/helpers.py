@@ -16,11 +16,13 @@ from unittest import mock
 from geesefuton import program
 from geesefuton.experiments.comparisons import missing_libraries
 from geesefuton.hosting.journal import Schedule
+from geesefuton.processes import Output
 from geesefuton.records.dialects import asked_by
 from geesefuton.records.games import CLOCK, GOODS, HOTELS, SEATS, Game, read_game
 from geesefuton.records.logs import Log, read_log
 from geesefuton.records.replies import read_points
-from tests.package.cases import FolderCase
+from tests.package import cases
+from tests.package.cases import fake_program as fake_program
 from tests.support.trying import COMMAND as COMMAND, TOP as TOP, needs_program as needs_program
 
 DATA = TOP / "tests" / "package" / "data"
@@ -47,16 +49,13 @@ def _has_step() -> bool:
     return False
 
 
-class Case(FolderCase):
-    """A test with a folder of its own, `place`."""
+class Case(cases.FolderCase):
+    """A test whose folder is its `place`, too."""
 
-    def setUp(self) -> None:
-        super().setUp()
-        self.place = self.folder
-
-    def set(self, **values: str) -> None:
-        """Sets environment variables for the test."""
-        self.enter(mock.patch.dict(os.environ, values))
+    @property
+    def place(self) -> Path:
+        """The folder."""
+        return self.folder
 
 
 def served_game() -> Game:
@@ -90,19 +89,32 @@ def run(module: str, *words: object, env: Optional[Dict[str, str]] = None,
     return completed(*python(code, *words), env=env, **how)
 
 
-def refusal(module: str, *words: object) -> Tuple[int, str]:
-    """Runs a command of the package in this process, where it is to be refused: its status, and
-    what it tells."""
+def in_process(module: str, *words: object, printed: Union[None, str, Path] = None
+               ) -> Tuple[int, str]:
+    """Runs a command of the package in this process: its status, and what it tells. With a file
+    for what it writes to standard output, what all of the package tells counts."""
     told: List[str] = []
     command = importlib.import_module(f"geesefuton.{module}")
+    places = [f"geesefuton.{place}" for place in (module, "processes", "arguments")]
+    if printed is not None:
+        places = [name for name in sys.modules if name.startswith("geesefuton.")]
+
+    def output(target: Any, name: str = "") -> Output:
+        return Output(printed or 1, "standard output") if target == 1 else Output(target, name)
+
     with contextlib.ExitStack() as stack:
         patch = stack.enter_context
         patch(mock.patch("sys.argv", [module.rpartition(".")[2], *map(str, words)]))
         patch(mock.patch("geesefuton.processes.stop_on_signals"))
-        for place in (module, "processes", "arguments"):
-            patch(mock.patch(f"geesefuton.{place}.tell",
-                             lambda text, is_passing=False: told.append(text + "\n"), create=True))
+        for place in places:
+            patch(mock.patch(f"{place}.tell", create=True,
+                             new=lambda text, is_passing=False: told.append(text + "\n")))
+            if printed is not None:
+                patch(mock.patch(f"{place}.Output", output, create=True))
         return command.main(), "".join(told)
+
+
+refusal = in_process  # of a command that is to be refused
 
 
 def cells_of(part: str) -> List[List[str]]:
@@ -120,14 +132,6 @@ def python(code: str, *words: object) -> List[str]:
 def variables(more: Optional[Dict[str, str]] = None) -> Dict[str, str]:
     """Environment variables with which a process finds the package."""
     return {**os.environ, "PYTHONPATH": str(PACKAGE), "PYTHONUNBUFFERED": "", **(more or {})}
-
-
-def fake_program(folder: Path, body: str) -> str:
-    """A stand-in for the program: a shell script. Gives its file."""
-    file = folder / "tac"
-    file.write_text("#!/bin/sh\n" + body)
-    file.chmod(0o755)
-    return str(file)
 
 
 # How a JVM is run: it leaves no file where temporary files stand, and loads and compiles little.

@@ -1,20 +1,18 @@
 """The agent of examples/agents/baseline.py, in games in steps: no server and no time."""
 
 import random
-import subprocess
 import sys
 import unittest
 from collections import Counter
-from typing import Callable, Dict, List, Optional, Sequence, Tuple, Type
+from typing import Callable, Dict, Iterator, List, Optional, Sequence, Tuple, Type
 
 from geesefuton.learning.market import Market
 from geesefuton.learning.rivals import SeatLink
 from geesefuton.link import Quote, Unanswered
-from geesefuton.records.games import HOTELS, TICKETS, TICKS, Client, Game, inbound, outbound
+from geesefuton.records.games import HOTELS, TICKETS, TICKS, Client, inbound, outbound
 from geesefuton.records.drawing import made_game
 from geesefuton.records.replies import Own
 from tests.package.helpers import TOP, needs_program
-from tests.package.test_link import Server
 
 AGENTS = TOP / "examples" / "agents"
 sys.path.insert(0, str(AGENTS))
@@ -81,12 +79,14 @@ class Hurried(Watched):
         return held
 
 
-def begun(case: unittest.TestCase, few: bool = False) -> Market:
-    """A game that has begun, which ends with its test."""
-    game = made_game(9)
-    market = Market(game.with_rooms([3, 4, 5, 6] * 2, True) if few else game)
-    case.addCleanup(market.close)
-    return market
+MADE = made_game(9)
+
+
+def played(market: Market) -> Iterator[int]:
+    """The ticks of a game, each of which passes after what is done in it."""
+    for tick in range(TICKS):
+        yield tick
+        market.advance()
 
 
 class Tables(unittest.TestCase):
@@ -98,14 +98,13 @@ class Tables(unittest.TestCase):
 
     def test_a_rise_is_that_to_the_closing(self) -> None:
         # Night 8 rises from 10 to 70 dollars at tick 3, and the others stay at 0.
-        game: Game = made_game(9)
         quotes = [[10 if tick < 3 else 70, *[0] * 7] for tick in range(TICKS + 1)]
-        seen = learn_baseline.rises(game, quotes, few=False)
+        seen = learn_baseline.rises(MADE, quotes, few=False)
         self.assertEqual(sum(len(rises) for rises in seen.values()),
                          sum(6 * number for number in range(1, 9)))
         self.assertEqual(seen["PLENTY", 0, 0].count(60), 3)
-        few = learn_baseline.rises(game, quotes, few=True)
-        self.assertEqual(sum(map(len, few.values())), game.hotels[0].closes)
+        few = learn_baseline.rises(MADE, quotes, few=True)
+        self.assertEqual(sum(map(len, few.values())), MADE.hotels[0].closes)
 
 
 class Flights(unittest.TestCase):
@@ -131,7 +130,7 @@ class Flights(unittest.TestCase):
 
 
 class Plans(unittest.TestCase):
-    CLIENTS = made_game(9).clients[0]
+    CLIENTS = MADE.clients[0]
 
     def test_where_all_is_free_each_gets_the_trip_that_it_prefers(self) -> None:
         plan = Plan(self.CLIENTS, [[0] * baseline.UNITS] * 28).settle()
@@ -172,16 +171,21 @@ class Plans(unittest.TestCase):
 
 @needs_program
 class Games(unittest.TestCase):
+    def begun(self, few: bool = False) -> Market:
+        """A game that has begun, which ends with its test."""
+        market = Market(MADE.with_rooms([3, 4, 5, 6] * 2, True) if few else MADE)
+        self.addCleanup(market.close)
+        return market
+
     def alone(self, refuse: Callable[[int], Optional[str]] = lambda good: None, seed: int = 1,
               ticks: int = TICKS) -> Tuple[Market, Watched, Baseline]:
         """A game in which one agent bids. It looks twice a tick, in the first of them alone."""
-        market = begun(self)
+        market = self.begun()
         seat = Watched(market, refuse=refuse)
         agent = Baseline(seat, random.Random(seed))
-        for tick in range(TICKS):
+        for tick in played(market):
             for _ in range(2 if tick < ticks else 0):
                 agent.round()
-            market.advance()
         return market, seat, agent
 
     def assert_allowed(self, seat: Watched) -> None:
@@ -197,15 +201,15 @@ class Games(unittest.TestCase):
         self.assertLess(max(seat.calls.values()), 1024)
         self.assertLess(seat.lines, 65536)
 
-    def games(self, few: bool, kinds: Sequence[Type[Baseline]] = (Baseline,) * 3) -> None:
-        market = begun(self, few)
+    def check_limits(self, few: bool, kinds: Sequence[Type[Baseline]]) -> None:
+        """Agents of some kinds play a game, and keep to the limits."""
+        market = self.begun(few)
         seats = [Watched(market, agent) for agent in range(8)]
         source = random.Random(3)
         players = [kind(seat, source) for kind, seat in zip(kinds, seats)]
-        for _ in range(TICKS):
+        for _ in played(market):
             for player in players:
                 self.assertTrue(player.round())
-            market.advance()
         for player, seat in zip(players, seats):
             self.assertFalse(player.round())
             self.assertEqual(player.seen, TICKS)
@@ -217,15 +221,12 @@ class Games(unittest.TestCase):
                         sum(held[outbound(day)] for day in range(2, 6)), sum(held[8:16]))
             self.assertGreater(trips, 0 if few else 5)
 
-    def test_it_keeps_to_the_limits(self) -> None:
-        self.games(few=False)
-
-    def test_it_keeps_to_the_limits_where_quotes_are_live(self) -> None:
-        self.games(few=True)
-
-    def test_its_kin_keep_to_the_limits(self) -> None:
+    def test_it_and_its_kin_keep_to_the_limits(self) -> None:
+        kinds: Sequence[Sequence[Type[Baseline]]] = ((Baseline,) * 3, (Equilibrium, Scenarios))
         for few in (False, True):
-            self.games(few, (Equilibrium, Scenarios))
+            for each in kinds:
+                with self.subTest(few=few, kinds=each):
+                    self.check_limits(few, each)
 
     def test_it_survives_each_refusal(self) -> None:
         for refusal in REFUSALS:
@@ -245,11 +246,10 @@ class Games(unittest.TestCase):
             self.assertGreater(sum(market.books.holdings[0][good] for good in bought), 0)
 
     def test_it_never_sells_what_it_sold_while_it_planned(self) -> None:
-        market = begun(self)
+        market = self.begun()
         agent = Baseline(Hurried(market), random.Random(1))
-        for _ in range(TICKS):
+        for _ in played(market):
             agent.round()
-            market.advance()
         held = market.books.holdings
         self.assertGreater(sum(held[7][16:]), sum(market.game.endow[7]))
         self.assertTrue(all(held[0][good] >= 0 for good in TICKETS), held[0])
@@ -274,20 +274,17 @@ class Games(unittest.TestCase):
                          if other == good and reply.split()[1] == "taken"]
                 return Own(1, self.own(good), taken[-1] if taken else ())
 
-        market = begun(self)
+        market = self.begun()
         seat = Losing(market)
         agent = Baseline(seat, random.Random(1))
-        for _ in range(TICKS):
+        for _ in played(market):
             self.assertTrue(agent.act())
-            market.advance()
         self.assertFalse(agent.act())
         self.assertGreater(len(lost), 14)
         for good in HOTELS:
             stood = [price for _, price in seat.holding(good).points]
             self.assertEqual(agent.bids[good], stood, good)
-        seats = [sum(good in goods for _, goods in agent.plan.trips) for good in range(8)]
-        held = market.books.holdings[0][:8]
-        self.assertLessEqual(max(held), 8, (held, seats))
+        self.assertLessEqual(max(market.books.holdings[0][:8]), 8)
 
     def test_with_a_seed_it_draws_from_nothing_else(self) -> None:
         played = []
@@ -298,13 +295,12 @@ class Games(unittest.TestCase):
         self.assertEqual(played[0], played[1])
 
     def test_it_knows_the_tick_from_the_closings_if_it_missed_some(self) -> None:
-        market = begun(self)
+        market = self.begun()
         agent = Baseline(Watched(market), random.Random(1))
-        for tick in range(TICKS):
+        for tick in played(market):
             if tick % 7 == 0:
                 agent.round()
                 self.assertTrue(tick - 5 <= agent.tick <= tick, (tick, agent.tick))
-            market.advance()
         self.assertFalse(agent.round())
 
 
@@ -363,25 +359,3 @@ class Waiting(unittest.TestCase):
     def test_in_turns_it_does_not_wait(self) -> None:
         for turns in (20, 80, 200):
             self.assertEqual(baseline.wait(0.0, 1000.0, TICKS * turns // 8), 0.0)
-
-
-class Commands(unittest.TestCase):
-    def agent(self, *words: object) -> "subprocess.CompletedProcess[str]":
-        return subprocess.run([sys.executable, str(AGENTS / "baseline.py"), *map(str, words)],
-                              stdin=subprocess.DEVNULL, capture_output=True, text=True,
-                              timeout=60, check=False)
-
-    def test_a_refused_word_is_told_in_a_line(self) -> None:
-        server = Server([["refused wrongword"]])
-        done = self.agent("127.0.0.1", server.port, "red")
-        server.join()
-        self.assertEqual((done.returncode, done.stdout, done.stderr),
-                         (1, "", "red: refused wrongword\n"))
-
-    def test_bad_words_are_refused(self) -> None:
-        for words in ((), ("localhost", "x", "red"), ("localhost", 7, "red", "--seed", "x"),
-                      ("localhost", 7, "red", "--pause", "nan"),
-                      ("localhost", 7, "red", "--pause", "-1")):
-            done = self.agent(*words)
-            self.assertEqual((done.returncode, done.stdout), (2, ""), words)
-            self.assertIn("error: ", done.stderr.splitlines()[-1])

@@ -4,14 +4,11 @@ import hashlib
 import json
 import os
 from typing import Any, Dict, List, Tuple
-from unittest import mock
 
-from geesefuton.experiments import benchmark
 from geesefuton.experiments.plan import Plan
 from geesefuton.experiments.results import Outcome, Row
-from geesefuton.processes import Output
 from tests.package.run_cases import PlaceCase
-from tests.package.helpers import TOP
+from tests.package.helpers import TOP, in_process
 
 REFERENCES = ["baseline", "equilibrium", "scenarios", "planner", "trader", "starter"]
 
@@ -19,9 +16,7 @@ REFERENCES = ["baseline", "equilibrium", "scenarios", "planner", "trader", "star
 class Benchmarks(PlaceCase):
     def setUp(self) -> None:
         super().setUp()
-        (self.place / "own").mkdir()
-        self.mine = self.place / "own" / "mine.py"
-        self.mine.write_text("")
+        self.mine = self.write("own/mine.py", "")
         self.plans: List[Plan] = []
         self.use_program()
         self.patch("experiments.benchmark.play_in_folder", self.play)
@@ -42,17 +37,10 @@ class Benchmarks(PlaceCase):
 
     def run_list(self, *words: object) -> Tuple[int, Dict[str, Any], bytes]:
         """The status, what is printed, and the file."""
-        out, real = self.place / f"out{len(self.plans)}", Output.write
-
-        def write(target: Output, text: str) -> bool:
-            return target.name == "standard output" or real(target, text)
-
-        with mock.patch("sys.argv", ["benchmark", "--out", str(out), *map(str, words)]), \
-                mock.patch("geesefuton.processes.stop_on_signals"), \
-                mock.patch.object(Output, "write", autospec=True, side_effect=write) as said:
-            status = benchmark.main()
+        out, printed = self.folder / f"out{len(self.plans)}", self.folder / "printed"
+        status, _ = in_process("experiments.benchmark", "--out", out, *words, printed=printed)
         data = (out / "benchmark.json").read_bytes()
-        self.printed = said.call_args[0][1]
+        self.printed = printed.read_text()
         return status, json.loads(data), data
 
     def test_what_is_played_and_told(self) -> None:
@@ -92,8 +80,7 @@ class Benchmarks(PlaceCase):
         self.assertEqual(sorted(each["agent"] for each in told["agents"]), sorted(REFERENCES))
 
     def test_another_agent_with_the_name_of_a_reference_agent(self) -> None:
-        other = self.mine.with_name("planner.py")
-        other.write_text("")
+        other = self.write("own/planner.py", "")
         self.assert_refused("a reference agent has this name", "benchmark", "classic", other,
-                            "--out", self.place / "x")
-        self.assertFalse((self.place / "x").exists())
+                            "--out", self.folder / "x")
+        self.assertFalse((self.folder / "x").exists())

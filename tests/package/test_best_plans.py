@@ -1,9 +1,12 @@
+"""The best plans of a seat's trips, and those that games in steps choose."""
+
 import random
 import unittest
 from typing import Dict, List, Optional, Sequence, Tuple
 from unittest import mock
 
 from geesefuton import program
+from geesefuton.learning.trips import NEVER, chosen
 from geesefuton.link import solve
 from geesefuton.records import best_plans
 from geesefuton.records.best_plans import best_plan
@@ -14,7 +17,8 @@ from tests.package.helpers import needs_program, served_game
 Prices = List[Optional[int]]
 GAME = served_game()
 OPEN: Prices = [*[300] * 8, *[90] * 8, *[70] * 12]
-CLIENT = Client(2, 4, 60, (10, 20, 90))
+CLIENT, WISHES = Client(2, 4, 60, (10, 20, 90)), (2, 4, 60, 10, 20, 90)
+FREE = [100] * 8 + [50] * 8 + [NEVER] * 12
 
 
 def held(*goods: int) -> List[int]:
@@ -82,9 +86,8 @@ class Plans(unittest.TestCase):
                          [outbound(4), room(0, 3), ticket(2, 2)])
 
     def test_a_unit_serves_one_client(self) -> None:
-        alone = best_plan([CLIENT], held(inbound(2)), OPEN).value
-        both = best_plan([CLIENT, CLIENT], held(inbound(2)), OPEN).value
-        self.assertEqual(both, 2 * alone - 300)
+        alone, both = (best_plan([CLIENT] * count, held(inbound(2)), OPEN) for count in (1, 2))
+        self.assertEqual(both.value, 2 * alone.value - 300)
 
     def test_what_cannot_be_had_is_not_planned(self) -> None:
         prices = OPEN[:]
@@ -143,3 +146,39 @@ class Plans(unittest.TestCase):
             units = [draw.choice([0, 0, 1, 1, 2, 3]) for _ in GOODS]
             plan = best_plan(clients, units, [None] * 28)
             self.assertEqual((plan.value, plan.bound), (solve(units, clients),) * 2)
+
+
+class InSteps(unittest.TestCase):
+    def test_a_client_takes_the_trip_that_gains_most(self) -> None:
+        made = chosen([WISHES], FREE, [0] * 28)
+        # The better hotel is worth 60 dollars at the same price.
+        self.assertEqual(made.worth, 1000 + 60 - 2 * 100 - 2 * 50)
+        self.assertEqual([good for good in range(28) if made.wanted[good]],
+                         [inbound(2), outbound(4), room(1, 2), room(1, 3)])
+
+    def test_what_is_held_costs_nothing_and_only_once(self) -> None:
+        made = chosen([WISHES] * 2, FREE, held(inbound(2), outbound(4), room(0, 2), room(0, 3),
+                                               ticket(2, 2)))
+        self.assertEqual(made.wanted[inbound(2)], 2)
+        self.assertEqual(made.wanted[ticket(2, 2)], 1)
+        # The first stays where rooms are held, at 0 dollars, and sees the museum.
+        self.assertEqual(made.worth, 1000 + 90 + 1000 + 60 - 2 * 100 - 2 * 50)
+
+    def test_a_ticket_is_bought_for_less_than_its_value(self) -> None:
+        prices = FREE[:]
+        prices[ticket(2, 3)], prices[ticket(1, 2)], prices[ticket(0, 2)] = 40, 15, 30
+        made = chosen([WISHES], prices, [0] * 28)
+        self.assertEqual(made.worth, 1000 + 60 - 300 + 90 - 40 + 20 - 15)
+        self.assertEqual([made.wanted[good] for good in (ticket(2, 3), ticket(1, 2),
+                                                         ticket(0, 2))], [1, 1, 0])
+
+    def test_nobody_travels_at_a_loss(self) -> None:
+        made = chosen([WISHES] * 8, [NEVER] * 28, [0] * 28)
+        self.assertEqual((made.worth, sum(made.wanted)), (0, 0))
+
+    def test_where_a_night_is_dear_a_client_stays_for_another(self) -> None:
+        prices = FREE[:]
+        prices[room(0, 3)] = prices[room(1, 3)] = 400
+        made = chosen([WISHES], prices, [0] * 28)
+        self.assertEqual(made.worth, 1000 - 100 + 60 - 2 * 100 - 50)
+        self.assertEqual(made.wanted[outbound(3)], 1)

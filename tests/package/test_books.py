@@ -1,95 +1,75 @@
-"""The books of games in steps, beside logs of the proved program, and on worked examples."""
+"""The books of games, beside logs of the proved program and on worked examples; and the ticks of a
+log's entries, and prices over them."""
 
 import unittest
-from typing import List, Optional, Tuple
+from collections import defaultdict
+from dataclasses import replace
+from typing import Dict, List, Optional, Tuple
 
-from geesefuton.records.books import Books, FlightBook, NightBook, Side, TicketBook, text_of
-from geesefuton.records.games import (CLOCK, FLIGHTS, GOODS, HOTELS, HOUSE, SEATS, TICKETS, TICKS,
-                                      Game)
-from geesefuton.records.logs import Call, Entry, Log, Trade, read_log
-from geesefuton.records.replies import No, Own, Reply, read_entry_reply
-from geesefuton.records.rules import prices_of
-from geesefuton.records.ticks import entries_by_tick, ticks_by_log
-from tests.package.helpers import DATA, served_game, served_log
+from geesefuton.records.books import Books, FlightBook, NightBook, TicketBook
+from geesefuton.records.games import FLIGHTS, GOODS, HOTELS, SEATS, TICKETS, TICKS, Game
+from geesefuton.records.logs import Call, Entry, Post, Trade
+from geesefuton.records.replies import Own
+from geesefuton.records.rules import next_price, prices_of
+from geesefuton.records.ticks import (MarketEvent, all_events, entries_by_tick, events_of,
+                                      ticks_by_log)
+from tests.package.entries import GAMES, bid, by_clock, refused, withdrawal
+from tests.package.helpers import served_game, served_log
 from tests.package.journals import GAME
 
-TAKEN, DONE = read_entry_reply("taken 0 0"), read_entry_reply("done")
-GAMES: List[Tuple[Game, Log]] = [(served_game(), served_log()),
-                                 (GAME, read_log((DATA / "lobby.log").read_bytes()))]
-
-
-def bid(agent: int, *points: Tuple[int, int], trades: Tuple[Trade, ...] = (),
-        reply: Reply = TAKEN) -> Entry:
-    return Entry(agent, Call("bid", points), reply, trades)
-
-
-def trades_of(entry: Entry) -> List[Side]:
-    """The trades of an entry by agent, units and dollars."""
-    sides = [(party, sign * trade.units, trade.price) for trade in entry.trades
-             for party, sign in ((trade.buyer, 1), (trade.seller, -1)) if party != HOUSE]
-    return sorted(sides)
+TICKET, PUBLISH, CLOSE = TICKETS[0], by_clock("publish"), by_clock("close")
 
 
 class Logs(unittest.TestCase):
-    def same(self, game: Game, log: Log) -> None:
-        """Plays the history of each auction, and compares trades, holdings and cash."""
-        books, cash = Books(game), [0] * 8
-        for good in GOODS:
-            flight = FlightBook(prices_of(game.flights[good])) if good in FLIGHTS else None
-            night = NightBook(game.rooms[good - 8], game.live) if good in HOTELS else None
-            auction = flight or night or TicketBook()
-            for place, entry in enumerate(log.histories[good]):
-                made: List[Side] = []
-                if isinstance(entry.reply, No):
-                    pass
-                elif entry.call.do == "bid":
-                    made = auction.bid(entry.caller, entry.call.points)
-                elif entry.call.do == "withdraw":
-                    self.assertNotIsInstance(auction, NightBook)
-                    auction.withdraw(entry.caller)  # type: ignore[union-attr]
-                elif entry.call.do == "update" and flight:
-                    made = flight.move(flight.prices[entry.call.tick])
-                elif entry.call.do == "publish" and night:
-                    night.publish()
-                elif entry.call.do == "close" and night:
-                    made = night.close()
-                self.assertEqual(sorted(made), trades_of(entry), (good, place))
-                for agent, units, price in made:
-                    books.holdings[agent][good] += units
-                    cash[agent] -= units * price
-                if entry.caller != CLOCK and isinstance(entry.reply, Own):
-                    self.assertEqual(books.holdings[entry.caller][good], entry.reply.holding)
-        self.assertEqual(cash, [score.cash for score in log.scores])
-        short = [sum(-units for units in held if units < 0) for held in books.holdings]
-        self.assertEqual(short, [score.short for score in log.scores])
+    """Games that are kept as data."""
 
-    def test_games_of_the_program_have_these_trades(self) -> None:
-        self.assertGreater(sum(len(entry.trades) for good in GOODS
-                               for entry in served_log().histories[good]), 20)
+    def test_prices_are_those_of_the_tick_and_in_the_end_plans_are_worth_the_scores(self) -> None:
         for game, log in GAMES:
-            self.same(game, log)
+            books = Books(game)
+            for tick, entries in enumerate(entries_by_tick(ticks_by_log(game, log), log)):
+                for good, _, entry in entries:
+                    books.take(good, entry)
+                self.assertEqual(books.tick, min(tick, 53))
+                if tick == TICKS:
+                    break
+                prices = books.prices_for(0)
+                self.assertEqual([prices[good] for good in FLIGHTS],
+                                 [prices_of(flight)[tick] for flight in game.flights])
+                self.assertEqual([prices[good] is None for good in HOTELS],
+                                 [hotel.closes <= tick for hotel in game.hotels])
+            self.assertEqual(books.cash, [score.cash for score in log.scores])
+            self.assertEqual([-sum(units for units in held if units < 0)
+                              for held in books.holdings], [score.short for score in log.scores])
+            self.assertEqual([books.cash[agent] + books.plan(agent).value
+                              for agent in range(SEATS)], [score.score for score in log.scores])
+            self.assertEqual(books.prices_for(0), [None] * 28)
+            self.assertEqual([is_closed for *_, is_closed in books.boards], [True] * 28)
+            self.assertEqual(books.at_the_end().cash, books.cash)
 
+    def test_the_ticks_of_entries_only_grow(self) -> None:
+        for game, log in GAMES:
+            for good, ticks in enumerate(ticks_by_log(game, log)):
+                self.assertEqual((len(ticks), ticks), (len(log.histories[good]), sorted(ticks)))
+                if good in TICKETS:
+                    self.assertEqual(ticks[-1], TICKS)
 
-class Entries(unittest.TestCase):
-    def test_the_books_of_a_log_have_its_cash_and_its_tickets_short(self) -> None:
+    def test_events_have_the_prices_of_their_ticks_and_add_up_to_the_cash(self) -> None:
         game, log = served_game(), served_log()
-        books = Books(game)
-        for good in GOODS:
-            for entry in log.histories[good]:
-                books.take(good, entry)
-        self.assertEqual(books.tick, 53)
-        self.assertEqual(books.cash, [score.cash for score in log.scores])
-        self.assertEqual([is_closed for *_, is_closed in books.boards], [True] * 28)
-        self.assertEqual(books.at_the_end().cash, books.cash)
-
-    def test_what_stands_trades_before_the_end_if_nobody_asks_more(self) -> None:
-        game = served_game()
-        books, good = Books(game), game.closing[0]
-        books.bid(3, good, ((1, 90),))
-        end = books.at_the_end()
-        self.assertEqual((books.tick, books.cash[3], books.holdings[3][good]), (0, 0, 0))
-        self.assertEqual((end.tick, end.holdings[3][good]), (54, 1))
-        self.assertIsNone(end.prices_for(0)[good])
+        told: Dict[Tuple[str, int], List[Tuple[Optional[int], int]]] = defaultdict(list)
+        cash, paths = [0] * SEATS, [prices_of(flight) for flight in game.flights]
+        for event in all_events(game, log):
+            told[event.what, event.good].append((event.tick, event.dollars))
+            if event.what == "trade" and event.agent is not None:
+                cash[event.agent] -= (event.units or 0) * event.dollars
+        self.assertEqual(cash, [score.cash for score in log.scores])
+        for good, path in zip(FLIGHTS, paths):
+            self.assertEqual(told["price", good], list(enumerate(path)))
+            self.assertLessEqual(set(told["trade", good]), set(enumerate(path)))
+        self.assertTrue(any(told["trade", good] for good in FLIGHTS))
+        for good in HOTELS:
+            self.assertEqual([tick for tick, _ in told["close", good]],
+                             [game.hotels[good - 8].closes])
+            self.assertLessEqual(set(told["trade", good]), set(told["close", good]))
 
 
 class Auctions(unittest.TestCase):
@@ -107,13 +87,7 @@ class Auctions(unittest.TestCase):
     def test_rooms_that_are_left_cost_nothing(self) -> None:
         night = NightBook(3, True)
         night.bid(0, ((2, 50),))
-        self.assertEqual(night.close(), [(0, 2, 0)])
-        self.assertTrue(night.is_closed)
-
-    def test_live_nights_publish_with_each_bid(self) -> None:
-        night = NightBook(1, True)
-        night.bid(0, ((1, 30),))
-        self.assertEqual(night.board(), (0, 30))
+        self.assertEqual((night.close(), night.is_closed), ([(0, 2, 0)], True))
 
     def test_tickets_trade_at_the_standing_price_and_never_with_oneself(self) -> None:
         tickets = TicketBook()
@@ -130,119 +104,131 @@ class Auctions(unittest.TestCase):
     def test_a_seat_waits_for_its_price(self) -> None:
         flight = FlightBook([300, 290, 310])
         self.assertEqual(flight.bid(2, ((1, 300), (2, 295), (1, 280))), [(2, 1, 300)])
-        other = flight.copied()
-        self.assertEqual(flight.move(290), [(2, 2, 290)])
-        self.assertEqual(other.move(290), [(2, 2, 290)])
+        for book in (flight.copied(), flight):
+            self.assertEqual(book.move(290), [(2, 2, 290)])
         flight.withdraw(2)
-        self.assertEqual(flight.move(310), [])
-        self.assertEqual(flight.board(), (0, 310))
-
-    def test_boards_are_shown_in_lines(self) -> None:
-        books = Books(served_game())
-        self.assertEqual(text_of([]), "")
-        lines = text_of(books.boards).split("\n")
-        self.assertEqual(len(lines), 8)
-        self.assertRegex(lines[4], "^Alligator wrestling +night 1 0/0 ")
-
-
-class Rooms(unittest.TestCase):
-    def night(self, count: int) -> NightBook:
-        """A night in which three units stand at 90, 70 and 50 dollars, and a fourth at 50."""
-        night = NightBook(count, False)
-        for agent, points in ((0, ((1, 10),)), (0, ((2, 50), (1, 90))), (3, ((1, 70),))):
-            night.bid(agent, points)
-        return night
+        self.assertEqual((flight.move(310), flight.board()), ([], (0, 310)))
 
     def test_the_ask_is_that_of_the_last_unit_that_gets_a_room(self) -> None:
-        self.assertEqual([self.night(count).ask() for count in (1, 2, 3, 4, 5)],
-                         [90, 70, 50, 50, 0])
-        self.assertEqual(NightBook(1, False).ask(), 0)
-
-    def test_no_more_rooms_are_sold_than_there_are(self) -> None:
-        self.assertEqual([self.night(count).sold() for count in (1, 4, 5)], [1, 4, 4])
-        self.assertEqual(NightBook(1, False).sold(), 0)
-
-
-class Asks(unittest.TestCase):
-    """What an agent has to pay for a ticket."""
-
-    def asks(self, *entries: Entry) -> List[Optional[int]]:
-        books = Books(served_game())
-        for entry in entries:
-            books.take(TICKETS[0], entry)
-        return [books.prices_for(agent)[TICKETS[0]] for agent in (0, 1, 2)]
-
-    def test_the_lowest_of_the_others(self) -> None:
-        self.assertEqual(self.asks(), [None, None, None])
-        self.assertEqual(self.asks(bid(0, (-2, 90), (1, 20)), bid(1, (-1, 80))), [80, 90, 80])
-
-    def test_a_new_bid_replaces_the_old_one_and_a_withdrawal_takes_it_away(self) -> None:
-        self.assertEqual(self.asks(bid(0, (-1, 50)), bid(0, (-1, 70)))[1], 70)
-        self.assertIsNone(self.asks(bid(0, (-1, 50)), Entry(0, Call("withdraw"), DONE))[1])
-        refused = bid(0, (-1, 10), reply=read_entry_reply("no selfcross"))
-        self.assertEqual(self.asks(bid(0, (-1, 50)), refused)[1], 50)
-
-    def test_what_is_sold_no_longer_stands(self) -> None:
-        self.assertEqual(self.asks(bid(0, (-1, 50), (-1, 60)), bid(1, (1, 55)))[1], 60)
-        # Who sells to a standing bid keeps what nobody took.
-        self.assertEqual(self.asks(bid(1, (1, 55)), bid(0, (-1, 90), (-1, 40)))[1], 90)
+        # Three units stand at 90, 70 and 50 dollars, and a fourth at 50.
+        for rooms, ask, sold in ((1, 90, 1), (2, 70, 2), (3, 50, 3), (4, 50, 4), (5, 0, 4)):
+            night = NightBook(rooms, False)
+            self.assertEqual((night.ask(), night.sold()), (0, 0))
+            for agent, points in ((0, ((1, 10),)), (0, ((2, 50), (1, 90))), (3, ((1, 70),))):
+                night.bid(agent, points)
+            self.assertEqual((night.ask(), night.sold()), (ask, sold))
 
 
-class Markets(unittest.TestCase):
+class Costs(unittest.TestCase):
     """What goods cost, call by call."""
 
-    def costs(self, live: bool, *entries: Entry) -> List[Optional[int]]:
-        """What night 8 costs after each of these entries, where each night has two rooms."""
-        books, costs = Books(GAME.with_rooms([2] * 8, live)), list[Optional[int]]()
-        for entry in entries:
-            books.take(8, entry)
-            costs.append(books.prices_for(0)[8])
-        return costs
-
-    def test_a_hotel_costs_what_was_published(self) -> None:
-        entries = [bid(0, (2, 50)), Entry(CLOCK, Call("publish"), DONE), bid(1, (1, 70)),
-                   bid(2, (2, 90), reply=read_entry_reply("no belowquote 1 51 0")),
-                   Entry(CLOCK, Call("publish"), DONE), Entry(CLOCK, Call("close"), DONE)]
-        self.assertEqual(self.costs(False, *entries), [0, 50, 50, 50, 50, None])
-        self.assertEqual(self.costs(True, *entries), [50, 50, 50, 50, 50, None])
-        entries[2] = bid(1, (2, 70))
-        self.assertEqual(self.costs(False, *entries), [0, 50, 50, 50, 70, None])
-        self.assertEqual(self.costs(True, *entries), [50, 50, 70, 70, 70, None])
-
-    def test_a_ticket_costs_what_another_agent_asks(self) -> None:
+    def test_a_ticket_costs_the_lowest_that_another_agent_asks(self) -> None:
+        selling = bid(0, (-1, 50))
+        for entries, due in (
+                ([], [None, None, None]),
+                ([bid(0, (-2, 90), (1, 20)), bid(1, (-1, 80))], [80, 90, 80]),
+                ([selling, bid(0, (-1, 70))], [None, 70, 70]),
+                ([selling, withdrawal(0)], [None, None, None]),
+                ([selling, bid(0, (-1, 10), reply=refused("selfcross"))], [None, 50, 50]),
+                ([bid(0, (-1, 50), (-1, 60)), bid(1, (1, 55))], [None, 60, 60]),
+                # Who sells to a standing bid keeps what nobody took.
+                ([bid(1, (1, 55)), bid(0, (-1, 90), (-1, 40))], [None, 90, 90])):
+            books = Books(served_game())
+            for entry in entries:
+                books.take(TICKET, entry)
+            self.assertEqual([books.prices_for(agent)[TICKET] for agent in (0, 1, 2)], due)
         books = Books(GAME)
         books.take(20, bid(1, (-1, 90)))
-        self.assertEqual([books.prices_for(agent)[20] for agent in (0, 1)], [90, None])
-        self.assertEqual(books.prices_for(0)[21], None)
+        self.assertEqual(books.prices_for(0)[20:22], [90, None])
         books.take(20, bid(0, (1, 95), trades=(Trade(0, 1, 1, 90),)))
         self.assertEqual((books.cash[:2], books.holdings[0][20] - GAME.endow[0][4],
                           books.holdings[1][20] - GAME.endow[1][4]), ([-90, 90], 1, -1))
 
+    def test_a_hotel_costs_what_was_published(self) -> None:
+        low = bid(2, (2, 90), reply=refused("belowquote 1 51 0"))
+        for live, other, due in (
+                (False, bid(1, (1, 70)), [0, 50, 50, 50, 50, None]),
+                (True, bid(1, (1, 70)), [50, 50, 50, 50, 50, None]),
+                (False, bid(1, (2, 70)), [0, 50, 50, 50, 70, None]),
+                (True, bid(1, (2, 70)), [50, 50, 70, 70, 70, None])):
+            books, costs = Books(GAME.with_rooms([2] * 8, live)), list[Optional[int]]()
+            for entry in (bid(0, (2, 50)), PUBLISH, other, low, PUBLISH, CLOSE):
+                books.take(8, entry)
+                costs.append(books.prices_for(0)[8])
+            self.assertEqual(costs, due)
 
-class Played(unittest.TestCase):
-    """Games that are kept as data."""
+    def test_what_stands_trades_before_the_end_if_nobody_asks_more(self) -> None:
+        game = served_game()
+        books, good = Books(game), game.closing[0]
+        books.bid(3, good, ((1, 90),))
+        end = books.at_the_end()
+        self.assertEqual((books.tick, books.cash[3], books.holdings[3][good]), (0, 0, 0))
+        self.assertEqual((end.tick, end.holdings[3][good]), (54, 1))
+        self.assertIsNone(end.prices_for(0)[good])
 
-    def test_in_the_end_plans_are_worth_the_scores(self) -> None:
-        for game, log in GAMES:
-            books = Books(game)
-            for entries in entries_by_tick(ticks_by_log(game, log), log):
-                for good, _, entry in entries:
-                    books.take(good, entry)
-            self.assertEqual(books.cash, [score.cash for score in log.scores])
-            self.assertEqual([books.cash[agent] + books.plan(agent).value
-                              for agent in range(SEATS)], [score.score for score in log.scores])
-            self.assertEqual(books.prices_for(0), [None] * 28)
 
-    def test_prices_are_those_of_the_tick(self) -> None:
-        for game, log in GAMES:
-            books = Books(game)
-            by_tick = entries_by_tick(ticks_by_log(game, log), log)
-            for tick, entries in enumerate(by_tick[:TICKS]):
-                for good, _, entry in entries:
-                    books.take(good, entry)
-                self.assertEqual(books.tick, tick)
-                prices = books.prices_for(0)
-                self.assertEqual([prices[good] for good in FLIGHTS],
-                                 [prices_of(flight)[tick] for flight in game.flights])
-                self.assertEqual([prices[good] is None for good in HOTELS],
-                                 [hotel.closes <= tick for hotel in game.hotels])
+class Events(unittest.TestCase):
+    """Prices and trades of some entries."""
+
+    def events(self, good: int, *entries: Entry, game: Game = served_game()) -> List[MarketEvent]:
+        return list(events_of(game, good, entries, Books(game)))
+
+    def test_prices_of_hotels_are_those_that_are_published(self) -> None:
+        """By the minute by the clock alone, and live by each admitted bid, too. Hotel 8 has two
+        rooms and closes second."""
+        low = bid(3, (5, 500), reply=refused("belowquote 1 51 0"))
+        wrong, withdraw = (Entry(0, Call(do), refused("wrongcall"))
+                           for do in ("publish", "withdraw"))  # an agent's
+        own = Entry(0, Call("own"), Own(None, 0, ((2, 50),)))
+        for live, entries, *due in (
+                (False, [bid(0, (1, 50)), bid(1, (1, 60)), PUBLISH, bid(2, (1, 90)), CLOSE],
+                 ("price", 6, 50, 2), ("close", 12, 60, 4)),
+                (False, [PUBLISH, bid(0, (1, 50))], ("price", 6, 0, 0)),
+                (True, [bid(0, (1, 50)), bid(1, (1, 60)), low, PUBLISH, bid(0, (1, 70))],
+                 ("price", 0, 50, 1), ("price", 6, 50, 3), ("price", 6, 60, 4)),
+                (False, [bid(0, (2, 50)), bid(0, (1, 80)), PUBLISH], ("price", 6, 0, 2)),
+                (False, [bid(0, (2, 50)), wrong]),
+                (True, [bid(0, (2, 50)), own, withdraw, PUBLISH],
+                 ("price", 0, 50, 0), ("price", 6, 50, 3))):
+            game = served_game().with_rooms([2] * 8, live)
+            game = replace(game, closing=(9, 8, *range(10, 16)))
+            with self.subTest(live=live, due=due):
+                got = [(event.what, event.tick, event.dollars, event.position)
+                       for event in self.events(8, *entries, game=game)]
+                self.assertEqual(got, [("price", 0, 0, None), *due])
+
+    def test_trades_are_those_of_agents_on_both_sides(self) -> None:
+        for trade, *due in ((Trade(4, 2, 1, 70), (4, 1, 70), (2, -1, 70)),
+                            (Trade(8, 4, 1, 70), (4, -1, 70))):  # the house has none of its own
+            got = self.events(20, bid(2, (-1, 60), trades=(trade,)))
+            self.assertEqual(got, [MarketEvent("trade", None, 20, 0, *each) for each in due])
+
+    def test_updates_of_a_flight_move_its_price_by_their_draws(self) -> None:
+        flight = served_game().flights[3]
+        first = flight.first
+        second = next_price(flight, first, 1, 12345)
+        bought = bid(4, (2, 800), trades=(Trade(4, 8, 2, second),))
+        got = self.events(3, by_clock("update", tick=1, draw=12345), bought)
+        self.assertEqual(got, [MarketEvent("price", 0, 3, None, None, None, first),
+                               MarketEvent("price", 1, 3, 0, None, None, second),
+                               MarketEvent("trade", 1, 3, 1, 4, 2, second)])
+        wrong = Entry(4, Call("update", (), 1, 12345), refused("wrongcall"))  # an agent's
+        self.assertEqual([(event.tick, event.position) for event in self.events(3, wrong, bid(4))],
+                         [(0, None)])
+
+    def test_tickets_have_the_tick_of_the_last_flight_or_room_that_was_paid_before(self) -> None:
+        def update(tick: int) -> Entry:
+            return by_clock("update", tick=tick)
+
+        selling = (bid(1, (-1, 5)), bid(2, (1, 5)))
+        histories = {0: (update(1), update(2), bid(1, (1, 900)), update(3)),
+                     1: (update(1), bid(1, (1, 900))),
+                     8: (bid(0, (1, 9)), PUBLISH, bid(0, (1, 19))),
+                     20: (*selling, bid(3, (1, 5)), CLOSE), 21: (*selling, CLOSE),
+                     22: (*selling, CLOSE)}
+        posts = [(21, 1), (0, 2), (1, 1), (20, 1), (8, 2), (22, 1)]  # goods, and positions there
+        log = replace(served_log(), histories=tuple(histories.get(good, ()) for good in GOODS),
+                      cash=tuple(Post(2, good, at, (0,) * 9) for good, at in posts))
+        ticks = ticks_by_log(GAME, log)
+        self.assertEqual([ticks[good] for good in (0, 1, 8, 20, 21, 22)], [
+            [1, 2, 2, 3], [1, 1], [0, 6, 6], [0, 2, 2, 54], [0, 0, 54], [0, 6, 54]])

@@ -1,26 +1,28 @@
 import random
 import unittest
 from itertools import combinations
-from typing import List, Tuple
+from statistics import fmean, pstdev
+from typing import List, Sequence
 
-from geesefuton import program
 from geesefuton.experiments import covariates
 from geesefuton.experiments.covariates import (MEAN_FIRST_PRICE, MEAN_LUCK, MEAN_NIGHTS, Covariates,
                                                best_trip, covariates_of)
-from geesefuton.records.games import PACKAGES, Client, read_game
-from tests.package.helpers import needs_program, served_game
+from geesefuton.records.games import PACKAGES, Client
+from tests.package.helpers import served_game
 
 
 class Drawn(unittest.TestCase):
+    def assert_mean(self, values: Sequence[float], due: float) -> None:
+        """The mean of values is one that is due, by less than four standard errors."""
+        self.assertLess(abs(fmean(values) - due), 4 * pstdev(values) / len(values) ** 0.5)
+
     def test_those_of_a_game(self) -> None:
         game = served_game()
-        found = covariates_of(game)
-        self.assertEqual([drawn.luck for drawn in found], [
-            sum(map(best_trip, clients)) for clients in game.clients])
         first_price = sum(flight.first for flight in game.flights) / 8
-        for drawn, clients in zip(found, game.clients):
-            nights = sum(client.depart - client.arrive for client in clients) / 8
-            self.assertEqual(drawn, Covariates(drawn.luck, nights, first_price))
+        self.assertEqual(list(covariates_of(game)), [
+            Covariates(sum(map(best_trip, clients)),
+                       sum(client.depart - client.arrive for client in clients) / 8, first_price)
+            for clients in game.clients])
 
     def test_nothing_is_kept_of_the_clients_of_earlier_games(self) -> None:
         for number in range(200):
@@ -39,34 +41,19 @@ class Drawn(unittest.TestCase):
             worths.append(best_trip(Client(arrive, depart, source.randint(50, 150),
                                            (source.randint(0, 200), source.randint(0, 200),
                                             source.randint(0, 200)))))
-        mean = sum(worths) / len(worths)
-        spread = (sum((worth - mean) ** 2 for worth in worths) / len(worths)) ** 0.5
-        self.assertLess(abs(8 * mean - MEAN_LUCK), 4 * 8 * spread / len(worths) ** 0.5)
-
-    @needs_program
-    def test_made_games_have_these_means(self) -> None:
-        drawn = [one for seed in range(1, 41)
-                 for one in covariates_of(read_game(program.make(seed)))]
-        cases: List[Tuple[List[float], float]] = [
-            ([one.luck for one in drawn], MEAN_LUCK), ([one.nights for one in drawn], MEAN_NIGHTS),
-            ([one.first_price for one in drawn[::8]], MEAN_FIRST_PRICE)]
-        for values, mean in cases:
-            found = sum(values) / len(values)
-            spread = (sum((value - found) ** 2 for value in values) / len(values)) ** 0.5
-            self.assertLess(abs(found - mean), 4 * spread / len(values) ** 0.5)
+        self.assert_mean([8 * worth for worth in worths], MEAN_LUCK)
 
 
 class Lucks(unittest.TestCase):
     def test_a_best_trip_by_hand(self) -> None:
         # Two nights in Shanties, and one in Towers; no ticket is worth its price.
         seats = 2 * covariates.SEAT
-        plain = Client(1, 3, 50, (10, 20, 30))
-        self.assertEqual(best_trip(plain), 1000 - seats - 2 * covariates.SHANTIES)
-        towers = Client(1, 2, 150, (0, 0, 0))
-        self.assertEqual(best_trip(towers), 1150 - seats - covariates.TOWERS)
-        tickets = Client(2, 4, 50, (200, 0, 180))
-        self.assertEqual(best_trip(tickets),
-                         1380 - seats - 2 * covariates.SHANTIES - 2 * covariates.TICKET)
+        for client, worth in (
+                (Client(1, 3, 50, (10, 20, 30)), 1000 - 2 * covariates.SHANTIES),
+                (Client(1, 2, 150, (0, 0, 0)), 1150 - covariates.TOWERS),
+                (Client(2, 4, 50, (200, 0, 180)),
+                 1380 - 2 * covariates.SHANTIES - 2 * covariates.TICKET)):
+            self.assertEqual(best_trip(client), worth - seats)
 
     def test_it_is_the_best_of_all_trips(self) -> None:
         for clients in served_game().clients:

@@ -1,15 +1,10 @@
-import contextlib
 import copy
-import os
 import pickle
 import random
-import signal
 import sys
 import tempfile
-import unittest
-from collections import Counter
 from pathlib import Path
-from typing import Any, Dict, Iterator, List
+from typing import Any, Dict, List, Optional
 from unittest import mock
 
 from geesefuton import program
@@ -17,12 +12,13 @@ from geesefuton.learning.environment import ActionError, Environment
 from geesefuton.learning.rivals import SeatLink, maker_of, scores_of
 from geesefuton.program import ProgramError
 from geesefuton.records.drawing import classic_endowments, drawn_rooms, made_game
-from geesefuton.records.games import FLIGHTS, HOTELS, TICKS, Game, GameError, read_game
+from geesefuton.records.games import FLIGHTS, TICKS, Game, GameError, read_game
 from geesefuton.records.logs import read_scores
 from geesefuton.records.order import first_seat, order_of_turn
 from geesefuton.records.rules import prices_of
 from tests.package import fake_gymnasium
-from tests.package.helpers import SERVED_GAME, TOP, fake_program, needs_program
+from tests.package.cases import Case
+from tests.package.helpers import SERVED_GAME, TOP, needs_program
 
 FIRST = TOP / "examples" / "first.game"  # of version 1
 FEW_ROOMS = TOP / "examples" / "few_rooms.game"  # of version 2, with live quotes
@@ -31,11 +27,10 @@ Actions = Dict[str, List[str]]
 
 def played(environment: Environment) -> bytes:
     """The log of `tac play` for the game and the script of an environment."""
-    with tempfile.TemporaryDirectory() as folder:
-        game, script = Path(folder, "game"), Path(folder, "script")
-        game.write_text(environment.game)
-        script.write_bytes(environment.script.encode())
-        text = program.play(game, script)
+    with tempfile.NamedTemporaryFile() as game, tempfile.NamedTemporaryFile() as script:
+        Path(game.name).write_text(environment.game)
+        Path(script.name).write_bytes(environment.script.encode())
+        text = program.play(game.name, script.name)
     return text[text.index("taclog 1\n"):].encode()
 
 
@@ -63,7 +58,15 @@ def hindsight(told: Any) -> Dict[str, int]:
     return {agent: info["hindsight"] for agent, info in told[-1].items()}
 
 
-class Arguments(unittest.TestCase):
+class Begun(Case):
+    def begun(self, *game: Path, seed: Optional[int] = None, **settings: Any) -> Environment:
+        """An environment whose game has begun, and which is closed at the test's end."""
+        environment: Environment = self.enter(Environment(*game, **settings))
+        environment.reset(seed)
+        return environment
+
+
+class Arguments(Case):
     def test_bad_arguments_are_told(self) -> None:
         bad: List[Dict[str, Any]] = [
             {"render_mode": "human"}, {"rooms": (0, 3)}, {"rooms": (4, 3)}, {"rooms": (3, 65)},
@@ -106,31 +109,25 @@ class Arguments(unittest.TestCase):
             "name": "geesefuton_v4", "render_modes": ["ansi"], "is_parallelizable": True})
         environment.close()
 
-    @contextlib.contextmanager
-    def served_by(self, body: str) -> Iterator[Environment]:
-        """An environment whose program is a stand-in."""
-        with tempfile.TemporaryDirectory() as folder, \
-                mock.patch.dict(os.environ, {"TAC": fake_program(Path(folder), body)}), \
-                Environment(FIRST) as environment:
-            yield environment
-
     def test_a_program_that_fails_ends_the_game(self) -> None:
         for body in ("read -r line; exit 7\n", "read -r line; echo text 1 1; exit 8\n"):
-            with self.served_by(body) as environment:
+            self.use_program(body)
+            with Environment(FIRST) as environment:
                 environment.reset()
                 self.assertEqual(environment.num_agents, 8)
                 agent = environment.agents[0]
                 self.assertRaises(ProgramError, environment.step, {agent: ["own 8"]})
                 self.assertEqual(environment.agents, [])
                 self.assertRaisesRegex(ActionError, "no game has begun", environment.step, {})
-        with mock.patch.dict(os.environ, {"TAC": "/nowhere/tac"}):
-            self.assertRaises(ProgramError, Environment(FIRST).reset)
-            environment = Environment()
-            self.assertRaises(ProgramError, environment.reset)
-            self.assertIsNone(environment.seed)
+        self.set(TAC="/nowhere/tac")
+        self.assertRaises(ProgramError, Environment(FIRST).reset)
+        environment = Environment()
+        self.assertRaises(ProgramError, environment.reset)
+        self.assertIsNone(environment.seed)
 
     def test_a_game_that_is_played_cannot_be_pickled(self) -> None:
-        with self.served_by("read -r line\n") as environment:
+        self.use_program("read -r line\n")
+        with Environment(FIRST) as environment:
             self.assertEqual(pickle.loads(pickle.dumps(environment)).possible_agents,
                              environment.possible_agents)
             environment.reset()
@@ -171,11 +168,11 @@ class Arguments(unittest.TestCase):
 
 
 @needs_program
-class Steps(unittest.TestCase):
+class Steps(Case):
     def setUp(self) -> None:
+        super().setUp()
         self.game: Game = read_game(FIRST.read_text())
-        self.environment = Environment(FIRST)
-        self.addCleanup(self.environment.close)
+        self.environment = self.enter(Environment(FIRST))
         self.observations, self.infos = self.environment.reset()
         self.agents = list(self.environment.agents)
 
@@ -197,21 +194,6 @@ class Steps(unittest.TestCase):
                 "tick": int, "round": int, "quotes": tuple, "holdings": tuple, "cash": int,
                 "clients": tuple})
             self.assertEqual({type(board) for board in seen["quotes"]}, {tuple})
-
-    def test_flights_move_and_hotels_close_at_their_ticks(self) -> None:
-        prices = [prices_of(flight) for flight in self.game.flights]
-        observations = self.observations
-        for tick in range(TICKS):
-            seen = observations[self.agents[7]]
-            self.assertEqual(seen["tick"], tick)
-            for good in FLIGHTS:
-                self.assertEqual(seen["quotes"][good][1:], (prices[good][tick], False))
-            for good in HOTELS:
-                is_closed = tick >= self.game.hotels[good - HOTELS.start].closes
-                self.assertEqual(seen["quotes"][good][2], is_closed)
-            observations, *_ = self.environment.step({})
-        quotes = observations[self.agents[0]]["quotes"]
-        self.assertEqual([closed for _, _, closed in quotes], [True] * 28)
 
     def test_requests_are_answered_to_those_who_asked(self) -> None:
         second, fifth = self.agents[2], self.agents[5]
@@ -237,13 +219,12 @@ class Steps(unittest.TestCase):
         self.assertEqual(ends, dict.fromkeys(self.agents, True))
         self.assertEqual(breaks, dict.fromkeys(self.agents, False))
         self.assertEqual(observations[buyer]["tick"], TICKS)
+        self.assertEqual([closed for _, _, closed in observations[buyer]["quotes"]], [True] * 28)
         self.assertEqual(self.environment.agents, [])
         self.assertRaisesRegex(ActionError, "no game has begun", self.environment.step, {})
         assert self.environment.log is not None
-        with tempfile.TemporaryDirectory() as folder:
-            game = Path(folder, "game")
-            game.write_text(self.environment.game)
-            self.assertEqual(program.audit(game, self.environment.log), "sound")
+        game = self.write("game", self.environment.game)
+        self.assertEqual(program.audit(game, self.environment.log), "sound")
 
     def test_bad_actions_change_nothing(self) -> None:
         agent, environment = self.agents[0], self.environment
@@ -291,11 +272,9 @@ class Steps(unittest.TestCase):
     def test_the_boards_are_shown_as_text(self) -> None:
         lines = self.environment.render().split("\n")
         prices = [flight.first for flight in self.game.flights]
-        self.assertEqual(lines[0], "tick 0 of 54")
-        self.assertEqual(lines[1].split(), ["Flights", "in", "day", "1", str(prices[0]), "day", "2",
-                                            str(prices[1]), "day", "3", str(prices[2]), "day", "4",
-                                            str(prices[3])])
-        self.assertEqual((len(lines), lines[-1]), (9, ""))
+        self.assertEqual((lines[0], len(lines), lines[-1]), ("tick 0 of 54", 9, ""))
+        self.assertEqual(" ".join(lines[1].split()), "Flights in " + " ".join(
+            f"day {day} {price}" for day, price in enumerate(prices[:4], 1)))
         self.environment.step({self.agents[0]: ["bid 16 ((-1 60))"],
                                self.agents[1]: ["bid 16 ((1 50))"]})
         self.assertIn("night 1 50/60", self.environment.render())
@@ -304,7 +283,7 @@ class Steps(unittest.TestCase):
 
 
 @needs_program
-class Games(unittest.TestCase):
+class Games(Begun):
     def test_games_by_random_actions_have_the_logs_of_play(self) -> None:
         source = random.Random(54)
         with fake_gymnasium.installed(), Environment() as environment, \
@@ -338,14 +317,13 @@ class Games(unittest.TestCase):
                         continue
                     told, *_, infos = each.step(dict.fromkeys(agents, reading))
                     for agent in agents:
-                        before, words = seen[agent], [reply.split() for reply
-                                                      in infos[agent]["replies"]]
-                        self.assertEqual(tuple((int(bid), int(ask), state == "closed") for
-                                               _, _, bid, ask, state in words[:28]),
-                                         before["quotes"])
-                        self.assertEqual(tuple(int(word[2]) for word in words[28:56]),
-                                         before["holdings"])
-                        self.assertEqual(int(words[56][2]), before["cash"])
+                        words = [reply.split() for reply in infos[agent]["replies"]]
+                        self.assertEqual({
+                            "quotes": tuple((int(bid), int(ask), state == "closed")
+                                            for _, _, bid, ask, state in words[:28]),
+                            "holdings": tuple(int(word[2]) for word in words[28:56]),
+                            "cash": int(words[56][2])},
+                            {key: seen[agent][key] for key in ("quotes", "holdings", "cash")})
                     seen = told
                 assert each.log is not None
                 self.assertGreater(each.log.count(b"\ntrade "), 20)
@@ -378,17 +356,6 @@ class Games(unittest.TestCase):
                 self.assertEqual(read_game(environment.game), due)
                 self.assertEqual([tuple(infos[agent]["endow"]) for agent in environment.agents],
                                  list(due.endow))
-                self.assertEqual([tuple(client) for client in infos["seat7"]["clients"]],
-                                 [(client.arrive, client.depart, client.premium, *client.values)
-                                  for client in due.clients[7]])
-
-    def test_live_quotes_are_published_at_once(self) -> None:
-        with Environment(rooms=(2, 2), live=True) as environment:
-            environment.reset(5)
-            # The ask is the price of the second highest of three units.
-            observations, *_ = environment.step({"seat0": ["bid 8 ((1 30) (1 20))"],
-                                                 "seat1": ["bid 8 ((1 25))"]})
-            self.assertEqual(observations["seat2"]["quotes"][8][1], 25)
 
     def test_a_seed_that_comes_again_is_not_made_again(self) -> None:
         with Environment() as environment, \
@@ -403,51 +370,46 @@ class Games(unittest.TestCase):
 
     def test_a_file_is_played_each_time(self) -> None:
         with Environment(SERVED_GAME) as environment:
-            environment.reset(3)
-            first = environment.game
-            environment.step({})
-            environment.reset()
-            self.assertEqual((environment.game, environment.seed, environment.tick),
-                             (first, None, 0))
-            self.assertEqual(environment.game, read_game(SERVED_GAME.read_text()).text())
+            for seed in (3, None):
+                environment.reset(seed)
+                self.assertEqual((environment.game, environment.seed, environment.tick),
+                                 (read_game(SERVED_GAME.read_text()).text(), None, 0))
+                environment.step({})
 
     def test_scores_so_far_are_those_if_nobody_asked_more(self) -> None:
-        with Environment(FIRST, hindsight=True) as environment:
-            environment.reset()
-            agents = list(environment.agents)
-            price = read_game(FIRST.read_text()).flights[0].first
-            # The seller is short of the tickets that it sold beyond its own, 200 dollars each.
-            short = 16 - read_game(FIRST.read_text()).endow[4][0]
-            told = environment.step({agents[0]: ["bid 0 ((1 800))"],
-                                     agents[4]: ["bid 16 ((-16 30))"],
-                                     agents[5]: ["bid 16 ((16 30))"]})
-            scores = {**dict.fromkeys(agents, 0), agents[0]: -price,
-                      agents[4]: 16 * 30 - 200 * short, agents[5]: -16 * 30}
-            self.assertEqual(hindsight(told), scores)
-            with mock.patch("geesefuton.learning.market.solve", side_effect=AssertionError):
-                told = environment.step({agents[4]: ["own 16", "cash", "quote 0", "what"]})
-            self.assertEqual(hindsight(told), scores)
-            # Two rooms at 7 dollars or less, of 16: they cost nothing.
-            told = environment.step({agents[6]: ["bid 15 ((2 7))"]})
-            self.assertEqual(hindsight(told), scores)
-            last = rest(environment)
-            self.assertEqual((hindsight(last), last[1]), (scores, scores))
-            self.assertEqual(environment.log, played(environment))
+        environment = self.begun(FIRST, hindsight=True)
+        agents = list(environment.agents)
+        price = read_game(FIRST.read_text()).flights[0].first
+        # The seller is short of the tickets that it sold beyond its own, 200 dollars each.
+        short = 16 - read_game(FIRST.read_text()).endow[4][0]
+        told = environment.step({agents[0]: ["bid 0 ((1 800))"], agents[4]: ["bid 16 ((-16 30))"],
+                                 agents[5]: ["bid 16 ((16 30))"]})
+        scores = {**dict.fromkeys(agents, 0), agents[0]: -price,
+                  agents[4]: 16 * 30 - 200 * short, agents[5]: -16 * 30}
+        self.assertEqual(hindsight(told), scores)
+        with mock.patch("geesefuton.learning.market.solve", side_effect=AssertionError):
+            told = environment.step({agents[4]: ["own 16", "cash", "quote 0", "what"]})
+        self.assertEqual(hindsight(told), scores)
+        # Two rooms at 7 dollars or less, of 16: they cost nothing.
+        told = environment.step({agents[6]: ["bid 15 ((2 7))"]})
+        self.assertEqual(hindsight(told), scores)
+        last = rest(environment)
+        self.assertEqual((hindsight(last), last[1]), (scores, scores))
+        self.assertEqual(environment.log, played(environment))
 
     def test_a_bid_that_is_taken_back_is_no_longer_in_the_scores(self) -> None:
         game = read_game(FIRST.read_text())
         good, least = min(((good, min(prices_of(game.flights[good]))) for good in FLIGHTS),
                           key=lambda flight: flight[1] - game.flights[flight[0]].first)
         self.assertLess(least, game.flights[good].first)
-        with Environment(FIRST, hindsight=True) as environment:
-            environment.reset()
-            agents = list(environment.agents)
-            # The bid waits until the price has fallen so far, and a seat alone is no trip.
-            for request, reply, score in ((f"bid {good} ((1 {least}))", "@0 taken 0 0", -least),
-                                          (f"withdraw {good}", "@2 done", 0)):
-                told = environment.step({agents[3]: [request]})
-                self.assertEqual(told[-1][agents[3]]["replies"], [reply])
-                self.assertEqual(hindsight(told), {**dict.fromkeys(agents, 0), agents[3]: score})
+        environment = self.begun(FIRST, hindsight=True)
+        agents = list(environment.agents)
+        # The bid waits until the price has fallen so far, and a seat alone is no trip.
+        for request, reply, score in ((f"bid {good} ((1 {least}))", "@0 taken 0 0", -least),
+                                      (f"withdraw {good}", "@2 done", 0)):
+            told = environment.step({agents[3]: [request]})
+            self.assertEqual(told[-1][agents[3]]["replies"], [reply])
+            self.assertEqual(hindsight(told), {**dict.fromkeys(agents, 0), agents[3]: score})
 
     def test_a_game_has_no_scores_of_the_one_before(self) -> None:
         with Environment(FIRST, hindsight=True) as environment:
@@ -462,39 +424,33 @@ class Games(unittest.TestCase):
                 self.assertEqual(hindsight(environment.step({})), dict.fromkeys(agents, 0))
 
     def test_a_game_that_is_closed_can_be_begun_again(self) -> None:
-        environment = Environment()
-        environment.reset(1)
-        environment.close()
-        environment.close()
+        environment = self.begun(seed=1)
+        for _ in range(2):
+            environment.close()
         self.assertEqual(environment.agents, [])
         self.assertRaises(ActionError, environment.step, {})
         environment.reset(2)
         self.assertEqual((environment.seed, environment.num_agents), (2, 8))
-        environment.close()
 
     def test_no_seat_gains_by_its_place(self) -> None:
-        with Environment(FIRST) as environment:
-            environment.reset()
-            while environment.agents:
-                environment.step(dict.fromkeys(reversed(environment.agents), ["cash"]))
-            ticks = environment.script.split("tick\n")[:TICKS]
-            orders = [[int(line[0]) for line in each.splitlines()] for each in ticks]
-            first = first_seat(environment.game)
-            self.assertEqual(orders, [order_of_turn(tick, 0, first) for tick in range(TICKS)])
-            firsts = Counter(order[0] for order in orders)
-            self.assertEqual((len(firsts), min(firsts.values())), (8, 6))
+        environment = self.begun(FIRST)
+        while environment.agents:
+            environment.step(dict.fromkeys(reversed(environment.agents), ["cash"]))
+        ticks = environment.script.split("tick\n")[:TICKS]
+        orders = [[int(line[0]) for line in each.splitlines()] for each in ticks]
+        first = first_seat(environment.game)
+        self.assertEqual(orders, [order_of_turn(tick, 0, first) for tick in range(TICKS)])
 
     def test_several_rounds_pass_before_a_tick(self) -> None:
-        with Environment(FIRST, rounds=3) as environment:
-            environment.reset()
-            agent, seen = environment.agents[0], []
-            for _ in range(7):
-                told, *_ = environment.step({agent: ["cash"]})
-                seen.append((told[agent]["tick"], told[agent]["round"]))
-            self.assertEqual(seen, [(0, 1), (0, 2), (1, 0), (1, 1), (1, 2), (2, 0), (2, 1)])
-            self.assertEqual(environment.script, 2 * ("0 cash\n" * 3 + "tick\n") + "0 cash\n")
-            rest(environment)
-            self.assertEqual(environment.log, played(environment))
+        environment = self.begun(FIRST, rounds=3)
+        agent, seen = environment.agents[0], []
+        for _ in range(7):
+            told, *_ = environment.step({agent: ["cash"]})
+            seen.append((told[agent]["tick"], told[agent]["round"]))
+        self.assertEqual(seen, [(0, 1), (0, 2), (1, 0), (1, 1), (1, 2), (2, 0), (2, 1)])
+        self.assertEqual(environment.script, 2 * ("0 cash\n" * 3 + "tick\n") + "0 cash\n")
+        rest(environment)
+        self.assertEqual(environment.log, played(environment))
 
 
 class Bidder:
@@ -518,7 +474,7 @@ class Silent(Bidder):
 
 
 @needs_program
-class Rivals(unittest.TestCase):
+class Rivals(Begun):
     def play(self, environment: Environment, seed: int) -> Environment:
         environment.reset(seed)
         rest(environment)
@@ -565,65 +521,54 @@ class Rivals(unittest.TestCase):
 
 
 @needs_program
-class Clones(unittest.TestCase):
+class Clones(Begun):
     def test_a_clone_goes_on_by_itself(self) -> None:
         source = random.Random(3)
-        with Environment(rounds=2, hindsight=True, rivals={"seat3": Bidder}) as environment:
-            environment.reset(9)
-            agents = list(environment.agents)
-            for _ in range(31):
-                environment.step(random_actions(source, agents))
-            other = environment.clone()
-            self.addCleanup(other.close)
-            self.assertEqual((other.tick, other.round, other.script, other.agents),
-                             (15, 1, environment.script, agents))
-            self.assertRaises(TypeError, pickle.dumps, other)
-            actions = [random_actions(source, agents) for _ in range(54 * 2 - 31)]
-            for each in actions:
-                self.assertEqual(environment.step(each), other.step(each))
-            self.assertEqual(environment.log, other.log)
+        environment = self.begun(seed=9, rounds=2, hindsight=True, rivals={"seat3": Bidder})
+        agents = list(environment.agents)
+        for _ in range(31):
+            environment.step(random_actions(source, agents))
+        other = self.enter(environment.clone())
+        self.assertEqual((other.tick, other.round, other.script, other.agents),
+                         (15, 1, environment.script, agents))
+        self.assertRaises(TypeError, pickle.dumps, other)
+        for _ in range(54 * 2 - 31):
+            actions = random_actions(source, agents)
+            self.assertEqual(environment.step(actions), other.step(actions))
+        self.assertEqual(environment.log, other.log)
 
     def test_each_of_two_copies_has_its_own_script(self) -> None:
-        with Environment(FIRST) as environment:
-            environment.reset()
-            agent, games = environment.agents[0], [environment]
-            environment.step({agent: ["cash"]})
-            for make in (Environment.clone, copy.copy, copy.deepcopy):
-                games.append(make(environment))
-                self.addCleanup(games[-1].close)
-            for good, game in enumerate(games):
-                game.step({agent: [f"bid {good} ((1 800))"]})
-            for good, game in enumerate(games):
-                game.step({agent: ["cash"]})
-                self.assertEqual(game.script,
-                                 f"0 cash\ntick\n0 bid {good} ((1 800))\ntick\n0 cash\ntick\n")
-                rest(game)
-                self.assertEqual(game.log, played(game))
+        environment = self.begun(FIRST)
+        agent, games = environment.agents[0], [environment]
+        environment.step({agent: ["cash"]})
+        for make in (Environment.clone, copy.copy, copy.deepcopy):
+            games.append(self.enter(make(environment)))
+        for good, game in enumerate(games):
+            game.step({agent: [f"bid {good} ((1 800))"]})
+        for good, game in enumerate(games):
+            game.step({agent: ["cash"]})
+            self.assertEqual(game.script,
+                             f"0 cash\ntick\n0 bid {good} ((1 800))\ntick\n0 cash\ntick\n")
+            rest(game)
+            self.assertEqual(game.log, played(game))
 
     def test_a_clone_that_ends_leaves_the_game_alone(self) -> None:
-        with Environment(FIRST) as environment:
-            environment.reset()
-            other = environment.clone()
-            other.step({other.agents[0]: ["bid 8 ((1 50))"]})
-            other.close()
-            *_, told = environment.step({environment.agents[0]: ["own 8"]})
-            self.assertEqual(told[environment.agents[0]]["replies"], ["@0 own 0 ()"])
+        environment = self.begun(FIRST)
+        other = environment.clone()
+        other.step({other.agents[0]: ["bid 8 ((1 50))"]})
+        other.close()
+        *_, told = environment.step({environment.agents[0]: ["own 8"]})
+        self.assertEqual(told[environment.agents[0]]["replies"], ["@0 own 0 ()"])
 
     def test_a_forked_process_begins_a_game_of_its_own(self) -> None:
-        with Environment() as environment:
-            environment.reset(5)
-            agent = environment.agents[0]
-            child = os.fork()
-            if not child:
-                status = 1
-                try:
-                    signal.alarm(20)
-                    environment.reset(6)
-                    rest(environment)
-                    status = 0
-                finally:
-                    os._exit(status)
-            self.assertEqual(os.waitpid(child, 0)[1], 0)
-            *_, told = environment.step({agent: ["own 8"]})
-            self.assertEqual(told[agent]["replies"], ["@0 own 0 ()"])
+        environment = self.begun(seed=5)
+        agent = environment.agents[0]
+
+        def play() -> None:
+            environment.reset(6)
             rest(environment)
+
+        self.in_a_fork(play)
+        *_, told = environment.step({agent: ["own 8"]})
+        self.assertEqual(told[agent]["replies"], ["@0 own 0 ()"])
+        rest(environment)

@@ -13,12 +13,6 @@ from tests.package.test_link import WELCOME, Server
 EXAMPLES = TOP / "examples"
 
 
-def ran(name: str, *words: str) -> List[str]:
-    """The lines that an example prints."""
-    done = completed(sys.executable, EXAMPLES / name, *words, check=True)
-    return str(done.stdout).splitlines()
-
-
 class Agents(unittest.TestCase):
     def test_a_lost_link_ends_each_with_a_line(self) -> None:
         for name in ("watcher", "planner", "trader", "baseline", "equilibrium", "scenarios"):
@@ -37,32 +31,42 @@ class Agents(unittest.TestCase):
         planner.buy_seats(link, {0: 2, 1: 2, 5: 3, 6: 2, 8: 4})
         self.assertEqual(link.bid.mock_calls, [mock.call(0, (2, 600)), mock.call(5, (2, 600))])
 
-
-class Benches(unittest.TestCase):
-    def test_each_script_tells_its_help(self) -> None:
+    def test_each_script_of_bench_tells_its_help(self) -> None:
         for file in sorted((TOP / "bench").glob("*.py")):
             if "__main__" in file.read_text("utf-8"):
                 with self.subTest(file=file.name):
                     self.assertEqual(completed(sys.executable, file, "--help").returncode, 0)
 
 
-@needs_program
-class Examples(unittest.TestCase):
+class Scripts(unittest.TestCase):
+    def ran(self, name: str, *words: str) -> List[str]:
+        """The lines that an example prints."""
+        done = completed(sys.executable, EXAMPLES / name, *words, check=True)
+        return str(done.stdout).splitlines()
+
+    @needs_program
     def test_the_small_game_ends_with_the_score_that_was_told(self) -> None:
-        scores = [re.findall("^its score is (-?[0-9]+)", line) for line in ran("step.py")]
-        found = [score[0] for score in scores if score]
+        found = re.findall("(?m)^its score is (-?[0-9]+)", "\n".join(self.ran("step.py")))
         self.assertGreater(len(found), 2)
         self.assertEqual(found[-1], found[-2])
 
-    def test_the_learner_draws_from_its_seed_alone(self) -> None:
-        words = ["--rounds", "1", "--rules", "3", "--games", "1", "--unseen", "2", "--seed"]
-        first, again, other = (ran("learner.py", *words, seed) for seed in ("5", "5", "6"))
+    def check_learner(self, seeds: str, end: str, name: str, *words: str) -> None:
+        """A learner draws from its seed alone."""
+        first, again, *others = (self.ran(name, *words, "--games", "1", "--unseen", "2", "--seed",
+                                          seed) for seed in seeds)
         self.assertEqual(first, again)
-        self.assertNotEqual(first[0], other[0])
-        self.assertRegex(first[-1], "^2 unseen games: -?[0-9]+ dollars a game more")
+        self.assertNotIn(first[0], [each[0] for each in others])
+        self.assertRegex(first[-1], f"^2 unseen games: -?[0-9]+ dollars a game{end}")
 
+    @needs_program
+    def test_the_learner(self) -> None:
+        self.check_learner("556", " more", "learner.py", "--rounds", "1", "--rules", "3")
 
-class WithoutNumpy(unittest.TestCase):
+    @unittest.skipUnless(importlib.util.find_spec("numpy"), "numpy is not installed")
+    @needs_program
+    def test_the_learner_in_numbers(self) -> None:
+        self.check_learner("55", ", the", "learn_numeric.py")
+
     def test_the_learner_in_numbers_tells_in_a_line_that_it_needs_it(self) -> None:
         # An entry of None in sys.modules stands for a module that is not there.
         code = ("import runpy, sys; sys.modules['numpy'] = None; sys.path.insert(0, sys.argv[1]); "
@@ -70,13 +74,3 @@ class WithoutNumpy(unittest.TestCase):
         done = completed(*python(code, EXAMPLES))
         self.assertEqual((done.returncode, done.stdout, done.stderr.count("\n")), (1, "", 1))
         self.assertTrue(done.stderr.startswith("learn_numeric.py: it needs numpy"), done.stderr)
-
-
-@unittest.skipUnless(importlib.util.find_spec("numpy"), "numpy is not installed")
-@needs_program
-class InNumbers(unittest.TestCase):
-    def test_the_learner_in_numbers_draws_from_its_seed_alone(self) -> None:
-        words = ["--games", "1", "--unseen", "2", "--seed"]
-        first, again = (ran("learn_numeric.py", *words, "5") for _ in range(2))
-        self.assertEqual(first, again)
-        self.assertRegex(first[-1], "^2 unseen games: -?[0-9]+ dollars a game, the")

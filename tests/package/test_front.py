@@ -9,9 +9,7 @@ import shutil
 import socket
 import subprocess
 import sys
-import tempfile
 import unittest
-from pathlib import Path
 from typing import Any, List, Tuple
 from unittest import mock
 
@@ -19,7 +17,8 @@ import geesefuton
 from geesefuton import arguments, doctor, front, program
 from geesefuton.processes import free_port
 
-from .helpers import PACKAGE, TOP, fake_program
+from .cases import Case, fake_program
+from .helpers import PACKAGE, TOP
 
 sys.path.insert(0, str(TOP / "packaging"))
 
@@ -34,54 +33,47 @@ mkdir out && mv built out/tacd
 """
 
 
-class Case(unittest.TestCase):
+class FrontCase(Case):
     """A command `./geesefuton` that is run from another folder, by a symbolic link."""
 
     def setUp(self) -> None:
-        folder = tempfile.TemporaryDirectory()
-        self.addCleanup(folder.cleanup)
-        self.place = Path(folder.name)
-        self.link = self.place / "linked"
+        super().setUp()
+        self.link = self.folder / "linked"
         self.link.symlink_to(TOP / "geesefuton")
 
-    def ran(self, *words: str, **more: str) -> "subprocess.CompletedProcess[str]":
-        """Runs it; `more` are further variables."""
+    def check(self, due: Tuple[int, str, str], *words: str, **more: str) -> None:
+        """Runs it, where `more` are further variables: its status, its output and its errors."""
         kept = {key: value for key, value in os.environ.items() if key not in ("TAC", "PYTHONPATH")}
-        return subprocess.run([self.link, *words], cwd=self.place, text=True, check=False,
+        done = subprocess.run([self.link, *words], cwd=self.folder, text=True, check=False,
                               stdin=subprocess.DEVNULL, stdout=subprocess.PIPE,
                               stderr=subprocess.PIPE, env={**kept, **more})
+        self.assertEqual((done.returncode, done.stdout, done.stderr), due)
 
     def refused(self, status: int, told: str, *words: str, **more: str) -> None:
         """It ends with a status and one line."""
-        done = self.ran(*words, **more)
-        self.assertEqual((done.returncode, done.stdout, done.stderr), (status, "", told + "\n"))
+        self.check((status, "", told + "\n"), *words, **more)
 
 
-class Front(Case):
+class Front(FrontCase):
     """Parts by their names."""
 
     def test_tac_passes_words_output_and_status_on(self) -> None:
-        tac = fake_program(self.place, 'echo "$#:$1:$2"; echo told >&2; exit 9')
-        done = self.ran("tac", "audit", "--help", TAC=tac)
-        self.assertEqual((done.returncode, done.stdout, done.stderr), (9, "2:audit:--help\n",
-                                                                       "told\n"))
+        tac = fake_program(self.folder, 'echo "$#:$1:$2"; echo told >&2; exit 9')
+        self.check((9, "2:audit:--help\n", "told\n"), "tac", "audit", "--help", TAC=tac)
 
-    def test_a_part_runs(self) -> None:
-        (self.place / "argparse.py").write_text("raise SystemExit('what stands here is no module')")
-        done = self.ran("version")
-        self.assertEqual((done.returncode, done.stderr), (0, ""))
-        self.assertIn(f"geesefuton {geesefuton.__version__}\n", done.stdout)
+    def test_a_part_runs_also_where_a_file_is_called_as_a_module(self) -> None:
+        self.write("argparse.py", "raise SystemExit('what stands here is no module')")
+        self.refused(2, "doctor: unrecognized arguments: --fix (see --help)", "doctor", "--fix")
 
-    def test_a_program_of_another_system(self) -> None:
-        file = self.place / "tac"
+    def test_programs_that_are_none(self) -> None:
+        file = self.folder / "tac"
         file.write_bytes(b"\x7fELF\x02\x01\x01" + bytes(57))
         file.chmod(0o755)
-        self.refused(1, f"geesefuton: {file} is not a program for this system: tac needs x86-64 "
-                     "Linux; set TAC to its file", "tac", "make", "1", TAC=str(file))
-
-    def test_no_program(self) -> None:
-        self.refused(1, "geesefuton: there is no program /nowhere/tac: set TAC to the file of tac",
-                     "tac", "make", "1", TAC="/nowhere/tac")
+        for tac, told in (
+                (file, f"{file} is not a program for this system: tac needs x86-64 Linux; set TAC "
+                       "to its file"),
+                ("/nowhere/tac", "there is no program /nowhere/tac: set TAC to the file of tac")):
+            self.refused(1, f"geesefuton: {told}", "tac", "make", "1", TAC=str(tac))
 
     def test_a_name_that_is_no_part(self) -> None:
         for name, meant in (("lobbby", "; `geesefuton lobby`?"), ("qwxz", ""),
@@ -90,24 +82,20 @@ class Front(Case):
                          name)
 
     def test_words_that_are_no_command_of_the_program_do_not_run_it(self) -> None:
-        tac = fake_program(self.place, "exit 9")
+        tac = fake_program(self.folder, "exit 9")
         for words, meant in ((["lobby"], "; `geesefuton lobby`?"), ([], ""),
                              (["mak"], "; `geesefuton tac make`?")):
             self.refused(1, f"geesefuton: tac has no command {''.join(words)!r}{meant} (it has "
                          f"{', '.join(front.COMMANDS)})", "tac", *words, TAC=tac)
 
-    def test_an_option_that_a_part_does_not_have(self) -> None:
-        self.refused(2, "doctor: unrecognized arguments: --fix (see --help)", "doctor", "--fix")
-
     def test_python_that_is_missing_or_too_old(self) -> None:
         for name in ("dirname", "readlink"):
-            (self.place / name).symlink_to(f"/usr/bin/{name}")
-        for body in ("", "#!/bin/sh\nexit 1\n"):
-            if body:
-                (self.place / "python3").write_text(body)
-                (self.place / "python3").chmod(0o755)
+            (self.folder / name).symlink_to(f"/usr/bin/{name}")
+        for is_there in (False, True):
+            if is_there:
+                self.write("python3", "#!/bin/sh\nexit 1\n").chmod(0o755)
             self.refused(1, "geesefuton: it needs Python 3.9 or later (sudo apt install python3); "
-                         "the program tac does not need Python", "doctor", PATH=str(self.place))
+                         "the program tac does not need Python", "doctor", PATH=str(self.folder))
 
 
 class Helps(unittest.TestCase):
@@ -164,34 +152,31 @@ class Texts(unittest.TestCase):
                          'geesefuton = "geesefuton.front:main"')
 
 
-class Building(Case):
+class Building(FrontCase):
     """`geesefuton tac` in a clone whose program is not built."""
 
     def setUp(self) -> None:
         super().setUp()
-        clone = self.place / "clone"
+        clone = self.folder / "clone"
         self.crate = clone / "crates" / "tacd"
         self.crate.mkdir(parents=True)
         shutil.copytree(PACKAGE / "geesefuton", clone / "python" / "geesefuton",
                         ignore=shutil.ignore_patterns("__pycache__", "bin"))
         self.link.unlink()
         self.link.symlink_to(shutil.copy(TOP / "geesefuton", clone))
-        (self.place / "rt").write_text(RT)
-        self.path = f"{self.place}{os.pathsep}{os.environ['PATH']}"
+        self.write("rt", RT)
+        self.path = f"{self.folder}{os.pathsep}{os.environ['PATH']}"
 
     def test_it_is_built_once_with_a_line_that_says_so(self) -> None:
-        (self.place / "rt").chmod(0o755)
+        (self.folder / "rt").chmod(0o755)
         os.rename(fake_program(self.crate, 'echo "$@"'), self.crate / "built")
         for told in (f"geesefuton: {front.BUILDING}\n", ""):
-            done = self.ran("tac", "make", "7", PATH=self.path)
-            self.assertEqual((done.returncode, done.stdout, done.stderr), (0, "make 7\n", told))
+            self.check((0, "make 7\n", told), "tac", "make", "7", PATH=self.path)
 
     def test_a_build_that_fails(self) -> None:
-        (self.place / "rt").chmod(0o755)
-        done = self.ran("tac", "make", "7", PATH=self.path)
-        self.assertEqual((done.returncode, done.stdout, done.stderr.splitlines()), (1, "", [
-            f"geesefuton: {front.BUILDING}",
-            f"geesefuton: {front.BUILD} ended with 3: no proof of main"]))
+        (self.folder / "rt").chmod(0o755)
+        self.refused(1, f"geesefuton: {front.BUILDING}\ngeesefuton: {front.BUILD} ended with 3: no "
+                     "proof of main", "tac", "make", "7", PATH=self.path)
 
     def test_without_a_toolchain_it_says_what_to_do(self) -> None:
         file = self.crate / "out" / "tacd"
@@ -200,26 +185,17 @@ class Building(Case):
                      "7", PATH=os.defpath)
 
 
-class Doctor(unittest.TestCase):
+class Doctor(Case):
     """What is installed, and what a machine lacks."""
 
     def setUp(self) -> None:
-        folder = tempfile.TemporaryDirectory()
-        self.addCleanup(folder.cleanup)
-        self.place = Path(folder.name)
-        self.tac = fake_program(self.place, "echo 'tac 1'")
-        patch = mock.patch.dict(os.environ, {"TAC": self.tac})
-        patch.start()
-        self.addCleanup(patch.stop)
+        super().setUp()
+        self.tac = self.use_program("echo 'tac 1'")
 
     def released(self, digest: str) -> None:
         """Lets the package be of a release whose program has this hash."""
-        file = self.place / "provenance.json"
-        file.write_text(json.dumps({"commit": "c0ffee", "kit": "kit", "sha256": digest,
-                                    "program": "proved and built"}))
-        patch = mock.patch.object(doctor, "PROVENANCE", file)
-        patch.start()
-        self.addCleanup(patch.stop)
+        self.patch("doctor.PROVENANCE", self.write("provenance.json", json.dumps({
+            "commit": "c0ffee", "kit": "kit", "sha256": digest, "program": "proved and built"})))
 
     def tell(self, *, is_doctor: bool) -> Tuple[int, str]:
         """What `doctor` or `version` prints, and its status."""
@@ -235,9 +211,9 @@ class Doctor(unittest.TestCase):
         self.released(doctor.hash_of(self.tac))
         status, text = self.tell(is_doctor=False)
         self.assertEqual(status, 0)
-        self.assertIn(f"geesefuton {geesefuton.__version__}\n", text)
-        self.assertIn(f"sha256 {doctor.hash_of(self.tac)}\n", text)
-        self.assertIn("as released, proved and built at commit c0ffee with kit\n", text)
+        for line in (f"geesefuton {geesefuton.__version__}", f"sha256 {doctor.hash_of(self.tac)}",
+                     "as released, proved and built at commit c0ffee with kit"):
+            self.assertIn(line + "\n", text)
 
     def test_a_hash_that_differs(self) -> None:
         self.released("0" * 64)
@@ -246,22 +222,14 @@ class Doctor(unittest.TestCase):
         self.assertEqual(status, 1)
         self.assertIn("FIX  hash: differs from the released one: unpack or install it again", text)
 
-    def test_doctor_has_ten_lines(self) -> None:
+    def test_what_doctor_tells_of_the_program(self) -> None:
         self.released(doctor.hash_of(self.tac))
         text = self.tell(is_doctor=True)[1]
-        self.assertEqual(len(text.splitlines()), 10)
         self.assertIn("ok   program runs: yes\n", text)
         self.assertIn("ok   hash: as released\n", text)
-
-    def test_another_program_than_tac(self) -> None:
-        fake_program(self.place, "echo something")
+        self.use_program("echo something")
         self.assertIn("FIX  program runs: no: it makes no game; is it GNU tac?",
                       self.tell(is_doctor=True)[1])
-
-    def test_an_old_library(self) -> None:
-        with mock.patch("platform.libc_ver", lambda: ("glibc", "2.31")):
-            self.assertIn("FIX  C library: glibc 2.31; the program needs glibc 2.34 or later",
-                          self.tell(is_doctor=True)[1])
 
     def test_the_status_is_0_only_if_nothing_is_missing(self) -> None:
         for findings, due in (([(True, "a"), (True, "b")], (0, "ok   a\nok   b\n")),
@@ -277,11 +245,12 @@ class Doctor(unittest.TestCase):
                        "another, such as ")
         with mock.patch.object(doctor, "PORT", free_port()):
             self.check(doctor._ports, True, f"port {doctor.PORT}: free")
-        for name, number, is_due in (("glibc", "2.33", False), ("glibc", "2.34", True),
-                                     ("glibc", "2.100", True), ("glibc", "3.1", True),
-                                     ("", "", False), ("musl", "9.9", False)):
+        for name, number, is_due, told in (
+                ("glibc", "2.33", False, "glibc 2.33; the program needs glibc 2.34 or later"),
+                ("glibc", "2.34", True, ""), ("glibc", "2.100", True, ""),
+                ("glibc", "3.1", True, ""), ("", "", False, ""), ("musl", "9.9", False, "")):
             with mock.patch("platform.libc_ver", lambda: (name, number)):
-                self.check(doctor._library, is_due, "C library: ")
+                self.check(doctor._library, is_due, f"C library: {told}")
         for soft, is_due in ((255, False), (256, True), (-1, True)):
             with mock.patch("resource.getrlimit", return_value=(soft, soft)):
                 self.check(doctor._files, is_due, f"open files: {soft} at most")
@@ -302,7 +271,7 @@ class Doctor(unittest.TestCase):
         with mock.patch("socket.socket.connect", side_effect=OSError), \
                 mock.patch("socket.getaddrinfo", side_effect=OSError):
             self.check(doctor._addresses, True, "addresses: none but this machine's own")
-        with mock.patch.dict(os.environ, {"TAC": str(self.place / "none")}):
+        with mock.patch.dict(os.environ, {"TAC": str(self.folder / "none")}):
             for look in (doctor._file, doctor._runs):
                 self.check(look, False, "program")
             self.check(doctor._hash, True, "hash: nothing to compare with")
@@ -315,7 +284,6 @@ class Doctor(unittest.TestCase):
         self.assertEqual((found, told[:len(text)]), (is_due, text))
 
     def test_a_program_that_does_not_start(self) -> None:
-        fake_program(self.place, "exit 1")
-        with self.assertRaises(program.ProgramError) as caught:
+        self.use_program("exit 1")
+        with self.assertRaisesRegex(program.ProgramError, "did not start: it needs glibc 2.34"):
             program.make(1)
-        self.assertIn("did not start: it needs glibc 2.34 or later", str(caught.exception))

@@ -14,59 +14,47 @@ def canonical(text: str) -> str:
     return "".join(line + "\n" for line in text.splitlines() if line and line[0] != "#")
 
 
+FIRST, FEW = text_of("first.game"), text_of("few_rooms.game")
+
+
 class Texts(unittest.TestCase):
     def test_a_game_of_each_version_is_read_and_written(self) -> None:
-        for name, version in (("first.game", 1), ("few_rooms.game", 2)):
-            game = read_game(text_of(name))
-            self.assertEqual(game.version, version)
-            self.assertEqual(game.text(), canonical(text_of(name)))
+        minute = read_game(FIRST).with_rooms([3] * 8, live=False).text()
+        for text, version in ((FIRST, 1), (FEW, 2), (minute, 2)):
+            game = read_game(text)
+            self.assertEqual((game.version, game.text()), (version, canonical(text)))
             self.assertEqual(read_game(game.text()), game)
+        self.assertTrue(minute.startswith("tac 2\n"))
+        self.assertIn("\nrooms 3 3 3 3 3 3 3 3\nquotes minute\n", minute)
 
     def test_the_parts_of_a_game(self) -> None:
-        game = read_game(text_of("few_rooms.game"))
-        self.assertEqual(game.words, tuple(f"seat{seat}" for seat in range(8)))
-        self.assertEqual(game.rooms, (6, 4, 4, 6, 4, 3, 3, 4))
-        self.assertTrue(game.live)
-        lines = [line.split() for line in canonical(text_of("few_rooms.game")).splitlines()]
-        flight = next(line for line in lines if line[:2] == ["flight", "5"])
-        self.assertEqual([game.flights[5].first, game.flights[5].bound, *game.flights[5].draws],
-                         list(map(int, flight[2:])))
-        endow = next(line for line in lines if line[:2] == ["endow", "6"])
-        self.assertEqual(list(game.endow[6]), list(map(int, endow[2:])))
-        client = next(line for line in lines if line[:3] == ["client", "3", "7"])
-        wants = game.clients[3][7]
-        self.assertEqual([wants.arrive, wants.depart, wants.premium, *wants.values],
-                         list(map(int, client[3:])))
-        close = next(line for line in lines if line[0] == "close")
-        self.assertEqual(game.closing, tuple(map(int, close[1:])))
-
-    def test_hotels_close_every_six_ticks_in_the_order_of_the_file(self) -> None:
-        game = read_game(text_of("few_rooms.game"))
+        game = read_game(FEW)
+        self.assertEqual((game.words, game.rooms, game.live), (
+            tuple(f"seat{seat}" for seat in range(8)), (6, 4, 4, 6, 4, 3, 3, 4), True))
+        flight, wants = game.flights[5], game.clients[3][7]
+        for begin, due in (("flight 5", (flight.first, flight.bound, *flight.draws)),
+                           ("endow 6", game.endow[6]), ("close", game.closing),
+                           ("client 3 7", (wants.arrive, wants.depart, wants.premium,
+                                           *wants.values))):
+            self.assertIn(f"\n{begin} {' '.join(map(str, due))}\n", FEW)
+        # Hotels close every six ticks in the order of the file.
         for place, good in enumerate(game.closing, 1):
             self.assertEqual(game.hotels[good - 8].closes, 6 * place)
         self.assertEqual([hotel.rooms for hotel in game.hotels], list(game.rooms))
 
     def test_version_one_has_sixteen_rooms_and_quotes_by_the_minute_which_is_usual(self) -> None:
-        game = read_game(text_of("first.game"))
+        game = read_game(FIRST)
         self.assertEqual((game.rooms, game.live), ((16,) * 8, False))
         self.assertEqual(Game(game.words, game.flights, game.closing, game.endow, game.clients),
                          game)
 
-    def test_quotes_by_the_minute_in_version_two(self) -> None:
-        game = read_game(text_of("first.game")).with_rooms([3] * 8, live=False)
-        self.assertIn("\nrooms 3 3 3 3 3 3 3 3\nquotes minute\n", game.text())
-        self.assertTrue(game.text().startswith("tac 2\n"))
-        self.assertEqual(read_game(game.text()), game)
-
     def test_the_greatest_game_file(self) -> None:
-        text = text_of("first.game")
-        text += "#" * ((1 << 20) - len(text) - 1) + "\n"
-        self.assertEqual(read_game(text), read_game(text_of("first.game")))
-        with self.assertRaises(GameError):
-            read_game(text + "\n")
+        text = FIRST + "#" * ((1 << 20) - len(FIRST) - 1) + "\n"
+        self.assertEqual(read_game(text), read_game(FIRST))
+        self.assertRaises(GameError, read_game, text + "\n")
 
     def test_names_and_rooms_can_be_changed(self) -> None:
-        game = read_game(text_of("first.game"))
+        game = read_game(FIRST)
         words = list("abcdefgh")
         other = game.named(words).with_rooms([1, 2, 3, 4, 5, 6, 7, 8], live=True)
         self.assertEqual(read_game(other.text()), other)
@@ -88,7 +76,7 @@ class Faults(unittest.TestCase):
         self.assertTrue(str(caught.exception).startswith(f"line {line}: "))
 
     def changed(self, line: int, text: str) -> str:
-        lines: List[str] = canonical(text_of("few_rooms.game")).splitlines()
+        lines: List[str] = canonical(FEW).splitlines()
         lines[line - 1] = text
         return "\n".join(lines) + "\n"
 
@@ -139,18 +127,17 @@ class Faults(unittest.TestCase):
             self.assertEqual(read_game(self.changed(22, text)).text().split("\n")[21], text)
 
     def test_ends(self) -> None:
-        whole = canonical(text_of("first.game"))
-        self.refuse(whole + "end\n", 85, "follows `end`")
-        self.refuse(whole[:-1], 84, "expected a line `end`, but the text ends")
-        self.refuse(whole + "#", 85, "no line end")
-        self.refuse(whole.replace("end\n", ""), 84, "the text ends")
-        self.refuse("", 1, "the text ends")
-        self.refuse("#" * (1 << 20) + "\n", 1, "1,048,576")
-
-    def test_comments_count_in_line_numbers(self) -> None:
-        lines = canonical(text_of("first.game")).splitlines()
-        text = "\n".join(["# one", "", *lines[:1], "# two", "words", *lines[2:]]) + "\n"
-        self.refuse(text, 5, "8 words")
+        whole = canonical(FIRST)
+        words = whole.split("\n")[1]
+        for text, line, why in (
+                (whole + "end\n", 85, "follows `end`"),
+                (whole[:-1], 84, "expected a line `end`, but the text ends"),
+                (whole + "#", 85, "no line end"),
+                (whole.replace("end\n", ""), 84, "the text ends"), ("", 1, "the text ends"),
+                ("#" * (1 << 20) + "\n", 1, "1,048,576"),
+                # Comments count in line numbers.
+                ("# one\n\n" + whole.replace(words, "# two\nwords"), 5, "8 words")):
+            self.refuse(text, line, why)
 
 
 class Rules(unittest.TestCase):
@@ -159,24 +146,18 @@ class Rules(unittest.TestCase):
                          [0, 3, 4, 7])
         self.assertEqual([games.room(0, 1), games.room(1, 4), games.ticket(0, 1),
                           games.ticket(2, 4)], [8, 15, 16, 27])
-        self.assertEqual([auction.number for auction in games.AUCTIONS], list(range(28)))
-        self.assertEqual([games.name_of(good) for good in (0, 4, 11, 12, 16, 23, 27)],
-                         ["in, day 1", "out, day 2", "Shanties, night 4", "Towers, night 1",
-                          "alligators, night 1", "park, night 4", "museum, night 4"])
-
-    def test_auctions_have_groups_and_days(self) -> None:
-        groups = ["Flights in", "Flights out", "Shoreline Shanties", "Tampa Towers",
-                  "Alligator wrestling", "Amusement park", "Museum"]
-        self.assertEqual([(auction.group, auction.day) for auction in games.AUCTIONS],
-                         [(group, day) for group in groups
-                          for day in (range(2, 6) if group == "Flights out" else range(1, 5))])
-
-    def test_kinds_of_goods_are_ranges_of_their_numbers(self) -> None:
-        self.assertEqual([*games.INBOUND, *games.OUTBOUND], list(range(8)))
-        self.assertEqual((list(games.INBOUND), list(games.FLIGHTS)), ([0, 1, 2, 3], list(range(8))))
-        self.assertEqual([*games.FLIGHTS, *games.HOTELS, *games.TICKETS], list(range(28)))
-        self.assertEqual((list(games.HOTELS), list(games.GOODS)),
-                         (list(range(8, 16)), list(range(28))))
+        groups = (("Flights in", "in, day"), ("Flights out", "out, day"),
+                  ("Shoreline Shanties", "Shanties, night"), ("Tampa Towers", "Towers, night"),
+                  ("Alligator wrestling", "alligators, night"),
+                  ("Amusement park", "park, night"), ("Museum", "museum, night"))
+        due = [(group, day, f"{name} {day}") for group, name in groups
+               for day in (range(2, 6) if group == "Flights out" else range(1, 5))]
+        self.assertEqual(list(games.AUCTIONS), [(number, *each) for number, each in enumerate(due)])
+        self.assertEqual([games.name_of(good) for good in games.GOODS], [name for *_, name in due])
+        self.assertEqual(
+            (games.INBOUND, games.OUTBOUND, games.FLIGHTS, games.HOTELS, games.TICKETS,
+             games.GOODS),
+            (range(4), range(4, 8), range(8), range(8, 16), range(16, 28), range(28)))
         self.assertEqual((games.TICKS, games.SEATS, games.CLIENTS, games.HOUSE, games.CLOCK),
                          (54, 8, 8, 8, 8))
 

@@ -6,19 +6,15 @@ from typing import Dict, List, Optional, Sequence, Tuple
 from unittest import mock
 
 from geesefuton.records.best_plans import Plan, best_plan
-from geesefuton.records.games import CLOCK, HOUSE, SEATS, TICKS, Client, name_of
+from geesefuton.records.games import HOUSE, SEATS, TICKS, Client, name_of
 from geesefuton.records.hindsight import Decision, Story, stories
 from geesefuton.records.report_page import story_html
-from geesefuton.records.logs import Call, Entry, Log, Post, Trade
-from geesefuton.records.replies import read_entry_reply
+from geesefuton.records.logs import Entry, Log, Post, Trade
 from geesefuton.records.rules import next_price
+from tests.package.entries import bid, by_clock, refused, withdrawal
 from tests.package.helpers import served_game, served_log
 
 GAME, LOG = served_game(), served_log()
-TAKEN = read_entry_reply("taken 0 0")
-CLOSED = read_entry_reply("done")
-
-
 FOUND: Dict[object, Plan] = {}
 
 
@@ -50,7 +46,7 @@ def flights(dearer_at: int, until: int = 8) -> Dict[int, Tuple[Entry, ...]]:
         for tick in range(1, until + 1):
             prices = {next_price(flight, price, tick, draw): draw for draw in range(100)}
             price = max(prices) if tick == dearer_at else price
-            entries.append(Entry(CLOCK, Call("update", tick=tick, draw=prices[price]), CLOSED))
+            entries.append(by_clock("update", tick=tick, draw=prices[price]))
         histories[good] = tuple(entries)
     return histories
 
@@ -63,8 +59,7 @@ CLOSES = 6 * (GAME.closing.index(NIGHT) + 1)
 
 def night(*trades: Trade) -> Tuple[Entry, ...]:
     """The clock's calls there."""
-    publish = Entry(CLOCK, Call("publish"), CLOSED)
-    return (*[publish] * (CLOSES // 6 - 1), Entry(CLOCK, Call("close"), CLOSED, trades))
+    return (*[by_clock("publish")] * (CLOSES // 6 - 1), by_clock("close", *trades))
 
 
 class Stories(unittest.TestCase):
@@ -81,7 +76,7 @@ class Stories(unittest.TestCase):
 
     def test_what_is_bought_in_vain_is_told(self) -> None:
         price = GAME.flights[0].first
-        bought = Entry(2, Call("bid", ((16, 800),)), TAKEN, (Trade(2, 8, 16, price),))
+        bought = bid(2, (16, 800), trades=(Trade(2, 8, 16, price),))
         story = told_of(log_of({0: (bought,)}))[2]
         first = story.decisions[0]
         self.assertIn(f"Tick 0: bought 16 of in, day 1 at {price}", first.text)
@@ -125,9 +120,8 @@ class Stories(unittest.TestCase):
 
     def test_trades_of_a_tick_are_told_together(self) -> None:
         price = GAME.flights[0].first
-        bought = Entry(2, Call("bid", ((3, 800),)), TAKEN,
-                       (Trade(2, HOUSE, 2, price), Trade(2, HOUSE, 1, price)))
-        sold = Entry(2, Call("bid", ((-4, 1),)), TAKEN, (Trade(1, 2, 4, 1),))
+        bought = bid(2, (3, 800), trades=(Trade(2, HOUSE, 2, price), Trade(2, HOUSE, 1, price)))
+        sold = bid(2, (-4, 1), trades=(Trade(1, 2, 4, 1),))
         log = replace(log_of({0: (bought,), 16: (sold,)}), cash=(
             Post(2, 0, 0, (0,) * 9), Post(2, 16, 0, (0,) * 9)))
         story, other = (told_of(log)[agent] for agent in (2, 1))
@@ -142,7 +136,7 @@ class Stories(unittest.TestCase):
         histories = flights(dearer_at=0)
         for good, count in enumerate((9, 16, 12, 14)):
             trade = Trade(0, HOUSE, count, GAME.flights[good].first)
-            entry = Entry(0, Call("bid", ((count, 800),)), TAKEN, (trade,))
+            entry = bid(0, (count, 800), trades=(trade,))
             histories[good] = (*histories[good][:good + 1], entry, *histories[good][good + 1:])
         story = told_of(log_of(histories))[0]
         worths = [moment.worth for moment in story.moments[:5]]
@@ -154,17 +148,14 @@ class Stories(unittest.TestCase):
                          sorted(costs.items(), key=lambda each: -each[1])[:3])
 
     def test_what_stands_of_bids(self) -> None:
-        refused, price = read_entry_reply("no belowquote 1 51 0"), GAME.flights[0].first
-        hotel, flight = GAME.closing[0], (
-            Entry(1, Call("bid", ((2, price + 9), (1, price), (3, price - 1))), TAKEN,
-                  (Trade(1, HOUSE, 3, price),)),)
+        price, hotel = GAME.flights[0].first, GAME.closing[0]
         moments = told_of(log_of({
-            0: flight, 1: (Entry(1, Call("bid", ((1, 200),)), TAKEN),
-                           Entry(1, Call("withdraw"), CLOSED)),
-            hotel: (Entry(1, Call("bid", ((2, 50), (1, 40))), TAKEN),
-                    Entry(1, Call("bid", ((4, 10),)), refused),
-                    Entry(3, Call("bid", ((1, 70),)), TAKEN), Entry(CLOCK, Call("close"), CLOSED)),
-            20: (Entry(1, Call("bid", ((1, 60),)), TAKEN),)}))
+            0: (bid(1, (2, price + 9), (1, price), (3, price - 1),
+                    trades=(Trade(1, HOUSE, 3, price),)),),
+            1: (bid(1, (1, 200)), withdrawal(1)),
+            hotel: (bid(1, (2, 50), (1, 40)), bid(1, (4, 10), reply=refused("belowquote 1 51 0")),
+                    bid(3, (1, 70)), by_clock("close")),
+            20: (bid(1, (1, 60)),)}))
         self.assertEqual(moments[1].moments[0].bids, {0: f"3 at {price - 1}",
                                                       hotel: "2 at 50, 1 at 40"})
         self.assertEqual(moments[3].moments[5].bids, {hotel: "1 at 70"})
@@ -173,8 +164,7 @@ class Stories(unittest.TestCase):
 
 class Page(unittest.TestCase):
     def test_a_team_has_its_decisions_and_its_moments(self) -> None:
-        stands = Entry(1, Call("bid", ((2, 130),)), TAKEN)
-        story = told_of(log_of({8: (stands,)}))[1]
+        story = told_of(log_of({8: (bid(1, (2, 130)),)}))[1]
         text = story_html(story)
         found = re.search(r'<script type="application/json">(.*?)</script>', text)
         assert found is not None

@@ -1,3 +1,6 @@
+"""The link of an agent, its command line, and what agents keep of their links, in Python and in
+JavaScript."""
+
 import ast
 import contextlib
 import errno
@@ -11,8 +14,7 @@ import threading
 import time
 import types
 import unittest
-from concurrent.futures import ThreadPoolExecutor
-from typing import Callable, Iterator, List, NamedTuple, Optional, Sequence, Tuple, Union
+from typing import Callable, Dict, Iterator, List, NamedTuple, Optional, Sequence, Set, Tuple, Union
 from unittest import mock
 
 from geesefuton import link
@@ -20,7 +22,8 @@ from geesefuton.link import Link, LinkError, Unanswered
 from geesefuton.processes import free_port
 from geesefuton.records.games import Client
 from geesefuton.records.replies import No, Own, Quote, Request, Taken
-from tests.package.helpers import TOP, Case, completed, fake_program, needs_program
+from tests.package.cases import Case
+from tests.package.helpers import TOP, completed
 from tests.package.seat_server import WELCOME as WELCOME
 
 SAID = "".join(f"{line}\n" for line in WELCOME)
@@ -103,8 +106,8 @@ class Greeting(unittest.TestCase):
     def test_a_seat_with_its_tickets_and_clients(self) -> None:
         for form in ("words", "json"):
             with seated(form=form) as (agent, server):
-                self.assertEqual((agent.agent, agent.word), (3, "red"))
-                self.assertEqual(agent.endow, [0, 1, 1, 2, 2, 0, 2, 2, 2, 0, 1, 1])
+                self.assertEqual((agent.agent, agent.word, agent.endow),
+                                 (3, "red", [0, 1, 1, 2, 2, 0, 2, 2, 2, 0, 1, 1]))
                 self.assertEqual(agent.clients, [
                     Client(1 + number % 4, 5, 50 + number, (1, 2, number)) for number in range(8)])
                 self.assertEqual(server.heard, ["hello red\n"])
@@ -124,18 +127,12 @@ class Greeting(unittest.TestCase):
             close.assert_called_once()
 
     def test_no_server(self) -> None:
-        port = free_port()
-        with mock.patch("geesefuton.link.PATIENCE", 0.0):
-            with self.assertRaises(LinkError) as caught:
-                Link.greet("127.0.0.1", port, "red")
-        self.assertEqual(str(caught.exception),
-                         f"cannot connect to 127.0.0.1 at port {port}: Connection refused")
-        with self.assertRaisesRegex(LinkError, "cannot connect to nowhere.invalid"):
-            Link.greet("nowhere.invalid", 7000, "red")
-        for port in (70000, 65536, 0, -1):
-            with self.assertRaisesRegex(LinkError,
-                                        f"cannot connect to 127.0.0.1 at port {port}: ports"):
-                Link.greet("127.0.0.1", port, "red")
+        for host, port, why in (
+                ("127.0.0.1", free_port(), "Connection refused$"), ("nowhere.invalid", 7000, ""),
+                *(("127.0.0.1", port, "ports") for port in (70000, 65536, 0, -1))):
+            with mock.patch("geesefuton.link.PATIENCE", 0.0), self.assertRaisesRegex(
+                    LinkError, f"^cannot connect to {host} at port {port}: {why}"):
+                Link.greet(host, port, "red")
 
     def test_every_port_is_tried_and_between_two_tries_it_waits(self) -> None:
         with mock.patch("socket.create_connection") as connect, mock.patch("time.sleep") as sleep:
@@ -210,13 +207,6 @@ class Calls(unittest.TestCase):
                     agent.cash() if call == "cash" else getattr(agent, call)(3)
                 self.assertEqual(str(caught.exception), told)
 
-    def test_a_server_that_is_gone(self) -> None:
-        with seated() as (agent, server):
-            server.join()
-            for _ in range(2):
-                with self.assertRaisesRegex(LinkError, "the link was closed"):
-                    agent.ask("cash")
-
     def test_a_link_that_fails(self) -> None:
         for fault in (ConnectionResetError, TimeoutError(errno.ETIMEDOUT, "timed out")):
             stream = mock.Mock(sendall=mock.Mock(side_effect=fault))
@@ -231,8 +221,7 @@ class Calls(unittest.TestCase):
         with contextlib.closing(agent), theirs:
             theirs.sendall(b"@3 cash 1234")  # its line end is lost
             theirs.shutdown(socket.SHUT_WR)
-            with self.assertRaisesRegex(LinkError, "red: the link was closed"):
-                agent.cash()
+            self.assertRaisesRegex(LinkError, "red: the link was closed", agent.cash)
 
 
 class Lost(Case):
@@ -372,8 +361,7 @@ class Running(unittest.TestCase):
             agent.bid(8, (1, 50))
 
         self.assertIsNone(self.ran(server, play))
-        self.assertEqual(server.heard[1:], ["hello red\n", "own 8\n", "bid 8 ((1 50))\n",
-                                            "quit\n"])
+        self.assertEqual(server.heard[1:], ["hello red\n", "own 8\n", "bid 8 ((1 50))\n", "quit\n"])
 
     def test_it_asks_again_for_the_next_game_until_its_word_is_refused(self) -> None:
         played: List[int] = []
@@ -391,39 +379,25 @@ class Running(unittest.TestCase):
             end = self.ran(Server(*links), lambda agent, _: print(agent.cash()), *words)
             self.assertEqual(end, due)
 
-    def test_in_a_thread_the_error_of_a_link_is_not_lost(self) -> None:
-        with ThreadPoolExecutor(1) as pool:
-            fault = pool.submit(Link.greet, "127.0.0.1", 70000, "red").exception()
-        self.assertIsInstance(fault, Exception)
-
 
 class Solving(Case):
     CLIENTS = [Client(1, 3, 50 + number, (1, 2, 3)) for number in range(8)]
 
     def test_the_account_of_the_program(self) -> None:
-        copy = self.place / "copy"
-        tac = fake_program(self.place, f'cat "$2" > "{copy}"; echo total 1234; echo end')
-        self.set(TAC=tac)
+        copy = self.folder / "copy"
+        tac = self.use_program(f'cat "$2" > "{copy}"; echo total 1234; echo end')
         self.assertEqual(link.solve(range(28), self.CLIENTS), 1234)
         self.assertEqual(link.program(), tac)
         lines = copy.read_text().splitlines()
-        self.assertEqual(lines[0:2], ["account", "hold " + " ".join(map(str, range(28)))])
-        self.assertEqual(lines[2], "client 0 1 3 50 1 2 3")
-        self.assertEqual(lines[9:], ["client 7 1 3 57 1 2 3", "end"])
+        self.assertEqual(lines, ["account", "hold " + " ".join(map(str, range(28))), *(
+            f"client {number} 1 3 {50 + number} 1 2 3" for number in range(8)), "end"])
 
-    def test_without_a_program_nothing_is_known(self) -> None:
+    def test_without_a_program_or_by_a_refusal_nothing_is_known(self) -> None:
+        self.use_program("echo text 1 1; exit 8")
+        self.assertIsNone(link.solve([0] * 28, self.CLIENTS))
         self.set(TAC="/nowhere/tac")
         self.assertIsNone(link.solve([0] * 28, self.CLIENTS))
         self.assertIsNone(link.program())
-
-    def test_a_refusal_is_no_total(self) -> None:
-        self.set(TAC=fake_program(self.place, "echo text 1 1; exit 8"))
-        self.assertIsNone(link.solve([0] * 28, self.CLIENTS))
-
-    @needs_program
-    def test_the_real_program(self) -> None:
-        holdings = [1 if good in (0, 5, 8, 9) else 0 for good in range(28)]
-        self.assertEqual(link.solve(holdings, self.CLIENTS), 1000)
 
 
 class Arguments(Case):
@@ -500,6 +474,148 @@ class Arguments(Case):
 
     def test_a_copy_of_an_agent_finds_the_package(self) -> None:
         for name in ("watcher.py", "planner.py", "trader.py", "baseline.py"):
-            copy = shutil.copy(TOP / "examples" / "agents" / name, self.place)
-            done = completed(sys.executable, copy, "--help", cwd=self.place)
+            copy = shutil.copy(TOP / "examples" / "agents" / name, self.folder)
+            done = completed(sys.executable, copy, "--help", cwd=self.folder)
             self.assertEqual((done.returncode, done.stdout[:6]), (0, "usage:"), done.stderr)
+
+
+FULL = "/dev/full"
+
+
+class Records(Case):
+    def setUp(self) -> None:
+        super().setUp()
+        self.records = self.folder / "new" / "mine"
+        self.told: List[str] = []
+        self.set(AGENT_RECORD=str(self.records))
+        self.enter(mock.patch.multiple(link, BETWEEN=0.01, tell=lambda text: None))
+        self.enter(mock.patch("geesefuton.link_record.tell", self.told.append))
+
+    def files(self) -> Dict[str, str]:
+        """What each file of the folder holds."""
+        return {file.name: file.read_text() for file in self.records.glob("*")}
+
+    def modes(self) -> Set[int]:
+        """Who may do what with them."""
+        return {file.stat().st_mode & 0o777 for file in self.records.glob("*")}
+
+    def reconnect(self) -> None:
+        """An agent reconnects after a while, and asks on."""
+        lost, back = [WELCOME, ["@0 cash 5"]], [WELCOME, ["@7 cash 9"]]
+        with linked(lost, [["refused taken"]], back) as (agent, _):
+            self.assertEqual([agent.cash(), agent.cash()], [5, 9])
+
+
+class Keeping(Records):
+    def test_what_was_sent_and_what_came(self) -> None:
+        with linked([WELCOME, ["@4 own 2 ()"], ["no syntax"], ["bye"]]) as (agent, _):
+            agent.own(8)
+            agent.ask("buy 5")
+            agent.quit()
+        self.assertEqual(self.files(), {"red.asked": "hello red\nown 8\nbuy 5\nquit\n",
+                                        "red.said": SAID + "@4 own 2 ()\nno syntax\nbye\n"})
+        self.assertEqual((self.modes(), self.told), ({0o600}, []))
+
+    def test_each_link_has_files_of_its_own(self) -> None:
+        self.reconnect()
+        self.assertEqual(self.files(), {
+            "red.asked": "hello red\ncash\ncash\n", "red.said": SAID + "@0 cash 5\n",
+            "red.2.asked": "hello red\ncash\n", "red.2.said": SAID + "@7 cash 9\n"})
+
+    def test_files_that_are_there_are_kept(self) -> None:
+        self.records.mkdir(parents=True)
+        for name in ("red.said", "red.2.asked"):
+            (self.records / name).write_text(name)
+        with linked([WELCOME]):
+            pass
+        self.assertEqual(self.files(), {"red.said": "red.said", "red.2.asked": "red.2.asked",
+                                        "red.3.asked": "hello red\n", "red.3.said": SAID})
+
+    def test_a_link_that_is_refused_leaves_none(self) -> None:
+        for answer in ("refused taken", "refused wrongword"):
+            server = Server([[answer]])
+            self.assertRaises(LinkError, Link.greet, "127.0.0.1", server.port, "red")
+            server.join()
+        self.assertFalse(self.records.exists())
+
+    def test_without_the_variable_there_are_none(self) -> None:
+        self.set(AGENT_RECORD="")
+        for _ in range(2):
+            with linked([WELCOME, ["@0 cash 5"]]) as (agent, _):
+                self.assertEqual(agent.cash(), 5)
+            os.environ.pop("AGENT_RECORD", None)
+        self.assertFalse(self.records.exists())
+
+    def test_a_line_is_written_before_it_is_sent_and_half_a_reply_is_kept(self) -> None:
+        files: List[Dict[str, str]] = []
+        stream = mock.Mock(sendall=lambda _: files.append(self.files()))
+        agent = Link(stream, io.BytesIO(SAID.encode() + b"@0 cash 5\n@1 ca"), "red")
+        agent._take_welcome(None)
+        agent.cash()
+        self.assertRaisesRegex(LinkError, "the link was closed", agent.cash)
+        agent.close()
+        self.assertEqual([there.get("red.asked") for there in files],
+                         [None, "hello red\ncash\n", "hello red\ncash\ncash\n"])
+        self.assertEqual(self.files()["red.said"], SAID + "@0 cash 5\n@1 ca")
+
+    def test_a_folder_that_cannot_be_made_is_told_once(self) -> None:
+        self.records.parent.mkdir()
+        self.records.write_text("a file")
+        self.reconnect()
+        self.assertEqual(self.told, [f"red: {self.records}: File exists: the agent plays on "
+                                     "without its record"])
+        self.assertEqual(self.records.read_text(), "a file")
+
+    @unittest.skipUnless(os.path.exists(FULL), "there is no file that takes nothing")
+    def test_a_full_disk_is_told_once(self) -> None:
+        open_file = os.open
+
+        def opened(name: object, *how: int) -> int:
+            return open_file(FULL, os.O_WRONLY) if str(name).endswith(".said") else \
+                open_file(str(name), *how)
+
+        with mock.patch("geesefuton.link_record.os.open", opened):
+            self.reconnect()
+        self.assertEqual(self.told, [f"red: {self.records / 'red.said'}: No space left on device: "
+                                     "the agent plays on without its record"])
+        self.assertEqual(self.files(), {"red.asked": "hello red\n"})
+
+
+# The first client comes on day 1 and leaves on day 5, in the cheap hotel.
+GOODS = (0, 7, 8, 9, 10, 11)
+ASKED = [line for good in GOODS for line in
+         [f'{{"do":"own","auction":{good}}}',
+          *[f'{{"do":"bid","auction":{good},"points":[[1,600]]}}'] * (good < 8)]]
+ASKED += ['{"do":"quote","auction":0}', *(f'{{"do":"own","auction":{good}}}' for good in GOODS),
+          '{"do":"cash"}', '{"do":"quit"}']
+NOTHING = '{"at":9,"own":0,"points":[]}'
+ANSWERS = [NOTHING, '{"at":0,"taken":[1,0]}'] * 2 + [
+    *[NOTHING] * 4, '{"at":9,"quote":[0,300],"open":false}', *[NOTHING] * 6,
+    '{"at":3,"cash":-7}', '{"bye":true}']
+
+
+@unittest.skipUnless(shutil.which("node"), "there is no Node")
+class JavaScript(Records):
+    def run_asker(self, folder: object) -> str:
+        """What the agent in JavaScript tells of a game in which it asks ASKED."""
+        server = Server([WELCOME, *([answer] for answer in ANSWERS)])
+        done = completed("node", TOP / "examples/agents/asker.mjs", "127.0.0.1", server.port, "red",
+                         env={"AGENT_RECORD": str(folder)})
+        server.join()
+        holds = "agent 3 holds 0 0 0 0 0 0 of the goods 0 7 8 9 10 11, cash -7\n"
+        self.assertEqual((done.returncode, done.stdout), (0, holds))
+        return str(done.stderr)
+
+    def test_it_keeps_the_same(self) -> None:
+        for _ in range(2):
+            self.assertEqual(self.run_asker(self.records), "")
+        both = {"asked": "".join(f"{line}\n" for line in ["hello red", *ASKED]),
+                "said": "".join(f"{line}\n" for line in [*WELCOME, *ANSWERS])}
+        self.assertEqual(self.files(), {f"{name}.{side}": text for name in ("red", "red.2")
+                                        for side, text in both.items()})
+        self.assertEqual(self.modes(), {0o600})
+
+    def test_it_plays_on_without_a_record(self) -> None:
+        told = self.run_asker("/dev/null/mine").splitlines()
+        self.assertEqual(len(told), 1)
+        self.assertRegex(told[0], "^asker.mjs: .*/dev/null/mine.*: the agent plays on without its")

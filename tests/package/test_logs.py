@@ -1,6 +1,8 @@
+"""The reader of logs."""
+
 import re
 import unittest
-from typing import List, Union
+from typing import Iterator, List, Union
 
 from geesefuton.records.games import Package
 from geesefuton.records.logs import (Call, Entry, Log, LogError, Post, Reading, Trade, read_log,
@@ -9,68 +11,36 @@ from geesefuton.records.replies import Below, Done, No, Own, Sold, Taken
 from tests.package.helpers import PLAYED, SERVED_LOG, served_log
 
 
-class Served(unittest.TestCase):
-    def setUp(self) -> None:
-        self.log = served_log()
-
-    def test_the_head(self) -> None:
-        self.assertEqual(self.log.kind, "serve")
-        self.assertEqual(self.log.ends, {0: "quit", 1: "quit", 2: "quit", 3: "end", 4: "end",
-                                               5: "quit", 6: "end", 7: "quit"})
-        self.assertEqual(self.log.missed, 0)
-        self.assertEqual(self.log.seats, tuple(range(8)))
-
-    def test_every_entry_is_there(self) -> None:
-        text = SERVED_LOG.read_text().split("\n")
-        counts = [int(line.split()[2]) for line in text if line.startswith("auction ")]
-        self.assertEqual([len(history) for history in self.log.histories], counts)
-        self.assertEqual(trades_of(self.log.histories),
-                         sum(line.startswith("trade ") for line in text))
-        clock = [entry for history in self.log.histories for entry in history if entry.caller == 8]
-        self.assertEqual(len(clock), 480)
-        calls = [self.log.calls_of(agent) for agent in range(8)]
-        self.assertEqual(sum(calls) + 480, sum(counts))
-        self.assertEqual((calls[3], calls[4], calls[5], calls[6]), (0, 1, 0, 0))
-
-    def test_entries_are_what_the_lines_say(self) -> None:
-        """Each entry is written again, and has to give the line it was read from."""
-        lines = iter(SERVED_LOG.read_text().split("\n"))
-        for good, history in enumerate(self.log.histories):
-            for line in lines:
-                if line == f"auction {good} {len(history)}":
-                    break
-            for entry in history:
-                self.assertEqual(next(lines), text_of(entry))
-                for trade in entry.trades:
-                    self.assertEqual(next(lines), f"trade {trade.buyer} {trade.seller} "
-                                                  f"{trade.units} {trade.price}")
-
-    def test_the_cash_book(self) -> None:
-        lines = SERVED_LOG.read_text().split("\n")
-        start = next(place for place, line in enumerate(lines) if line.startswith("cash "))
-        self.assertEqual(len(self.log.cash), int(lines[start].split()[1]))
-        for line, entry in zip(lines[start + 1:], self.log.cash):
-            if isinstance(entry, Post):
-                self.assertEqual(line, f"{entry.caller} post {entry.good} {entry.position} "
-                                 + " ".join(map(str, entry.nets)))
-                self.assertEqual(sum(entry.nets), 0)
-            else:
-                self.assertEqual(line, f"{entry.agent} read = {entry.dollars}")
-        self.assertTrue(any(isinstance(entry, Reading) for entry in self.log.cash))
-
-    def test_the_sheet(self) -> None:
-        self.assertEqual([score.score for score in self.log.scores],
-                         [507, -726, -566, 0, -367, 0, 0, 294])
-        first = self.log.scores[0]
-        self.assertEqual((first.best, first.cash, first.short), (1302, -795, 0))
-        self.assertEqual(sum(package is not None for package in first.packages), 1)
-        for score in self.log.scores:
-            self.assertEqual(score.score, score.best + score.cash - 200 * score.short)
-        self.assertEqual(read_scores(SERVED_LOG.read_bytes()), self.log.scores)
+def lines_of(log: Log) -> Iterator[str]:
+    """The lines of a log without its certificates, written apart from the package. Seats are those
+    of the links in their order."""
+    yield from ("taclog 1", log.kind)
+    if log.kind == "serve":
+        yield from (f"link {seat} seated {seat}" for seat in log.seats)
+        yield from (f"end {agent} {why}" for agent, why in log.ends.items())
+        yield f"missed {log.missed}"
+    for good, history in enumerate(log.histories):
+        yield f"auction {good} {len(history)}"
+        for entry in history:
+            yield text_of(entry)
+            for trade in entry.trades:
+                yield f"trade {trade.buyer} {trade.seller} {trade.units} {trade.price}"
+    yield f"cash {len(log.cash)}"
+    for each in log.cash:
+        yield f"{each.agent} read = {each.dollars}" if isinstance(each, Reading) else \
+            f"{each.caller} post {each.good} {each.position} {' '.join(map(str, each.nets))}"
+    yield "sheet"
+    for row in log.scores:
+        yield f"score {row.agent} {row.best} {row.cash} {row.short} {row.score}"
+        for client, trip in enumerate(row.packages):
+            yield f"package {row.agent} {client} " + (
+                "none" if trip is None else
+                " ".join(map(str, (trip.hotel, trip.arrive, trip.depart, *trip.nights))))
+    yield "end"
 
 
 def text_of(entry) -> str:  # type: ignore[no-untyped-def]
-    """The line of an entry, written apart from the package."""
+    """The line of an entry."""
     call: Call = entry.call
     words = {"bid": "bid " + "(" + " ".join(f"({u} {c})" for u, c in call.points) + ")",
              "update": f"update {call.tick} {call.draw}"}.get(call.do, call.do)
@@ -91,13 +61,21 @@ def text_of(entry) -> str:  # type: ignore[no-untyped-def]
     return f"{entry.caller} {words} = {told}"
 
 
-class PlayedText(unittest.TestCase):
-    def test_a_log_of_a_script_has_no_links(self) -> None:
-        text = PLAYED.read_text()
-        log = read_log(text[text.index("taclog 1"):])
+class Kept(unittest.TestCase):
+    def test_logs_are_what_their_lines_say(self) -> None:
+        """All is written again, and has to give the lines that it was read from."""
+        played = PLAYED.read_text()
+        for text in (SERVED_LOG.read_text(), played[played.index("taclog 1"):]):
+            log = read_log(text)
+            self.assertEqual(list(lines_of(log)), re.findall(r"(?m)^(?!cert|leaf).+$", text))
+            self.assertEqual(trades_of(log.histories), text.count("\ntrade "))
+            self.assertEqual(read_scores(text.encode()), log.scores)
         self.assertEqual((log.kind, log.ends, log.seats), ("play", {}, tuple(range(8))))
-        self.assertEqual([score.score for score in log.scores],
-                         [1491, -516, 45, 0, 0, 0, 0, 0])
+
+    def test_calls_of_agents(self) -> None:
+        calls = [served_log().calls_of(caller) for caller in range(9)]
+        self.assertEqual((calls[3:7], calls[8]), ([0, 1, 0, 0], 480))
+        self.assertEqual(sum(calls), sum(map(len, served_log().histories)))
 
 
 class Faults(unittest.TestCase):
@@ -108,8 +86,7 @@ class Faults(unittest.TestCase):
 
     def place(self, pattern: str) -> int:
         """The number of the first line that matches, from 1."""
-        return next(number for number, line in enumerate(self.lines, 1)
-                    if re.match(pattern, line))
+        return next(number for number, line in enumerate(self.lines, 1) if re.match(pattern, line))
 
     def refuse(self, line: int, new: str, why: str, due: int = 0) -> None:
         """Replaces a line by others, and looks for the error at it, or at `due`."""
@@ -154,10 +131,6 @@ class Faults(unittest.TestCase):
         packages = self.accept(self.place("package 1 2 "), "package 1 2 1 2 5 4 0 3").scores[1]
         self.assertEqual(packages.packages[2], Package(1, 2, 5, (4, 0, 3)))
 
-    def test_a_package_is_none_where_the_client_stays_at_home(self) -> None:
-        log = self.accept(self.place("package 1 2 "), "package 1 2 none")
-        self.assertIsNone(log.scores[1].packages[2])
-
     def test_lines_that_say_nothing(self) -> None:
         auction, update, post = map(self.place, ("auction 1 ", "8 update", "[0-8] post"))
         entries = int(self.lines[auction - 1].split()[2])
@@ -198,35 +171,20 @@ class Faults(unittest.TestCase):
     def test_ends_of_the_text(self) -> None:
         text = "\n".join(self.lines) + "\n"
         count = len(self.lines)
-        self.refuse_text(text + "end\n", count + 1, "a line follows the end")
-        self.refuse_text(text + "x", count + 1, "a line follows the end")
-        self.refuse_text(text[:-1], count, "has no line end")
-        self.refuse_text("\n".join(self.lines[:30]) + "\n", 31, "but the text ends")
-        self.refuse_text("", 1, "but the text ends")
+        for other, line, why in (
+                (text + "end\n", count + 1, "a line follows the end"),
+                (text + "x", count + 1, "a line follows the end"),
+                (text[:-1], count, "has no line end"),
+                ("\n".join(self.lines[:30]) + "\n", 31, "but the text ends"),
+                ("", 1, "but the text ends"), (b"taclog 1\n\xff\n", 2, ""),
+                ("x" * 67_108_864, 1, "no line end"), ("x" * 67_108_865, 1, "bytes")):
+            self.refuse_text(other, line, why)
         # The lines before a cut are a beginning of a log, and the first missing one is told.
         for cut in (18, 60, 400, 640, 715, 722, 729, count - 30):
             self.refuse_text("\n".join(self.lines[:cut]) + "\n", cut + 1, "")
 
-    def test_other_bytes(self) -> None:
-        self.refuse_text(b"taclog 1\n\xff\n", 2, "")
-        self.refuse_text("x" * 67_108_864, 1, "no line end")
-        self.refuse_text("x" * 67_108_865, 1, "bytes")
-
     def test_a_sheet_alone(self) -> None:
-        with self.assertRaisesRegex(LogError, "expected a line `sheet`"):
-            read_scores("taclog 1\nplay\n")
+        self.assertRaisesRegex(LogError, "expected a line `sheet`", read_scores, "taclog 1\nplay\n")
         line = self.place("score 1")
         with self.assertRaisesRegex(LogError, f"^line {line}: "):
             read_scores("\n".join([*self.lines[:line - 1], "x", *self.lines[line:], ""]))
-
-    def test_a_refusal_with_what_was_due(self) -> None:
-        below = [entry.reply for history in served_log().histories for entry in history
-                 if isinstance(entry.reply, No) and entry.reply.reason == "belowquote"]
-        self.assertEqual(below[0], No(None, "belowquote", 0, Below(1, 171, 0)))
-
-    def test_trades_are_kept_with_their_entry(self) -> None:
-        history = served_log().histories[0]
-        traded = [entry for entry in history if entry.trades]
-        self.assertTrue(traded)
-        self.assertTrue(all(isinstance(trade, Trade) and trade.seller == 8
-                            for entry in traded for trade in entry.trades))

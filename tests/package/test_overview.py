@@ -2,25 +2,24 @@
 
 import csv
 import importlib.util
-import random
 import re
 import unittest
 from collections import defaultdict
 from dataclasses import replace
-from typing import Any, Dict, List, Optional
+from typing import Any, Dict, List, Optional, Tuple
 
 from geesefuton.experiments.comparisons import missing_libraries
 from geesefuton.experiments.runs import read_games, read_scores
 from geesefuton.experiments.summary import summarize
 from geesefuton.records.best_plans import best_plan
 from geesefuton.records.drawing import made_game
-from geesefuton.records.games import GOODS, Client, read_game
+from geesefuton.records.games import Client, read_game
 from geesefuton.records.report_page import number
 from geesefuton.records.rules import prices_of
 from tests.package.helpers import cells_of, needs_study, refusal, run, served_game
 from tests.package.test_best_plans import OPTIMA, counted, small_case, tight_case
 from tests.package.test_data import NAMES, TEXTS, Case, numbers
-from tests.package.test_summary import row
+from tests.package.run_cases import games_of
 
 if not missing_libraries("these tests"):
     from geesefuton.experiments.overview import (PARTS, best_allocation, figures_of, optimum,
@@ -31,26 +30,9 @@ if not missing_libraries("these tests"):
 @needs_study
 class Allocations(unittest.TestCase):
     def test_no_trips_are_worth_more(self) -> None:
-        for seed in range(4):
-            clients, held, prices = small_case(seed)
-            due = counted(clients, held, prices)
-            self.assertEqual(best_allocation(clients, held, prices), (due, due))
-
-    def test_no_trips_are_worth_a_dollar_more(self) -> None:
-        for seed, due in OPTIMA.items():
-            self.assertEqual(best_allocation(*tight_case(seed)), (due, due))
-
-    def test_eight_clients_have_what_the_search_of_plans_finds(self) -> None:
-        draw = random.Random(8)
-        for seed in range(6):
-            clients = made_game(seed).clients[0]
-            held = [draw.choice([0, 0, 1, 2]) for _ in GOODS]
-            prices: List[Optional[int]] = [draw.choice([None, draw.randrange(10, 400)])
-                                           for _ in GOODS]
-            plan = best_plan(clients, held, prices)
-            found = best_allocation(clients, held, prices)
-            self.assertEqual(found.value, found.bound)
-            self.assertTrue(plan.value <= found.value <= plan.bound)
+        small = [(case, counted(*case)) for case in map(small_case, range(4))]
+        for case, due in (*small, *((tight_case(seed), due) for seed, due in OPTIMA.items())):
+            self.assertEqual(best_allocation(*case), (due, due))
 
     def test_sixty_four_clients(self) -> None:
         """The best known allocation is the bound, and more than by looking for better trips one
@@ -92,9 +74,9 @@ class Games(Case):
 
     def setUp(self) -> None:
         super().setUp()
-        self.rows = read_scores(self.folder).rows
+        self.rows = read_scores(self.source).rows
         if not self.figures:
-            for kept in read_games(self.folder, self.rows, []):
+            for kept in read_games(self.source, self.rows, []):
                 self.figures.append(figures_of(kept, optimum(kept.game)))
         self.overview = overview_of(self.figures)
         self.by_agent = {agent: seats for agent, seats in self.overview.seats.groupby("agent")}
@@ -109,8 +91,7 @@ class Games(Case):
         for agent in NAMES:
             seats = self.by_agent[agent]
             self.assertEqual(list(seats[PARTS].sum(axis=1)), scores[agent])
-            self.assertEqual((list(seats.score), list(seats.trips)),
-                             (scores[agent], trips[agent]))
+            self.assertEqual((list(seats.score), list(seats.trips)), (scores[agent], trips[agent]))
         means_of_all = [sum(scores[agent]) for agent in self.overview.order]
         self.assertEqual(means_of_all, sorted(means_of_all, reverse=True))
 
@@ -163,9 +144,8 @@ class Games(Case):
 
     def test_the_first_screen_tells_who_is_separated_and_what_would_separate_neighbours(self
                                                                                        ) -> None:
-        rows = [row(str(deal), 0, seat, agent, base + (-1) ** (deal + seat) * 40)
-                for deal in range(6) for seat, (agent, base) in enumerate(
-                    (("a", 3000), ("b", 1030), ("c", 1000)))]
+        rows = games_of(**{agent: [base + (-1) ** (deal + seat) * 40 for deal in range(6)] for
+                           seat, (agent, base) in enumerate(zip("abc", (3000, 1030, 1000)))})
         summary = summarize(rows)
         text = page(self.overview, "run", rows[0], summary)
         ranking, differences = (text.split(f"<h2>{name}</h2>")[1].split("<h2>")[0]
@@ -176,16 +156,21 @@ class Games(Case):
                           ("3", "c", "1,000", "B")])
         self.assertEqual(ranking.count('class="bar"'), 3)
         lines = cells_of(differences)
-        self.assertEqual([(line[0], line[-1]) for line in lines[1:2]],
-                         [("a less b", "separated")])
+        self.assertEqual([(line[0], line[-1]) for line in lines[1:2]], [("a less b", "separated")])
         self.assertEqual((lines[2][0], lines[2][-2]), ("b less c", "6"))
         self.assertGreater(int(lines[2][-1]), 10)
         self.assertIn("<summary>All other pairs</summary>", differences)
 
+    def report(self, *words: object, status: int = 0) -> Tuple[str, List[str]]:
+        """What the command prints of the run, and the lines that it tells."""
+        done = run("experiments.report_command", "--over", *words)
+        self.assertEqual(done.returncode, status, done.stderr)
+        return done.stdout, done.stderr.splitlines()
+
     def test_pictures_for_a_paper_have_their_data_beside_them(self) -> None:
-        place = self.folder.parent / "pictures"
-        done = run("experiments.report_command", "--over", self.folder, "--figures", place)
-        self.assertEqual((done.returncode, done.stderr), (0, ""))
+        place = self.source.parent / "pictures"
+        words = (self.source, "--figures", place)
+        self.assertEqual(self.report(*words)[1], [])
         names = {file.stem for file in place.iterdir()}
         self.assertEqual(names, {"ranking", "differences", "parts", "distances", "efficiencies"})
         with open(place / "parts.csv", newline="", encoding="utf-8") as text:
@@ -196,24 +181,21 @@ class Games(Case):
         if importlib.util.find_spec("matplotlib") is not None:
             self.assertEqual(len(list(place.iterdir())), 15)
             svg = (place / "ranking.svg").read_bytes()
-            run("experiments.report_command", "--over", self.folder, "--figures", place)
+            self.report(*words)
             self.assertEqual((place / "ranking.svg").read_bytes(), svg)
         (place / "parts.csv").unlink()
         (place / "parts.csv").mkdir()
-        done = run("experiments.report_command", "--over", self.folder, "--figures", place)
-        self.assertEqual((done.returncode, done.stderr.count("\n")), (1, 1), done.stderr)
-        self.assertIn("parts.csv: Is a directory", done.stderr)
+        fault, = self.report(*words, status=1)[1]
+        self.assertIn("parts.csv: Is a directory", fault)
 
     def test_the_command(self) -> None:
-        done = run("experiments.report_command", "--over", self.folder / "games")
-        self.assertEqual((done.returncode, done.stdout, done.stderr), (
-            1, "", f"report: {self.folder}/games: it is not the folder of a tournament's run\n"))
-        for words in (("--over", self.folder, "my.game"), ("--over", self.folder, "--csv"), (),
+        self.assertEqual(self.report(self.source / "games", status=1), (
+            "", [f"report: {self.source}/games: it is not the folder of a tournament's run"]))
+        for words in (("--over", self.source, "my.game"), ("--over", self.source, "--csv"), (),
                       ("a",), ("--figures", "x", "my.game", "my.log")):
             self.assertEqual(refusal("experiments.report_command", *words)[0], 2)
-        (self.folder / "games" / "9.0.log").unlink()
-        (self.folder / "games" / "10.0.game").write_text("no game\n")
-        done = run("experiments.report_command", "--over", self.folder)
-        self.assertEqual((done.returncode, done.stderr.count("\n")), (1, 2))
-        self.assertIn("10.0.game: line 1: ", done.stderr)
-        self.assertIn("The folder run: 1 game of 1 deal", done.stdout)
+        (self.source / "games" / "9.0.log").unlink()
+        (self.source / "games" / "10.0.game").write_text("no game\n")
+        text, told = self.report(self.source, status=1)
+        self.assertEqual(["10.0.game: line 1: " in line for line in sorted(told)], [True, False])
+        self.assertIn("The folder run: 1 game of 1 deal", text)

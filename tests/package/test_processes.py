@@ -1,3 +1,8 @@
+"""Processes, what they write, and the command lines of the package's programs."""
+
+import argparse
+import contextlib
+import io
 import os
 import resource
 import shutil
@@ -5,17 +10,16 @@ import signal
 import socket
 import subprocess
 import tempfile
-import time
 import unittest
 from concurrent.futures import ThreadPoolExecutor
 from pathlib import Path
-from typing import Any, Callable, List, Tuple
+from typing import Any, Callable, Dict, List, Tuple
 from unittest import mock
 
+from geesefuton.arguments import Parser, seconds, whole
 from geesefuton.processes import Children, Output, Stopped, free_port, tell, wait_until, why
-from tests.package.helpers import Case, completed, python, variables
-
-MOST = 60.0  # seconds that anything may take, on a machine that is busy with other work
+from tests.package.cases import MOST, Case, is_running
+from tests.package.helpers import completed, python, variables
 
 # A script that starts a process which ignores signals, with a process of its own, and a folder;
 # it prints their numbers and the folder, and waits.
@@ -35,24 +39,8 @@ sys.exit(command("script", main))
 """
 
 
-def is_there(process: int) -> bool:
-    try:
-        state = Path(f"/proc/{process}/stat").read_text().rsplit(")", 1)[1].split()[0]
-    except OSError:
-        return False
-    return state not in "ZX"
-
-
-def comes(is_so: Callable[[], bool]) -> bool:
-    """Whether something is so in time."""
-    deadline = time.monotonic() + MOST
-    while not is_so() and time.monotonic() < deadline:
-        time.sleep(0.01)
-    return is_so()
-
-
 @unittest.skipUnless(Path("/proc/self").exists(), "processes are looked for in /proc")
-class Ends(unittest.TestCase):
+class Ends(Case):
     def test_what_a_process_started_ends_with_it(self) -> None:
         with Children() as children:
             first = children.start(["sh", "-c", "sleep 300 & echo $!; wait"],
@@ -61,7 +49,7 @@ class Ends(unittest.TestCase):
             with first.stdout as told:
                 started = int(told.readline())
             children.end(first)
-            self.assertTrue(comes(lambda: not is_there(started)))
+            self.until(lambda: not is_running(started))
 
     def end(self, wait: str, number: int = 0) -> int:
         """Runs the script, sends it a signal, and sees that nothing is left. Gives its status."""
@@ -69,14 +57,14 @@ class Ends(unittest.TestCase):
                                   stderr=subprocess.DEVNULL, text=True, env=variables())
         assert script.stdout is not None
         with script.stdout as told:
-            child, grandchild, folder = told.readline().split()
+            *processes, folder = told.readline().split()
             self.assertTrue(Path(folder, "file").exists())
-            self.assertTrue(is_there(int(child)) and is_there(int(grandchild)))
+            self.assertEqual([is_running(int(each)) for each in processes], [True, True])
             if number:
                 script.send_signal(number)
             status = script.wait(MOST)
-        self.assertTrue(comes(lambda: not (is_there(int(child)) or is_there(int(grandchild))
-                                           or Path(folder).parent.parent.exists())))
+        self.until(lambda: not (any(is_running(int(each)) for each in processes)
+                                or Path(folder).parent.parent.exists()))
         return status
 
     def test_a_script_leaves_nothing_however_it_ends(self) -> None:
@@ -95,7 +83,7 @@ class Groups(Case):
             first = children.start(["sh", "-c", "sleep 300 & wait"])
             second = children.start(["sleep", "300"])
             file = children.groups / str(first.pid)
-            self.assertTrue(comes(file.exists))
+            self.until(file.exists)
             self.assertEqual(children.end(first), -signal.SIGKILL)
             self.assertFalse(file.exists())  # another process may get its number
             self.assertIsNone(second.poll())
@@ -107,20 +95,20 @@ class Groups(Case):
     def test_processes_are_asked_to_end_first(self) -> None:
         with Children() as children:
             code = "trap 'echo bye > $0/file; exit 0' TERM; echo; sleep 300 & wait"
-            child = children.start(["sh", "-c", code, self.place], stdout=subprocess.PIPE)
+            child = children.start(["sh", "-c", code, self.folder], stdout=subprocess.PIPE)
             assert child.stdout is not None
             with child.stdout as told:
                 told.readline()
-        self.assertEqual((self.place / "file").read_text(), "bye\n")
+        self.assertEqual((self.folder / "file").read_text(), "bye\n")
         self.assertEqual(child.wait(MOST), 0)
 
     def test_how_a_process_is_started_is_said_as_to_popen(self) -> None:
         with Children() as children:
-            child = children.start([Path("sh"), "-c", "pwd; echo $SOME; exit 3"], cwd=self.place,
+            child = children.start([Path("sh"), "-c", "pwd; echo $SOME; exit 3"], cwd=self.folder,
                                    stdout=subprocess.PIPE, env={**os.environ, "SOME": "thing"})
             told, _ = child.communicate(timeout=MOST)
         self.assertEqual((told.decode(), child.returncode),
-                         (f"{os.path.realpath(self.place)}\nthing\n", 3))
+                         (f"{os.path.realpath(self.folder)}\nthing\n", 3))
 
     def test_folders_are_new_and_gone_afterwards(self) -> None:
         with Children() as children:
@@ -143,7 +131,7 @@ class Groups(Case):
         self.assertIn(signal.SIGINT, masks[0])
 
     def test_a_folder_that_cannot_be_made_is_told(self) -> None:
-        missing = str(self.place / "none")
+        missing = str(self.folder / "none")
         with mock.patch.object(tempfile, "tempdir", missing), \
                 self.assertRaises(OSError) as caught:
             Children()
@@ -158,13 +146,7 @@ class Groups(Case):
 class Outputs(Case):
     def setUp(self) -> None:
         super().setUp()
-        self.file = self.place / "out"
-
-    def piped(self) -> Tuple[int, int]:
-        """The two ends of a pipe."""
-        reading, writing = os.pipe()
-        self.addCleanup(os.close, reading)
-        return reading, writing
+        self.file = self.folder / "out"
 
     def test_a_file_has_what_was_written_in_utf_8_and_at_once(self) -> None:
         self.file.write_text("an old text that is longer")
@@ -176,13 +158,12 @@ class Outputs(Case):
         self.assertEqual((out.fault, out.name), (None, str(self.file)))
 
     def test_a_file_that_it_was_given_stays_open(self) -> None:
-        reading, writing = self.piped()
-        out = Output(writing, "a pipe")
+        file = self.enter(self.file.open("wb"))
+        out = Output(file.fileno(), "a file")
         out.write("x")
         out.close()
         self.assertTrue(out.write("y"))
-        os.close(writing)
-        self.assertEqual(os.read(reading, 9), b"xy")
+        self.assertEqual(self.file.read_text(), "xy")
 
     def test_a_fault_that_comes_when_a_file_is_closed(self) -> None:
         out = Output(self.file)
@@ -192,13 +173,6 @@ class Outputs(Case):
         self.assertEqual(out.fault, "Input/output error")
         assert number is not None
         os.close(number)
-
-    def test_a_full_disk_is_told_once_and_nothing_more_is_written(self) -> None:
-        out = Output("/dev/full")
-        self.assertFalse(out.write("x"))
-        self.assertEqual(out.fault, "No space left on device")
-        self.assertFalse(out.write("y"))
-        out.close()
 
     def test_a_file_that_takes_only_the_beginning_of_a_text(self) -> None:
         limits = resource.getrlimit(resource.RLIMIT_FSIZE)
@@ -215,7 +189,12 @@ class Outputs(Case):
 
     def test_names_and_files_that_are_not_there(self) -> None:
         self.assertEqual(Output(1).name, "standard output")
-        self.assertEqual(Output("/nowhere/out").fault, "No such file or directory")
+        for name, fault in (("/nowhere/out", "No such file or directory"),
+                            ("/dev/full", "No space left on device")):
+            out = Output(name)
+            self.assertEqual([out.write("x"), out.write("y")], [False, False])
+            self.assertEqual(out.fault, fault)
+            out.close()
         reading, writing = os.pipe()
         os.close(reading)
         out = Output(writing, "a pipe")
@@ -225,7 +204,8 @@ class Outputs(Case):
         self.assertEqual(Output(writing).fault, "Bad file descriptor")
 
     def test_a_slow_reader_gets_everything(self) -> None:
-        reading, writing = self.piped()
+        reading, writing = os.pipe()
+        self.addCleanup(os.close, reading)
         code = "import sys, time; time.sleep(0.1); print(len(sys.stdin.buffer.read()))"
         child = subprocess.Popen(python(code), stdin=reading, stdout=subprocess.PIPE)
         self.assertTrue(Output(writing).write("x" * 500_000))
@@ -284,25 +264,22 @@ class Commands(unittest.TestCase):
                 ("open('/nowhere/x')", 1, "name: /nowhere/x: No such file or directory\n"),
                 ("raise BrokenPipeError(32, 'x')", 1, "name: its reader has gone\n")):
             self.assertEqual(self.ran(body), (status, "", told), body)
+        # Nor is a standard error that is closed an error, and a hangup that is ignored stays so.
+        for before, body, printed in (
+                ("os.close(2)", "processes.tell('x'); return 0", ""),
+                ("signal.signal(signal.SIGHUP, signal.SIG_IGN)",
+                 "os.kill(os.getpid(), signal.SIGHUP); print('went on'); return 0", "went on\n")):
+            self.assertEqual(self.ran(body, before), (0, printed, ""))
 
     def test_faults_in_words(self) -> None:
         self.assertEqual(str(Stopped(signal.SIGTERM)), "stopped by SIGTERM")
         self.assertEqual([why(OSError(28, "full", "file")), why(OSError("odd"))], ["full", "odd"])
 
     def test_what_python_still_keeps_is_written_or_told(self) -> None:
-        self.assertEqual(self.ran("print('kept'); return 0"), (0, "kept\n", ""))
         with open("/dev/full", "wb") as full:
             self.assertEqual(self.ran("print('kept'); return 3", stdout=full)[0], 3)
             self.assertEqual(self.ran("print('kept'); return 0", stdout=full),
                              (1, None, "name: standard output: No space left on device\n"))
-
-    def test_a_closed_standard_error_is_no_error(self) -> None:
-        self.assertEqual(self.ran("processes.tell('x'); return 0", "os.close(2)"), (0, "", ""))
-
-    def test_an_ignored_hangup_stays_ignored(self) -> None:
-        self.assertEqual(
-            self.ran("os.kill(os.getpid(), signal.SIGHUP); print('went on'); return 0",
-                     "signal.signal(signal.SIGHUP, signal.SIG_IGN)"), (0, "went on\n", ""))
 
 
 class Telling(unittest.TestCase):
@@ -312,11 +289,8 @@ class Telling(unittest.TestCase):
             with self.subTest(is_terminal=is_terminal), \
                     mock.patch("geesefuton.processes.os.write") as write, \
                     mock.patch("geesefuton.processes.os.isatty", return_value=is_terminal):
-                tell("a")
-                tell("1", is_passing=True)
-                tell("2", is_passing=True)
-                tell("b")
-                tell("c")
+                for text in "a12bc":
+                    tell(text, is_passing=text in "12")
                 self.assertEqual(b"".join(call[0][1] for call in write.call_args_list).decode(),
                                  due)
 
@@ -333,5 +307,43 @@ class Telling(unittest.TestCase):
             self.assertEqual(told, due)
 
 
-if __name__ == "__main__":
-    unittest.main()
+class Numbers(unittest.TestCase):
+    def test_what_is_read_and_what_is_refused(self) -> None:
+        cases: List[Tuple[Callable[[str], object], Dict[str, object], str, List[str]]] = [
+            (whole(3, 65535), {"3": 3, "7": 7, "65535": 65535}, "a number from 3 to 65535",
+             ["2", "65536", "-4", "+4", "4.0", " 4", "4 ", "", "x", "0x4", "1_0", "\u0664"]),
+            (whole(0), {"0": 0, "123456789": 123456789}, "a number of 0 or more", ["-1"]),
+            (whole(1), {"1": 1}, "a number of 1 or more", ["0"]),
+            (seconds, {"0": 0.0, "0.25": 0.25, "30": 30.0, "1000000": 1e6},
+             "a number of seconds", ["-1", "-0.1", "1000001", "nan", "inf", "x", "", "1s"])]
+        for read, due, told, refused in cases:
+            self.assertEqual({text: read(text) for text in due}, due)
+            for text in refused:
+                with self.assertRaises(argparse.ArgumentTypeError, msg=text) as caught:
+                    read(text)
+                self.assertIn(f"{told}, not {text!r}", str(caught.exception))
+
+
+class Parsers(unittest.TestCase):
+    def ended(self, *words: str) -> Tuple[object, List[str], str]:
+        """The exit status, what is told, and what is printed."""
+        told: List[str] = []
+        parser = Parser("name", "What it does.\n\n    name 3   so\n")
+        parser.add_argument("--number", type=whole(1, 9))
+        printed = io.StringIO()
+        with self.assertRaises(SystemExit) as caught, contextlib.redirect_stdout(printed), \
+                mock.patch("geesefuton.arguments.tell", told.append):
+            parser.parse_args(words)
+        return caught.exception.code, told, printed.getvalue()
+
+    def test_errors_are_one_line_and_status_2_and_words_are_not_abbreviated(self) -> None:
+        for words, why in (
+                ("--number 10", "argument --number: expected a number from 1 to 9, not '10'"),
+                ("--num 5", "unrecognized arguments: --num 5")):
+            self.assertEqual(self.ended(*words.split()), (2, [f"name: {why} (see --help)"], ""))
+
+    def test_help(self) -> None:
+        status, told, printed = self.ended("--help")
+        self.assertEqual((status, told), (0, []))
+        self.assertIn("usage: name ", printed)
+        self.assertIn("What it does.\n\n    name 3   so\n", printed)  # lines stay as they are

@@ -1,4 +1,3 @@
-import contextlib
 import functools
 import json
 import os
@@ -10,13 +9,12 @@ from pathlib import Path
 from typing import Dict, List, Set, Tuple
 from unittest import mock
 
-from geesefuton.experiments import profiles
 from geesefuton.experiments.comparisons import missing_libraries
 from geesefuton.experiments.results import Outcome, Result
 from geesefuton.experiments.runs import games_of, read_scores
-from geesefuton.processes import Output, Stopped
-from tests.package.run_cases import PlaceCase
-from tests.package.helpers import SERVED_GAME, fake_program, needs_study, worker
+from geesefuton.processes import Stopped
+from tests.package.run_cases import PlaceCase, files_of
+from tests.package.helpers import SERVED_GAME, in_process, needs_study, worker
 
 if not missing_libraries("these tests"):
     from geesefuton.experiments import equilibria
@@ -49,58 +47,45 @@ class Commands(PlaceCase):
     def setUp(self) -> None:
         super().setUp()
         for name in ("dove.py", "hawk.py", "owl.py"):
-            (self.place / name).write_text("pass\n")
-        for name, end in (("played", Outcome.PLAYED), ("crashed", Outcome.CRASHED)):
-            result = Result(tuple(range(9000, 9008)), (end,) * 8)
-            (self.place / name).write_bytes(pickle.dumps(result, 0))
-        (self.place / "lost").write_bytes(pickle.dumps(Result(fault="why"), 0))
+            self.write(name, "pass\n")
+        scores = tuple(range(9000, 9008))
+        for name, result in (("played", Result(scores, (Outcome.PLAYED,) * 8)),
+                             ("crashed", Result(scores, (Outcome.CRASHED,) * 8)),
+                             ("lost", Result(fault="why"))):
+            (self.folder / name).write_bytes(pickle.dumps(result, 0))
         price = '$((250 + $(echo "$2" | cut -c1-2)))'  # another one for each deal
-        self.tac = fake_program(
-            self.place, f'sed "s/^flight 0 [0-9]*/flight 0 {price}/" {SERVED_GAME}')
-        self.out = self.place / "study"
+        self.tac = self.use_program(f'sed "s/^flight 0 [0-9]*/flight 0 {price}/" {SERVED_GAME}')
+        self.out = self.folder / "study"
+        self.set(PLACE=str(self.folder))
         self.addCleanup(os.chdir, os.getcwd())
-        os.chdir(self.place)
+        os.chdir(self.folder)
 
     def run_profiles(self, *words: str, status: int = 0, out: str = "printed",
                      agents: Tuple[str, ...] = ("dove.py", "hawk.py"), **more: str
                      ) -> Tuple[str, str]:
         """Runs it on three deals; gives what it prints and tells."""
-        told: List[str] = []
         find = functools.partial(equilibria.find, resamples=20)
-        with contextlib.ExitStack() as stack:
-            patch = stack.enter_context
-            patch(mock.patch("sys.argv", ["profiles", *agents, *WORDS, "--at-once", "3", *words]))
-            patch(mock.patch("geesefuton.processes.stop_on_signals"))
-            patch(mock.patch.dict(os.environ, {"TAC": self.tac, "PLACE": str(self.place), **more}))
-            patch(mock.patch("geesefuton.experiments.tournament.PLAYER",
-                             [sys.executable, "-c", WORKER]))
-            patch(mock.patch("geesefuton.experiments.profile_study.find", find))
-            patch(mock.patch("geesefuton.experiments.forms.Output", lambda target: Output(
-                out if target == 1 else target, "standard output" if target == 1 else "")))
-            for module in ("experiments.profile_study", "experiments.tournament",
-                           "experiments.forms", "processes"):
-                patch(mock.patch(f"geesefuton.{module}.tell",
-                                 lambda text, is_passing=False: told.append(text + "\n")))
-            got = profiles.main()
-        self.assertEqual(got, status, "".join(told))
-        printed = self.place / "printed"
+        with mock.patch.dict(os.environ, more), \
+                mock.patch("geesefuton.experiments.tournament.PLAYER",
+                           [sys.executable, "-c", WORKER]), \
+                mock.patch("geesefuton.experiments.profile_study.find", find):
+            got, told = in_process("experiments.profiles", *agents, *WORDS, "--at-once", "3",
+                                   *words, printed=out)
+        self.assertEqual(got, status, told)
+        printed = self.folder / "printed"
         text = printed.read_text() if printed.exists() else ""
         printed.unlink(missing_ok=True)
-        return text, "".join(told)
+        return text, told
 
     def begun(self) -> List[str]:
-        return (self.place / "begun").read_text().split()
-
-    def files(self) -> Dict[Path, bytes]:
-        return {file: file.read_bytes() for file in self.out.rglob("*") if file.is_file()}
+        return (self.folder / "begun").read_text().split()
 
     def refused(self, told: str, *words: str, agents: Tuple[str, ...] = ("dove.py", "hawk.py"),
                 status: int = 2) -> None:
         """It is refused in one line, and no file changes."""
-        before = self.files()
-        with mock.patch.dict(os.environ, {"TAC": self.tac}):
-            self.assert_refused(told, "profiles", *agents, *WORDS, *words, status=status)
-        self.assertEqual(before, self.files())
+        before = files_of(self.out)
+        self.assert_refused(told, "profiles", *agents, *WORDS, *words, status=status)
+        self.assertEqual(before, files_of(self.out))
 
     def test_a_study_of_two_strategies(self) -> None:
         text, told = self.run_profiles("--players", "8")
@@ -161,7 +146,7 @@ class Commands(PlaceCase):
         self.assertRegex(text, r"\n1\. +\S+ +\S+ +\d+ of 20\n")
         # The stand-in's scores depend on a deal's number, which is 1 in each of them.
         self.assertEqual(*({line.rsplit(",", 2)[0] for line in
-                            (self.place / name / "payoffs.csv").read_text().splitlines()}
+                            (self.folder / name / "payoffs.csv").read_text().splitlines()}
                            for name in ("study", "all")))
         self.refused("study and of1 both have game 1.0 and 3 more", "--join",
                      agents=("of1", "study"))
@@ -177,6 +162,11 @@ class Commands(PlaceCase):
                      "NOT KNOWN: a single deal cannot be resampled; play more."):
             self.assertIn(told, text)
 
+    def test_a_study_without_a_whole_deal_knows_nothing(self) -> None:
+        text, told = self.run_profiles("--games", "1", status=1, LOSE="1.1")
+        self.assertIn("NOT KNOWN: no deal has all of its profiles scored.", text)
+        self.assertFalse((self.out / "payoffs.csv").exists())
+
     def test_what_does_not_belong_together_is_refused(self) -> None:
         self.run_profiles()
         self.refused("it has a run: continue it with --resume")
@@ -184,19 +174,18 @@ class Commands(PlaceCase):
                      "--resume")
         self.refused("turns is 40, not set", "--turns", "40", "--resume")
         self.refused("there is no file owl2.py", agents=("dove.py", "owl2.py"))
-        hawk = self.place / "hawk.py"
-        hawk.write_text("import os\n")
+        self.write("hawk.py", "import os\n")
         self.refused("the files, libraries or words of hawk differ", "--resume")
-        hawk.write_text("pass\n")
-        tac, self.tac = self.tac, fake_program(self.place, f"cat '{SERVED_GAME}' # another")
+        self.write("hawk.py", "pass\n")
+        kept = Path(self.tac).read_text()
+        self.use_program(f"cat '{SERVED_GAME}' # another")
         self.refused("began differently: tac is", "--resume")
-        self.tac = tac
+        Path(self.tac).write_text(kept)
         (self.out / "run.json").write_text("{}")
         self.refused("run.json is not of a tournament of this version", status=1)
 
     def test_a_folder_of_something_else_is_refused(self) -> None:
-        self.out.mkdir()
-        (self.out / "thesis.txt").write_text("mine")
+        self.write("study/thesis.txt", "mine")
         self.refused("it is not the folder of a tournament: it has thesis.txt")
 
     def test_another_strategy_plays_its_new_profiles_alone(self) -> None:
@@ -236,11 +225,6 @@ class Commands(PlaceCase):
         again, _ = self.run_profiles("--search", "--resume",
                                      agents=("dove.py", "owl.py", "hawk.py"))
         self.assertEqual((again, len(self.begun())), (text, 18))
-
-    def test_a_study_without_a_whole_deal_knows_nothing(self) -> None:
-        text, told = self.run_profiles("--games", "1", status=1, LOSE="1.1")
-        self.assertIn("NOT KNOWN: no deal has all of its profiles scored.", text)
-        self.assertFalse((self.out / "payoffs.csv").exists())
 
     def test_without_the_libraries_it_tells_how_to_get_them(self) -> None:
         with mock.patch("geesefuton.experiments.comparisons.find_spec", return_value=None):

@@ -1,18 +1,17 @@
+"""How the program is found and called."""
+
 import os
 import signal
 import threading
 import time
-import unittest
 from pathlib import Path
 from typing import Any, Callable, List, Tuple
 from unittest import mock
 
 from geesefuton import program
 from geesefuton.program import ProgramError
-from tests.package.helpers import (SERVED_GAME, SERVED_LOG, TOP, Case, completed, fake_program,
-                                   needs_program, python, served_game)
-
-MOST = 60.0  # seconds that anything may take, on a machine that is busy with other work
+from tests.package.cases import MOST, Case, fake_program, is_running
+from tests.package.helpers import TOP, completed, python
 
 
 class Interrupted(BaseException):
@@ -20,10 +19,6 @@ class Interrupted(BaseException):
 
 
 class Commands(Case):
-    def use(self, body: str) -> None:
-        """Lets a shell script stand in for the program."""
-        self.set(TAC=fake_program(self.place, body))
-
     def interruptible(self) -> Callable[[int, object], None]:
         """Lets SIGINT raise, and gives its handler."""
         def interrupt(number: int, _: object) -> None:
@@ -41,12 +36,12 @@ class Commands(Case):
     def test_a_program_that_is_not_built(self) -> None:
         self.set(TAC="")
         build = f"build it by `{program.typed('tac make 42')}`, or "
-        for file, clone, how in (("/bin/rt", self.place, build),
+        for file, clone, how in (("/bin/rt", self.folder, build),
                                  (None, None, "install the toolchain, Rattle, whose command rt ")):
-            with mock.patch.object(program, "top", return_value=self.place), \
+            with mock.patch.object(program, "top", return_value=self.folder), \
                     mock.patch("shutil.which", lambda name: file if name == "rt" else None):
                 self.assertEqual(program.to_build(), clone)
-                self.assertIn(f"{self.place}/crates/tacd/out/tacd: {how}",
+                self.assertIn(f"{self.folder}/crates/tacd/out/tacd: {how}",
                               str(self.refused("make", 1)))
 
     def test_how_a_command_is_typed(self) -> None:
@@ -58,7 +53,7 @@ class Commands(Case):
             self.assertEqual(program.typed("lobby x"), "geesefuton lobby x")
 
     def test_calls_give_their_words_and_get_the_output(self) -> None:
-        self.use('echo "$@"')
+        self.use_program('echo "$@"')
         game, log = Path("a game"), Path("log")
         for text, words in ((program.make(42), "make 42"), (program.show(game), "show a game"),
                             (program.upgrade(game), "upgrade a game"),
@@ -70,28 +65,25 @@ class Commands(Case):
         self.assertEqual(program.audit(game, log), "audit a game log")
 
     def test_bytes_are_given_as_a_file(self) -> None:
-        self.use('echo "$@"; cat /dev/stdin')
+        self.use_program('echo "$@"; cat /dev/stdin')
         self.assertEqual(program.audit("game", b"a log"), "audit game /dev/stdin\na log")
         self.assertEqual(program.solve(b"an account"), "solve /dev/stdin\nan account")
         self.assertEqual(program.run("show", program.INPUT, given=b"x"), "show /dev/stdin\nx")
         self.assertEqual(program.run("show", program.INPUT), "show /dev/stdin\n")
-        self.use(r"printf 'a\377b\n'")  # bytes that are no text are no error
+        self.use_program(r"printf 'a\377b\n'")  # bytes that are no text are no error
         self.assertEqual(program.show("x"), "a\ufffdb\n")
 
     def test_a_refusal_has_its_status_and_first_line_unless_it_is_allowed(self) -> None:
-        self.use("echo game 3 4; echo more; exit 2")
-        fault = self.refused("show", "x")
-        self.assertEqual((fault.status, fault.line), (2, "game 3 4"))
-        self.assertEqual(str(fault), "tac show ended with exit status 2 (the game file is refused: "
-                                     "game 3 4)")
-
-        self.use("echo some; exit 6")
+        for body, words, status, line, told in (
+                ("echo game 3 4; echo more; exit 2", ("show", "x"), 2, "game 3 4",
+                 "tac show ended with exit status 2 (the game file is refused: game 3 4)"),
+                ("kill -9 $$", ("make", 1), -9, "", "tac make ended with exit status -9")):
+            self.use_program(body)
+            fault = self.refused(*words)
+            self.assertEqual((fault.status, fault.line, str(fault)), (status, line, told))
+        self.use_program("echo some; exit 6")
         self.assertEqual(program.run("make", 1, allowed=(program.OK, program.CLOCK)), "some\n")
         self.assertEqual(self.refused("make", 1).status, program.CLOCK)
-        self.use("kill -9 $$")
-        fault = self.refused("make", 1)
-        self.assertEqual((fault.status, fault.line, str(fault)),
-                         (-9, "", "tac make ended with exit status -9"))
 
     def test_what_the_statuses_mean(self) -> None:
         for status, meaning in ((1, "no command"), (2, "game file"), (3, "missing"),
@@ -105,50 +97,46 @@ class Commands(Case):
                          "tac play ended with exit status 77 (a line)")
 
     def test_a_library_that_is_too_old_for_the_program(self) -> None:
-        self.use("echo some\n# GLIBC_2.34\0")
+        self.use_program("echo some\n# GLIBC_2.34\0")
         due = " needs glibc 2.34 or later, and this system has 2.31: use a newer system, or build "
         with mock.patch("platform.libc_ver", lambda: ("glibc", "2.31")):
             self.assertIn(due, str(self.refused("make", 1)))
-            with self.assertRaises(ProgramError):
-                program.served_words("game", 7000, 500)
-            self.use("echo some\n# GLIBC_2.31\0")  # one that was built there
+            self.assertRaises(ProgramError, program.served_words, "game", 7000, 500)
+            self.use_program("echo some\n# GLIBC_2.31\0")  # one that was built there
             self.assertEqual(program.make(1), "some\n")
-        self.use("echo some\n# GLIBC_2.34\0")
+        self.use_program("echo some\n# GLIBC_2.34\0")
         for name, number in (("glibc", "2.34"), ("glibc", "2.41"), ("", "")):
             with mock.patch("platform.libc_ver", lambda told=(name, number): told):
                 self.assertEqual(program.make(1), "some\n")
 
     def test_a_long_output_is_read_whole_and_no_file_stays_open(self) -> None:
-        self.use("yes 0123456 | head -n 20000; cat /dev/stdin")
+        self.use_program("yes 0123456 | head -n 20000; cat /dev/stdin")
         before = sorted(os.listdir("/dev/fd"))
         self.assertEqual(program.run("make", 1, given=b"given\n"), "0123456\n" * 20000 + "given\n")
-        self.set(TAC=str(self.place / "none"))
+        self.set(TAC=str(self.folder / "none"))
         self.refused("make", 1)
         self.assertEqual(sorted(os.listdir("/dev/fd")), before)
 
     def test_an_unsound_log_is_an_answer_and_a_refused_one_is_not(self) -> None:
-        self.use("echo unsound score 3; exit 9")
+        self.use_program("echo unsound score 3; exit 9")
         self.assertEqual(program.audit("g", "l"), "unsound score 3")
-        with self.assertRaises(ProgramError):
-            program.table([("g", "l")])
-        self.use("echo text 5 1; exit 8")
-        with self.assertRaisesRegex(ProgramError, "text 5 1"):
-            program.audit("g", "l")
+        self.assertRaises(ProgramError, program.table, [("g", "l")])
+        self.use_program("echo text 5 1; exit 8")
+        self.assertRaisesRegex(ProgramError, "text 5 1", program.audit, "g", "l")
 
     def test_a_program_that_takes_too_long(self) -> None:
-        self.use("exec sleep 20")
-        with self.assertRaisesRegex(ProgramError, "tac make took longer than 0.1 seconds"):
-            program.run("make", 1, timeout=0.1)
-        with self.assertRaisesRegex(ProgramError, "tac audit took longer than 0.1 seconds"):
-            program.audit("g", "l", 0.1)
+        self.use_program("exec sleep 20")
+        for name, call in (("make", lambda: program.run("make", 1, timeout=0.1)),
+                           ("audit", lambda: program.audit("g", "l", 0.1))):
+            self.assertRaisesRegex(ProgramError, f"tac {name} took longer than 0.1 seconds", call)
 
     def test_a_program_that_cannot_be_run(self) -> None:
         for name, data, mode, due in (
-                ("none", None, 0, f"there is no program {self.place / 'none'}"),
+                ("none", None, 0, f"there is no program {self.folder / 'none'}"),
                 ("text", b"x", 0o644, "is not executable: chmod +x it"),
                 ("bad", b"\x00\x01\x02", 0o755,
                  "bad is not a program for this system: tac needs x86-64 Linux")):
-            file = self.place / name
+            file = self.folder / name
             if data is not None:
                 file.write_bytes(data)
                 file.chmod(mode)
@@ -172,7 +160,7 @@ class Commands(Case):
             ends.append(end(*words))
             return ends[-1]
 
-        self.use("exec sleep 60")
+        self.use_program("exec sleep 60")
         with mock.patch("os.posix_spawn", slow), mock.patch("os.waitpid", ended), \
                 self.assertRaises(Interrupted):
             program.make(1)
@@ -192,7 +180,7 @@ class Commands(Case):
             signal.pthread_kill(threading.get_ident(), signal.SIGINT)
 
         self.interruptible()
-        self.use(f"exec sleep {MOST}")
+        self.use_program(f"exec sleep {MOST}")
         began = time.monotonic()
         threading.Thread(target=send, daemon=True).start()
         with mock.patch("os.waitpid", begun), self.assertRaises(Interrupted):
@@ -200,54 +188,34 @@ class Commands(Case):
         self.assertLess(time.monotonic() - began, MOST / 2)
 
     def test_the_file_is_that_of_the_variable_and_holds_in_any_folder(self) -> None:
-        file = fake_program(self.place, "exit")
+        file = fake_program(self.folder, "exit")
         self.set(TAC=os.path.relpath(file))
         self.assertEqual(program.find(), file)
         self.assertEqual(program.served_words("g", 7000, 500), [file, "serve", "g", "7000", "500"])
         self.assertEqual(program.served_words(Path("g"), 7000, 500, "json"),
                          [file, "serve", "g", "7000", "500", "json"])
-        self.set(TAC="tac", PATH=str(self.place))
+        self.set(TAC="tac", PATH=str(self.folder))
         self.assertEqual(program.find(), file)  # a name without a slash is looked for
 
     def test_without_the_variable_it_is_that_of_the_clone(self) -> None:
         self.set(TAC="")
-        with mock.patch("geesefuton.program.top", return_value=self.place):
+        with mock.patch("geesefuton.program.top", return_value=self.folder):
             self.assertIn("tacd/out/tacd", str(self.refused("make", 1)))
-            built = self.place / "crates" / "tacd" / "out"
+            built = self.folder / "crates" / "tacd" / "out"
             built.mkdir(parents=True)
             Path(fake_program(built, "echo built")).rename(built / "tacd")
             self.assertEqual(program.make(1), "built\n")
         with mock.patch("geesefuton.program.top", return_value=None):
             self.assertIn("set the variable TAC", str(self.refused("make", 1)))
+        self.assertEqual(program.top(), TOP)
+        with mock.patch("geesefuton.program.__file__", "/usr/lib/python3/geesefuton/program.py"):
+            self.assertIsNone(program.top())  # a package that is installed stands in none
 
     def test_what_a_thread_has_started_ends_with_its_script(self) -> None:
-        self.use(f"echo $$ > {self.place}/new; mv {self.place}/new {self.place}/number; "
-                 f"exec sleep {MOST}")
+        self.use_program(f"cd {self.folder}; echo $$ > new; mv new number; exec sleep {2 * MOST}")
         code = ("import os, sys, threading, time; from geesefuton import program; "
                 "threading.Thread(target=program.make, args=(1,), daemon=True).start()\n"
                 "while not os.path.exists(sys.argv[1]): time.sleep(0.01)")
-        completed(*python(code, self.place / "number"), check=True)
-        number, deadline = int((self.place / "number").read_text()), time.monotonic() + MOST / 2
-        while True:
-            try:
-                os.kill(number, 0)
-            except ProcessLookupError:
-                break
-            self.assertLess(time.monotonic(), deadline, "it still runs")
-            time.sleep(0.01)
-
-    def test_the_clone_is_found_and_a_package_that_is_installed_stands_in_none(self) -> None:
-        top = program.top()
-        assert top is not None
-        self.assertTrue((top / "crates" / "tacd").is_dir())
-        with mock.patch("geesefuton.program.__file__", str(self.place / "a" / "b" / "program.py")):
-            self.assertIsNone(program.top())
-
-
-@needs_program
-class Real(unittest.TestCase):
-    def test_it_makes_shows_and_audits(self) -> None:
-        self.assertTrue(program.make(42).startswith("tac 1\nwords seat0"))
-        self.assertEqual(program.show(SERVED_GAME), SERVED_GAME.read_text())
-        self.assertEqual(program.show(SERVED_GAME), served_game().text())
-        self.assertEqual(program.audit(SERVED_GAME, SERVED_LOG), "sound")
+        completed(*python(code, self.folder / "number"), check=True)
+        number = int((self.folder / "number").read_text())
+        self.until(lambda: not is_running(number), "it still runs")

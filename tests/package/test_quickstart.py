@@ -2,10 +2,6 @@
 
 import os
 import sys
-import tempfile
-import time
-import unittest
-from pathlib import Path
 from typing import Callable, List, Tuple
 from unittest import mock
 
@@ -13,7 +9,8 @@ from geesefuton import program, quickstart
 from geesefuton.processes import Children, Output
 from geesefuton.records.logs import Score
 from geesefuton.records.secret_deals import BYTES, deal_seed
-from tests.package.helpers import SERVED_LOG, fake_program
+from tests.package.cases import Case, fake_program
+from tests.package.helpers import SERVED_LOG
 
 # It takes eight links, keeps what each said first, and writes a log.
 SERVER = """
@@ -37,45 +34,40 @@ except OSError:
 """
 
 
-class Playing(unittest.TestCase):
+class Playing(Case):
     def setUp(self) -> None:
-        place = tempfile.TemporaryDirectory()
-        self.addCleanup(place.cleanup)
-        self.place = Path(place.name)
-        (self.place / "agents").mkdir()
+        super().setUp()
         for name in ("planner", "trader", "watcher"):
-            (self.place / "agents" / f"{name}.py").write_text(AGENT)
-        change = mock.patch.object(program, "examples", return_value=self.place)
-        change.start()
-        self.addCleanup(change.stop)
+            self.write(f"agents/{name}.py", AGENT)
+        self.told: List[str] = []
+        for name, what in (
+                ("program.examples", lambda: self.folder), ("quickstart.tell", self.told.append),
+                ("quickstart.wait_until", self.waited),
+                ("quickstart.PAGE", self.folder / "page.html"),
+                ("quickstart.new_secret", lambda: SECRET)):
+            self.patch(name, what)
 
     def play(self, serve: str) -> Tuple[int, str, List[str]]:
         """The status, what is written, and what is told, with a server that does this."""
-        self.tac = fake_program(
-            self.place, f'echo "$@" >> {self.place}/asked\n'
+        self.tac = self.use_program(
+            f'echo "$@" >> {self.folder}/asked\n'
             f'case "$1" in make|audit) echo sound; exit; esac\n{serve}')
-        file, told = self.place / "written", list[str]()
-        with mock.patch.dict(os.environ, {"TAC": self.tac}), Children() as children, \
-                mock.patch("geesefuton.quickstart.tell", told.append), \
-                mock.patch("geesefuton.quickstart.wait_until", self.waited), \
-                mock.patch("geesefuton.quickstart.PAGE", self.place / "page.html"), \
-                mock.patch("geesefuton.quickstart.new_secret", return_value=SECRET):
+        file = self.folder / "written"
+        with Children() as children:
             out = Output(file)
             status = quickstart.play(children, out)
             out.close()
-        return status, file.read_text(), told
+        return status, file.read_text(), self.told
 
     def waited(self, is_over: Callable[[], bool], what: str) -> None:
         """Waits until something is over, which is not told."""
         self.assertTrue(what.startswith("quickstart: "))
-        while not is_over():
-            time.sleep(0.01)
+        self.until(is_over)
 
     def served(self) -> str:
         """What a program does that serves the game of the kept log."""
-        server = self.place / "server.py"
-        server.write_text(SERVER)
-        return f'exec {sys.executable} {server} "$3" {self.place}/heard {SERVED_LOG}'
+        server = self.write("server.py", SERVER)
+        return f'exec {sys.executable} {server} "$3" {self.folder}/heard {SERVED_LOG}'
 
     def test_who_won_is_said_and_a_page_is_written(self) -> None:
         status, written, told = self.play(self.served())
@@ -88,34 +80,34 @@ class Playing(unittest.TestCase):
             "   -726  the planner in seat 1", f"The server was the program {self.tac}.",
             f"The game is that of `{program.typed(f'tac make {seed}')}`.",
             "A page with all prices, trades and trips, for a browser:",
-            str(self.place / "page.html")])
-        page = (self.place / "page.html").read_text()
+            str(self.folder / "page.html")])
+        page = (self.folder / "page.html").read_text()
         self.assertIn("<b>watcher 7</b>", page)
         self.assertNotIn('class="warning"', page)
         names = ["planner.py"] * 4 + ["trader.py"] * 3 + ["watcher.py"]
-        self.assertEqual((self.place / "heard").read_text(), "".join(
+        self.assertEqual((self.folder / "heard").read_text(), "".join(
             f"hello seat{seat} --pause 0.1 {name}\n" for seat, name in enumerate(names)))
-        made, served, audited = (self.place / "asked").read_text().splitlines()
+        made, served, audited = (self.folder / "asked").read_text().splitlines()
         self.assertEqual((made, served.split()[0], served.split()[3:], audited.split()[0]),
                          (f"make {seed}", "serve", [str(quickstart.PACE)], "audit"))
 
     def test_a_quick_run_says_that_it_proves_nothing(self) -> None:
-        clone = self.place / "clone"
+        clone = self.folder / "clone"
         (clone / "crates" / "tacd").mkdir(parents=True)
-        os.rename(fake_program(self.place, self.served().replace("$3", "$7")), self.place / "rt")
-        path = f"{self.place}{os.pathsep}{os.environ['PATH']}"
+        os.rename(fake_program(self.folder, self.served().replace("$3", "$7")), self.folder / "rt")
+        path = f"{self.folder}{os.pathsep}{os.environ['PATH']}"
         with mock.patch.object(program, "to_build", return_value=clone), \
                 mock.patch.dict(os.environ, {"PATH": path}):
             status, written, told = self.play("exit 9")
         self.assertEqual((status, told), (0, []))
         self.assertIn(f"nothing: `{program.typed('tac make 42')}` builds the proved program.\n",
                       written)
-        self.assertIn("Its log is not audited.", (self.place / "page.html").read_text())
+        self.assertIn("Its log is not audited.", (self.folder / "page.html").read_text())
 
     def test_a_page_that_cannot_be_written(self) -> None:
-        (self.place / "page.html").mkdir()
+        (self.folder / "page.html").mkdir()
         status, written, told = self.play(self.served())
-        self.assertEqual((status, told), (1, [f"quickstart: {self.place / 'page.html'}: Is a "
+        self.assertEqual((status, told), (1, [f"quickstart: {self.folder / 'page.html'}: Is a "
                                               "directory"]))
         self.assertIn(" won with ", written)
 

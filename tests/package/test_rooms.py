@@ -1,13 +1,14 @@
 """The check of the package's rooms, on small packages with faults."""
 
 import importlib
+import shutil
 import sys
-import tempfile
 import unittest
 from pathlib import Path
-from typing import Dict, List
+from typing import List
 from unittest import mock
 
+from tests.package.cases import Case
 from tests.package.helpers import TOP
 
 with mock.patch.object(sys, "path", [str(TOP / "tests" / "lint"), *sys.path]):
@@ -16,18 +17,15 @@ with mock.patch.object(sys, "path", [str(TOP / "tests" / "lint"), *sys.path]):
 BASE = "class Base:\n    def _own(self): self._count = 1\n    def told(self): return 1\n"
 
 
-class Rooms(unittest.TestCase):
+class Rooms(Case):
     def faults(self, **files: str) -> List[str]:
         """The faults of a package of these modules, `room_module` each, without their folder."""
-        with tempfile.TemporaryDirectory() as folder:
-            package = Path(folder, "geesefuton")
-            texts: Dict[str, str] = {"": "", **files}
-            for name, text in texts.items():
-                *room, module = name.split("_") if name else ["__init__"]
-                Path(package, *room).mkdir(parents=True, exist_ok=True)
-                Path(package, *room, f"{module}.py").write_text(text)
-            found: List[str] = rooms.faults_of(rooms.read_modules(package))
-            return [fault.replace(f"{package}/", "") for fault in found]
+        package = self.folder / "geesefuton"
+        shutil.rmtree(package, ignore_errors=True)
+        for name, text in {"": "", **files}.items():
+            self.write(f"geesefuton/{name.replace('_', '/') or '__init__'}.py", text)
+        found: List[str] = rooms.faults_of(rooms.read_modules(package))
+        return [fault.replace(f"{package}/", "") for fault in found]
 
     def test_imports_go_downwards(self) -> None:
         for name, text in (("hosting_lobby", "from geesefuton.link import Link\n"),
@@ -77,12 +75,10 @@ class Rooms(unittest.TestCase):
                          ["link.py:500: modules have fewer than 500 lines"])
 
     def test_the_map_names_each_module(self) -> None:
-        with tempfile.TemporaryDirectory() as folder:
-            Path(folder, "__init__.py").write_text("")
-            Path(folder, "link.py").write_text("")
-            modules = rooms.read_modules(Path(folder))
-            self.assertEqual(rooms.not_in_map(modules, "the `link.py`"), [])
-            self.assertRegex(rooms.not_in_map(modules, "link.py")[0], "link.py:1: .* not name it")
+        self.assertEqual(self.faults(link=""), [])
+        modules = rooms.read_modules(self.folder / "geesefuton")
+        self.assertEqual(rooms.not_in_map(modules, "the `link.py`"), [])
+        self.assertRegex(rooms.not_in_map(modules, "link.py")[0], "link.py:1: .* not name it")
 
 
 class Types(unittest.TestCase):

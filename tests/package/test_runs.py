@@ -9,7 +9,6 @@ import time
 from dataclasses import replace
 from multiprocessing import get_context
 from multiprocessing.process import BaseProcess
-from pathlib import Path
 from typing import Any, Dict, List, Set, Tuple
 from unittest import mock
 
@@ -17,12 +16,11 @@ from geesefuton.experiments import tournament
 from geesefuton.experiments.deals import Rule
 from geesefuton.experiments.plan import Plan
 from geesefuton.experiments.provenance import Agent
-from geesefuton.experiments.results import HEAD, Outcome, Result, Row, read_rows, text_of
+from geesefuton.experiments.results import HEAD, Outcome, Result, Row, text_of
 from geesefuton.experiments.runs import RunError, RunFolder, is_run, read_scores
 from geesefuton.experiments.seating import Seating
-from geesefuton.program import CommandError
 from geesefuton.records.tables import csv_of
-from tests.package.run_cases import PlaceCase
+from tests.package.run_cases import PlaceCase, files_of
 from tests.package.helpers import SERVED_GAME, worker
 
 MINE = Agent("mine", "mine.py", ["mine.py"], {"mine.py": "00"})
@@ -36,7 +34,7 @@ def rows_of(*games: Tuple[int, int]) -> List[Row]:
 class Folders(PlaceCase):
     def setUp(self) -> None:
         super().setUp()
-        self.out = self.place / "runs" / "1"
+        self.out = self.folder / "runs" / "1"
         self.use_program("exit 1")
         self.patch("experiments.runs.MOST_WAIT", 0.1)
 
@@ -52,15 +50,12 @@ class Folders(PlaceCase):
         value: Dict[str, Any] = json.loads((self.out / "run.json").read_text())
         return value
 
-    def files(self) -> Dict[Path, bytes]:
-        return {file: file.read_bytes() for file in self.place.rglob("*") if file.is_file()}
-
     def refused(self, told: str, **more: Any) -> None:
-        before = self.files()
+        before = files_of(self.folder)
         with self.assertRaises(RunError) as caught:
-            self.begin(**more)
+            self.begin(is_resumed=True, **more)
         self.assertIn(told, str(caught.exception))
-        self.assertEqual(before, self.files())
+        self.assertEqual(before, files_of(self.folder))
 
     def test_a_new_run(self) -> None:
         run = self.begin()
@@ -68,32 +63,28 @@ class Folders(PlaceCase):
         self.assertEqual(read_scores(self.out).rows, [])
         run.out.write(text_of(rows_of((1, 0))))
         value = self.value()
-        self.assertEqual((value["tournament"], value["settings"]),
-                         (2, {"turns": 40, "rooms": "16..16"}))
-        self.assertEqual((len(value["tac"]), len(value["package"])), (64, 64))
-        self.assertEqual(value["agents"], [{"name": "mine", "command": "mine.py", "words":
-                         ["mine.py"], "files": {"mine.py": "00"}, "libraries": {},
-                          "digest": MINE.digest}])
         begun = value["runs"][0]
+        self.assertEqual((value["tournament"], value["settings"], len(value["tac"]),
+                          len(value["package"])), (2, {"turns": 40, "rooms": "16..16"}, 64, 64))
+        self.assertEqual(value["agents"], [{
+            "name": "mine", "command": "mine.py", "words": ["mine.py"], "files": {"mine.py": "00"},
+            "libraries": {}, "digest": MINE.digest}])
         self.assertEqual((begun["run"], begun["arguments"], begun["ended"]),
                          (1, ["--games", "4"], None))
         self.assertTrue({"host", "python", "load", "commit", "began"} <= set(begun))
         run.end(1, 1, ["game 2.0 is lost: why"])
         ended = self.value()["runs"][0]
-        self.assertEqual((ended["status"], ended["games"], ended["lost"]),
-                         (1, 1, ["game 2.0 is lost: why"]))
-        self.assertIsNotNone(ended["ended"])
+        self.assertEqual((ended["status"], ended["games"], ended["lost"], ended["ended"] is None),
+                         (1, 1, ["game 2.0 is lost: why"], False))
         self.assertEqual(read_scores(self.out).rows, rows_of((1, 0)))
-        self.assertTrue(is_run(self.out))
-        self.assertFalse(is_run(self.place))
+        self.assertEqual((is_run(self.out), is_run(self.folder)), (True, False))
 
     def test_a_run_goes_on(self) -> None:
         first = self.begin()
         first.out.write(text_of(rows_of((1, 0), (2, 0))))
         first.end(143, 2, [])
         second = self.begin(is_resumed=True)
-        self.assertEqual((second.number, second.finished, second.told),
-                         (2, {(1, 0), (2, 0)}, []))
+        self.assertEqual((second.number, second.finished, second.told), (2, {(1, 0), (2, 0)}, []))
         second.out.write(text_of(rows_of((3, 0))))
         second.end(0, 1, [])
         self.assertEqual(read_scores(self.out).rows, rows_of((1, 0), (2, 0), (3, 0)))
@@ -133,60 +124,51 @@ class Folders(PlaceCase):
         self.begin(is_resumed=True).end(0, 0, [])
         self.assertEqual(sorted(os.listdir(self.out / "games")), kept)
 
-    def test_a_run_is_gone_on_with_only_if_that_is_said(self) -> None:
-        self.begin().end(0, 0, [])
-        self.refused("it has a run: continue it with --resume")
-
     def test_another_run_is_refused_with_its_difference(self) -> None:
         self.begin(is_resumed=True).end(0, 0, [])  # there is nothing yet to go on with
-        self.refused("its run began differently: turns is 20, not 40", is_resumed=True,
-                     settings={"turns": 20, "rooms": "16..16"})
+        self.assertRaisesRegex(RunError, "it has a run: continue it with --resume", self.begin)
+        begun, mine = "its run began differently: ", "the files, libraries or words of mine differ"
         other = replace(MINE, files={"mine.py": "01"})
         for told, more in (
-                ("began differently: the files, libraries or words of mine differ (mine.py)",
-                 {"agents": {"mine": other}}),
-                ("the files, libraries or words of mine differ",
-                 {"agents": {"mine": replace(MINE, libraries={"numpy": "2.0"})}}),
+                (f"{begun}turns is 20, not 40", {"settings": {"turns": 20, "rooms": "16..16"}}),
+                (f"{begun}{mine} (mine.py)", {"agents": {"mine": other}}),
+                (mine, {"agents": {"mine": replace(MINE, libraries={"numpy": "2.0"})}}),
                 ("of the seed 1, not of the seed 1001", {"rule": Rule(seed=1001)}),
-                ("of the seed 1, not of the commitment 6", {"rule": Rule(bytes(range(32)))})):
-            self.refused(told, is_resumed=True, **more)
-        self.refused("turns is 41, not 40; the files, libraries or words of mine differ",
-                     is_resumed=True, agents={"mine": replace(MINE, words=["mine.py", "-x"])},
-                     settings={"turns": 41, "rooms": "16..16"})
+                ("of the seed 1, not of the commitment 6", {"rule": Rule(bytes(range(32)))}),
+                (f"turns is 41, not 40; {mine}", {
+                    "settings": {"turns": 41, "rooms": "16..16"},
+                    "agents": {"mine": replace(MINE, words=["mine.py", "-x"])}})):
+            self.refused(told, **more)
 
     def test_folders_that_are_not_ours(self) -> None:
-        self.out.mkdir(parents=True)
-        (self.out / "thesis.txt").write_text("mine")
-        for is_resumed in (False, True):
-            self.refused("it is not the folder of a tournament: it has thesis.txt",
-                         is_resumed=is_resumed)
+        self.write("runs/1/thesis.txt", "mine")
+        with self.assertRaisesRegex(RunError, "not the folder of a tournament: it has thesis.txt"):
+            self.begin()
+        self.refused("it is not the folder of a tournament: it has thesis.txt")
         for text in ("{}", "no JSON"):
             (self.out / "run.json").write_text(text)
-            self.refused("run.json is not of a tournament of this version", is_resumed=True)
+            self.refused("run.json is not of a tournament of this version")
         for file in self.out.iterdir():
             file.unlink()
         self.begin().end(0, 0, [])
         (self.out / "scores.csv").write_text("a,b\n1,2\n")
-        self.refused("line 1 is not the head", is_resumed=True)
+        self.refused("line 1 is not the head")
 
     def test_a_run_that_was_killed_when_it_had_only_its_secret(self) -> None:
         rule = Rule(bytes(range(32)))
-        self.out.mkdir(parents=True)
-        (self.out / "secret").write_text("mine\n")
-        self.refused("it has secret, but no run.json", is_resumed=True, rule=rule)
-        (self.out / "secret").write_text(rule.secret.hex() + "\n")
-        self.refused("it has secret, but no run.json", is_resumed=True, rule=Rule(bytes(32)))
+        for text, other in (("mine", rule), (rule.secret.hex(), Rule(bytes(32)))):
+            self.write("runs/1/secret", text + "\n")
+            self.refused("it has secret, but no run.json", rule=other)
         run = self.begin(is_resumed=True, rule=rule)
         run.plan_games(1)
         run.end(143, 0, [])
         self.assertEqual(self.value()["deals"], rule.drawn)
         self.refused(f"its deals are of the commitment {rule.drawn['commitment']}, not of the "
-                     f"commitment {Rule(bytes(32)).drawn['commitment']}", is_resumed=True,
-                     rule=Rule(bytes(32)))
+                     f"commitment {Rule(bytes(32)).drawn['commitment']}", rule=Rule(bytes(32)))
 
     def test_two_at_once_are_refused(self) -> None:
         run = self.begin()
-        self.refused("another tournament is writing to it", is_resumed=True)
+        self.refused("another tournament is writing to it")
         run.end(0, 0, [])
         self.begin(is_resumed=True).end(0, 0, [])
 
@@ -202,22 +184,9 @@ class Folders(PlaceCase):
         run.end(0, 3, [])
         self.assertEqual(read_scores(self.out).rows, rows_of((2, 0), (2, 1), (10, 0)))
 
-    def test_names_with_separators_of_lines_are_read_back(self) -> None:
-        for name in ("a,b", "x\u2028y", "x\x0by", "x\x85y", 'a "b"'):
-            rows = [replace(row, agent=name) for row in rows_of((1, 0))]
-            self.assertEqual(read_rows(csv_of([HEAD]) + text_of(rows)).rows, rows)
-
-    def test_files_of_another_version_are_refused_with_a_line(self) -> None:
-        for head in ("deal,rotation,seat,agent,score,end,luck,kind",
-                     "deal,rotation,seat,agent,score,end,luck,kind,nights,first_price,run,settings,"
-                     "files"):
-            with self.assertRaisesRegex(CommandError, "of this version"):
-                read_rows(head + "\n")
-
     def test_a_folder_that_cannot_be_made(self) -> None:
         self.out = SERVED_GAME / "x"
-        with self.assertRaises(OSError):
-            self.begin()
+        self.assertRaises(OSError, self.begin)
 
 
 # A stand-in for the process of a game: it writes that it has begun, and scores soon.
@@ -237,10 +206,11 @@ class Killed(PlaceCase):
     def setUp(self) -> None:
         super().setUp()
         result = Result(tuple(range(8)), (Outcome.PLAYED,) * 8)
-        (self.place / "result").write_bytes(pickle.dumps(result))
-        self.begun, self.out = self.place / "begun", self.place / "run"
+        (self.folder / "result").write_bytes(pickle.dumps(result))
+        self.begun, self.out = self.folder / "begun", self.folder / "run"
         self.begun.touch()
         self.use_program()
+        self.set(BEGUN=str(self.begun), RESULT=str(self.folder / "result"))
 
     def start(self, longest: float) -> BaseProcess:
         """The command, in a copy of this process, which has loaded what it needs.
@@ -255,26 +225,21 @@ class Killed(PlaceCase):
 
     def command(self, longest: float) -> None:
         """Runs the command in a process of its own, with all that it prints in a file."""
-        printed = os.open(self.place / "printed", os.O_WRONLY | os.O_CREAT | os.O_TRUNC)
+        printed = os.open(self.folder / "printed", os.O_WRONLY | os.O_CREAT | os.O_TRUNC)
         for number in (1, 2):
             os.dup2(printed, number)
-        os.chdir(self.place)
-        os.environ.update({"BEGUN": str(self.begun), "LONGEST": str(longest),
-                           "RESULT": str(self.place / "result")})
+        os.chdir(self.folder)
+        os.environ["LONGEST"] = str(longest)
         sys.argv = ["tournament", "--games", str(self.GAMES), "--at-once", "3", "--out",
                     str(self.out), "--resume", "sh", "cat"]
         tournament.PLAYER = [sys.executable, "-c", WORKER]
         sys.exit(tournament.main())
 
     def printed(self) -> str:
-        return (self.place / "printed").read_text()
+        return (self.folder / "printed").read_text()
 
     def finished(self) -> Set[str]:
         return {f"{row.number}.{row.rotation}" for row in read_scores(self.out).rows}
-
-    def scores(self) -> str:
-        file = self.out / "scores.csv"
-        return file.read_text() if file.exists() else ""
 
     def begun_games(self) -> List[str]:
         return self.begun.read_text().split()
@@ -297,9 +262,9 @@ class Killed(PlaceCase):
             self.assertEqual(process.exitcode, -signal.SIGKILL, self.printed())
             self.assertFalse(finished & set(self.begun_games()[begun:]), self.printed())
             self.assertTrue(finished <= self.finished(), self.printed())
-            texts.append(self.scores())
-        self.assertTrue(all(later.startswith(former)
-                            for former, later in zip(texts, texts[1:])))
+            file = self.out / "scores.csv"
+            texts.append(file.read_text() if file.exists() else "")
+        self.assertTrue(all(later.startswith(former) for former, later in zip(texts, texts[1:])))
         finished, begun = self.finished(), len(self.begun_games())
         self.assertTrue(0 < len(finished) < self.GAMES, finished)
         process = self.start(0.0)
@@ -317,9 +282,3 @@ class Killed(PlaceCase):
         self.assertEqual(len({row.run for row in rows.rows} - {run["run"] for run in runs}), 0)
         texts = sorted(file.name for file in (self.out / "games").iterdir())
         self.assertEqual(texts, [])  # the stand-in writes none
-
-    def test_words_that_do_not_go_together(self) -> None:
-        for told, word in (("name a new folder for the run with --out", "--resume"),
-                           ("--partial needs --join", "--partial"),
-                           ("--pool needs --join", "--pool")):
-            self.assert_refused(told, "tournament", word, "sh")

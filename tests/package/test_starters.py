@@ -12,8 +12,7 @@ from unittest import mock
 
 from tests.package.helpers import JVM, TOP, compiled, completed
 from tests.package.seat_server import HANG, SeatServer
-from tests.package.test_link import WELCOME, Late, Server
-from tests.package.test_link_record import ANSWERS, ASKED
+from tests.package.test_link import ANSWERS, ASKED, WELCOME, Late, Server
 
 STARTERS = TOP / "examples" / "starters"
 GOODS = (0, 1, 2, 3, 7, 8, 9, 10, 11)  # of the trips of WELCOME, all in the cheap hotel

@@ -4,20 +4,16 @@ import pickle
 import signal
 import subprocess
 import sys
-import tempfile
 import threading
-import time
 import unittest
 from pathlib import Path
 from typing import Any, Callable, List
 from unittest import mock
 
-from geesefuton import program
 from geesefuton.learning.stepping import Stepped
 from geesefuton.program import ProgramError
-from tests.package.helpers import TOP, fake_program, needs_program, python, variables
-
-FIRST = TOP / "examples" / "first.game"
+from tests.package.cases import MOST, Case, is_running
+from tests.package.helpers import python, variables
 
 # A stand-in that answers each line of an agent with WIDTH letters more than is due, and ends at a
 # line `0 end` with the exit status 8 and `text 2 1`, at `0 die` by a signal.
@@ -46,21 +42,15 @@ def ask(game: Stepped, *lines: str) -> List[str]:
     return game.exchange(text, sum(line != "tick" for line in lines)).decode().split("\n")[:-1]
 
 
-class Pipes(unittest.TestCase):
+class Pipes(Case):
     def setUp(self) -> None:
-        folder = tempfile.TemporaryDirectory()
-        self.addCleanup(folder.cleanup)
-        self.folder = Path(folder.name)
+        super().setUp()
         self.use(0)
 
     def use(self, width: int) -> None:
         """Lets a stand-in be the program."""
-        script = self.folder / "answers.py"
-        script.write_text(ANSWERS.replace("WIDTH", str(width)))
-        body = f'exec "{sys.executable}" "{script}" "$@" 2>> "{self.folder}/told"\n'
-        patch = mock.patch.dict(os.environ, {"TAC": fake_program(self.folder, body)})
-        patch.start()
-        self.addCleanup(patch.stop)
+        script = self.write("answers.py", ANSWERS.replace("WIDTH", str(width)))
+        self.use_program(f'exec "{sys.executable}" "{script}" "$@" 2>> "{self.folder}/told"\n')
 
     def test_lines_are_answered_and_the_log_follows(self) -> None:
         with Stepped(b"a text") as game:
@@ -68,8 +58,7 @@ class Pipes(unittest.TestCase):
             self.assertEqual((ask(game, "tick"), ask(game)), ([], []))
             self.assertEqual(game.exchange(b"7 own 1\n", 1), b"7 @0 done \n")
             self.assertEqual(game.finish(), b"taclog 1\n")
-        self.assertEqual((self.folder / "told").read_text(),
-                         "begun step a text ['/dev/stdin']\n")
+        self.assertEqual((self.folder / "told").read_text(), "begun step a text ['/dev/stdin']\n")
 
     def test_full_pipes_stop_nobody(self) -> None:
         self.use(400)
@@ -92,17 +81,15 @@ class Pipes(unittest.TestCase):
                 self.assertEqual((fault.status, fault.line), (8, "text 2 1"))
                 self.assertRegex(str(fault), "^tac step ended with exit status 8 .*text 2 1")
                 self.assertEqual(str(self.fault(game, ["0 own 8"])), "the game is over")
-        with Stepped(b"a text") as game:
-            game.exchange(b"0 end\n", 0)  # it is told when the log is due
-            self.assertRaisesRegex(ProgramError, "text 2 1", game.finish)
-        with Stepped(b"bad") as game:
-            self.assertRaisesRegex(ProgramError, "the game file is refused: game 1 1", game.finish)
-        with Stepped(b"bad") as game:
-            self.assertEqual(self.fault(game, ["0 own 8"]).status, 2)
-
-    def test_a_signal_is_told(self) -> None:
-        with Stepped(b"a text") as game:
-            self.assertEqual(self.fault(game, ["0 die"]).status, -signal.SIGKILL)
+        for text, line in ((b"bad", "0 own 8"), (b"a text", "0 die")):
+            with Stepped(text) as game:
+                self.assertEqual(self.fault(game, [line]).status,
+                                 2 if text == b"bad" else -signal.SIGKILL)
+        for text, lines, told in ((b"a text", b"0 end\n", "text 2 1"),
+                                  (b"bad", b"", "the game file is refused: game 1 1")):
+            with Stepped(text) as game:
+                game.exchange(lines, 0)  # it is told when the log is due
+                self.assertRaisesRegex(ProgramError, told, game.finish)
 
     def test_after_its_end_there_is_no_game(self) -> None:
         game = Stepped(b"a text")
@@ -115,19 +102,6 @@ class Pipes(unittest.TestCase):
         closed.close()
         self.assertRaisesRegex(ProgramError, "the game is over", ask, closed, "0 own 8")
 
-    def in_a_fork(self, call: Callable[[], Any]) -> None:
-        """Runs a call in a forked process, which then ends; fails if the call did."""
-        child = os.fork()
-        if not child:
-            status = 1
-            signal.alarm(5)
-            try:
-                call()
-                status = 0
-            finally:
-                os._exit(status)
-        self.assertEqual(os.waitpid(child, 0)[1], 0)
-
     def test_a_forked_process_leaves_the_game_alone(self) -> None:
         for each in (Stepped.close, Stepped.__del__):
             with self.subTest(each=each.__name__), Stepped(b"a text") as game:
@@ -138,8 +112,7 @@ class Pipes(unittest.TestCase):
     def test_a_forked_process_cannot_play_the_game(self) -> None:
         def play() -> None:
             for call in (game.finish, lambda: ask(game, "0 own 8")):
-                with self.assertRaisesRegex(ProgramError, "belongs to the process that began it"):
-                    call()
+                self.assertRaisesRegex(ProgramError, "belongs to the process that began it", call)
 
         with Stepped(b"a text") as game:
             self.in_a_fork(play)
@@ -154,7 +127,7 @@ class Pipes(unittest.TestCase):
             os.read(reading, 1)  # until the test has ended
             os._exit(0)
         os.close(reading)
-        limit = threading.Timer(8, os.close, (writing,))
+        limit = threading.Timer(MOST, os.close, (writing,))
         limit.start()
         try:
             self.assertEqual(game.finish(), b"taclog 1\n")
@@ -170,8 +143,7 @@ class Pipes(unittest.TestCase):
         with Stepped(b"a text") as game:
             calls: List[Callable[[Any], Any]] = [copy.copy, copy.deepcopy, pickle.dumps]
             for each in calls:
-                with self.assertRaisesRegex(TypeError, "cannot be copied or pickled"):
-                    each(game)
+                self.assertRaisesRegex(TypeError, "cannot be copied or pickled", each, game)
             self.assertEqual(ask(game, "0 own 8"), ["0 @0 done "])
 
     @unittest.skipUnless(Path("/proc/self/fd").exists(), "open files are looked for in /proc")
@@ -189,11 +161,10 @@ class Pipes(unittest.TestCase):
         self.assertRaises(ChildProcessError, os.waitpid, -1, os.WNOHANG)
 
     def test_a_file_that_is_no_program_is_told(self) -> None:
-        file = self.folder / "none"
-        file.write_bytes(b"\x7fELF")
+        file = self.write("none", "\x7fELF")
         file.chmod(0o755)
-        with mock.patch.dict(os.environ, {"TAC": str(file)}):
-            self.assertRaisesRegex(ProgramError, "cannot run the file", Stepped, b"")
+        self.set(TAC=str(file))
+        self.assertRaisesRegex(ProgramError, "cannot run the file", Stepped, b"")
 
     def test_standard_streams_may_be_closed(self) -> None:
         code = ("import os; os.close(0); os.close(1)\n"
@@ -205,53 +176,16 @@ class Pipes(unittest.TestCase):
                               timeout=60)
         self.assertEqual(done.stderr, b"(b'5 @0 done \\n', b'taclog 1\\n')")
 
-
-@unittest.skipUnless(Path("/proc/self").exists(), "processes are looked for in /proc")
-class Ends(unittest.TestCase):
+    @unittest.skipUnless(Path("/proc/self").exists(), "processes are looked for in /proc")
     def test_the_process_ends_with_a_script_that_is_killed(self) -> None:
         code = ("import time\nfrom geesefuton.learning.stepping import Stepped\n"
                 "game = Stepped(b''); game.exchange(b'0 own 8\\n', 1)\n"
                 "print(game._process.pid, flush=True); time.sleep(300)")
-        with tempfile.TemporaryDirectory() as folder:
-            body = "while read -r line; do echo \"${line%% *} @0 done\"; done\n"
-            script = subprocess.Popen(python(code), stdout=subprocess.PIPE,
-                                      env=variables({"TAC": fake_program(Path(folder), body)}))
-            assert script.stdout is not None
-            with script.stdout as told:
-                process = int(told.readline())
-            self.assertTrue(self.is_there(process))
-            script.kill()
-            script.wait()
-            deadline = time.monotonic() + 8
-            while self.is_there(process) and time.monotonic() < deadline:
-                time.sleep(0.02)
-            self.assertFalse(self.is_there(process))
-
-    def is_there(self, process: int) -> bool:
-        try:
-            state = Path(f"/proc/{process}/stat").read_text().rsplit(")", 1)[1].split()[0]
-        except OSError:
-            return False
-        return state not in "ZX"
-
-
-@needs_program
-class Games(unittest.TestCase):
-    def test_the_log_is_that_of_the_whole_script(self) -> None:
-        lines = [f"{number % 8} bid {number % 28} ((1 {1 + number}))" for number in range(300)]
-        with tempfile.TemporaryDirectory() as folder, \
-                Stepped(FIRST.read_bytes()) as game:
-            script = Path(folder, "script")
-            script.write_text("".join(line + "\n" for line in lines))
-            replies = [reply for line in lines for reply in ask(game, line)]
-            told = "".join(reply + "\n" for reply in replies).encode()
-            self.assertEqual(told + game.finish(), program.play(FIRST, script).encode())
-
-    def test_a_bad_game_file_and_a_bad_line_are_told(self) -> None:
-        for text, lines, told in ((b"tac 3\n", ["0 own 8"], "game 1 1"),
-                                  (FIRST.read_bytes(), ["0 own 8", "8 own 8"], "text 2 1")):
-            with Stepped(text) as game:
-                self.assertRaisesRegex(ProgramError, told, ask, game, *lines)
-        with Stepped(FIRST.read_bytes()) as game:
-            self.assertEqual(ask(game, "0 quit"), ["0 bye"])
-            self.assertRaisesRegex(ProgramError, "text 2 2", ask, game, "0 own 8")
+        script = subprocess.Popen(python(code), stdout=subprocess.PIPE, env=variables())
+        assert script.stdout is not None
+        with script.stdout as told:
+            process = int(told.readline())
+        self.assertTrue(is_running(process))
+        script.kill()
+        script.wait()
+        self.until(lambda: not is_running(process))

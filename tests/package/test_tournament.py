@@ -13,7 +13,6 @@ from pathlib import Path
 from typing import Any, Dict, List, Optional, Tuple
 from unittest import mock
 
-from geesefuton.experiments import tournament
 from geesefuton.experiments.agents import Limits
 from geesefuton.experiments.deals import Deal, Rule, Table
 from geesefuton.experiments.entrants import Entrant
@@ -33,7 +32,7 @@ from geesefuton.program import ProgramError
 from geesefuton.records.secret_deals import agent_seed
 from geesefuton.records.tables import csv_of
 from tests.package.run_cases import PlaceCase
-from tests.package.helpers import SERVED_GAME, fake_program, served_game, worker
+from tests.package.helpers import SERVED_GAME, in_process, served_game, worker
 
 # A stand-in for the process of a game: seat s of game D.R scores 1000 D + 100 R + s. What FAULT
 # says of the game GAME happens to it. It reads its job without the package, each of whose types is
@@ -101,12 +100,10 @@ class Playing(PlaceCase):
 
     def setUp(self) -> None:
         super().setUp()
-        messages(self.place)
-        self.enter(mock.patch.dict(os.environ, {"MESSAGES": str(self.place), "FAULT": "",
-                                              "GAME": ""}))
-        self.place = self.place / "place"
-        (self.place / "games").mkdir(parents=True)
-        self.told: List[str] = []
+        messages(self.folder)
+        self.set(MESSAGES=str(self.folder), FAULT="", GAME="")
+        self.out, self.told = self.folder / "place", list[str]()
+        (self.out / "games").mkdir(parents=True)
         self.patch("experiments.tournament.PLAYER", [sys.executable, "-c", WORKER])
         for module in ("tournament", "forms"):
             self.patch(f"experiments.{module}.tell",
@@ -118,11 +115,11 @@ class Playing(PlaceCase):
              turns: int = 0) -> Plan:
         agents = entrants(*(names or "ab"))
         return Plan(agents, Rule(seed=1), games, rotations, at_once, 7, turns, 0.1, "json", 1.5,
-                    2.5, self.place, Seating(len(agents)))
+                    2.5, self.out, Seating(len(agents)))
 
     def tournament(self, plan: Plan, out: Optional[Output] = None, **more: Any) -> Tournament:
-        (self.place / "scores.csv").write_text(csv_of([HEAD]))
-        file = os.open(self.place / "scores.csv", os.O_WRONLY | os.O_APPEND)
+        (self.out / "scores.csv").write_text(csv_of([HEAD]))
+        file = os.open(self.out / "scores.csv", os.O_WRONLY | os.O_APPEND)
         self.addCleanup(os.close, file)
         return Tournament(plan, mock.Mock(**{"out": out or Output(file), "finished": set(),
                                              "number": 1, "lock": file, **more}))
@@ -142,7 +139,7 @@ class Playing(PlaceCase):
         return made
 
     def rows(self) -> List[Row]:
-        return sorted(read_rows((self.place / "scores.csv").read_text()).rows, key=by_place)
+        return sorted(read_rows((self.out / "scores.csv").read_text()).rows, key=by_place)
 
     def test_every_game_is_played(self) -> None:
         made = self.play(games=4)
@@ -221,9 +218,9 @@ class Playing(PlaceCase):
 
     def test_games_have_their_files_and_words(self) -> None:
         self.play()
-        names = sorted(file.name for file in (self.place / "games").glob("*.game"))
+        names = sorted(file.name for file in (self.out / "games").glob("*.game"))
         self.assertEqual(names, ["1.0.game", "1.1.game"])
-        words = (self.place / "games" / "1.0.game").read_text().split("\n")[1].split()[1:]
+        words = (self.out / "games" / "1.0.game").read_text().split("\n")[1].split()[1:]
         self.assertEqual(sorted(words), ["a", "ab", "ac", "ad", "b", "bb", "bc", "bd"])
 
     def test_a_lost_game_is_told_and_loses_no_other(self) -> None:
@@ -299,44 +296,31 @@ class Playing(PlaceCase):
 
     def command(self, *words: str, out: str = "run", fault: str = "") -> int:
         """Runs the command with a stand-in for games; gives its status."""
-        printed = self.place / "printed"
-        variables = {"FAULT": fault, "GAME": "1.1", "TAC": fake_program(self.place, "exit 1")}
-        with mock.patch("sys.argv", ["tournament", "--out", str(self.place / out), *words, "sh",
-                                     "cat"]), \
-                mock.patch.dict(os.environ, variables), \
-                mock.patch("geesefuton.processes.stop_on_signals"), \
-                mock.patch("geesefuton.experiments.forms.Output",
-                           lambda target: Output(printed if target == 1 else target)):
-            return tournament.main()
+        self.use_program("exit 1")
+        self.set(FAULT=fault, GAME="1.1")
+        status, told = in_process("experiments.tournament", "--out", self.out / out, *words, "sh",
+                                  "cat", printed=self.out / "printed")
+        self.told += told.splitlines()
+        return status
 
     def test_the_exit_status_tells_whether_all_was_scored_and_written(self) -> None:
-        place = self.place / "s.json"
+        place = self.out / "s.json"
         words = ["--games", "2", "--summary", str(place)]
-        self.assertEqual(self.command(*words, fault="lose"), 1)
-        rows = read_scores(self.place / "run").rows
-        self.assertEqual((len(rows), json.loads(place.read_text())["lost"]),
-                         (8, ["game 1.1 is lost: why"]))
-        self.assertEqual(json.loads(place.read_text())["planned"], 2)
-        self.assertEqual(self.command(*words, "--resume"), 0)
-        rows = read_scores(self.place / "run").rows
-        self.assertEqual((len(rows), json.loads(place.read_text())["lost"]), (16, []))
-        self.assertEqual((self.place / "printed").read_text(),
-                         as_text(summarize(rows, planned=2)))
-        grades = (self.place / "run" / "grades.csv").read_text().splitlines()
+        for more, fault, status, count, lost in (
+                ([], "lose", 1, 8, ["game 1.1 is lost: why"]), (["--resume"], "", 0, 16, [])):
+            self.assertEqual(self.command(*words, *more, fault=fault), status)
+            rows, value = read_scores(self.out / "run").rows, json.loads(place.read_text())
+            self.assertEqual((len(rows), value["lost"], value["planned"]), (count, lost, 2))
+        self.assertEqual((self.out / "printed").read_text(), as_text(summarize(rows, planned=2)))
+        grades = (self.out / "run" / "grades.csv").read_text().splitlines()
         self.assertEqual(grades[0], "entrant,mean,low,high,groups,games_not_finished")
         self.assertEqual(len(grades), 3)
         self.assertEqual(self.command("--games", "2", "--summary", "/nowhere/s.txt", out="2"), 1)
         self.assertIn("tournament: the summary was not written to /nowhere/s.txt: No such file or "
                       "directory", self.told)
 
-    def test_rows_are_sorted_at_the_end(self) -> None:
-        self.assertEqual(self.command("--games", "6", "--at-once", "3"), 0)
-        self.assertEqual([by_place(row) for row in read_scores(self.place / "run").rows],
-                         [((deal, rotation), seat) for deal in (1, 2, 3) for rotation in (0, 1)
-                          for seat in range(8)])
-
     def test_a_secret_is_private_until_all_games_are_scored(self) -> None:
-        run = self.place / "run"
+        run = self.out / "run"
 
         def deals() -> Any:
             return json.loads((run / "run.json").read_text())["deals"]
@@ -356,17 +340,17 @@ class Playing(PlaceCase):
 
     def test_a_run_is_not_gone_on_with_by_another_secret_or_seed(self) -> None:
         self.assertEqual(self.command("--games", "2", fault="lose"), 1)
-        before = (self.place / "run" / "run.json").read_text()
+        before = (self.out / "run" / "run.json").read_text()
         self.assertEqual(self.command("--games", "2", "--resume", "--seed", "1"), 2)
-        (self.place / "run" / "secret").unlink()
+        (self.out / "run" / "secret").unlink()
         self.assertEqual(self.command("--games", "2", "--resume"), 2)
-        self.assertEqual((self.place / "run" / "run.json").read_text(), before)
+        self.assertEqual((self.out / "run" / "run.json").read_text(), before)
         self.assertEqual(self.command("--games", "2", "--seed", "1", out="2"), 0)
         self.assertIn("the deals are of the seed 1, and agents can guess them", self.told)
         self.assertEqual(self.command("--games", "4", "--seed", "1001", "--resume", out="2"), 2)
 
     def test_a_signal_gives_its_status_and_the_summary_stands(self) -> None:
-        place = self.place / "s.json"
+        place = self.out / "s.json"
         finish = Tournament._finish
 
         def stop(made: Tournament, game: Running) -> None:
@@ -376,9 +360,9 @@ class Playing(PlaceCase):
         with mock.patch.object(Tournament, "_finish", stop):
             self.assertEqual(self.command("--games", "4", "--summary", str(place)), 143)
         value = json.loads(place.read_text())
-        self.assertEqual((len(read_scores(self.place / "run").rows), value["games"]), (8, 1))
+        self.assertEqual((len(read_scores(self.out / "run").rows), value["games"]), (8, 1))
         self.assertEqual((value["planned"], value["is_stopped"]), (4, True))
         self.assertIn("1 of 4 planned games were played: the run was stopped", value["undecided"])
         self.assertIn("tournament: stopped", self.told)
-        record = json.loads((self.place / "run" / "run.json").read_text())
+        record = json.loads((self.out / "run" / "run.json").read_text())
         self.assertEqual((record["planned"], record["runs"][0]["status"]), (4, 143))

@@ -1,7 +1,6 @@
 """Tournaments by the program, with agents that fail in every way."""
 
 import json
-import re
 
 from geesefuton.experiments.results import Outcome
 from geesefuton.experiments.runs import read_scores
@@ -71,13 +70,12 @@ ask("quit")
 class InTurns(PlaceCase):
     def test_an_agent_gains_nothing_by_failing_where_it_does_badly(self) -> None:
         names = ("agents/plays.py", "agents/quits.py")
-        (self.place / "agents").mkdir()
         for name in names:
-            (self.place / name).write_text(SEAT_BUYER.replace("{dear}", "325"))
+            self.write(name, SEAT_BUYER.replace("{dear}", "325"))
         done = run("experiments.tournament", *names, "--games", "4", "--turns", "2", "--seed", "1",
-                   "--out", "run", "--summary", "s.json", cwd=self.place)
+                   "--out", "run", "--summary", "s.json", cwd=self.folder)
         self.assertEqual(done.returncode, 0, done.stderr)
-        value = json.loads((self.place / "s.json").read_text())
+        value = json.loads((self.folder / "s.json").read_text())
         plays, quits = sorted(value["agents"], key=lambda agent: agent["agent"])
         for end in ("crashed", "played"):
             self.assertGreater(quits["ends"][end], 0)
@@ -89,32 +87,29 @@ class InTurns(PlaceCase):
 @needs_program
 class Real(PlaceCase):
     def test_a_game_with_agents_that_fail(self) -> None:
-        (self.place / "buyer.py").write_text(BUYER)
-        (self.place / "failing.py").write_text(FAILING)
+        self.write("buyer.py", BUYER)
+        self.write("failing.py", FAILING)
         # Each of two has four seats. Not kept apart, the failing ones count themselves.
         done = run("experiments.tournament", "failing.py", "buyer.py", "--no-apart", "--games", "2",
                    "--pace", "25", "--start", "4", "--after", "0.5", "--out", "run", "--summary",
-                   "s.json", cwd=self.place)
+                   "s.json", cwd=self.folder)
         self.assertEqual(done.returncode, 0, done.stderr)
-        rows = read_scores(self.place / "run").rows
+        rows = read_scores(self.folder / "run").rows
         ends = sorted(row.end.value for row in rows if row.agent == "failing")
         self.assertEqual(ends, sorted(2 * ["absent", "crashed", "crashed", "refused"]), done.stderr)
-        for row in rows:
-            if row.agent == "buyer":
-                self.assertIs(row.end, Outcome.PLAYED)
-                self.assertNotEqual(row.score, 0)
-        first, second = json.loads((self.place / "s.json").read_text())["agents"]
+        self.assertEqual({(row.end, row.score == 0) for row in rows if row.agent == "buyer"},
+                         {(Outcome.PLAYED, False)})
+        first, second = json.loads((self.folder / "s.json").read_text())["agents"]
         self.assertEqual((first["agent"], second["ends"]),
                          ("buyer", {"absent": 2, "crashed": 4, "refused": 2}))
-        games = self.place / "run" / "games"
+        games = self.folder / "run" / "games"
         self.assertTrue((games / "1.0.log").read_text().startswith("taclog 1\n"))
-        self.assertTrue(re.search("failing at seat [0-7] .failing[b-d]?. counts as crashed: ended "
-                                  "with status 1; its last line: ValueError: before the game",
-                                  done.stderr))
+        self.assertRegex(done.stderr, "failing at seat [0-7] .failing[b-d]?. counts as crashed: "
+                         "ended with status 1; its last line: ValueError: before the game")
         game = games / "1.1.game"
         for status, count, told in ((0, 2, ""), (1, 1, f"deals: {game}: it is not the game of the "
                                                        "secret\n")):
-            made = run("experiments.deals_command", self.place / "run")
+            made = run("experiments.deals_command", self.folder / "run")
             self.assertEqual((made.returncode, made.stdout, made.stderr), (
                 status, f"{count} of 2 games are those of the secret\n", told))
             text = game.read_text()

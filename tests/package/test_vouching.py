@@ -1,23 +1,17 @@
 """The plain reading of one link, and `tac vouch`, which says the same of each record here: records
 that are right, and the same with one thing changed."""
 
-import random
 import re
-import socket
-import struct
 import tempfile
-from concurrent.futures import ThreadPoolExecutor
 from functools import lru_cache
 from pathlib import Path
-from typing import List, Optional, Sequence, Tuple
+from typing import Optional, Sequence, Tuple, Union
 from unittest import mock
 
-from geesefuton import program
-from geesefuton.link import Link
-from geesefuton.processes import Children, free_port
-from geesefuton.records.games import CLOCK, GOODS, read_game
+from geesefuton.records.games import read_game
 from geesefuton.records.logs import read_log
-from tests.package.helpers import Case, needs_program
+from tests.package.cases import Case
+from tests.package.helpers import needs_program
 from tests.support import made_records as records, vouching as reading
 from tests.support.judging import Judge
 from tests.support.made_records import WELCOME, changed, doubled, swapped, text_of, without
@@ -26,7 +20,6 @@ HELLO = 1  # lines before those of the session
 LINES = ["own 16", "quote 10", "bid 0 ((1 500))", "cash", "bid 10 ((2 90))", "bid 28 ((1 1))",
          "quote 10", "buy 5", "bid 16 ((2 60))", "x" * 513, "own 0", "bid 3 ((0 1))", "withdraw 5",
          "cash", "quote 16", "bid 10 ((1 50))", "own 4", "quit"]
-ASKED_GOODS = (0, 4, 8, 15, 20)  # of agents in a served game
 CAUSES = ("quit", "end", "readfault", "writefault", "budget")
 
 
@@ -47,24 +40,25 @@ class Record(Case):
         super().setUp()
         self.played = played(tuple(self.script))
         self.asked, self.said = self.played.asked[self.agent], self.played.said[self.agent]
-        (self.place / "game").write_text(self.played.game)
+        self.write("game", self.played.game)
         self.judge_of = lru_cache(maxsize=None)(lambda log, form: Judge(
-            self.place / "game", log.encode(), form))
+            self.folder / "game", log.encode(), form))
 
     @property
     def count(self) -> int:
         """How many lines the session has."""
         return len(self.asked) - HELLO
 
-    def judge(self, asked: Optional[Sequence[str]] = None, said: Optional[Sequence[str]] = None,
-              log: str = "", form: str = "words") -> str:
+    def check(self, due: Union[int, str], asked: Optional[Sequence[str]] = None,
+              said: Optional[Sequence[str]] = None, log: str = "", form: str = "words") -> None:
         """What both readings say of the record, or of one with other lines, by the log or another
-        one."""
+        one: a number is that of the line that is not vouched for."""
         judge: Judge = self.judge_of(log or self.played.log, form)
         told = judge.said_of(text_of(self.asked if asked is None else asked),
                              text_of(self.said if said is None else said))
         self.assertEqual(judge.wrong, [])
-        return told
+        self.assertEqual(told, f"unvouched line {due}" if isinstance(due, int) else due,
+                         f"{asked}, {said}"[-300:])
 
     def read(self, asked: bytes, said: bytes, log: str = "") -> str:
         """What the plain reading alone says of bytes."""
@@ -115,10 +109,10 @@ class OneAgent(AllLines):
                           if entry.trades], [2, 2])
 
     def test_a_whole_link(self) -> None:
-        self.assertEqual(self.judge(), f"vouched 2 whole {self.count}")
+        self.check(f"vouched 2 whole {self.count}")
         for seat in (0, 1, 5, 7):
             asked, said = self.played.asked[seat], self.played.said[seat]
-            self.assertEqual(self.judge(asked, said), f"vouched {seat} whole {len(asked) - HELLO}")
+            self.check(f"vouched {seat} whole {len(asked) - HELLO}", asked, said)
 
     def test_replies_that_did_not_come_and_lines_that_were_not_asked(self) -> None:
         for count in range(self.count):
@@ -126,9 +120,9 @@ class OneAgent(AllLines):
             left = sum(self.left_by(number) is not None
                        for number in range(count + 1, self.count + 1))
             due = "unvouched cause" if count + 1 == self.count else self.lowest_from(count + 1)
-            self.assertEqual(self.judge(said=said), f"vouched 2 cut {count} {left}")
-            self.assertEqual(self.judge(asked), f"unvouched line {count + 1}")
-            self.assertEqual(self.judge(asked, said), due)
+            self.check(f"vouched 2 cut {count} {left}", said=said)
+            self.check(count + 1, asked)
+            self.check(due, asked, said)
 
     def test_half_lines_are_not_compared(self) -> None:
         for count, cause in ((self.count - 1, "end"), (self.count, "quit")):
@@ -140,36 +134,34 @@ class OneAgent(AllLines):
 
     def test_a_changed_reply_or_line(self) -> None:
         for number in range(1, self.count + 1):
-            place, due = WELCOME - HELLO + number, f"unvouched line {number}"
+            place = WELCOME - HELLO + number
             line, reply = self.asked[number], self.said[place]
             replies = [reply + " ", reply[:-1], reply.upper(), ""]
             if self.left_by(number):
                 replies.append(re.sub("[0-9]+", lambda at: str(int(at[0]) + 1), reply, count=1))
             for other in replies:
-                self.assertEqual(self.judge(said=changed(self.said, place, other)), due, other)
+                self.check(number, said=changed(self.said, place, other))
             for other in ("own 27", "quote 0", "withdraw 27", "bid 27 ((1 9))",
                           *["sell 3"] * (line != "buy 5")):
-                self.assertEqual(self.judge(changed(self.asked, number, other)), due, other)
+                self.check(number, changed(self.asked, number, other))
 
     def test_a_line_or_reply_that_is_dropped_doubled_or_swapped(self) -> None:
         for number in range(1, self.count):
             for change, first in ((without, number), (doubled, number + 1), (swapped, number)):
                 for asked, said in ((change(self.asked, number), self.said),
                                     (self.asked, change(self.said, WELCOME - HELLO + number))):
-                    self.assertEqual(self.judge(asked, said), f"unvouched line {first}",
-                                     (change.__name__, number))
+                    self.check(first, asked, said)
 
     def test_what_comes_behind_the_end(self) -> None:
-        due = f"unvouched line {self.count + 1}"
-        self.assertEqual(self.judge(self.asked + ["own 3", "quit"]),
-                         f"vouched 2 whole {self.count}")
-        self.assertEqual(self.judge(said=self.said + ["bye"]), due)
-        self.assertEqual(self.judge(self.asked + ["own 3"], self.said + ["@0 own 0 ()"]), due)
+        due = self.count + 1
+        self.check(f"vouched 2 whole {self.count}", self.asked + ["own 3", "quit"])
+        self.check(due, said=self.said + ["bye"])
+        self.check(due, self.asked + ["own 3"], self.said + ["@0 own 0 ()"])
         # A line behind `quit` is not taken for one that was asked.
         asked, said = self.asked[:HELLO + 3] + ["quit"], self.said[:WELCOME + 3] + ["bye"]
         more = asked + self.asked[HELLO + 3:]
         for record in ((asked, said), (more, said), (more, said[:-1])):
-            self.assertEqual(self.judge(*record), self.lowest_from(4))
+            self.check(self.lowest_from(4), *record)
 
     def test_a_cause_that_the_record_does_not_allow(self) -> None:
         unquit, unsaid = self.asked[:-1], self.said[:-1]
@@ -179,31 +171,29 @@ class OneAgent(AllLines):
                 CAUSES, (f"vouched 2 whole {self.count}", wrong, wrong, wrong, wrong),
                 (cut, cut, cut, cut, wrong), (wrong, whole, whole, wrong, wrong)):
             log = self.ended(cause)
-            self.assertEqual(self.judge(log=log), answered, cause)
-            self.assertEqual(self.judge(said=unsaid, log=log), unanswered, cause)
-            self.assertEqual(self.judge(unquit, unsaid, log), unasked, cause)
+            self.check(answered, log=log)
+            self.check(unanswered, said=unsaid, log=log)
+            self.check(unasked, unquit, unsaid, log)
         # What comes first is told, and a budget of 65,536 lines may be used up.
-        self.assertEqual(self.judge(unquit[:-1], unsaid[:-1], log),
-                         self.lowest_from(self.count - 1))
+        self.check(self.lowest_from(self.count - 1), unquit[:-1], unsaid[:-1], log)
         many = unquit + ["own 3"] * (65_536 - len(unquit))
-        self.assertEqual(self.judge(many, unsaid, log), wrong)
-        self.assertEqual(self.judge([*many, "own 3"], unsaid, log), cut)
+        self.check(wrong, many, unsaid, log)
+        self.check(cut, [*many, "own 3"], unsaid, log)
         # Any of the lines without a reply may be `quit`.
-        self.assertEqual(self.judge([*unquit, "own 3", "quit"], unsaid), cut)
-        self.assertEqual(self.judge([*unquit, "own 3", "quit "], unsaid), wrong)
+        self.check(cut, [*unquit, "own 3", "quit"], unsaid)
+        self.check(wrong, [*unquit, "own 3", "quit "], unsaid)
 
     def test_another_greeting_or_welcome(self) -> None:
         for first in ("hello seat9", "hello", " hello seat2", "hello seat2 ", "hello  seat2",
                       "HELLO seat2", "hello seat2\r", "own 16"):
-            self.assertEqual(self.judge([first, *self.asked[1:]]), "unvouched seat", first)
-        self.assertEqual(self.judge([]), "unvouched seat")
-        self.assertEqual(self.judge(["hello seat3", *self.asked[1:]]), "unvouched welcome")
+            self.check("unvouched seat", [first, *self.asked[1:]])
+        self.check("unvouched seat", [])
+        self.check("unvouched welcome", ["hello seat3", *self.asked[1:]])
         for place in range(WELCOME):
             for said in (without(self.said, place), changed(self.said, place, "welcome 3"),
                          self.said[:place], doubled(self.said, place)):
                 is_reply = len(said) > len(self.said) and place == WELCOME - 1
-                self.assertEqual(self.judge(said=said),
-                                 "unvouched line 1" if is_reply else "unvouched welcome")
+                self.check(1 if is_reply else "unvouched welcome", said=said)
 
     def test_a_log_that_seats_somebody_else(self) -> None:
         for head, other in ((r"link (\d+) seated 2\n", r"link \1 lost\n"),
@@ -229,7 +219,7 @@ class OtherLogs(Record):
         return log
 
     def test_entries(self) -> None:
-        self.assertEqual(self.judge(), f"vouched 2 whole {self.count}")
+        self.check(f"vouched 2 whole {self.count}")
         history = "0 own = own 0 ()\n2 own = own 0 ()\n2 own = own 0 ()\n1 own = own 0 ()\n"
         own = "2 own = own 0 ()\n"
         for new, due in (
@@ -242,7 +232,7 @@ class OtherLogs(Record):
                 (history.replace(own, "7 own = own 0 ()\n", 1), "unvouched line 1"),
                 (history.replace("1 own", "4 own"), f"vouched 2 whole {self.count}")):
             log = self.other_log("auction 3 58\n" + history, "auction 3 58\n" + new)
-            self.assertEqual(self.judge(log=log), due, new)
+            self.check(due, log=log)
 
     def test_posts_and_readings(self) -> None:
         cash = self.played.log.split("\ncash 5\n")[1].split("\nsheet\n")[0].split("\n")
@@ -252,8 +242,7 @@ class OtherLogs(Record):
                 ([0, 2, 1, 3, 4], 4), ([0, 1, 2, 3], 7), ([1, 2, 3, 4], 3),
                 ([0, 1, 2, 3, 4, 4], "unvouched cash 5"), ([0, 0, 1, 2, 3, 4], 4)):
             log = self.other_log("\n".join(cash), "\n".join(cash[place] for place in new))
-            self.assertEqual(self.judge(log=log),
-                             f"unvouched line {due}" if isinstance(due, int) else due, new)
+            self.check(due, log=log)
 
 
 @needs_program
@@ -278,18 +267,11 @@ class Quotes(Record):
                 (1, "@4 quote 0 50 open", 3), (1, "@3 quote 0 50 closed", 2),
                 (3, "@3 quote 0 50 open", 4), (3, f"@{last} quote 0 50 open", 4)):
             said = changed(self.said, WELCOME + place, reply)
-            self.assertEqual(self.judge(said=said),
-                             f"unvouched line {due}" if isinstance(due, int) else due, reply)
+            self.check(due, said=said)
 
     def test_a_quote_whose_reply_did_not_come_may_have_shown_any(self) -> None:
-        self.assertEqual(self.judge(said=self.said[:WELCOME]), "vouched 0 cut 0 1")
-        self.assertEqual(self.judge(said=self.said[:WELCOME + 1]), "vouched 0 cut 1 1")
-
-    def test_all_boards_of_a_closed_game(self) -> None:
-        log = read_log(self.played.log)
-        boards = reading.Boards(read_game(self.played.game), log).of(8)
-        self.assertEqual((boards[0], boards[-1]), ((0, 0, False), (0, 50, True)))
-        self.assertEqual(len(boards), len(log.histories[8]) + 1)
+        self.check("vouched 0 cut 0 1", said=self.said[:WELCOME])
+        self.check("vouched 0 cut 1 1", said=self.said[:WELCOME + 1])
 
 
 @needs_program
@@ -301,10 +283,9 @@ class Limits(Record):
     def test_calls_and_readings_that_are_used_up(self) -> None:
         self.assertEqual(self.said[WELCOME + 1023:WELCOME + 1026],
                          ["@1023 own 0 ()", "no spent", "no spent"])
-        self.assertEqual(self.judge(), f"vouched 4 whole {self.count}")
-        self.assertEqual(self.judge(said=self.said[:WELCOME + 1020]), "vouched 4 cut 1020 1029")
-        self.assertEqual(self.judge(said=without(self.said, WELCOME + 1024)),
-                         "unvouched line 1026")
+        self.check(f"vouched 4 whole {self.count}")
+        self.check("vouched 4 cut 1020 1029", said=self.said[:WELCOME + 1020])
+        self.check(1026, said=without(self.said, WELCOME + 1024))
 
     def test_lines_that_are_used_up(self) -> None:
         asked, said = text_of(self.asked), text_of(self.said)
@@ -329,12 +310,11 @@ class Forms(AllLines):
         self.asked, self.said, _ = records.in_json(records.Record(self.asked, self.said, []))
 
     def test_a_whole_link_and_its_cuts(self) -> None:
-        self.assertEqual(self.judge(form="json"), f"vouched 2 whole {self.count}")
-        self.assertEqual(self.judge(said=self.said[:WELCOME + 9], form="json"), "vouched 2 cut 9 5")
-        self.assertEqual(self.judge(), "unvouched line 1")
+        self.check(f"vouched 2 whole {self.count}", form="json")
+        self.check("vouched 2 cut 9 5", said=self.said[:WELCOME + 9], form="json")
+        self.check(1)
         spaced = [line.replace(",", ", ") + "\r" for line in self.asked[HELLO:]]
-        self.assertEqual(self.judge(self.asked[:HELLO] + spaced, form="json"),
-                         f"vouched 2 whole {self.count}")
+        self.check(f"vouched 2 whole {self.count}", self.asked[:HELLO] + spaced, form="json")
 
     def test_a_line_for_which_there_was_no_memory(self) -> None:
         for place in range(self.count):
@@ -342,10 +322,10 @@ class Forms(AllLines):
             said = [*self.said[:WELCOME + place], '{"no":"memory"}', *self.said[WELCOME + place:]]
             due = (f"unvouched line {place + 1}" if len(asked[HELLO + place]) > 512
                    else f"vouched 2 whole {self.count + 1} memory 1")
-            self.assertEqual(self.judge(asked, said, form="json"), due)
+            self.check(due, asked, said, form="json")
         # Without a reply no line is passed over.
-        self.assertEqual(self.judge(doubled(self.asked, HELLO), self.said[:WELCOME], form="json"),
-                         "unvouched entry 0 0")
+        self.check("unvouched entry 0 0", doubled(self.asked, HELLO), self.said[:WELCOME],
+                   form="json")
 
     def test_faults_of_lines(self) -> None:
         one = "(1 1)"
@@ -368,95 +348,27 @@ class Forms(AllLines):
 
 
 @needs_program
-class ManyAgents(Record):
-    """Drawn requests of eight agents, with quotes of all goods."""
+class Command(AllLines):
+    """The command of the plain reading."""
 
-    script = records.drawn_script(random.Random(3), 1500, 54, len(GOODS))
+    def test_what_it_prints_and_its_status(self) -> None:
+        log, asked, said = (self.folder / name for name in ("log", "asked", "said"))
 
-    def test_each_agent_has_its_part(self) -> None:
-        log = read_log(self.played.log)
-        self.assertGreater(sum(bool(entry.trades) and entry.caller != CLOCK
-                               for history in log.histories for entry in history), 50)
-        for seat in range(8):
-            asked, said = self.played.asked[seat], self.played.said[seat]
-            self.assertEqual(self.judge(asked, said), f"vouched {seat} whole {len(asked) - HELLO}")
-            cut = WELCOME + len(asked) // 2
-            self.assertRegex(self.judge(asked, said[:cut]), f"^vouched {seat} cut {cut - WELCOME} ")
+        def told(*files: Path, form: str = "words") -> Tuple[int, str]:
+            words = ["vouching", self.folder / "game", log, *files, form]
+            with mock.patch("sys.argv", [*map(str, words)]), mock.patch("builtins.print") as told:
+                return reading.main(), "\n".join(each.args[0] for each in told.mock_calls)
 
-
-@needs_program
-class Served(Case):
-    """A served game whose agents keep their links."""
-
-    def setUp(self) -> None:
-        super().setUp()
-        self.game, self.log = self.place / "game", self.place / "log"
-        self.game.write_text(program.make(7))
-        self.set(AGENT_RECORD=str(self.place))
-
-    def play(self, form: str) -> None:
-        """Serves a game to eight agents, of which seat 6 leaves without `quit`, and seat 7 resets
-        its link."""
-        port = free_port()
-        with Children() as children, ThreadPoolExecutor(8) as pool, self.log.open("wb") as log:
-            words = program.served_words(self.game, port, 20, form)
-            server = children.start(words, stdout=log)
-            for _ in pool.map(lambda seat: self.agent(port, seat, form), range(8)):
-                pass
-            self.assertIn(server.wait(60), (program.OK, program.CLOCK))
-
-    def agent(self, port: int, seat: int, form: str) -> None:
-        """Asks a little of all kinds; seat 7 reads the reply to one line, and asks more."""
-        with Link.greet("127.0.0.1", port, f"seat{seat}", form, limit=0) as link:
-            if seat == 7:
-                link.own(20)
-                lines = records.Record(["", *(f"own {good}" for good in range(20))], [], [])
-                more = text_of((records.in_json(lines) if form == "json" else lines).asked[1:])
-                link.stream.sendall(more)
-                link.stream.setsockopt(socket.SOL_SOCKET, socket.SO_LINGER, struct.pack("ii", 1, 0))
-                with self.files(seat)[0].open("ab") as asked:
-                    asked.write(more)
-                return
-            for good in ASKED_GOODS:
-                link.bid(good, (1, 400 - good - seat))
-                link.quote(good)
-                link.own(good)
-            link.cash()
-            if seat < 6:
-                link.quit()
-
-    def command(self, *words: object) -> Tuple[int, str]:
-        """What the command prints, and its status."""
-        with mock.patch("sys.argv", ["vouching.py", str(self.game), str(self.log),
-                                     *map(str, words)]), mock.patch("builtins.print") as told:
-            return reading.main(), "\n".join(each.args[0] for each in told.mock_calls)
-
-    def files(self, seat: int) -> List[Path]:
-        """The record of a seat."""
-        return [self.place / f"seat{seat}.{side}" for side in ("asked", "said")]
-
-    def test_records_of_agents(self) -> None:
-        for form in ("words", "json"):
-            self.play(form)
-            more = ["json"] * (form == "json")
-            for seat in range(7):
-                count = 3 * len(ASKED_GOODS) + 1 + (seat < 6)
-                self.assertEqual(self.command(*self.files(seat), *more),
-                                 (0, f"vouched {seat} whole {count}"))
-            after = read_log(self.log.read_bytes()).calls_of(7) - 1
-            self.assertEqual(self.command(*self.files(7), *more),
-                             (0, f"vouched 7 cut 1 {after}"))
-            asked, said = self.files(3)
-            said.write_bytes(said.read_bytes()[:-2])
-            self.assertEqual(self.command(asked, said, *more),
-                             (0, f"vouched 3 cut {3 * len(ASKED_GOODS) + 1} 0"))
-            asked.write_bytes(asked.read_bytes().replace(b"20", b"21", 1))
-            status, told = self.command(asked, said, *more)
-            self.assertEqual((status, told[:15]), (9, "unvouched line "))
-            self.assertEqual(self.command(self.place / "none", said), (3, "fault read"))
-            for file in self.place.glob("seat*"):
-                file.unlink()
-        for text, due in ((self.log.read_text().replace("missed 0", "missed 60"),
-                           (9, "unsound head")), ("no log", (8, "text 1 1"))):
-            self.log.write_text(text)
-            self.assertEqual(self.command(asked, said), due)
+        for text, status, due in (
+                (self.played.log, 0, f"vouched 2 whole {self.count}"),
+                (self.played.log.replace("missed 0", "missed 60"), 9, "unsound head"),
+                ("no log", 8, "text 1 1")):
+            log.write_text(text)
+            asked.write_bytes(text_of(self.asked))
+            said.write_bytes(text_of(self.said))
+            self.assertEqual(told(asked, said), (status, due))
+        log.write_text(self.played.log)
+        self.assertEqual(told(asked, said, form="json"), (9, "unvouched line 1"))
+        said.write_bytes(text_of(self.said)[:-2])
+        self.assertEqual(told(asked, said), (0, f"vouched 2 cut {self.count - 1} 0"))
+        self.assertEqual(told(self.folder / "none", said), (3, "fault read"))
