@@ -37,7 +37,6 @@ def types() -> Iterator[str]:
 
 
 def main() -> int:
-    """Prints the faults, and gives 1 if there is one."""
     parser = Parser("lint", __doc__ or "")
     parser.add_argument("--list", action="store_true", help="print what may be looked at")
     if parser.parse_args().list:

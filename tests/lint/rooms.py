@@ -100,7 +100,6 @@ def is_private(name: str) -> bool:
 
 
 def where(module: Module, line: int) -> str:
-    """A place in a module."""
     return f"{module.file}:{line}"
 
 
@@ -157,7 +156,6 @@ def used_in(node: ast.AST) -> Set[str]:
 
 
 def faults_of(modules: Dict[str, Module]) -> List[str]:
-    """All faults of the modules."""
     faults: List[str] = []
     for module in modules.values():
         faults += [*bad_imports(module, modules), *bad_members(module, modules)]

@@ -31,7 +31,6 @@ SLOW = 0.25  # seconds until a bid is answered
 
 
 def answer(line: bytes) -> bytes:
-    """The reply to a line."""
     words = line.split(b" ")
     time.sleep(float(os.environ.get("FAKE_SLOW", "0")))
     if "FAKE_HANG" in os.environ and line.startswith(os.environ["FAKE_HANG"].encode()):
@@ -112,7 +111,6 @@ def serve(game: str, port: int) -> int:
 
 
 def vouch(game: str, asked: str, said: str) -> int:
-    """Vouches for a link."""
     words = next(line.split()[1:] for line in open(game, encoding="ascii")
                  if line.startswith("words "))
     lines, replies = (open(file, "rb").read().split(b"\n")[:-1] for file in (asked, said))

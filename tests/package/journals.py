@@ -1,6 +1,8 @@
 """The journal of a game that is kept as data, and journals that tests make of their own lines."""
 
 import json
+import random
+import re
 from typing import Any, Dict, List, Sequence
 
 from geesefuton import program
@@ -58,6 +60,27 @@ def begun(*lines: Dict[str, Any], tick: int = 0, game: Game = GAME) -> JournalRe
 def asked(agent: int, line: str, reply: str, time: int) -> List[Dict[str, Any]]:
     """The lines of a request and its reply."""
     return [{"a": agent, "q": line}, {"a": agent, "r": reply, "t": time}]
+
+
+def cut_lines(dice: random.Random, lines: Sequence[str]) -> List[str]:
+    """The lines of a journal of a game that has begun up to a random place, without the last
+    replies of some agents."""
+    first = next(place for place, line in enumerate(lines) if '"r":' in line)
+    part = list(lines[:dice.randint(first + 20, len(lines) - 1)])
+    for agent in dice.sample(range(8), dice.randint(1, 8)):
+        places = [place for place, line in enumerate(part)
+                  if line.startswith(f'{{"a":{agent},"r":')]
+        if places:  # what the agent sent after that was not passed on yet
+            part = part[:places[-1]] + [line for line in part[places[-1] + 1:]
+                                        if not line.startswith(f'{{"a":{agent},')]
+    return part
+
+
+def parts_of(log: str) -> Dict[str, str]:
+    """The parts of a log that a recovery gives again."""
+    cash, sheet = log.index("\ncash ") + 1, log.index("\nsheet\n")
+    return {"histories": log[log.index("auction 0 "):cash], "sheet": log[sheet:],
+            "posts": "\n".join(sorted(re.findall("(?m)^.* post .*$", log[cash:sheet])))}
 
 
 class PlayedCase(FolderCase):

@@ -83,13 +83,9 @@ class Host:
             time.sleep(0.005)
         return self.of(kind)
 
-    def hurry(self) -> None:
-        """Lets the ticks that are left pass."""
-        self.lobby.settings.pace = 1
-
     def finish(self) -> Dict[str, End]:
         """Lets the ticks that are left pass: why each seat's part was over."""
-        self.hurry()
+        self.lobby.settings.pace = 1
         return self.end()
 
     def end(self) -> Dict[str, End]:
@@ -107,7 +103,6 @@ class Case(FolderCase):
         self.patch("hosting.hosted_game.LOOK", 0.05)
 
     def set(self, **variables: str) -> None:
-        """Variables of the environment."""
         self.enter(mock.patch.dict(os.environ, variables))
 
     def ended(self, **how: Any) -> Host:

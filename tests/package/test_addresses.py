@@ -44,7 +44,6 @@ class Machine:
         return made
 
     def found(self) -> List[str]:
-        """The addresses that are found there."""
         names = [(number, name) for number, name in enumerate(["lo", *self._routes]) if name]
         with mock.patch.object(addresses.socket, "socket", self.socket), \
                 mock.patch.object(addresses.socket, "if_nameindex", lambda: names), \
@@ -85,8 +84,6 @@ class Own(unittest.TestCase):
             for _ in range(300):
                 stack.enter_context(socket.create_connection(listener.getsockname(), timeout=5))
 
-
-class Pages(unittest.TestCase):
     def test_where_a_game_is_joined(self) -> None:
         self.assertEqual(join_address("192.0.2.7", 80), "http://192.0.2.7:80/join")
         self.assertEqual(join_address("fe80::1", 80), "http://[fe80::1]:80/join")

@@ -3,8 +3,7 @@
 import contextlib
 import socket
 import time
-import unittest
-from typing import Callable, Dict, List
+from typing import Any, Callable, Dict, List
 from unittest import mock
 
 from geesefuton.hosting.relay import Relay
@@ -12,27 +11,23 @@ from geesefuton.network.gate import AT_ONCE
 from geesefuton.practice import door as door_module
 from geesefuton.practice.door import Door, Handed
 from geesefuton.practice.teams import Team
+from tests.package.cases import MOST, Case
 
-MOST = 60.0  # seconds that anything may take, on a machine that is busy with other work
 WORDS = [f"seat{seat}" for seat in range(8)]
 
 
-class Case(unittest.TestCase):
+class Doors(Case):
     def setUp(self) -> None:
-        listener = socket.create_server(("127.0.0.1", 0))
-        self.addCleanup(listener.close)
+        listener = self.enter(socket.create_server(("127.0.0.1", 0)))
         self.port: int = listener.getsockname()[1]
         self.house: Dict[str, Handed] = {}
         self.games: Dict[str, int] = {}
         self.door = Door(listener, [Team(f"Team {n}", f"team{n}", f"w{n}") for n in range(30)],
                          self.house.get, self.games)
         self.addCleanup(self.door.close)
-        self.links: List[socket.socket] = []
 
     def link(self, said: bytes) -> socket.socket:
-        """A link that has sent something."""
-        made = socket.create_connection(("127.0.0.1", self.port))
-        self.addCleanup(made.close)
+        made: socket.socket = self.enter(socket.create_connection(("127.0.0.1", self.port)))
         made.settimeout(MOST)
         made.sendall(said)
         return made
@@ -63,11 +58,13 @@ class Case(unittest.TestCase):
         with self.assertRaises(BlockingIOError):
             link.recv(1)
 
-    def until(self, is_so: Callable[[], bool]) -> None:
-        deadline = time.monotonic() + MOST
-        while not is_so():
-            self.assertLess(time.monotonic(), deadline)
+    def until(self, holds: Callable[[], Any], told: Any = "") -> None:
+        """Lets the door turn until something holds."""
+        def turned() -> Any:
             self.door.turn(0.05)
+            return holds()
+
+        super().until(turned, told)
 
     def answer(self, link: socket.socket) -> bytes:
         """What a link is told, to its end."""
@@ -86,8 +83,6 @@ class Case(unittest.TestCase):
         self.until(has_ended)
         return b"".join(said)
 
-
-class Links(Case):
     @staticmethod
     def is_readable(table: Handed) -> bool:
         with contextlib.suppress(BlockingIOError):
@@ -112,12 +107,12 @@ class Links(Case):
         relay.seats.keys = {"w5": 2, "w6": 4}
         self.come(6, 5)
         self.door.seat(["team5", "team6"], table)
-        deadline = time.monotonic() + MOST
-        while len([seat for seat in relay.seats.seats if seat.holder is not None]) < 2:
-            self.assertLess(time.monotonic(), deadline)
+
+        def seated() -> bool:
             relay.turn(0.05)
-        self.assertEqual([seat.number for seat in relay.seats.seats if seat.holder is not None],
-                         [2, 4])
+            return [seat.number for seat in relay.seats.seats if seat.holder is not None] == [2, 4]
+
+        super().until(seated)
 
     def test_a_team_that_plays_comes_to_its_table_again_and_waits_once_the_game_is_over(
             self) -> None:
@@ -128,9 +123,8 @@ class Links(Case):
         table.close()
         self.come(3)
 
-    def test_a_team_whose_part_in_its_game_is_over_waits_for_the_next(self) -> None:
-        self.seated(3).over.add("team3")
-        self.come(3)
+        self.seated(4).over.add("team4")  # or its part in it
+        self.come(4)
 
     def test_a_house_agent_comes_to_its_table(self) -> None:
         self.house["hidden"] = table = self.handed()
@@ -188,8 +182,6 @@ class Links(Case):
         self.door.seat(["team3"], table)
         self.assertEqual(self.answer(link), b"")
 
-
-class Places(Case):
     def next(self, free: int = 1, wait: float = 0.0) -> List[str]:
         return self.door.next_teams(free, wait)
 

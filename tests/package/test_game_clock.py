@@ -20,12 +20,12 @@ class GameClocks(unittest.TestCase):
         clock.move(106.3)  # a tick between was not seen
         self.assertEqual((clock.tick, clock.pace), (3, 2.0))
         self.assertEqual(clock.now(107.0), (106.0, 3))
-
-    def test_a_tick_that_is_late_is_not_counted_twice(self) -> None:
         clock = begun(2.0)
         self.assertEqual(clock.now(105.0).tick, 1)
-        clock.move(102.1)
+        clock.move(102.1)  # one that is late is not counted twice
         self.assertEqual(clock.now(110.0).tick, 2)
+        clock.move(600.0)
+        self.assertEqual(clock.now(610.0).tick, 54)
 
     def test_a_seat_that_comes_in_the_game_waits_for_a_closing(self) -> None:
         clock = begun(2.0, 2, False)
@@ -39,13 +39,6 @@ class GameClocks(unittest.TestCase):
         self.assertEqual(clock.now(106.0), (105.0, 18))
         clock.close(117.0, 4)
         self.assertEqual(clock.tick, 24)
-
-    def test_a_closing_as_the_first_thing_that_is_seen(self) -> None:
         clock = begun(1.0, 0, False)
-        clock.close(100.5, 1)
+        clock.close(100.5, 1)  # as the first thing that is seen
         self.assertEqual(clock.now(100.6), (100.5, 6))
-
-    def test_there_are_54_ticks(self) -> None:
-        clock = begun(1.0)
-        clock.move(154.0)
-        self.assertEqual(clock.now(160.0).tick, 54)

@@ -1,28 +1,36 @@
-"""The process of a game's pages, as the lobby starts it."""
+"""The process of a game's pages, as the lobby starts it, and what they hand out to those who write
+agents."""
 
+import contextlib
 import functools
 import json
 import os
 import re
+import shutil
 import socket
 import subprocess
+import sys
 import unittest
 import urllib.request
 from pathlib import Path
 from typing import Any, Dict, List
 from unittest import mock
 
+from geesefuton import program
+from geesefuton.hosting.handouts import STARTERS, Handouts
 from geesefuton.hosting.page_process import AGAIN, LONGEST, STEADY, PageProcess, SideProcess
 from geesefuton.hosting.settings import LobbySettings
 from geesefuton.processes import Children, free_port, python_words
 from tests.package.cases import MOST, Case, FolderCase, is_listening
-from tests.package.helpers import DATA, TOP
+from tests.package.helpers import DATA, JVM, TOP, variables
 from tests.package.journals import LINES, place_of
 from tests.package.seat_server import SeatServer, ask
 
 GAME = TOP / "examples" / "first.game"
 TICK_9 = place_of(9)
 WORDS = ["red", "blue"]
+RUN = {"starter.py": [sys.executable], "starter.mjs": ["node"],
+       "Starter.java": ["java", *JVM]}
 
 
 class Serving(FolderCase):
@@ -51,18 +59,13 @@ class Serving(FolderCase):
         self.assertEqual(self.pages.look(), "")
         self.until(lambda: is_listening(self.port))
 
-    def open(self, seat: int, phase: str = "running") -> str:
-        """A new page of a seat, once it is so far."""
-        page: str = ask(self.seats[seat] + "open")["page"]
-        self.wait(seat, page, phase)
+    def open(self, seat: int, phase: str = "running", page: str = "") -> str:
+        """A page of a seat, a new one unless it is given, once it is so far."""
+        page = page or str(ask(self.seats[seat] + "open")["page"])
+        self.until(lambda: ask(self.seats[seat] + "state", page=page)["phase"] == phase)
         return page
 
-    def wait(self, seat: int, page: str, phase: str) -> None:
-        """Waits until a seat is so far."""
-        self.until(lambda: ask(self.seats[seat] + "state", page=page)["phase"] == phase)
-
     def end(self) -> None:
-        """The process ends by itself."""
         self.pages.wait(MOST, lambda: False)
         assert self.pages._process is not None
         self.assertEqual(self.pages._process.wait(MOST), 0)
@@ -91,7 +94,7 @@ class Serving(FolderCase):
             self.server.closed = list(range(28))
             self.until(lambda: self.server.heard[-1] == "quit")
             self.pages.close()  # the journal has no end, as on a full disk
-            self.wait(0, page, "over")
+            self.open(0, "over", page)
             text = screen.read()
         state = json.loads(re.findall(rb"data: (\{.*\})", text)[-1])
         self.assertEqual((state["phase"], state["status"], state["tick"]), ("over", None, 9))
@@ -140,7 +143,6 @@ class Started(Case):
             poll=mock.Mock(return_value=None))
 
     def end(self, status: int) -> None:
-        """The process ends."""
         process: Any = self.side._process
         process.poll.return_value = process.returncode = status
 
@@ -202,23 +204,92 @@ class Started(Case):
         self.side.end()
         self.side.close()
 
-
-class Told(unittest.TestCase):
-    def told(self, passed: float, **settings: Any) -> Dict[str, Any]:
-        """What a process is told some seconds after the lobby began."""
-        with mock.patch("geesefuton.hosting.page_process.time.monotonic") as clock:
-            clock.return_value = 50.0
-            pages = PageProcess(mock.Mock(), LobbySettings(GAME, 7000, 500, None, **settings),
+    def test_what_the_pages_are_told(self) -> None:
+        def told(passed: float, **settings: Any) -> Dict[str, Any]:
+            """What they are told some seconds after the lobby began."""
+            pages = PageProcess(mock.Mock(), LobbySettings(GAME, 7000, 500, None, page=7080,
+                                                           start=20.0, **settings),
                                 WORDS, 7000, Path("my.journal"))
-            clock.return_value += passed
-            told: Dict[str, Any] = json.loads(pages._told())
-        return told
+            self.now += passed
+            given: Dict[str, Any] = json.loads(pages._told())
+            return given
 
-    def test_what_it_is_told(self) -> None:
-        told = self.told(1.0, page=7080, start=20.0, late=3, names=True, form="json")
-        self.assertEqual(told, {
+        given = told(1.0, late=3, names=True, form="json")
+        self.assertEqual(given, {
             "port": 7000, "form": "json", "pace": 500, "page": 7080, "journal": "my.journal",
-            "late": 3, "names": True, "advice": True, "seats": told["seats"], "begins": 19.0})
-        self.assertEqual([word for word, _ in told["seats"]], WORDS)
-        told = self.told(25.0, page=7080, start=20.0, advice=False)
-        self.assertEqual((told["begins"], told["advice"]), (0.0, False))
+            "late": 3, "names": True, "advice": True, "seats": given["seats"], "begins": 19.0})
+        self.assertEqual([word for word, _ in given["seats"]], WORDS)
+        given = told(25.0, advice=False)
+        self.assertEqual((given["begins"], given["advice"]), (0.0, False))
+
+
+def text_of(handouts: Handouts, name: str, host: str = "10.0.0.7:7080") -> str:
+    given = handouts.answer(f"/{name}", host)
+    assert given is not None
+    return given.body.decode()
+
+
+class Filled(unittest.TestCase):
+    def test_each_starter_has_the_address(self) -> None:
+        for name, again in zip(STARTERS, ("True", "true", "true")):
+            text = text_of(Handouts(7011, again=True), name)
+            for line in ('HOST = "10.0.0.7"', "PORT = 7011", f"AGAIN = {again}"):
+                self.assertEqual(len(re.findall(rf"\b{re.escape(line)}", text)), 1, (name, line))
+            # The page replaces the first of these in the browser.
+            self.assertEqual(re.findall(r'\bWORD = "[^"]*"', text), ['WORD = "seat0"'])
+            self.assertIn(f"AGAIN = {'False' if again == 'True' else 'false'}",
+                          text_of(Handouts(7011), name))
+
+    def test_what_the_host_is_called(self) -> None:
+        for host, address, name in (
+                ("10.0.0.7:7080", "", "10.0.0.7"), ("class.example", "10.0.0.1", "class.example"),
+                ("[fd00::7]:7080", "", "fd00::7"), ("localhost:7080", "10.0.0.1", "10.0.0.1"),
+                ("127.0.0.1", "", "127.0.0.1"), ("", "10.0.0.1", "10.0.0.1"),
+                ('a"b', "", "localhost"), ("<b>", "10.0.0.1", "10.0.0.1")):
+            with self.subTest(host=host, address=address):
+                handouts = Handouts(7000, address)
+                self.assertIn(f'HOST = "{name}"\n'.replace("\n", "  #"),
+                              text_of(handouts, "starter.py", host))
+                self.assertIn(f"<code>{name}</code>, port <code>7000</code>",
+                              text_of(handouts, "join", host))
+
+    def test_nothing_else_is_there(self) -> None:
+        for path in ("/", "/starter", "/../link.py", "/starter.py/", "join", ""):
+            self.assertIsNone(Handouts(7000).answer(path, ""))
+
+    def test_a_game_in_json_has_no_starters_nor_has_one_where_they_are_not_installed(self) -> None:
+        with mock.patch.object(program, "examples", lambda: Path("/nowhere")):
+            without = Handouts(7000)
+        for handouts in (without, Handouts(7000, has_starters=False)):
+            self.assertIn("<section hidden>", text_of(handouts, "join"))
+            self.assertIsNone(handouts.answer("/starter.py", ""))
+        page = text_of(Handouts(7000), "join")
+        self.assertNotIn("<section hidden>", page)
+        self.assertNotRegex(page, r'(src|href)="(https?:)?//|url\(|@import|--host--|--port--')
+
+    def test_screens_say_where_to_join(self) -> None:
+        with mock.patch("geesefuton.hosting.handouts.qr_picture", lambda text: f"code {text}"):
+            self.assertEqual(Handouts(7000, "10.0.0.1", 7080).told, {
+                "port": 7000, "address": "10.0.0.1", "join": "http://10.0.0.1:7080/join",
+                "code": "code http://10.0.0.1:7080/join"})
+            self.assertEqual(Handouts(7000, "", 7080).told["code"], "")
+            self.assertEqual(Handouts(7000, "10.0.0.1").told["join"], "")
+
+
+class Played(FolderCase):
+    def test_a_file_runs_as_it_is(self) -> None:
+        """With the word filled in as the page does it."""
+        for name in STARTERS:
+            server, file = SeatServer(), self.folder / name
+            server.closed = [0]
+            text = text_of(Handouts(server.port), name, "127.0.0.1")
+            file.write_text(text.replace('WORD = "seat0"', 'WORD = "red7k"'))
+            with self.subTest(name=name), contextlib.closing(server):
+                if shutil.which(RUN[name][0]):
+                    done = subprocess.run(
+                        [*RUN[name], str(file), "--pause", "0"], stdin=subprocess.DEVNULL,
+                        capture_output=True, text=True, timeout=120, check=False, cwd=self.folder,
+                        env=variables())
+                    self.assertEqual(server.heard[:1], ["hello red7k"], done.stderr)
+                    self.assertEqual((done.returncode, done.stderr), (0, ""))
+                    self.assertRegex(done.stdout, "^agent 3 holds .*, cash 0\n$")

@@ -10,7 +10,7 @@ from geesefuton.network.gate import (AHEAD, LINE, LINK, LONGEST, WAITING, WRONG,
                                      Visit, most_links)
 
 
-class Case(unittest.TestCase):
+class Gates(unittest.TestCase):
     """A gate of ten links, of which four may be strangers of one network and three are kept."""
 
     def setUp(self) -> None:
@@ -30,8 +30,6 @@ class Case(unittest.TestCase):
         assert None not in visits
         return [visit for visit in visits if visit]
 
-
-class Networks(Case):
     def test_many_networks_are_seldom_looked_through(self) -> None:
         lines, times = self.gate.lines, 0
         kept = lines._until
@@ -61,11 +59,18 @@ class Networks(Case):
                 self.now += AHEAD
                 self.come(*[text.format(1)] * at_once)
 
-    def test_ipv6_addresses_are_one_network_by_their_first_half(self) -> None:
-        self.come(*(f"2001:db8::{number}" for number in range(6)))
-        self.assertEqual(len(self.ended), 2)
-        self.come("2001:db8:0:1::1", "::ffff:10.0.0.1")
-        self.assertEqual(len(self.ended), 2)
+    def test_who_makes_room(self) -> None:
+        """The eldest of the largest crowd; places are kept for this machine and those who are
+        known."""
+        six = [f"2001:db8::{number}" for number in range(6)]  # of one network, by their first half
+        own = [*(f"10.0.1.{number}" for number in range(7)), "::1", "::1", "::1"]
+        for addresses, due in (
+                (["10.0.0.1"] * 5, [0]), (six, [0, 1]), ([*six, "2001:db8:0:1::1"], [0, 1]),
+                ([*six, "::ffff:10.0.0.1"], [0, 1]), (own, []), ([*own, "10.0.1.9"], [0]),
+                (["10.0.0.1"] * 4 + [f"10.0.0.{number}" for number in range(2, 6)], [0])):
+            self.setUp()
+            visits = self.come(*addresses)
+            self.assertEqual(self.ended, [visits[place] for place in due], addresses)
 
     def test_a_network_is_banned(self) -> None:
         for text in ("2001:db8::/64", "10.0.0.7"):
@@ -74,25 +79,18 @@ class Networks(Case):
             "2001:db8::5", "::ffff:10.0.0.7", "10.0.0.8", "2001:db8:0:1::5")],
             [False, False, True, True])
 
-
-class Admission(Case):
     def test_a_first_line_has_a_total_time(self) -> None:
         visit, = self.come("10.0.0.1")
         self.assertEqual(visit.deadline, 130.0)
         self.assertEqual(visit.whole(), 0.0)
         self.assertEqual(visit.deadline, float("inf"))
 
-    def test_the_eldest_stranger_of_a_full_network_makes_room(self) -> None:
+    def test_one_that_parts_makes_room(self) -> None:
         visits = self.come(*["10.0.0.1"] * 5)
-        self.assertEqual(self.ended, visits[:1])
         self.assertEqual(visits[0].standing, Standing.GONE)
         visits[3].part()
         self.come("10.0.0.1")
         self.assertEqual(self.ended, [visits[0], visits[3]])
-
-    def test_the_largest_crowd_makes_room_for_others(self) -> None:
-        crowd = self.come(*["10.0.0.1"] * 4, "10.0.0.2", "10.0.0.3", "10.0.0.4", "10.0.0.5")
-        self.assertEqual(self.ended, crowd[:1])
 
     def test_links_that_part_count_until_they_leave(self) -> None:
         visits = self.come(*["10.0.0.1"] * 4)
@@ -147,10 +145,6 @@ class Admission(Case):
         self.come(*(f"10.0.1.{number}" for number in range(5)))
         self.assertFalse({*others} & {*self.ended})
 
-    def test_a_few_places_are_left_for_strangers(self) -> None:
-        gate = Gate(lambda: 0.0, most=2, each=9, kept=50, first=1.0)
-        self.assertIsNotNone(gate.arrive("10.0.0.1"))
-
     def test_lines_that_are_judged_make_room_only_in_the_largest_crowd_for_a_smaller(self) -> None:
         for visit in self.come(*["10.0.0.1"] * 4):
             visit.whole()
@@ -163,8 +157,6 @@ class Admission(Case):
         self.come("10.0.0.9")
         self.assertEqual(self.ended, crowd[:1])
 
-
-class Guesses(Case):
     def guess(self, address: str = "10.0.0.1") -> Optional[float]:
         """A wrong word comes, and leaves at once: how long it waited."""
         visit, = self.come(address)
@@ -217,9 +209,9 @@ class Guesses(Case):
             visit.leave()
         self.assertEqual(self.guess(), 0.0)
 
-
-class Files(unittest.TestCase):
     def test_the_limit_of_open_files_leaves_fewer(self) -> None:
+        few = Gate(lambda: 0.0, most=2, each=9, kept=50, first=1.0)  # some are left for strangers
+        self.assertIsNotNone(few.arrive("10.0.0.1"))
         for soft, most in ((1024, 200), (100, 52), (10, 1), (-1, 200)):
             with mock.patch("resource.getrlimit", return_value=(soft, soft)):
                 self.assertEqual(most_links(200, 48), most)

@@ -1,4 +1,5 @@
-"""What the lobby's command makes of its words, of signals, and of where it stands."""
+"""The lobby's command: what it makes of its words, of signals, and of where it stands, by itself
+and as a host uses it."""
 
 import contextlib
 import os
@@ -11,23 +12,25 @@ import unittest
 from argparse import Namespace
 from dataclasses import replace
 from pathlib import Path
-from typing import Any, Iterator, Optional, Tuple
+from typing import Any, Iterator, List, Optional, Tuple
 from unittest import mock
 
 from geesefuton.hosting import events, lobby, lobby_command
 from geesefuton.hosting.control import STOPPED, Phase
+from geesefuton.hosting.journal import read_journal
 from geesefuton.hosting.lobby import Lobby, LobbyError
 from geesefuton.hosting.settings import LobbySettings
 from geesefuton.processes import command, free_port
 from geesefuton.records.logs import read_log
 from tests.package import lobbies
 from tests.package.cases import FolderCase
-from tests.package.helpers import DATA, python, variables
-from tests.package.lobbies import GAME
+from tests.package.helpers import COMMAND, DATA, fake_program
+from tests.package.lobbies import GAME, MOST
 
 DEFAULTS = LobbySettings(
     game=Path("my.game"), port=7000, pace=500, log=sys.stdout.buffer, form="words", start=None,
     linger=30.0, patience=30.0, silence=10.0, journal=None, page=None, late=6, names=False)
+LOG = b"taclog 1\nend\n"
 
 
 class Case(FolderCase):
@@ -41,20 +44,14 @@ class Words(unittest.TestCase):
             return lobby_command._arguments()
 
     def test_the_limits_of_what_may_be_said(self) -> None:
-        for words in (["g", "1", "1", "--late", "0", "--page", "1", "--start", "0"],
-                      ["g", "65535", "60000", "--late", "54", "--page", "65535", "json"]):
-            self.assertEqual(self.given(*words).port, int(words[1]))
-
-    def test_what_is_refused(self) -> None:
-        for words in (["g", "0", "1"], ["g", "65536", "1"], ["g", "7", "0"], ["g", "7", "60001"],
-                      ["g", "7"], ["g", "7", "1", "xml"], ["g", "7", "1", "--late", "55"],
-                      ["g", "7", "1", "--page", "65536"], ["g", "7", "1", "--page", "0"],
-                      ["g", "7", "1", "--start", "-1"], ["g", "7", "1", "--start", "nan"],
-                      ["g", "7", "1", "--after", "x"], ["g", "7", "1", "--silence", "nan"],
-                      ["g", "7", "1", "--patience", "-2"], ["g", "7", "1", "--name"]):
+        for words in ("1 1 --late 0 --page 1 --start 0", "65535 60000 --late 54 --page 65535 json"):
+            self.assertEqual(self.given("g", *words.split()).port, int(words.split()[0]))
+        for words in ("0 1", "65536 1", "7 0", "7 60001", "7", "7 1 xml", "7 1 --late 55",
+                      "7 1 --page 65536", "7 1 --page 0", "7 1 --start -1", "7 1 --start nan",
+                      "7 1 --after x", "7 1 --silence nan", "7 1 --patience -2", "7 1 --name"):
             with mock.patch("geesefuton.arguments.tell") as told, \
                     self.assertRaises(SystemExit) as caught:
-                self.given(*words)
+                self.given("g", *words.split())
             self.assertEqual((caught.exception.code, told.call_count), (2, 1), words)
 
 
@@ -105,13 +102,11 @@ class Main(Case):
         self.teller.tell.assert_called_once()
         self.teller.close.assert_called_once_with()
 
-    def test_what_holds_if_nothing_is_said(self) -> None:
+    def test_what_holds_if_nothing_is_said_and_without_an_output_and_a_journal(self) -> None:
         self.run_it(0)
         self.assertEqual(self.settings(), replace(
             DEFAULTS, journal=Path("default.journal"), orders=sys.stdin, vouches=True))
         self.assertEqual(LobbySettings(Path("my.game"), 7000, 500, sys.stdout.buffer), DEFAULTS)
-
-    def test_without_an_output_and_without_a_journal(self) -> None:
         self.patch("_open_standard_files", return_value=False)
         self.patch("_default_journal", return_value=None)
         self.run_it(0)
@@ -252,15 +247,6 @@ class Journals(Case):
             os.dup2(kept, 1)
             os.close(kept)
 
-    def test_standard_files_that_are_closed(self) -> None:
-        code = ("import os; from geesefuton.hosting.lobby_command import _open_standard_files; "
-                "has_output = _open_standard_files(); "
-                "[os.fstat(number) for number in range(3)]; os._exit(10 + has_output)")
-        for close, due in (("", 11), ("<&-", 11), ("2>&-", 11), (">&-", 10), ("<&- >&- 2>&-", 10)):
-            done = subprocess.run(["sh", "-c", f'exec "$@" {close}', "sh", *python(code)],
-                                  env=variables(), check=False, timeout=200)
-            self.assertEqual(done.returncode, due, close)
-
     @unittest.skipUnless(Path("/proc/self").exists(), "the system does not tell")
     def test_the_folder_of_the_output(self) -> None:
         with open(self.folder / "my.log", "wb") as file, self.output(file.fileno()):
@@ -300,18 +286,18 @@ class Pages(lobbies.Case):
             finished = told.emit.call_args[0][0]
             self.assertEqual((finished.status, finished.log), (130, None))
 
-    def test_the_page_needs_a_port_of_its_own(self) -> None:
+    def test_ports_and_a_journal_that_cannot_be_had(self) -> None:
         port = free_port()
-        with self.assertRaisesRegex(LobbyError, f"port {port} is for the game: choose another"):
-            Lobby(LobbySettings(GAME, port, 5, None, page=port))
-
-    def test_ports_have_to_be_free(self) -> None:
         with socket.create_server(("", 0)) as other:
             taken = other.getsockname()[1]
-            with self.assertRaisesRegex(LobbyError, "port .*in use"):
-                self.lobby(taken)
-            with self.assertRaisesRegex(LobbyError, "port"):
-                Lobby(LobbySettings(GAME, taken, 5, None))
+            for own, page, told in (
+                    (port, port, f"port {port} is for the game: choose another"),
+                    (0, taken, f"port {taken}.*in use"), (taken, None, f"port {taken}")):
+                with self.assertRaisesRegex(LobbyError, told):
+                    Lobby(LobbySettings(GAME, own, 5, None, page=page))
+        made = self.lobby(None, journal=self.folder / "none" / "my.journal")
+        with self.assertRaisesRegex(LobbyError, "cannot create the journal .*No such file"):
+            made._open_journal(self.folder, self.fail)
 
     def test_without_a_journal_of_the_hosts_it_has_one_that_goes_away(self) -> None:
         for page, given, due in ((None, None, None), (None, "my.journal", "my.journal"),
@@ -327,7 +313,96 @@ class Pages(lobbies.Case):
                 self.assertTrue(first)
                 self.assertEqual(journal.file.stat().st_mode & 0o777, 0o600)  # it has the words
 
-    def test_a_journal_that_cannot_be_made(self) -> None:
-        made = self.lobby(None, journal=self.folder / "none" / "my.journal")
-        with self.assertRaisesRegex(LobbyError, "cannot create the journal .*No such file"):
-            made._open_journal(self.folder, self.fail)
+
+class Command(lobbies.Case):
+    def words(self, *more: str, pace: int = 15) -> List[str]:
+        return [*COMMAND, "lobby", str(GAME), str(free_port()), str(pace), "--start", "0.2",
+                "--after", "0", *more]
+
+    def start(self, until: str, *more: str, pace: int = 15, **variables: str) -> str:
+        """Starts the command in a process, and waits until the host is told a text: that line."""
+        self.process = subprocess.Popen(
+            self.words(*more, pace=pace), stdin=subprocess.PIPE, stdout=subprocess.PIPE,
+            stderr=subprocess.PIPE, cwd=self.folder, env={**os.environ, **variables})
+        self.addCleanup(self.process.kill)  # if the test fails
+        return self.wait_for(until)
+
+    def wait_for(self, text: str) -> str:
+        """The next line that the host is told with a text in it."""
+        assert self.process.stderr is not None
+        return next(line for line in map(bytes.decode, self.process.stderr) if text in line)
+
+    def check_end(self, status: int, printed: bytes = b"", told: str = ".*") -> None:
+        output, error = self.process.communicate(timeout=MOST)
+        self.assertEqual((self.process.returncode, output), (status, printed), error)
+        self.assertRegex(error.decode(), rf"(?s)\A{told}\Z")
+
+    def test_ctrl_c_and_a_closed_terminal_in_the_game(self) -> None:
+        self.start("begins")
+        for number in (signal.SIGINT, signal.SIGHUP):
+            self.process.send_signal(number)
+        self.check_end(0, LOG, ".*the game goes on.*")
+        self.assertEqual(len(list(self.folder.glob("first-*.journal"))), 1)
+
+    def test_two_ctrl_c_leave_a_journal(self) -> None:
+        self.start("begins", "--journal", "my.journal", pace=1000)
+        self.process.send_signal(signal.SIGINT)
+        self.wait_for("the game goes on")
+        self.process.send_signal(signal.SIGINT)
+        self.check_end(130, told=".*recover my.journal > .*")
+        self.assertTrue(read_journal(self.folder / "my.journal").has_begun)
+
+    def test_while_the_server_starts_a_signal_ends_it(self) -> None:
+        starting = self.folder / "starting"
+        tac = fake_program(self.folder, f"[ $1 = serve ] && touch '{starting}' && exec sleep {MOST}"
+                                        f"\nexec {os.environ['TAC']} \"$@\"\n")
+        for number in (signal.SIGINT, signal.SIGTERM):
+            self.start("waiting at port", TAC=tac)
+            self.until(starting.exists)
+            starting.unlink()
+            self.process.send_signal(number)
+            self.check_end(128 + number, told="((?!Traceback).)*")
+
+    def test_what_is_waited_for_after_the_last_tick_ends_by_enter_or_a_second_ctrl_c(self) -> None:
+        for key in (b"\n", b""):
+            said = self.start("waiting at port", "--after", str(MOST), pace=20)
+            port = int(said.split(" at port ")[1].split(" ")[0])
+            with socket.create_connection(("localhost", port)) as link:
+                link.sendall(b"hello seat0\n")
+                self.wait_for("seat0 is here")
+                self.wait_for("tick 54")
+                self.process.send_signal(signal.SIGINT)
+                self.assertRegex(self.wait_for("ctrl-C"), r"waiting \d+ s for seat0; press Enter "
+                                                          "or ctrl-C to end now")
+                assert self.process.stdin is not None
+                self.process.stdin.write(key)
+                self.process.stdin.flush()
+                if not key:
+                    self.process.send_signal(signal.SIGINT)
+                self.check_end(0, LOG)
+
+    def test_ctrl_c_while_it_is_loaded_or_reads_the_game_file_gives_no_traceback(self) -> None:
+        held = self.folder / "held"
+        held.mkdir()
+        (held / "argparse.py").write_text("import os, time\nos.write(2, b'loading\\n')\n"
+                                          f"time.sleep({MOST})\n")
+        tac = fake_program(self.folder, f"echo reading >&2; exec sleep {MOST}")
+        for text, name, value, due in (("loading", "PYTHONPATH", str(held), -signal.SIGINT),
+                                       ("reading", "TAC", tac, 130)):
+            with mock.patch.dict(os.environ, {name: value}):
+                self.start(text)
+            self.process.send_signal(signal.SIGINT)
+            self.check_end(due, told="")
+
+    def test_closed_outputs(self) -> None:
+        for number, close in ((0, "2>&-"), (4, ">&-"), (4, "> /dev/full"), (0, "<&-"),
+                              (4, "<&- >&- 2>&-")):
+            with self.subTest(close=close):
+                line = " ".join(f"'{word}'" for word in self.words(pace=1))
+                done = subprocess.run(["sh", "-c", f"exec {line} {close}"], cwd=self.folder,
+                                      stdout=subprocess.PIPE, stderr=subprocess.DEVNULL,
+                                      timeout=MOST, check=False)
+                self.assertEqual(done.returncode, number)
+                logs = list(self.folder.glob("first-*.log"))
+                self.assertEqual([log.read_bytes() for log in logs], [LOG] * len(logs))
+                self.assertTrue(logs)

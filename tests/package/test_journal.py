@@ -6,54 +6,21 @@ import json
 import os
 import threading
 import unittest
-from typing import Any, Dict, Iterator, List, Optional
+from typing import Any, Dict, Iterator, List, Optional, Sequence
 from unittest import mock
 
 from geesefuton.hosting.journal import (SYNC, Exchange, Journal, JournalError, JournalReader,
                                         Schedule, read_journal)
-from geesefuton.hosting.server_links import server_links
-from geesefuton.records.dialects import CASH, Asked, asked_by, reply_of
+from geesefuton.hosting.server_links import LinkBytes, server_links
+from geesefuton.records.dialects import CASH, Asked, asked_by
+from geesefuton.records.games import welcome
 from tests.package.cases import FolderCase
 from tests.package.helpers import DATA
-from tests.package.journals import GAME, HEAD, LINES, of_text
+from tests.package.journals import BEGIN, GAME, HEAD, HEADED, LINES, asks, of_text, told
 
 NO_SPACE = OSError(errno.ENOSPC, "No space left on device")
 FAILED = OSError(errno.EIO, "Input/output error")
 TICK = '{"tick":0,"t":0}\n'
-
-
-class Lines(unittest.TestCase):
-    """The rows are those of the page for agents."""
-
-    def test_words(self) -> None:
-        for line in ("bid 24 ((2 70) (1 65))", "bid 5 ((8 1) (-8 2))", "withdraw 0", "own 27",
-                     "quote 9"):
-            with self.subTest(line=line):
-                keyword, good, *_ = line.split(" ")
-                self.assertEqual(asked_by(line, "words"), Asked(keyword, int(good), line))
-        self.assertEqual(asked_by("cash", "words"), Asked("cash", CASH, "cash"))
-        for line in ("quit", "own 28", "own 05", "own 1 ", "own", "cash 1", "bid 5", "bid 5 ",
-                     "bid 5 ()", "bid 5 ((01 5))", "bid 5 ((1  5))", "bid 5 ((1 0))",
-                     "bid 5 ((0 5))", "bid 5 ((1 10001))", "bid 5 ((17 5))",
-                     "bid 5 ((9 1) (-8 2))", f"bid 5 ({' '.join(['(1 1)'] * 17)})", "",
-                     "own 1\r", "own 1" + " " * 600, "buy 5"):
-            with self.subTest(line=line):
-                self.assertIsNone(asked_by(line, "words"))
-
-    def test_replies(self) -> None:
-        for text, words in (
-                ('{"at":7,"taken":[1,0]}', "@7 taken 1 0"), ('{"at":7,"done":true}', "@7 done"),
-                ('{"at":7,"own":-1,"points":[[2,70]]}', "@7 own -1 ((2 70))"),
-                ('{"at":7,"own":0,"points":[]}', "@7 own 0 ()"),
-                ('{"at":7,"cash":-660}', "@7 cash -660"),
-                ('{"at":7,"quote":[1,2],"open":false}', "@7 quote 1 2 closed"),
-                ('{"at":7,"no":"closed"}', "@7 no closed"), ('{"no":"spent"}', "no spent"),
-                ('{"at":3,"no":"belowquote","need":3,"price":101,"offered":2}',
-                 "@3 no belowquote 3 101 2"), ('{"no":"bid","fault":4}', "no bid 4"),
-                ('{"bye":true}', "bye")):
-            with self.subTest(text=text):
-                self.assertEqual(reply_of(text, "json"), words)
-                self.assertEqual(reply_of(words, "words"), words)
 
 
 class Reader(FolderCase):
@@ -184,8 +151,11 @@ class Keeping(FolderCase):
                          '"game":"the game"}\n{"here":1}\n{"gone":1,"t":2500}\n{"without":2}\n'
                          '{"a":3,"r":"bye","t":2500}\n')
 
-    def test_it_is_a_new_file_of_its_owner(self) -> None:
-        journal = self.open()
+    def test_it_is_a_new_file_of_its_owner_whose_name_is_put_onto_the_disk(self) -> None:
+        synced: List[os.stat_result] = []
+        with mock.patch("os.fsync", lambda number: synced.append(os.fstat(number))):
+            journal = self.open()
+        self.assertTrue(os.path.samestat(synced[0], self.file.parent.stat()))
         self.assertTrue(all(each.daemon for each in journal._threads))  # a lobby may fail
         self.assertEqual(self.file.stat().st_mode & 0o777, 0o600)
         with self.assertRaises(FileExistsError):
@@ -248,12 +218,6 @@ class Keeping(FolderCase):
             journal.close()  # waits for the disk
             fsync.assert_called_once()
         self.assertLessEqual(SYNC, 1.0)  # the page for hosts says once a second
-
-    def test_the_name_of_a_new_journal_is_put_onto_the_disk(self) -> None:
-        synced: List[os.stat_result] = []
-        with mock.patch("os.fsync", lambda number: synced.append(os.fstat(number))):
-            self.open()
-            self.assertTrue(os.path.samestat(synced[0], self.file.parent.stat()))
 
     def test_a_file_that_no_disk_has(self) -> None:
         with mock.patch("os.fsync", side_effect=OSError(errno.EINVAL, "Invalid argument")):
@@ -335,6 +299,11 @@ class Meaning(unittest.TestCase):
         self.assertEqual(reader.schedule.ticks, Schedule(reader.game).ticks)
         self.assertEqual((reader.has_begun, reader.is_playing, reader.status, reader.calls),
                          (False, False, None, []))
+
+    def test_lines_that_have_no_position(self) -> None:
+        for line in ("quit", "hm", "own 1\r", "own 1" + " " * 600,
+                     f"bid 5 ({' '.join(['(1 1)'] * 17)})"):
+            self.assertIsNone(asked_by(line, "words"), line)
 
     def test_links(self) -> None:
         agents = self.reader.agents
@@ -432,3 +401,42 @@ class Clock(unittest.TestCase):
                          [(0, 5), (6, 11), (12, 54)])
         self.assertEqual([schedule.span(20, count) for count in range(2)], [(0, 53), (54, 54)])
         self.assertEqual([schedule.most(good, tick) for tick in (5, 6, 54)], [0, 1, 2])
+
+
+class ServerLinks(FolderCase):
+    """The bytes of the lobby's own links, by its journal."""
+
+    def links(self, lines: Sequence[str], end: str = "\n") -> List[LinkBytes]:
+        file = self.folder / "journal"
+        file.write_text("\n".join(lines) + end)
+        return server_links(file)
+
+    def test_lines_and_replies_are_those_of_each_seat(self) -> None:
+        links = self.links([*HEADED, asks(2, "own 16"), asks(5, "\xff"), told(5, "no syntax"),
+                            told(2, "@0 own 1 ()"), asks(2, "x" * 513)])
+        self.assertEqual(len(links), 8)
+        hello = [f"hello {word}\n".encode() for word in GAME.words]
+        self.assertEqual(links[2], (hello[2] + b"own 16\n" + b"x" * 513 + b"\n",
+                                    welcome(GAME.text(), 2) + b"@0 own 1 ()\n"))
+        self.assertEqual(links[5], (hello[5] + b"\xff\n", welcome(GAME.text(), 5) + b"no syntax\n"))
+        for seat in (0, 1, 3, 4, 6, 7):
+            self.assertEqual(links[seat], (hello[seat], welcome(GAME.text(), seat)))
+
+    def test_before_the_welcome_nothing_was_said_and_half_a_line_is_left_out(self) -> None:
+        self.assertEqual(self.links(LINES[:1]), [])
+        links = self.links([LINES[0], BEGIN])
+        self.assertEqual(links[7], (b"hello %b\n" % GAME.words[7].encode(), b""))
+        links = self.links([*HEADED, asks(0, "cash"), asks(1, "cash")], end="")
+        self.assertTrue(links[0].asked.endswith(b"\ncash\n"))
+        self.assertEqual(links[1].asked.count(b"\n"), 1)
+        self.assertRaises(JournalError, self.links, ["x"])
+
+    def test_a_whole_game(self) -> None:
+        links = server_links(DATA / "lobby.journal")
+        objects = [json.loads(line) for line in LINES]
+        for seat, link in enumerate(links):
+            asked = [each["q"] for each in objects if each.get("a") == seat and "q" in each]
+            said = [each["r"] for each in objects if each.get("a") == seat and "r" in each]
+            self.assertEqual(link.asked.decode("latin-1").split("\n")[1:-1], asked)
+            self.assertEqual(link.said.decode("latin-1").split("\n")[10:-1], said)
+        self.assertTrue(any(link.asked.count(b"\n") > 20 for link in links))

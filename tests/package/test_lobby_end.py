@@ -39,13 +39,11 @@ class TheEnd(Case):
             self.assertEqual(log.read_text(), LOG)
             self.assertEqual(host.of(events.Finished)[0].log, str(log))
 
-    def test_statuses_of_the_server(self) -> None:
+    def test_a_port_that_is_taken_is_tried_five_times(self) -> None:
         taken = self.folder / "taken"
         taken.touch()
-        self.set(FAKE_STATUS="6", FAKE_TAKEN=str(taken))
-        self.assertEqual((self.ended().status, taken.exists()), (6, False))
-
-    def test_a_port_that_is_taken_is_tried_five_times(self) -> None:
+        self.set(FAKE_STATUS="6", FAKE_TAKEN=str(taken))  # once
+        self.assertEqual((self.ended(journal=None).status, taken.exists()), (6, False))
         script = f'[ "$1" = serve ] && exit 5\nexec {os.environ["TAC"]} "$@"\n'
         self.set(TAC=fake_program(self.folder, script))
         ports = self.patch("hosting.server.free_port", side_effect=free_port)
@@ -90,26 +88,21 @@ class TheEnd(Case):
         self.assertEqual(lines[-1], {"over": 7})  # who reads the journal ends there
         self.assertEqual(sorted(line["end"] for line in lines if "end" in line), list(range(8)))
 
-    def test_interrupt(self) -> None:
-        host = Host(self.folder, pace=1000, start=0)
-        host.wait(events.Began)
-        host.lobby.control.stop()
-        host.end()
-        self.assertEqual(host.status, 130)
-        self.assertIn("recover", host.of(events.Warned)[-1].text)
-        self.assertIsNone(read_journal(self.folder / "my.journal").status)
-        finished, = host.of(events.Finished)
-        self.assertEqual((finished.status, finished.log), (130, None))
-        host.lobby.control.stop()  # it has ended already
-
-    def test_how_long_the_page_shows_the_last_scores(self) -> None:
+    def test_the_page_shows_the_last_scores_and_nobody_listens_for_agents_then(self) -> None:
         never = float("inf")
         for stays, is_stopped, least, most in (
                 (False, False, 10, 60), (True, False, never, never), (False, True, 0, 0)):
-            page = mock.Mock(look=mock.Mock(return_value=""))
+            port, tries = free_port(), list[int]()
+
+            def wait(*_: object) -> None:
+                with socket.socket() as link:
+                    tries.append(link.connect_ex(("127.0.0.1", port)))
+
+            page = mock.Mock(**{"look.return_value": "", "wait.side_effect": wait})
             with mock.patch("geesefuton.hosting.lobby.PageProcess", return_value=page) as made:
                 host = Host(self.folder, pace=2, start=None if is_stopped else 0, linger=0,
-                            stays=stays, page=free_port(), journal=self.folder / f"{most}.journal")
+                            port=port, stays=stays, page=free_port(),
+                            journal=self.folder / f"{most}.journal")
                 if is_stopped:
                     host.lobby.control.stop()
                 host.end()
@@ -117,33 +110,31 @@ class TheEnd(Case):
                              (130 if is_stopped else 0, 1, 1))
             self.assertEqual([least <= call[0][0] <= most for call in page.wait.call_args_list],
                              [] if is_stopped else [True])
+            self.assertEqual(tries, [] if is_stopped else [errno.ECONNREFUSED])
             self.assertEqual(page.close.call_count, int(not stays and not is_stopped))
             page.end.assert_called_once_with()
 
-    def test_while_the_page_shows_the_scores_nobody_listens_for_agents(self) -> None:
-        port, tries = free_port(), list[int]()
-
-        def wait(_: float, __: object) -> None:
-            with socket.socket() as link:
-                tries.append(link.connect_ex(("127.0.0.1", port)))
-
-        page = mock.Mock(look=mock.Mock(return_value=""), wait=wait)
-        self.patch("hosting.lobby.PageProcess", return_value=page)
-        self.ended(page=free_port(), port=port)
-        self.assertEqual(tries, [errno.ECONNREFUSED])
-
-    def test_interrupt_before_the_game(self) -> None:
-        host = Host(self.folder, start=None)
-        self.agents(host, "seat0")
-        with socket.create_connection(("127.0.0.1", host.port)) as link:
-            link.sendall(b"hello seat1\n")
-            self.assertEqual(host.wait(events.Arrived, 2)[1].source, "127.0.0.1")
-        self.assertIs(host.lobby.control.phase, Phase.GATHERING)
-        host.lobby.control.stop()
-        host.end()
-        self.assertEqual((host.status, host.of(events.Began)), (130, []))
-        self.assertNotIn("recover", host.of(events.Warned)[-1].text)  # there is nothing to make
-        self.assertEqual(host.of(events.Finished)[0].status, 130)
+    def test_interrupt(self) -> None:
+        for has_begun in (False, True):
+            journal = self.folder / f"{has_begun}.journal"
+            host = Host(self.folder, pace=1000, start=0 if has_begun else None, journal=journal)
+            if has_begun:
+                host.wait(events.Began)
+            else:
+                self.agents(host, "seat0")
+                with socket.create_connection(("127.0.0.1", host.port)) as link:
+                    link.sendall(b"hello seat1\n")
+                    self.assertEqual(host.wait(events.Arrived, 2)[1].source, "127.0.0.1")
+                self.assertIs(host.lobby.control.phase, Phase.GATHERING)
+            host.lobby.control.stop()
+            host.end()
+            self.assertEqual((host.status, len(host.of(events.Began))), (130, has_begun))
+            # There is nothing to make a log of if it had not begun.
+            self.assertEqual("recover" in host.of(events.Warned)[-1].text, has_begun)
+            self.assertIsNone(read_journal(journal).status)
+            finished, = host.of(events.Finished)
+            self.assertEqual((finished.status, finished.log), (130, None))
+            host.lobby.control.stop()  # it has ended already
 
     def test_a_journal_is_a_new_file(self) -> None:
         (self.folder / "my.journal").touch()
@@ -175,7 +166,6 @@ class Vouching(Case):
 
     def vouch(self, game: Path, log: bytes, asked: Path, said: Path, form: str,
               timeout: float) -> str:
-        """Stands for `tac vouch`."""
         self.asked.append((asked.read_bytes(), said.read_bytes()))
         self.assertTrue(game.read_text().startswith("tac "))
         self.assertEqual((log[:15], form), (b"taclog 1\nserve\n", "words"))
@@ -220,7 +210,8 @@ class Vouching(Case):
         self.assertIn(WRONG, warnings)
 
     def test_where_nothing_can_be_said(self) -> None:
-        """No journal, one that is not whole, a log of no served game, or nobody asks for it."""
+        """No journal, one that is not whole, a log of no served game, nobody asks for it, or a
+        program that fails, which is told."""
         write = os.write
 
         def full(number: int, data: Any) -> int:
@@ -228,21 +219,18 @@ class Vouching(Case):
                 raise OSError(errno.ENOSPC, "No space left on device")
             return write(number, data)
 
-        for more, patch in (
+        for number, (more, patch) in enumerate((
                 ({"journal": None}, mock.patch.object(Journal, "now", return_value=0)),
-                ({"journal": self.folder / "1"},
-                 mock.patch("geesefuton.hosting.journal.os.write", full)),
-                ({"journal": self.folder / "2"}, mock.patch.dict(os.environ, {"FAKE_HEAD": ""})),
-                ({"journal": self.folder / "3", "vouches": False}, mock.patch.dict(os.environ))):
+                ({}, mock.patch("geesefuton.hosting.journal.os.write", full)),
+                ({}, mock.patch.dict(os.environ, {"FAKE_HEAD": ""})),
+                ({"vouches": False}, mock.patch.dict(os.environ)),
+                *(({}, mock.patch.object(program, "vouch", side_effect=fault)) for fault in (
+                    program.ended("vouch", 7, "memory"), OSError(errno.ENOSPC, "the disk is full")))
+        )):
             with patch:
-                host, finished, warnings = self.play(**more)
-            self.assertEqual((host.status, finished.vouched, self.asked), (0, (), []), more)
+                host, finished, warnings = self.play(
+                    **{"journal": self.folder / str(number), **more})
+            self.assertEqual((host.status, finished.vouched, self.asked), (0, (), []), number)
             self.assertNotIn(WRONG, warnings)
-
-    def test_a_program_that_fails_is_told_and_changes_nothing_else(self) -> None:
-        for number, fault in enumerate((program.ended("vouch", 7, "memory"),
-                                        OSError(errno.ENOSPC, "No space left on device"))):
-            with mock.patch.object(program, "vouch", side_effect=fault):
-                host, finished, warnings = self.play(journal=self.folder / f"{number}.journal")
-            self.assertEqual((host.status, finished.vouched), (0, ()))
-            self.assertIn("cannot compare the log with the lobby's links: ", warnings)
+            self.assertEqual("cannot compare the log with the lobby's links: " in warnings,
+                             number > 3)

@@ -20,7 +20,7 @@ class Full(io.BytesIO):
         raise OSError(28, "No space left on device")
 
 
-class Case(FolderCase):
+class Keeping(FolderCase):
     def setUp(self) -> None:
         super().setUp()
         self.elsewhere = Path(self.enter(tempfile.TemporaryDirectory()))
@@ -30,8 +30,6 @@ class Case(FolderCase):
         return {file.name: file.read_bytes() for folder in (self.folder, self.elsewhere)
                 for file in folder.iterdir()}
 
-
-class Names(Case):
     def test_a_name_that_is_free_is_taken_and_others_get_the_next_number(self) -> None:
         name = self.folder / "my.log"
         self.assertEqual(free_name(name), name)
@@ -41,8 +39,6 @@ class Names(Case):
             (self.folder / other).touch()
         self.assertEqual(free_name(name), self.folder / "my-3.log")
 
-
-class Keeping(Case):
     def test_a_path_and_a_copy(self) -> None:
         target, beside = self.folder / "asked.log", self.folder / "my.log"
         target.write_bytes(b"an older and longer log of another game\n")
@@ -50,10 +46,16 @@ class Keeping(Case):
         self.assertEqual(self.files(), {"asked.log": LOG, "my.log": LOG})
 
     def test_a_copy_never_replaces_a_file(self) -> None:
+        """Also where that has the output's content, and is not the output."""
         beside = self.folder / "my.log"
         beside.write_bytes(b"older\n")
         self.assertEqual(keep(LOG, None, beside), Kept("it is closed", self.folder / "my-2.log"))
         self.assertEqual(self.files(), {"my.log": b"older\n", "my-2.log": LOG})
+        beside.write_bytes(b"")
+        with (self.folder / "asked.log").open("wb") as output:
+            self.assertEqual(keep(LOG, output, beside), Kept(None, self.folder / "my-3.log"))
+        self.assertEqual(self.files(), {"asked.log": LOG, "my.log": b"", "my-2.log": LOG,
+                                        "my-3.log": LOG})
 
     def test_the_output_itself_is_not_copied(self) -> None:
         target, other = self.folder / "my.log", self.folder / "other.log"
@@ -66,14 +68,6 @@ class Keeping(Case):
             self.assertEqual(keep(LOG, output, target), Kept(None, None))
             output.write(b"more\n")
         self.assertEqual(target.read_bytes(), LOG + b"more\n")
-
-    def test_another_file_of_the_same_content_is_not_the_output(self) -> None:
-        target, beside = self.folder / "asked.log", self.folder / "my.log"
-        target.touch()
-        beside.touch()
-        with target.open("wb") as output:
-            self.assertEqual(keep(LOG, output, beside), Kept(None, self.folder / "my-2.log"))
-        self.assertEqual(self.files(), {"asked.log": LOG, "my.log": b"", "my-2.log": LOG})
 
     def test_no_file_stays_open(self) -> None:
         def free() -> int:
@@ -120,8 +114,6 @@ class Keeping(Case):
             self.assertEqual(keep(LOG, output, self.folder / "my.log"), Kept(None, None))
         self.assertEqual(self.files(), {"asked.log": LOG})
 
-
-class Elsewhere(Case):
     def test_a_log_that_nobody_asked_for_and_no_folder_takes(self) -> None:
         for target in (None, Full(), self.enter(open("/dev/full", "wb"))):
             kept = keep(LOG, target, self.folder / "none" / "my.log")

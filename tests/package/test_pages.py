@@ -1,14 +1,19 @@
-"""The server of pages: whom it serves, for how long, and how it ends."""
+"""The server of pages: whom it serves, for how long, and how it ends; and what the screens of a
+game's page are sent."""
 
 import asyncio
 import contextlib
 import functools
+import re
 import resource
 import socket
 import threading
 from typing import Any, AsyncGenerator, Awaitable, Callable, Dict, List, Tuple
 from unittest import mock
 
+from geesefuton.hosting.handouts import Handouts
+from geesefuton.hosting.viewers import Viewers
+from geesefuton.network.gate import Gate
 from geesefuton.network.pages import (FIRST, MOST_BODY, MOST_EACH, MOST_LINKS, SELDOM, Bell, Faults,
                                       PageServer, Request, Response, page_gate, read_page)
 from tests.package import cases
@@ -36,7 +41,6 @@ class Case(cases.Case):
             self.set(name, MOST)
 
     def set(self, name: str, value: float) -> None:
-        """A constant is another one."""
         self.patch(f"network.pages.{name}", value)
 
     async def answer(self, request: Request) -> Response:
@@ -74,7 +78,6 @@ class Case(cases.Case):
         return asyncio.run(asyncio.wait_for(served(), MOST))
 
     async def open(self, port: int, address: str = "127.0.0.1") -> Link:
-        """A link from an address."""
         reader, writer = await asyncio.open_connection("127.0.0.1", port, local_addr=(address, 0))
         self.opened.append(writer)
         return reader, writer
@@ -86,7 +89,6 @@ class Case(cases.Case):
         return answer_of(await reader.read())
 
     async def known(self, port: int, path: bytes = b"/known", address: str = "127.0.0.1") -> Link:
-        """A link that has shown a token."""
         link = await self.open(port, address)
         await asks(link, path)
         return link
@@ -124,7 +126,7 @@ def answer_of(data: bytes) -> Answer:
 
 
 class Answering(Case):
-    """What one browser gets."""
+    """What one browser gets, also one that takes its time."""
 
     def get(self, request: bytes) -> Answer:
         answer: Answer = self.run_it(lambda port: self.ask(port, request))
@@ -171,10 +173,6 @@ class Answering(Case):
         self.assertEqual([(await self.ask(port, GET % path))[0] for path in (b"/fails", b"/")],
                          ["", OK])
         self.assertEqual(self.told, ["a page failed: KeyError('no such thing')"])
-
-
-class LettingGo(Case):
-    """A browser that takes its time, by each part of a request."""
 
     async def trickle(self, port: int, first: bytes) -> bytes:
         """What a link is answered that sends a letter more and more."""
@@ -229,7 +227,6 @@ class Crowds(Case):
     """Who is served if there are many links."""
 
     async def check(self, port: int, *addresses: str) -> None:
-        """Links from these addresses are served."""
         for address in addresses:
             self.assertEqual((await self.ask(port, GET % b"/", address))[0], OK)
 
@@ -296,15 +293,8 @@ class Crowds(Case):
             await self.check(port, "127.0.0.1")
         self.assertEqual(self.told, ["cannot accept a browser: Too many open files"])
 
-    def test_where_few_files_may_be_open_there_are_few_links(self) -> None:
-        with mock.patch("resource.getrlimit", return_value=(50, 50)):
-            gate = page_gate()
-        visits = [gate.arrive(f"10.0.0.{number}") for number in range(9)]
-        self.assertEqual(sum(visit.standing.name != "GONE" for visit in visits if visit), 2)
-        self.assertGreaterEqual(resource.getrlimit(resource.RLIMIT_NOFILE)[0], 64)
+    # How a server ends.
 
-
-class Stopping(Case):
     @served
     async def test_a_server_that_is_stopped_as_a_link_comes_ends_without_a_fault(
             self, port: int) -> None:
@@ -367,3 +357,91 @@ class Parts(cases.FolderCase):
         text = read_page(file).decode()
         self.assertRegex(text, r"(?s)^<!doctype html>\n.*<style>\n:root \{.*\}\n</style>\n"
                                r"<script>\n\"use strict\";\n.*;\n</script>\n<title>A</title>$")
+
+
+class ViewersAnswers(cases.Case):
+    def setUp(self) -> None:
+        self.viewers = Viewers(b"the page")
+
+    def get(self, path: str, method: str = "GET", **fields: str) -> Tuple[str, str, bytes]:
+        visit = Gate(lambda: 0.0, 1, 1, 0, 1.0).arrive("127.0.0.1")
+        assert visit is not None
+        request = Request(method, path, fields, b"", visit)
+        answer = asyncio.run(self.viewers.answer(request))
+        return answer.status, answer.kind, answer.body
+
+    def test_the_page_and_the_newest_state(self) -> None:
+        self.assertEqual(self.get("/"), ("200 OK", "text/html; charset=utf-8", b"the page"))
+        for state in (b'{"a":1}', b'{"a":22}'):
+            asyncio.run(self.viewers.show(state, False))
+            self.assertEqual(self.get("/state"), ("200 OK", "application/json", state))
+
+    def test_nothing_else_is_there(self) -> None:
+        for path, method in (("/live.py", "GET"), ("/", "POST"), ("/state", "PUT"), ("", "GET"),
+                             ("/events", "POST"), ("/state/", "GET"), ("/join", "GET")):
+            self.assertEqual(self.get(path, method)[0], "404 Not Found", (path, method))
+
+    def test_what_is_handed_out_has_the_name_that_the_viewer_calls_the_host_by(self) -> None:
+        self.viewers.handouts = Handouts(7000)
+        rows: List[Tuple[Dict[str, str], str]] = [({"host": "10.0.0.7:80"}, "10.0.0.7"),
+                                                  ({"accept": "x"}, "localhost")]
+        for fields, name in rows:
+            status, kind, body = self.get("/starter.py", **fields)
+            self.assertEqual((status, kind), ("200 OK", "text/plain; charset=utf-8"))
+            self.assertIn(f'HOST = "{name}"', body.decode())
+        self.assertEqual([self.get(path)[0] for path in ("/join", "/starters", "/live.py")],
+                         ["200 OK", *["404 Not Found"] * 2])
+
+
+class Screens(Case):
+    """The states of a game, as a screen gets them."""
+
+    def setUp(self) -> None:
+        super().setUp()
+        self.viewers = Viewers(b"the page")
+        self.enter(mock.patch.object(self, "answer", self.viewers.answer))
+
+    async def follow(self, port: int) -> Any:
+        """A screen that has been sent nothing yet."""
+        reader, writer = await self.open(port)
+        writer.write(GET % b"/events")
+        await reader.readuntil(b"retry: 1000\n\n")
+        return reader
+
+    @served
+    async def test_each_state_is_sent_until_the_last(self, port: int) -> None:
+        self.patch("hosting.viewers.BEAT", MOST)  # a state does not wait for it
+        reader, last = await self.follow(port), b"event: end\ndata: over\n\n"
+        for number in range(3):
+            await self.viewers.show(b'{"a":%d}' % number, number == 2)
+            self.assertEqual(await reader.readuntil(b"\n\n"), b'data: {"a":%d}\n\n' % number)
+        self.assertEqual(await reader.read(), last)
+        self.assertEqual(await (await self.follow(port)).read(), b'data: {"a":2}\n\n' + last)
+        self.assertEqual(self.viewers.count, 0)
+
+    @served
+    async def test_one_that_reads_slowly_misses_states_and_gets_the_newest(
+            self, port: int) -> None:
+        reader = await self.follow(port)
+        for number in range(50):
+            await self.viewers.show(b"%d " % number + b"x" * (1 << 20), number == 49)
+            await asyncio.sleep(0.001)
+        numbers = list(map(int, re.findall(rb"data: (\d+) x", await reader.read())))
+        self.assertEqual((numbers, numbers[-1]), (sorted(set(numbers)), 49))
+        self.assertLess(len(numbers), 25)
+
+    @served
+    async def test_one_that_reads_no_more_states_is_let_go(self, port: int) -> None:
+        self.set("PATIENCE", 0.1)
+        await self.follow(port)
+        while self.viewers.count:
+            await self.viewers.show(b"x" * (1 << 20), False)
+            await asyncio.sleep(0.01)
+
+    @served
+    async def test_a_screen_hears_that_the_page_goes_on(self, port: int) -> None:
+        self.patch("hosting.viewers.BEAT", 0.05)
+        reader = await self.follow(port)
+        await self.viewers.show(b"{}", False)
+        self.assertEqual([await reader.readuntil(b"\n\n") for _ in range(3)],
+                         [b"data: {}\n\n", *[b"event: here\ndata: still\n\n"] * 2])

@@ -1,4 +1,4 @@
-"""What a live page shows of a game: its projection, and how much of it."""
+"""What a live page shows of a game: its projection and the hotel nights, and how much of it."""
 
 import json
 import random
@@ -7,10 +7,11 @@ from dataclasses import replace
 from typing import Any, Dict, List, Optional, Tuple
 from unittest import mock
 
-from geesefuton.hosting.journal import JournalReader
+from geesefuton.hosting.journal import JournalReader, read_journal
+from geesefuton.hosting.nights import STEP, Night, Nights
 from geesefuton.hosting.projection import Projection, View, project
 from geesefuton.hosting.recovery import RecoveryError
-from geesefuton.records.books import Books
+from geesefuton.records.books import Books, NightBook
 from geesefuton.records.games import CLOCK, DRAWS
 from geesefuton.records.logs import read_log
 from geesefuton.records.rules import prices_of
@@ -18,7 +19,6 @@ from geesefuton.records.ticks import ticks_by_log
 from tests.package.helpers import DATA, CountingPlayer, needs_program
 from tests.package.journals import (BEGIN, GAME, HEAD, LINES, PlayedCase, asked, begun, nights_of,
                                     of_text, place_of)
-
 
 TEXT = (DATA / "lobby.log").read_text()
 LOG = read_log(TEXT)
@@ -48,6 +48,7 @@ class Projecting(unittest.TestCase):
     def test_what_was_asked_until_then(self) -> None:
         reader = begun(*asked(1, "bid 20 ((1 5))", "@0 taken 0 0", 10),
                        *asked(1, "quote 20", "@1 quote 5 0 open", 20),
+                       # An agent whose lines were all refused counts as refused, and no other.
                        *asked(1, "hm", "no syntax", 25), *asked(2, "hm", "no syntax", 30),
                        {"a": 3, "q": "bid 21 ((1 5))"}, tick=4)
         made = self.project(reader)
@@ -63,10 +64,8 @@ class Projecting(unittest.TestCase):
         self.assertEqual(self.player.given[-1][1], "1 bid 20 ((1 5))\n2 own 20\n")
         self.assertEqual(made.scores[1], [0, -1, 0, -1])
 
-    def test_replies_that_are_those_of_no_game(self) -> None:
         lines = [*asked(1, "own 20", "@0 own 0 ()", 10), *asked(2, "own 20", "@0 own 0 ()", 10)]
-        with self.assertRaises(RecoveryError):
-            self.project(begun(*lines))
+        self.assertRaises(RecoveryError, self.project, begun(*lines))  # those of no game
 
     def test_who_is_silent(self) -> None:
         here = [{"here": agent, "from": "10.0.0.7"} for agent in (1, 2, 3, 4)]
@@ -231,24 +230,19 @@ class Views(unittest.TestCase):
                 (before, ["here", "absent", "absent", "absent", *["missing"] * 4])):
             self.assertEqual([agent["here"] for agent in self.state(reader)["agents"]], due)
 
-    def test_words_are_shown_where_the_host_wants_it(self) -> None:
+        lines = LINES[:1]
+        for line, here in (('{"without":2}', "absent"), ('{"here":2,"from":"10.0.0.7"}', "here"),
+                           ('{"gone":2}', "missing"), ('{"here":2,"from":"10.0.0.7"}', "here"),
+                           ('{"begin":[2]}', "here"), ('{"gone":2,"t":5}', "gone"),
+                           ('{"end":2,"why":"left","t":9}', "left")):
+            lines = [*lines, line]
+            self.assertEqual(self.state(of_text(lines))["agents"][2]["here"], here)
+
+    def test_words_are_shown_only_where_the_host_wants_it(self) -> None:
         stems = ["red", "orange", "yellow", "green", "blue", "violet", "brown", "grey"]
         for by_word, due in ((True, list(GAME.words)), (False, stems)):
             self.assertEqual([agent["name"] for agent in self.state(
                 begun(), by_word=by_word)["agents"]], due)
-
-
-    def test_who_is_here(self) -> None:
-        lines, shown = LINES[:1], []
-        for line in ('{"without":2}', '{"here":2,"from":"10.0.0.7"}', '{"gone":2}',
-                     '{"here":2,"from":"10.0.0.7"}', '{"begin":[2]}', '{"gone":2,"t":5}',
-                     '{"end":2,"why":"left","t":9}'):
-            lines = [*lines, line]
-            shown.append(self.state(of_text(lines))["agents"][2])
-        self.assertEqual([agent["here"] for agent in shown],
-                         ["absent", "here", "missing", "here", "here", "gone", "left"])
-
-    def test_words_are_not_shown(self) -> None:
         for count in (1, 6, 12, 60, len(LINES)):
             text = json.dumps(self.state(of_text(LINES[:count])))
             for word in GAME.words:
@@ -257,11 +251,6 @@ class Views(unittest.TestCase):
 
 @needs_program
 class WithTheProgram(PlayedCase):
-    def test_only_an_agent_whose_lines_were_all_refused_counts_as_refused(self) -> None:
-        lines = [*asked(0, "buy", "no syntax", 1), *asked(0, "cash", "@0 cash 0", 1),
-                 *asked(1, "buy", "no syntax", 1)]
-        self.assertEqual(project(begun(*lines), [], self.player).refused, [1])
-
     def test_a_projection_does_not_tell_the_future(self) -> None:
         for tick in (13, 29):
             states = set()
@@ -279,3 +268,159 @@ class WithTheProgram(PlayedCase):
                 made = project(reader, nights, self.player)
                 states.add(json.dumps(View(6, False).state(reader, nights, made, False)))
             self.assertEqual(len(states), 1)
+
+
+class OneNight(unittest.TestCase):
+    """A night of two rooms, the third to close, at tick 18."""
+
+    GOOD = GAME.closing[2]
+
+    def night(self, tick: int, *calls: Tuple[int, str, str, int], live: bool = False) -> Night:
+        """The night at a tick after calls: agent, words, reply, and milliseconds."""
+        lines = [line for agent, words, reply, time in calls
+                 for line in asked(agent, words.replace("G", str(self.GOOD)), reply, time)]
+        game = GAME.with_rooms([2] * 8, live)
+        return nights_of(begun(*lines, tick=tick, game=game))[self.GOOD - 8]
+
+    BIDS = [(0, "bid G ((1 50))", "@0 taken 0 0", 150), (1, "bid G ((2 60))", "@1 taken 0 0", 250),
+            (2, "bid G ((1 90))", "@3 taken 0 0", 650), (2, "bid G ((2 95))", "@4 taken 0 0", 700)]
+
+    def test_nothing_was_asked(self) -> None:
+        for live in (False, True):
+            self.assertEqual(self.night(0, live=live), Night([[0, 0]], [[0, 0]], None))
+            self.assertEqual(self.night(17, live=live),
+                             Night([[0, 0], [6, 0], [12, 0]], [[0, 0]], None))
+            self.assertEqual(self.night(18, live=live).closed, [18, 0, 0])
+            self.assertEqual(self.night(54, live=live),
+                             Night([[0, 0], [6, 0], [12, 0], [18, 0]], [[0, 0]], [18, 0, 0]))
+
+    def test_the_clock_publishes_the_ask_and_live_quotes_do_so_with_each_bid(self) -> None:
+        asks = [[0, 0], [2.5, 60], [7, 95]]
+        for tick, live, published, closed in (
+                (12, False, [[0, 0], [6, 60], [12, 95]], None),
+                (17, False, [[0, 0], [6, 60], [12, 95]], None),
+                (18, False, [[0, 0], [6, 60], [12, 95], [18, 95]], [18, 95, 2]),
+                (18, True, [[0, 0], [2.5, 60], [6, 60], [7, 95], [12, 95], [18, 95]],
+                 [18, 95, 2])):
+            self.assertEqual(self.night(tick, *self.BIDS, live=live),
+                             Night(published, asks, closed))
+
+    def test_what_was_refused_or_read_changes_nothing(self) -> None:
+        night = self.night(18, self.BIDS[1], (0, "bid G ((2 99) (-1 5))", "@0 no sell", 150),
+                           (0, "own G", "@2 own 0 ()", 260), (3, "bid G ((2 0))", "no bid 4", 270),
+                           (0, "withdraw G", "@3 no wrongcall", 280),
+                           (4, "quote G", "@4 quote 0 0 open", 290),
+                           (5, "quote G", "@1 quote 0 0 open", 300),  # was on its way for long
+                           (0, "bid G ((2 60))", "@5 no belowquote 1 61 0", 610))
+        self.assertEqual((night.asks, night.closed), ([[0, 0], [2.5, 60]], [18, 60, 2]))
+
+    def test_nothing_comes_before_what_stands_before_it(self) -> None:
+        # The lobby's clock told tick 6 a moment after the server's.
+        night = self.night(18, self.BIDS[1], (0, "bid G ((1 70))", "@0 taken 0 0", 100),
+                           (2, "bid G ((1 80))", "@3 taken 0 0", 599))
+        self.assertEqual(night.asks, [[0, 0], [2.5, 60], [6, 70]])
+        for first, then, at in ((300, 290, 3), (5, 15, 0.05)):  # the last of two at once
+            night = self.night(5, (0, "bid G ((2 70))", "@0 taken 0 0", first),
+                               (1, "bid G ((2 80))", "@1 taken 0 0", then))
+            self.assertEqual(night.asks, [[0, 0], [at, 80]])
+
+    def test_what_follows_a_position_that_is_not_known_waits(self) -> None:
+        calls = [(0, "bid G ((2 70))", "@0 taken 0 0", 300),
+                 (1, "bid G ((2 80))", "@2 taken 0 0", 590)]
+        self.assertEqual(self.night(5, *calls), Night([[0, 0]], [[0, 0], [3, 70]], None))
+        self.assertEqual(self.night(6, *calls),
+                         Night([[0, 0], [6, 70]], [[0, 0], [3, 70], [6, 80]], None))
+
+    def test_times_end_with_the_game_and_have_two_digits(self) -> None:
+        last = GAME.closing[7]
+        lines = asked(0, f"bid {last} ((2 70))", "@0 taken 0 0", 1234) \
+            + asked(1, f"bid {last} ((2 80))", "@1 taken 0 0", 5678)
+        reader = begun(*lines, tick=1, game=GAME.with_rooms([2] * 8, False))
+        self.assertEqual(nights_of(reader)[last - 8].asks, [[0, 0], [12.34, 70], [54, 80]])
+        reader.pace = 999
+        self.assertEqual(nights_of(reader)[last - 8].asks, [[0, 0], [1.24, 70], [5.68, 80]])
+
+    def test_each_night_has_its_own_rooms_and_bids(self) -> None:
+        lines = [line for good in range(8, 16)
+                 for line in asked(0, f"bid {good} ((1 50) (1 40) (1 30))", "@0 taken 0 0", 100)]
+        game = GAME.with_rooms([1, 2, 3, 4, 1, 2, 3, 4], False)
+        self.assertEqual([night.asks[-1] for night in nights_of(begun(*lines, tick=2, game=game))],
+                         [[1, 50], [1, 40], [1, 30], [0, 0]] * 2)
+
+
+class Following(unittest.TestCase):
+    """Nights while the journal grows: each call is worked through once."""
+
+    def test_each_bid_is_worked_through_once(self) -> None:
+        reader, worked = begun(), mock.Mock(wraps=NightBook.bid)
+        nights = Nights(reader)
+        with mock.patch.object(NightBook, "bid", lambda *given: worked(*given)):
+            for number in range(1000):
+                reader.read("\n".join(map(json.dumps, asked(
+                    number % 8, f"bid {GAME.closing[7]} ((1 {number + 1}))",
+                    f"@{number} taken 0 0", number))))
+                for _ in range(3):  # as when nothing has come
+                    nights.follow(reader)
+        self.assertEqual(worked.call_count, 1000)
+        self.assertEqual(nights.now(), nights_of(reader))
+
+    def test_at_each_moment_they_are_those_of_the_whole_journal(self) -> None:
+        reader, place = of_text(LINES[:place_of(0) + 1]), place_of(0) + 1
+        nights, dice = Nights(reader), random.Random(5)
+        while place < len(LINES):
+            count = dice.randint(1, 40)
+            reader.read("\n".join(LINES[place:place + count]))
+            place += count
+            nights.follow(reader)
+            self.assertEqual(nights.now(), nights_of(reader))
+        self.assertEqual([night.closed is None for night in nights.now()], [False] * 8)
+
+    def test_a_late_reply_shows_that_a_position_was_not_the_clocks(self) -> None:
+        good = GAME.closing[2]  # closes at tick 18
+        reader = begun(*asked(0, f"bid {good} ((2 50))", "@0 taken 0 0", 100), tick=6,
+                       game=GAME.with_rooms([2] * 8, False))
+        nights = Nights(reader)
+        nights.follow(reader)
+        before = nights.now()[good - 8]
+        self.assertEqual(before.published, [[0, 0], [6, 50]])
+        reader.read("\n".join(map(json.dumps, asked(
+            1, f"bid {good} ((2 80))", "@1 taken 0 0", 601))))
+        nights.follow(reader)
+        self.assertEqual(nights.now()[good - 8].published, [[0, 0], [6, 80]])
+        self.assertEqual(before.published, [[0, 0], [6, 50]])  # what was given stays as it was
+
+    def test_a_flood_of_bids_makes_a_path_of_some_points(self) -> None:
+        good, count = GAME.closing[7], 2000
+        lines = [line for number in range(count)
+                 for line in asked(0, f"bid {good} ((16 {number % 7 + 1}))",
+                                   f"@{number} taken 0 0", number)]
+        for live in (False, True):
+            game = GAME.with_rooms([2] * 8, live)
+            nights = Nights(reader := begun(game=game))
+            for at in range(0, len(lines), 202):
+                reader.read("\n".join(map(json.dumps, lines[at:at + 202])))
+                was = nights.now()[good - 8].asks
+                kept = [point[:] for point in was]
+                nights.follow(reader)
+                self.assertEqual(was, kept)  # what was shown is not changed
+            last = nights.now()[good - 8]
+            self.assertLessEqual(len(last.asks), 2 + count / 100 / STEP)
+            self.assertEqual(last.asks[-1][1], (count - 1) % 7 + 1)
+            self.assertEqual(len(last.published) > 1, live)
+            self.assertEqual(nights.now(), nights_of(reader))
+
+
+class WholeGames(unittest.TestCase):
+    def test_nights_are_those_of_the_log(self) -> None:
+        log = read_log((DATA / "lobby.log").read_text())
+        nights = nights_of(read_journal(DATA / "lobby.journal"))
+        for good, night in enumerate(nights, 8):
+            closing = next(entry for entry in log.histories[good] if entry.call.do == "close")
+            sold = sum(trade.units for trade in closing.trades)
+            price = closing.trades[0].price if closing.trades else 0
+            tick = 6 * (GAME.closing.index(good) + 1)
+            assert night.closed is not None
+            self.assertEqual(night.closed[0], tick)
+            self.assertEqual(night.closed[2], sold)
+            if sold:
+                self.assertEqual(night.closed[1], price)

@@ -1,19 +1,26 @@
-"""Recovery: scripts of journals, with the program where it is there."""
+"""Recovery: scripts of journals, with the program where it is there; and the command that makes a
+log of a journal."""
 
 import os
 import random
+import subprocess
 import unittest
 from dataclasses import replace
-from typing import Any, Dict, List, Optional, Sequence, Tuple
+from typing import Any, Dict, List, Sequence, Tuple
 from unittest import mock
 
+from geesefuton import program
 from geesefuton.hosting.journal import Exchange, JournalReader, Schedule, read_journal
 from geesefuton.hosting.recovery import (KnownHistory, Player, Recovery, RecoveryError, Script,
                                          differences, script_of)
+from geesefuton.processes import Output
 from geesefuton.records.dialects import Asked, position_of
+from geesefuton.records.logs import read_log
 from tests.package.cases import FolderCase
-from tests.package.helpers import DATA, CountingPlayer, fake_program, needs_program
-from tests.package.journals import BEGIN, GAME, LINES, PlayedCase, asks, of_text, told
+from tests.package.helpers import (COMMAND, DATA, CountingPlayer, fake_program, needs_program,
+                                   refusal)
+from tests.package.journals import (BEGIN, GAME, HEADED, LINES, PlayedCase, asks, cut_lines,
+                                    of_text, parts_of, told)
 
 
 def call(good: int, at: int, tick: int = 0, order: int = 0, agent: int = 1) -> Exchange:
@@ -62,9 +69,7 @@ class Placing(unittest.TestCase):
             self.assertEqual(len(list(history.items(quotes=False))), 20)
         length.assert_called_once_with()
 
-
-class Guessing(unittest.TestCase):
-    """Which requests without a reply were made, by what others were told."""
+    # Which requests without a reply were made, by what others were told.
 
     def settle(self, places: Sequence[int], agents: Sequence[int], right: Dict[int, int],
                good: int = 20, tick: int = 10) -> bool:
@@ -129,11 +134,10 @@ class Making(unittest.TestCase):
         return Recovery(reader, player, **how)
 
     def check(self, recovery: Recovery, made: Sequence[str], left: Sequence[str],
-              lines: Optional[List[str]] = None) -> None:
+              lines: Sequence[str]) -> None:
         """The requests without a reply that are in a script and those that are not; its lines."""
-        self.assertEqual((asked(recovery.made), asked(recovery.left)), ([*made], [*left]))
-        if lines is not None:
-            self.assertEqual(self.lines(recovery), lines)
+        self.assertEqual((asked(recovery.made), asked(recovery.left), self.lines(recovery)),
+                         ([*made], [*left], [*lines]))
 
     def lines(self, recovery: Recovery) -> List[str]:
         return recovery.script().text.splitlines()
@@ -166,17 +170,45 @@ class Making(unittest.TestCase):
         reader = journal(asks(1, "cash"), told(1, "@0 cash 0"), tick=0)
         self.assertEqual(self.lines(self.make(reader)), ["1 cash"])
 
-    def test_lines_that_were_refused_are_not_in_the_script(self) -> None:
-        reader = journal(asks(1, "buy 5"), told(1, "no syntax"), asks(1, "bid 5 ()"),
-                         told(1, "no bid 1"), asks(1, "own 20"), told(1, "@0 own 0 ()"),
-                         asks(2, "own 21"), told(2, "no spent"), asks(2, "quit"), asks(3, "hm"))
-        self.check(self.make(reader), [], [], ["1 own 20"])
-
-    def test_a_request_that_others_replies_show_was_made(self) -> None:
-        # Another agent's reply has the second position, so `own 20` of agent 1 had the first one.
-        reader = journal(asks(1, "own 20"), asks(3, "own 22"), asks(2, "own 20"),
-                         told(2, "@1 own 0 ()"))
-        self.check(self.make(reader), ["1 own 20"], ["3 own 22"], ["1 own 20", "2 own 20"])
+    def test_which_requests_are_in_the_script_and_where(self) -> None:
+        """The lines of a journal after a tick; those without a reply that are in the script and
+        those that are left out; and the script."""
+        rows: Sequence[Tuple[int, Sequence[str], Sequence[str], Sequence[str], List[str]]] = (
+            # Lines that were refused are not.
+            (0, [asks(1, "buy 5"), told(1, "no syntax"), asks(1, "bid 5 ()"), told(1, "no bid 1"),
+                 asks(1, "own 20"), told(1, "@0 own 0 ()"), asks(2, "own 21"), told(2, "no spent"),
+                 asks(2, "quit"), asks(3, "hm")], [], [], ["1 own 20"]),
+            # Another agent's reply has the second position, so `own 20` of agent 1 had the first.
+            (0, [asks(1, "own 20"), asks(3, "own 22"), asks(2, "own 20"), told(2, "@1 own 0 ()")],
+             ["1 own 20"], ["3 own 22"], ["1 own 20", "2 own 20"]),
+            # A request stands after what was known when it was sent.
+            (0, [asks(3, "own 20"), asks(2, "quote 20"), told(2, "@1 quote 0 0 open"),
+                 asks(1, "own 20"), asks(2, "own 20"), told(2, "@2 own 0 ()")],
+             ["3 own 20", "1 own 20"], [], ["3 own 20", "2 quote 20", "1 own 20", "2 own 20"]),
+            (0, [asks(2, "own 20"), told(2, "@0 own 0 ()"), asks(1, "own 20"), asks(3, "own 20"),
+                 told(3, "@2 own 0 ()")],
+             ["1 own 20"], [], ["2 own 20", "1 own 20", "3 own 20"]),
+            (0, [asks(3, "own 20"), asks(2, "own 20"), told(2, "@1 own 0 ()"), asks(1, "own 20")],
+             ["3 own 20"], ["1 own 20"], ["3 own 20", "2 own 20"]),
+            # The clock's call is the likelier one.
+            (54, [asks(1, "own 20"), asks(2, "own 20"), told(2, "@1 own 0 ()")],
+             [], ["1 own 20"], ["tick"] * 54 + ["2 own 20"]),
+            # The lobby has not told a tick, and the server has made two: so one bid was made.
+            (0, [asks(3, "bid 0 ((1 70))"), asks(2, "quote 0"), told(2, "@1 quote 0 0 open"),
+                 asks(1, "bid 0 ((1 50))"), asks(2, "quote 0"), told(2, "@3 quote 50 0 open")],
+             ["1 bid 0 ((1 50))"], ["3 bid 0 ((1 70))"],
+             ["tick", "2 quote 0", "1 bid 0 ((1 50))", "tick", "2 quote 0"]),
+            # Requests in several auctions are found together.
+            (0, [*(asks(agent, f"bid {20 + agent} ((1 5))") for agent in range(3)),
+                 asks(3, "quote 20"), told(3, "@0 quote 0 0 open"), asks(3, "quote 21"),
+                 told(3, "@1 quote 5 0 open"), asks(3, "own 22"), told(3, "@1 own 0 ()")],
+             ["1 bid 21 ((1 5))", "2 bid 22 ((1 5))"], ["0 bid 20 ((1 5))"],
+             ["1 bid 21 ((1 5))", "2 bid 22 ((1 5))", "3 quote 20", "3 quote 21", "3 own 22"]))
+        for tick, lines, made, left, script in rows:
+            with self.subTest(lines=lines):
+                recovery = self.make(journal(*lines, tick=tick))
+                self.check(recovery, made, left, script)
+                self.assertEqual(recovery.log()[1], [])
 
     def test_what_a_quote_shows_tells_whose_request_was_made(self) -> None:
         bids = [asks(1, "bid 20 ((1 50))"), asks(3, "bid 20 ((1 70))"), asks(2, "quote 20")]
@@ -188,31 +220,6 @@ class Making(unittest.TestCase):
                              [agent for agent in (1, 3) if agent not in made])
             self.assertEqual(recovery.log()[1], [])
 
-    def test_a_request_stands_after_what_was_known_when_it_was_sent(self) -> None:
-        reader = journal(asks(3, "own 20"), asks(2, "quote 20"), told(2, "@1 quote 0 0 open"),
-                         asks(1, "own 20"), asks(2, "own 20"), told(2, "@2 own 0 ()"))
-        self.assertEqual(self.lines(self.make(reader)),
-                         ["3 own 20", "2 quote 20", "1 own 20", "2 own 20"])
-        reader = journal(asks(2, "own 20"), told(2, "@0 own 0 ()"), asks(1, "own 20"),
-                         asks(3, "own 20"), told(3, "@2 own 0 ()"))
-        self.assertEqual(self.lines(self.make(reader)), ["2 own 20", "1 own 20", "3 own 20"])
-        reader = journal(asks(3, "own 20"), asks(2, "own 20"), told(2, "@1 own 0 ()"),
-                         asks(1, "own 20"))
-        self.check(self.make(reader), ["3 own 20"], ["1 own 20"])
-
-    def test_the_clocks_call_is_the_likelier_one(self) -> None:
-        reader = journal(asks(1, "own 20"), asks(2, "own 20"), told(2, "@1 own 0 ()"), tick=54)
-        self.check(self.make(reader), [], ["1 own 20"], ["tick"] * 54 + ["2 own 20"])
-
-    def test_a_clock_that_is_behind(self) -> None:
-        # The lobby has not told a tick, and the server has made two: so only one bid was made.
-        reader = journal(asks(3, "bid 0 ((1 70))"), asks(2, "quote 0"),
-                         told(2, "@1 quote 0 0 open"), asks(1, "bid 0 ((1 50))"),
-                         asks(2, "quote 0"), told(2, "@3 quote 50 0 open"))
-        recovery = self.make(reader)
-        self.check(recovery, ["1 bid 0 ((1 50))"], ["3 bid 0 ((1 70))"])
-        self.assertEqual(recovery.log()[1], [])
-
     def test_replies_of_which_no_request_can_be_the_cause(self) -> None:
         reader = journal(asks(1, "bid 20 ((1 50))"), asks(2, "quote 20"),
                          told(2, "@1 quote 60 0 open"))
@@ -221,14 +228,6 @@ class Making(unittest.TestCase):
         reader = journal(asks(2, "own 20"), told(2, "@3 own 0 ()"), asks(2, "own 20"))
         with self.assertRaisesRegex(RecoveryError, "good 20"):
             self.make(reader)
-
-    def test_requests_in_several_auctions_are_found_together(self) -> None:
-        lines = [asks(agent, f"bid {good} ((1 5))") for agent, good in ((0, 20), (1, 21), (2, 22))]
-        lines += [asks(3, "quote 20"), told(3, "@0 quote 0 0 open"),
-                  asks(3, "quote 21"), told(3, "@1 quote 5 0 open"),
-                  asks(3, "own 22"), told(3, "@1 own 0 ()")]
-        self.check(self.make(journal(*lines)), ["1 bid 21 ((1 5))", "2 bid 22 ((1 5))"],
-                   ["0 bid 20 ((1 5))"])
 
     def test_pending_requests_are_asked_after_all_others(self) -> None:
         reader = journal(asks(1, "own 0"), asks(2, "own 0"), told(2, "@3 own 0 ()"),
@@ -299,30 +298,137 @@ class Playing(FolderCase):
                 self.play(body, "", 0.5 if "sleep" in body else 60.0)
 
 
+class Telling(FolderCase):
+    """What the command tells, and its exit status."""
+
+    def setUp(self) -> None:
+        super().setUp()
+        self.log = self.folder / "output"
+
+    def scores(self) -> List[int]:
+        return [row.score for row in read_log(self.log.read_bytes()).scores]
+
+    def run_it(self, lines: Sequence[str], *words: object) -> Tuple[int, List[str]]:
+        """Runs the command on a journal, and gives its exit status and the lines that it tells."""
+        (self.folder / "journal").write_text("".join(line + "\n" for line in lines))
+        command = "geesefuton.hosting.recover_command"
+        with mock.patch(f"{command}.Player", lambda folder, _: CountingPlayer()), \
+                mock.patch(f"{command}.Output",
+                           lambda target: Output(self.log if target == 1 else target)):
+            status, text = refusal("hosting.recover_command", self.folder / "journal", *words)
+        return status, text.splitlines()
+
+    HEAD = [*HEADED, '{"tick":7,"t":700}',
+            asks(0, "own 20"), told(0, "@0 own 0 ()", 701), asks(0, "quote 20"),
+            told(0, "@1 quote 0 0 open", 702), asks(0, "cash"), told(0, "@0 cash 0", 703),
+            asks(0, "hm"), told(0, "no syntax", 704)]
+
+    def test_how_the_game_ended(self) -> None:
+        more = "the scores assume that nobody asks anything more"
+        for lines, due in (
+                (self.HEAD, f"the journal ends after tick 7 of 54; 2 calls; {more}"),
+                ([*self.HEAD, '{"over":0,"t":800}'], "the game was played to its end; 2 calls"),
+                ([*self.HEAD, '{"over":6,"t":800}'], "the game was played to its end; 2 calls"),
+                ([*self.HEAD, '{"over":137,"t":800}'],
+                 f"the server failed (137) after tick 7 of 54; 2 calls; {more}"),
+                (LINES[:4], "the game had not begun")):
+            self.assertEqual(self.run_it(lines), (0, [due]))
+            self.assertEqual(read_log(self.log.read_bytes()).kind, "play")
+
+    def test_requests_without_a_reply(self) -> None:
+        lines = [*self.HEAD, asks(1, "bid 21 ((1 5))"), asks(2, "quote 21"),
+                 told(2, "@1 quote 5 0 open"), asks(3, "bid 23 ((1 5))"),
+                 told(3, "@0 taken 0 0"), asks(3, "bid 22 ((1 5))"), asks(4, "own 22")]
+        first, third, fourth = GAME.words[1], GAME.words[3], GAME.words[4]
+        status, text = self.run_it(lines)
+        self.assertEqual((status, text[1:]), (0, [
+            f"  without a reply, in the log: {first}: bid 21 ((1 5))",
+            f"  without a reply, left out: {third}: bid 22 ((1 5))",
+            f"  without a reply, left out: {fourth}: own 22",
+            "  the journal does not show whether those left out were made; with them (--pending) "
+            f"scores change: {third} -1"]))
+        self.assertEqual(self.scores(), [0, -1, 0, -1, 0, 0, 0, 0])
+        status, text = self.run_it(lines, "--pending")
+        self.assertEqual((status, [line.split(": ")[0] for line in text[1:]]),
+                         (0, ["  without a reply, in the log"] * 3))
+        self.assertEqual(self.scores(), [0, -1, 0, -2, 0, 0, 0, 0])
+        status, text = self.run_it([*self.HEAD, asks(4, "own 22")])
+        self.assertTrue(text[-1].endswith("with them (--pending) no score changes"), text)
+        rows = [[mock.Mock(score=score) for score in scores]
+                for scores in ([5] * 8, [5, 5, 5, 20, 5, 5, 5, -12])]
+        with mock.patch("geesefuton.hosting.recover_command.read_scores", side_effect=rows):
+            _, text = self.run_it([*self.HEAD, asks(4, "own 22")])
+        self.assertTrue(text[-1].endswith(f"change: {GAME.words[3]} +15, {GAME.words[7]} -17"),
+                        text)
+
+    def test_a_difference_is_told_and_the_log_is_written(self) -> None:
+        lines = [*self.HEAD, asks(1, "own 21"), told(1, "@0 own 4 ()")]
+        status, text = self.run_it(lines)
+        self.assertEqual((status, text[1:]),
+                         (1, ["! 1 own 21: replied @0 own 4 (), and now @0 own 0 ()"]))
+        self.assertEqual(read_log(self.log.read_bytes()).kind, "play")
+
+    def test_a_journal_of_no_game_leaves_no_log(self) -> None:
+        lines = [*self.HEAD, asks(1, "own 20"), told(1, "@0 own 0 ()")]
+        status, text = self.run_it(lines)
+        self.assertEqual((status, text), (
+            1, [f"recover: {self.folder / 'journal'}: two replies have position 0 for good 20"]))
+        status, text = self.run_it(["hey"])
+        self.assertEqual((status, len(text), "line 1 is not a journal line" in text[0]),
+                         (1, 1, True))
+        none = self.folder / "none"
+        self.assertEqual(refusal("hosting.recover_command", none),
+                         (1, f"recover: {none}: No such file or directory\n"))
+        self.assertFalse(self.log.exists())
+
+    def test_other_outputs(self) -> None:
+        script, game = self.folder / "my.script", self.folder / "my.game"
+        status, _ = self.run_it(self.HEAD, "--script", script, "--game", game)
+        self.assertEqual((status, game.read_text()), (0, GAME.text()))
+        self.assertEqual(script.read_text(),
+                         "tick\n" * 7 + "0 own 20\n0 quote 20\n0 cash\n")
+        status, text = self.run_it(self.HEAD, "--script", self.folder / "no" / "where")
+        self.assertEqual((status, text[-1]), (
+            1, f"recover: {self.folder / 'no' / 'where'}: No such file or directory"))
+        self.assertEqual(read_log(self.log.read_bytes()).kind, "play")
+        self.log.unlink()
+        self.log.mkdir()
+        status, text = self.run_it(self.HEAD)
+        self.assertEqual((status, text[-1]), (1, f"recover: {self.log}: Is a directory"))
+
+
 @needs_program
 class WithTheProgram(PlayedCase):
     def test_a_whole_game(self) -> None:
         log, faults = Recovery(read_journal(DATA / "lobby.journal"), self.player).log()
-        served = (DATA / "lobby.log").read_text()
         self.assertEqual(faults, [])
-        for first, last in (("\nauction 0 ", "\ncash "), ("\nsheet\n", "\nend\n")):
-            self.assertEqual(*(text[text.index(first):text.rindex(last)] for text in (log, served)))
+        self.assertEqual(parts_of(log), parts_of((DATA / "lobby.log").read_text()))
         self.assertEqual(self.audit(log), "sound")
 
     def test_cut_games(self) -> None:
         dice = random.Random(4)
         made = 0
         for _ in range(4):
-            part = LINES[:dice.randint(40, len(LINES) - 1)]
-            for agent in dice.sample(range(4), 3):
-                places = [place for place, line in enumerate(part)
-                          if line.startswith(f'{{"a":{agent},"r"')]
-                if places:
-                    part = part[:places[-1]] + [line for line in part[places[-1] + 1:]
-                                                if not line.startswith(f'{{"a":{agent},')]
+            part = cut_lines(dice, LINES)
             recovery = Recovery(of_text(part), self.player)
             log, faults = recovery.log()
             self.assertEqual((self.audit(log), faults), ("sound", []))
             made += len(recovery.made)
             self.assertEqual(Recovery(of_text(part), self.player, pending=True).left, [])
         self.assertGreater(made, 0)
+
+    def recover(self, *words: object, **how: Any) -> "subprocess.CompletedProcess[str]":
+        return subprocess.run(
+            [*COMMAND, "recover", *map(str, words)], text=True, check=False,
+            **{"stdout": subprocess.PIPE, **how}, stderr=subprocess.PIPE, cwd=self.folder)
+
+    def test_the_command(self) -> None:
+        (self.folder / "cut").write_text("\n".join(LINES[:150]) + "\n")
+        done = self.recover("cut", "--script", "my.script", "--game", "other.game")
+        self.assertEqual(done.returncode, 0)
+        self.assertIn("nobody asks anything more", done.stderr)
+        played = program.play(self.folder / "other.game", self.folder / "my.script")
+        self.assertEqual(played[played.index("taclog 1"):], done.stdout)
+        with open("/dev/full", "w", encoding="ascii") as full:
+            done = self.recover("cut", stdout=full)
+        self.assertEqual((done.returncode, "No space left" in done.stderr), (1, True))

@@ -11,6 +11,8 @@ from pathlib import Path
 from typing import Any, List, Optional, Sequence
 from unittest import mock
 
+from geesefuton import program
+from geesefuton.hosting import teller
 from geesefuton.hosting.journal import Journal
 from geesefuton.practice.folder import Finished, Folder, standings_of
 from geesefuton.practice.teams import Team, read_teams, slips_of
@@ -49,22 +51,28 @@ class Case(unittest.TestCase):
         return change.start()
 
     def go_to(self, folder: Path) -> None:
-        """Makes a folder the current one."""
         self.addCleanup(os.chdir, os.getcwd())
         os.chdir(folder)
 
 
-class Files(Case):
+class RoomCase(Case):
+    """A room whose games are the first of the examples, and whose logs are called sound."""
+
     def setUp(self) -> None:
         super().setUp()
-        self.path.mkdir()
+        self.make = self.patch(program, "make", mock.Mock(return_value=FIRST))
+        self.audit = self.patch(program, "audit", mock.Mock(return_value="sound"))
+        self.patch(teller, "tell", mock.Mock())
+        self.kept = self.folder(seed=7)
 
+
+class Files(Case):
     def test_a_file_is_on_the_disk_before_it_has_its_name_and_then_its_name_is(self) -> None:
-        file, steps, fsync, rename = self.path / "x", list[Any](), os.fsync, os.replace
+        file, steps, fsync, rename = self.place / "x", list[Any](), os.fsync, os.replace
 
         def sync(number: int) -> None:
-            is_folder = os.path.samestat(os.fstat(number), self.path.stat())
-            steps.append("folder" if is_folder else next(self.path.glob(".x*")).read_bytes())
+            is_folder = os.path.samestat(os.fstat(number), self.place.stat())
+            steps.append("folder" if is_folder else next(self.place.glob(".x*")).read_bytes())
             fsync(number)
 
         def replaced(old: Path, new: Path) -> None:
@@ -78,7 +86,7 @@ class Files(Case):
         self.assertEqual((file.stat().st_mode & 0o777, len(os.listdir("/dev/fd"))), (0o600, before))
 
     def test_a_file_that_others_have_made_is_neither_followed_nor_kept(self) -> None:
-        victim, file, new = (self.path / name for name in ("victim", "words", ".words.new"))
+        victim, file, new = (self.place / name for name in ("victim", "words", ".words.new"))
         victim.write_text("keep me")
         new.symlink_to(victim)
         write_whole(file, b"passwords")
@@ -112,8 +120,8 @@ class Folders(Case):
             folder.judge(game)
         folder.close()
         again = self.folder()
-        self.assertEqual((again.rule.seed, again.finished, again.next_number()),
-                         (7, games, (10001, [])))
+        self.assertEqual((again.rule.seed, again.finished, again.unjudged, again.next_number()),
+                         (7, games, {}, (10001, [])))
         self.assertEqual(again.file(2, "log").read_bytes(), b"log")
 
     def test_a_game_that_is_not_judged_is_found_again_and_counts_once_it_is(self) -> None:
@@ -144,7 +152,7 @@ class Folders(Case):
         self.assertEqual(folder.next_number(), (6, [2, 5]))
         self.assertEqual([file.exists() for file in files], [True, False, True, False])
 
-    def test_a_folder_of_another_is_refused(self) -> None:
+    def test_a_folder_of_another_or_of_another_version_is_refused_and_let_go(self) -> None:
         folder = self.folder(3)
         self.refused("another room is using")
         folder.close()
@@ -157,9 +165,7 @@ class Folders(Case):
         other.mkdir()
         (other / "run.json").write_text("{}")
         self.refused("has files, but is not the folder", path=other)
-
-    def test_a_room_of_another_version_is_refused_and_let_go(self) -> None:
-        self.path.mkdir()
+        (self.path / "0001.json").unlink()
         for text in ('{"room": 1, "seed": 1}', '{"room": 2, "seed": "1"}', '{"room": 2}', "[]"):
             (self.path / "room.json").write_text(text)
             for _ in range(2):  # the second one finds no lock
@@ -167,18 +173,13 @@ class Folders(Case):
         (self.path / "room.json").write_text('{"room": 2, "seed": 0}')
         self.assertEqual(self.folder(0).rule.seed, 0)
 
-    def test_a_manifest_is_there_whole_or_not_at_all(self) -> None:
-        folder = self.folder()
+    def test_a_log_is_on_the_disk_before_the_manifest_which_is_whole_or_not_there(self) -> None:
+        folder, written = self.folder(), list[str]()
         for step in ("fsync", "replace"):
             with mock.patch(f"os.{step}", side_effect=FULL), self.assertRaises(OSError):
                 folder.keep(game_of(1), b"log")
             self.assertEqual((sorted(os.listdir(self.path)), folder.unjudged),
                              (["lock", "room.json", "secret"], {}))
-        folder.keep(game_of(1), b"log")
-        self.assertEqual(len(folder.unjudged), 1)
-
-    def test_a_log_is_on_the_disk_before_the_manifest_that_counts_it(self) -> None:
-        folder, written = self.folder(), list[str]()
         for fails in ("0001.log", "0001.json", ""):
             def write(file: Path, data: bytes, fails: str = fails) -> None:
                 if file.name == fails:
@@ -190,6 +191,7 @@ class Folders(Case):
                 folder.keep(game_of(1), b"log")
             written.append("")
         self.assertEqual(written, ["", "0001.log", "", "0001.log", "0001.json", ""])
+        self.assertEqual(len(folder.unjudged), 1)
 
     def test_a_file_that_was_half_written_makes_the_folder_nobody_elses(self) -> None:
         self.path.mkdir()
@@ -204,7 +206,7 @@ class Folders(Case):
 
     # What games are drawn from.
 
-    def test_games_are_drawn_from_a_secret_of_the_folder_to_which_it_commits(self) -> None:
+    def test_games_are_drawn_from_a_secret_to_which_the_folder_commits_or_from_a_seed(self) -> None:
         self.path.mkdir()
         file = self.path / "secret"
         file.write_text("00" * 32)  # a room was killed while it made the folder
@@ -219,10 +221,11 @@ class Folders(Case):
             self.assertEqual([made.rule.seed_of(number) for number in (1, 2)],
                              [deal_seed(secret, number) for number in (1, 2)])
 
-    def test_with_a_seed_they_are_those_of_the_next_ones(self) -> None:
-        folder = self.folder(7)
-        self.assertEqual([folder.rule.seed_of(number) for number in (1, 2, 3)], [7, 8, 9])
-        self.assertEqual((folder.commitment, (self.path / "secret").exists()), ("", False))
+        seeded = Folder(self.place / "seeded", 7)
+        self.addCleanup(seeded.close)
+        self.assertEqual([seeded.rule.seed_of(number) for number in (1, 2, 3)], [7, 8, 9])
+        self.assertEqual((seeded.commitment, (self.place / "seeded" / "secret").exists()),
+                         ("", False))
 
     def test_another_secret_or_none_is_refused(self) -> None:
         self.folder().close()
@@ -256,8 +259,6 @@ class Standings(unittest.TestCase):
                           (3, "house", 2, Fraction(3, 2))])
         self.assertAlmostEqual(rows[0].half or 0.0, 4.302652729911275 / 3 ** 0.5)
         self.assertIsNone(rows[2].half)  # two seats of one game
-
-    def test_a_game_that_was_lost_counts_for_nobody(self) -> None:
         lost = Finished(3, 3, 100, 1.0, 2.0, ("red",) * 8, {}, fault="exit status 7")
         self.assertEqual(standings_of([lost]), [])
 
@@ -280,8 +281,6 @@ class Teams(Case):
         folder.close()
         self.assertEqual(self.read("Red Foxes\nBlau\n", folder=self.folder()),
                          [teams[0], Team("Blau", "blau", "b5")])
-
-    def test_the_key_of_a_long_name_is_a_seat_word(self) -> None:
         self.assertEqual([team.key for team in self.read("The Traders of the Tower 2\nName\n")],
                          ["thetradersofthet", "name"])
 

@@ -9,7 +9,7 @@ from typing import Any, Callable, Dict, List, Optional, Sequence
 from unittest import mock
 
 from geesefuton import program
-from geesefuton.hosting import events, teller
+from geesefuton.hosting import events
 from geesefuton.hosting.control import STOPPED, Phase
 from geesefuton.hosting.events import Event
 from geesefuton.hosting.journal import Journal
@@ -24,7 +24,7 @@ from geesefuton.processes import write_whole
 from geesefuton.records.games import read_game
 from tests.package.helpers import SERVED_LOG, served_log
 from tests.package.lobbies import WORDS
-from tests.package.test_room_folder import FIRST, FULL, Case
+from tests.package.test_room_folder import FIRST, FULL, RoomCase
 
 LOG = SERVED_LOG.read_bytes()
 SCORES = tuple(score.score for score in served_log().scores)
@@ -72,26 +72,19 @@ def came(seat: int, at: float = 50.0, source: str = "10.0.0.7") -> Event:
 
 
 def begun(seat: int, *happened: Event, **how: Any) -> Plays:
-    """A game that begins with a guest at one seat."""
     return whole(came(seat), events.Began(60.0, (seat,)), *happened, **how)
 
 
-class Rooms(Case):
-    """A room whose lobby is a stand-in. All games are the first of the examples, with the log of
-    another one, which nobody compares."""
+class Rooms(RoomCase):
+    """A room whose lobby is a stand-in. All games have the log of another one."""
 
     def setUp(self) -> None:
         super().setUp()
         self.lobbies = self.patch(table, "Lobby", Lobbies())
         self.patch(room, "AGAIN", 0.01)
-        self.make = self.patch(program, "make", mock.Mock(return_value=FIRST))
-        self.audit = self.patch(program, "audit", mock.Mock(return_value="sound"))
-        self.patch(teller, "tell", mock.Mock())
-        self.kept, self.told = self.folder(seed=7), list[str]()
-        self.board = mock.Mock()
+        self.told, self.board = list[str](), mock.Mock()
 
     def play(self, *plays: Any, games: int = 0, **given: Any) -> Room:
-        """Plays these games."""
         self.lobbies.plays = list(plays)
         made = self.room(games or len(plays), **given)
         made.run()
@@ -109,11 +102,9 @@ class Rooms(Case):
         self.room(games=0).run()
 
     def shown(self) -> List[Dict[str, Any]]:
-        """What the page was told, in turn."""
         return [call[0][0] for call in self.board.show.call_args_list]
 
     def shown_rooms(self) -> List[Dict[str, Any]]:
-        """What of it is of the room."""
         return [state["room"] for state in self.shown()]
 
     # For whom seats count.
@@ -187,20 +178,19 @@ class Rooms(Case):
         self.assertEqual(self.told[0], "game 1 does not count yet: memory was refused; its log is "
                          "kept, and audited again after the next game")
         self.assertEqual({call[0][2] for call in self.audit.call_args_list}, {AUDITING})
-
-    def test_a_game_that_was_not_judged_before_a_stop_is_judged_at_the_next_start(self) -> None:
         self.audit.side_effect = program.ProgramError("no program")
         self.play(begun(0))
-        self.assertEqual((self.kept.finished, set(self.kept.unjudged)), ([], {1}))
+        self.assertEqual((len(self.kept.finished), set(self.kept.unjudged)), (2, {3}))
         self.audit.side_effect = None
-        self.start_again()
-        self.assertEqual([game.scores for game in self.kept.finished], [SCORES])
+        self.start_again()  # or at the next start
+        self.assertEqual([game.scores for game in self.kept.finished], [SCORES] * 3)
 
     def test_what_is_said_of_links_is_kept_and_a_game_that_is_not_vouched_for_is_lost(self) -> None:
         said = tuple(f"vouched {seat} whole 3" for seat in range(8))
         other = (*said[:7], "unvouched line 4")
+        # A game in which ticks lapsed counts.
         self.play(*(begun(0, events.Finished(70.0, status, None, each), status=status)
-                    for status, each in ((0, said), (9, other), (0, ()))))
+                    for status, each in ((0, said), (9, other), (program.CLOCK, ()))))
         games = self.kept.finished
         self.assertEqual([game.vouched for game in games], [said, other, ()])
         self.assertEqual([game.scores for game in games], [SCORES, (), SCORES])
@@ -231,10 +221,6 @@ class Rooms(Case):
         self.assertEqual(game.files["log"], hashlib.sha256(LOG).hexdigest())
         self.assertEqual(self.kept.next_number(), (2, []))
 
-    def test_a_game_in_which_ticks_lapsed_counts(self) -> None:
-        self.play(begun(0, status=program.CLOCK))
-        self.assertEqual((self.kept.finished[0].fault, self.kept.finished[0].scores), ("", SCORES))
-
     def test_a_game_that_was_stopped_does_not_count_and_the_room_goes_on(self) -> None:
         def stopped(lobby: Any, take: Callable[[Event], None]) -> int:
             journal = Journal(lobby.settings.journal, self.fail)
@@ -249,7 +235,7 @@ class Rooms(Case):
         self.assertEqual(len(told), 1)  # once, and not for each later game
         self.assertIn(str(self.path / "0001.journal"), told[0])
 
-    def test_what_fails_after_the_first_game_is_told_and_tried_again(self) -> None:
+    def test_what_fails_is_told_and_tried_again_or_ends_the_room_at_its_first_game(self) -> None:
         faults = [LobbyError("port 7000: Address already in use"),
                   OSError(24, "Too many open files"), program.ProgramError("no program")]
         self.play(whole(), *faults, whole(), games=2)
@@ -257,11 +243,10 @@ class Rooms(Case):
         self.assertEqual([text for text in self.told if "trying the next game again" in text], [
             f"{text}; trying the next game again in 0.01 seconds" for text in
             ("port 7000: Address already in use", "Too many open files", "no program")])
-
-    def test_what_fails_at_the_first_game_ends_the_room(self) -> None:
-        with self.assertRaisesRegex(LobbyError, "port 7000"):
-            self.play(LobbyError("port 7000: Address already in use"), whole())
-        self.assertEqual((self.told, self.kept.finished), ([], []))
+        told, finished = self.told[:], self.kept.finished[:]
+        with self.assertRaisesRegex(LobbyError, "port 7000"):  # at the first game it ends the room
+            self.play(faults[0], whole())
+        self.assertEqual((self.told, self.kept.finished), (told, finished))
 
     # The end of a room.
 
@@ -286,13 +271,11 @@ class Rooms(Case):
                 self.assertEqual(["closes after this game" in text for text in texts],
                                  [due is None])
 
-    def test_a_room_that_was_closed_between_games_plays_none(self) -> None:
+    def test_a_room_that_is_closed_between_games_or_while_it_makes_one_plays_none(self) -> None:
         made = self.room()
         self.assertEqual(made.close(False), "")
         made.run()
         self.assertEqual(self.lobbies.made, [])
-
-    def test_a_room_that_is_closed_while_it_makes_a_game_plays_none(self) -> None:
         for at_once in (False, True):
             made = self.room()
 
@@ -321,7 +304,7 @@ class Rooms(Case):
         made.run()
         self.board.close.assert_called_once()
 
-    def test_a_disk_that_takes_no_more_loses_no_game(self) -> None:
+    def test_a_disk_that_takes_no_more_loses_no_game_until_the_room_is_stopped(self) -> None:
         faults = [FULL] * 3
 
         def write(file: Path, data: bytes) -> None:
@@ -334,9 +317,9 @@ class Rooms(Case):
         self.assertEqual([game.players.index("seat2") for game in self.kept.finished], [2])
         self.assertEqual(len([text for text in self.told if "cannot keep game" in text]), 1)
         self.kept.close()
-        self.assertEqual([game.scores for game in self.folder().finished], [SCORES])
-
-    def test_a_game_that_no_disk_takes_is_given_up_once_the_room_is_stopped(self) -> None:
+        self.kept = self.folder()
+        self.assertEqual([game.scores for game in self.kept.finished], [SCORES])
+        self.told.clear()
         made = self.room()
 
         def keep(game: Finished, log: bytes) -> None:
@@ -355,7 +338,7 @@ class Rooms(Case):
     def teams() -> List[Team]:
         return [Team("Red Foxes", "redfoxes", "r3d"), Team("Blue", "blue", "b7")]
 
-    def test_teams_move_on_by_a_seat_and_are_seated_by_their_words(self) -> None:
+    def test_teams_move_on_by_a_seat_and_seats_without_teams_keep_their_words(self) -> None:
         self.play(*[whole() for _ in range(9)], teams=self.teams())
         seats = []
         for lobby in self.lobbies.made:
@@ -366,9 +349,8 @@ class Rooms(Case):
             seats.append(keys["r3d"])
         moves = {(after - before) % 8 for before, after in zip(seats, seats[1:])}
         self.assertIn(moves, ({1}, {7}))
-
-    def test_without_teams_seats_have_their_usual_words_in_each_game(self) -> None:
-        self.play(whole(), whole())
+        self.lobbies.made.clear()
+        self.play(whole(), whole())  # without teams
         for lobby in self.lobbies.made:
             self.assertEqual(lobby.settings.keys, {f"seat{seat}": seat for seat in range(8)})
             self.assertEqual(list(read_game(lobby.settings.game.read_text()).words), WORDS)
@@ -394,7 +376,6 @@ class Rooms(Case):
             self.assertNotIn("r3d", json.dumps([state["names"], state["room"]]))
 
     def seat_of(self, key: str) -> int:
-        """The seat of a team in the first game."""
         with mock.patch.object(self.kept, "keep"):
             self.play(whole(), teams=self.teams())
         words = read_game(self.lobbies.made.pop().settings.game.read_text()).words

@@ -90,7 +90,6 @@ class Pages(Case):
 
     def board(self, journal: Optional[str] = None, names: Sequence[str] = (),
               begins: Optional[float] = None, is_over: bool = False, **room: Any) -> None:
-        """The room shows this."""
         file = self.place / (journal or "")
         (self.place / "board").write_text(json.dumps({
             "journal": journal and str(file), "names": names, "is_over": is_over,
@@ -141,19 +140,17 @@ class Pages(Case):
         self.assertEqual((first[0], first[2], again[2]), (0.0, ROOM, ROOM))
         self.assertTrue(30.0 <= again[0] <= 30.8, again[0])
 
-    def test_the_next_game_is_shown_at_once(self) -> None:
+    def test_the_next_game_is_shown_at_once_and_the_room_after_one_that_was_stopped(self) -> None:
         self.board(self.journal("0001.journal"))
         self.run_it(8.0, (3.0, self.over),
                     (5.0, lambda: self.board(self.journal("0002.journal"))))
         self.assertEqual([name for name, _ in Live.made], ["0001.journal", "0002.journal"])
         self.assertEqual(self.shown, [])
-
-    def test_a_game_that_was_stopped_stays_a_moment(self) -> None:
-        self.board(self.journal("0001.journal"))
-        self.run_it(20.0, (6.0, self.board))
+        begun = self.now - 1000.0
+        self.run_it(begun + 20.0, (begun + 6.0, self.board))  # one that was stopped stays a moment
         (at, _, shown), = self.shown
-        self.assertTrue(9.0 <= at <= 9.8, at)
-        self.assertEqual((shown, len(Live.made)), (ROOM, 1))
+        self.assertTrue(9.0 <= at - begun <= 9.8, at)
+        self.assertEqual((shown, [name for name, _ in Live.made[2:]]), (ROOM, ["0002.journal"]))
 
     def test_seats_are_called_by_their_players_as_these_come(self) -> None:
         sent: List[Any] = []
@@ -213,12 +210,7 @@ class Pages(Case):
         self.assertEqual(self.last, [1])
         self.assertTrue(4.0 <= self.shown[-1][0] <= 4.8, self.shown)
 
-    def test_a_room_that_is_over_without_a_game_ends_its_page(self) -> None:
-        self.board()
-        self.run_to_its_end((2.0, lambda: self.board(is_over=True)))
-        self.assertEqual(([shown for *_, shown in self.shown], self.last), ([ROOM] * 2, [1]))
-
-    def test_a_file_that_is_not_there_yet_is_told_and_waited_for(self) -> None:
-        self.run_it(3.0, (1.0, self.board))
+    def test_a_file_that_is_not_there_is_waited_for_and_a_room_without_a_game_ends(self) -> None:
+        self.run_to_its_end((1.0, self.board), (2.0, lambda: self.board(is_over=True)))
         self.assertEqual(self.told, ["room: cannot make the page: No such file or directory"])
-        self.assertEqual(len(self.shown), 1)
+        self.assertEqual(([shown for *_, shown in self.shown], self.last), ([ROOM] * 2, [1]))

@@ -5,7 +5,6 @@ import json
 import os
 import signal
 import socket
-import time
 from pathlib import Path
 from types import SimpleNamespace
 from typing import Any, Dict, List, Optional
@@ -18,7 +17,6 @@ from geesefuton.hosting.relay import OWN, Relay
 from geesefuton.practice import page, room_command, table
 from geesefuton.practice.page import Board
 from geesefuton.practice.table import HouseServer
-from geesefuton.processes import Children, free_port
 from geesefuton.records.secret_deals import commitment, read_secret
 from tests.package.helpers import fake_program, refusal
 from tests.package.test_room_folder import FULL, Case
@@ -39,12 +37,11 @@ class Boards(Case):
         self.process = self.made.return_value
         self.process.look.return_value = ""
 
-    def board(self, port: Optional[int] = 7080, children: Optional[Children] = None) -> Board:
-        return Board(children or self.children, {"page": port, "port": 7000, "pace": 500, "late": 6,
-                                                 "address": "10.0.0.1"}, self.told.append)
+    def board(self, port: Optional[int] = 7080) -> Board:
+        return Board(self.children, {"page": port, "port": 7000, "pace": 500, "late": 6,
+                                     "address": "10.0.0.1"}, self.told.append)
 
     def shown(self) -> Dict[str, Any]:
-        """What the file has."""
         what: Dict[str, Any] = json.loads((self.path / "board").read_bytes())
         return what
 
@@ -98,20 +95,6 @@ class Boards(Case):
         made.close(lambda: False)
         self.assertEqual(list(poll.side_effect), [])
 
-    def test_the_page_runs_no_module_of_the_folder_that_the_room_is_started_in(self) -> None:
-        (self.path / "argparse.py").write_text("raise SystemExit('a file of somebody else')")
-        self.go_to(self.path)
-        self.made.side_effect = SideProcess
-        port, deadline = free_port(), time.monotonic() + MOST
-        with Children() as children, socket.socket() as link:
-            made = self.board(port, children)
-            while link.connect_ex(("127.0.0.1", port)):
-                self.assertLess(time.monotonic(), deadline)
-                time.sleep(0.02)
-                made.show({"journal": None, "words": {}, "room": {"begins": None}})
-                self.assertEqual(self.told, [])
-            made.close(lambda: False)
-
 
 class Houses(Case):
     """House agents and the seats that they take, without their processes."""
@@ -140,7 +123,6 @@ class Houses(Case):
         self.process.poll.return_value = None  # it goes on
 
     def take_seats(self, _: float) -> None:
-        """All house agents come."""
         self.own.append(dict(self.game.relay.seats.own))
         for seat in self.seats:
             seat.holder = 1
@@ -211,7 +193,7 @@ class Houses(Case):
         seat.begin(0.0)
         self.assertEqual(seat.wait(1000.0), [])  # however long it thinks
 
-    def test_one_that_cannot_be_started_is_told_and_the_others_play(self) -> None:
+    def test_one_that_cannot_be_started_or_has_ended_is_told_and_the_game_is_played(self) -> None:
         self.game.children.start.side_effect = [OSError(11, "Resource temporarily unavailable"),
                                                 *[mock.Mock(poll=lambda: None)] * 6]
         self.game.turn = self.take_seats
@@ -219,8 +201,11 @@ class Houses(Case):
         self.game.warn.assert_called_once_with("cannot start the house agent a: Resource "
                                                "temporarily unavailable")
 
-    def test_one_that_has_ended_is_told_once_and_the_game_is_played(self) -> None:
+        for seat in self.seats:
+            seat.holder = 5 if seat.number == 2 else None
+        self.game.warn.reset_mock()
         self.game.children.start = lambda words, **how: mock.Mock(poll=lambda: 1)
+        self.game.turn = mock.Mock()
         self.assertEqual(self.house.play(self.game), 6)
         self.assertEqual([call[0][0] for call in self.game.warn.call_args_list], [
             f"the house agent {'ab'[seat % 2]} did not take seat{seat}, but ended"
@@ -234,15 +219,12 @@ class Houses(Case):
                       self.game.warn.call_args_list[0][0][0])
         self.assertEqual(self.game.children.end.call_count, 7)
 
-    def test_a_game_that_is_stopped_is_not_served(self) -> None:
+    def test_no_house_fills_no_seat_and_a_game_that_is_stopped_is_not_served(self) -> None:
+        self.assertEqual(HouseServer([]).play(self.game), 6)
+        self.assertEqual((self.started(), self.game.relay.seats.own), ([], {}))
         self.game.is_stopped = True
         self.assertEqual(self.house.play(self.game), STOPPED)
-        self.served.return_value.play.assert_not_called()
-
-    def test_no_house_fills_no_seat(self) -> None:
-        none = HouseServer([])
-        self.assertEqual(none.play(self.game), 6)
-        self.assertEqual((self.started(), self.game.relay.seats.own), ([], {}))
+        self.served.return_value.play.assert_called_once()
 
 
 class Commands(Case):
@@ -254,7 +236,7 @@ class Commands(Case):
         self.said: List[str] = []
         self.patch(room_command.signal, "signal", self.handlers.__setitem__)
 
-    def test_a_first_ctrl_c_closes_the_room_and_a_second_one_at_once(self) -> None:
+    def test_a_first_ctrl_c_closes_the_room_and_other_signals_at_once(self) -> None:
         made = mock.Mock(close=mock.Mock(return_value="the room closes"))
         numbers = room_command._heed_signals(made, self.said.append)
         self.assertEqual(set(self.handlers), {signal.SIGINT, signal.SIGTERM, signal.SIGHUP})
@@ -265,19 +247,16 @@ class Commands(Case):
         self.assertEqual([call[0][0] for call in made.close.call_args_list], [False, True, True])
         self.assertEqual((self.said, numbers[-1]),
                          (["ctrl-C: the room closes"] * 2, signal.SIGTERM))
-
-    def test_other_signals_close_it_at_once(self) -> None:
-        for number in (signal.SIGTERM, signal.SIGHUP):
+        for number in (signal.SIGTERM, signal.SIGHUP):  # the first of others does so, too
             made = mock.Mock(close=mock.Mock(return_value=""))
             self.assertEqual(room_command._heed_signals(made, self.said.append), [])
             self.handlers[number](number, None)
             made.close.assert_called_once_with(True)
-
-    def test_what_is_ignored_stays_so(self) -> None:
+        self.handlers.clear()
         self.patch(room_command.signal, "getsignal", lambda number: (
             signal.SIG_IGN if number == signal.SIGHUP else signal.SIG_DFL))
         room_command._heed_signals(mock.Mock(), self.said.append)
-        self.assertEqual(set(self.handlers), {signal.SIGINT, signal.SIGTERM})
+        self.assertEqual(set(self.handlers), {signal.SIGINT, signal.SIGTERM})  # it stays ignored
 
     def test_the_house_is_the_planner_others_or_none(self) -> None:
         def names(given: Optional[List[str]]) -> List[str]:
@@ -310,8 +289,8 @@ class Commands(Case):
     def test_the_exit_status_is_that_of_the_signal(self) -> None:
         self.patch(program, "find", lambda: "tac")
         self.patch(room_command.Teller, "say", mock.Mock())
-        words = ["room", "--folder", str(self.path), "--house", "", "--wait", "7", "--after", "8",
-                 "--pace", "9", "--port", "7001", "--seed", "3", "--games", "2"]
+        words = ["room", "--folder", str(self.path), "--house", "", *(
+            "--wait 7 --after 8 --pace 9 --port 7001 --seed 3 --games 2".split())]
         for numbers, due in (([], 0), ([signal.SIGINT], 130), ([signal.SIGTERM], 143)):
             with mock.patch("sys.argv", words), \
                     mock.patch.object(room_command, "Room") as made, \

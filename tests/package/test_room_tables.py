@@ -11,7 +11,7 @@ from typing import Any, Callable, Dict, List
 from unittest import mock
 
 from geesefuton import program
-from geesefuton.hosting import events, teller
+from geesefuton.hosting import events
 from geesefuton.hosting.control import STOPPED, Phase
 from geesefuton.hosting.events import End, Event
 from geesefuton.hosting.lobby import LobbyError
@@ -23,12 +23,22 @@ from geesefuton.practice.table import HouseServer, Table
 from geesefuton.practice.teams import Team
 from tests.package.helpers import SERVED_LOG
 from tests.package.lobbies import MOST, WORDS
-from tests.package.test_room_folder import FIRST, Case, game_of
+from tests.package.test_room_folder import RoomCase, game_of
 
 TEAMS = [Team(f"Team {number}", f"team{number}", f"w{number}") for number in range(20)]
 
 
-class Tables(Case):
+class Beside(RoomCase):
+    def run_beside(self, run: Callable[[], Any], close: Callable[[bool], Any]) -> threading.Thread:
+        """Runs something in a thread, and closes it at the end of the test."""
+        thread = threading.Thread(target=run)
+        thread.start()
+        self.addCleanup(thread.join, MOST)
+        self.addCleanup(close, True)
+        return thread
+
+
+class Tables(Beside):
     """Games that go on until the test ends them. All have the log of another game."""
 
     def setUp(self) -> None:
@@ -38,10 +48,6 @@ class Tables(Case):
         self.shown: "queue.Queue[Dict[str, Any]]" = queue.Queue()
         self.patch(table, "Lobby", self.lobby)
         self.patch(room, "LOOK", 0.02)
-        self.patch(program, "make", lambda _: FIRST)
-        self.audit = self.patch(program, "audit", mock.Mock(return_value="sound"))
-        self.patch(teller, "tell", mock.Mock())
-        self.kept = self.folder(seed=7)
         self.faults: List[Exception] = []  # of the next games
 
     def lobby(self, settings: Any, serving: Any) -> Any:
@@ -76,24 +82,23 @@ class Tables(Case):
         board = mock.Mock(show=lambda shown: self.shown.put(shown["room"]))
         made = Room(LobbySettings(Path(), 0, 1000, None, wait=wait), [], self.kept, board,
                     self.told.put, TEAMS, games or None, tables)
-        thread = threading.Thread(target=made.run)
-        thread.start()
-        self.addCleanup(thread.join, MOST)
-        self.addCleanup(made.close, True)
+        self.thread = self.run_beside(made.run, made.close)
         port = re.search("[0-9]+$", self.told.get(timeout=MOST))
         assert port is not None
         self.port = int(port[0])
-        self.thread = thread
         return made
 
     def come(self, *numbers: int) -> None:
         """Links of teams come, and are seen to wait."""
         for number in numbers:
-            link = socket.create_connection(("127.0.0.1", self.port))
-            self.addCleanup(link.close)
-            link.sendall(f"hello w{number}\n".encode())
+            self.link(f"hello w{number}\n")
             if number != numbers[-1]:
                 self.until(lambda state, name=f"Team {number}": name in state["waiting"])
+
+    def link(self, said: str) -> None:
+        link = socket.create_connection(("127.0.0.1", self.port))
+        self.addCleanup(link.close)
+        link.sendall(said.encode())
 
     def until(self, is_so: Callable[[Dict[str, Any]], bool]) -> Dict[str, Any]:
         """The next state of the page of which something is so."""
@@ -186,55 +191,30 @@ class Tables(Case):
         with mock.patch.object(door.Handed, "put", autospec=True) as put:
             for each in self.made._tables:
                 each.house.words = {"hidden": 4}
-            link = socket.create_connection(("127.0.0.1", self.port))
-            self.addCleanup(link.close)
-            link.sendall(b"hello hidden\n")
+            self.link("hello hidden\n")
             while not put.called:
                 self.assertTrue(self.thread.is_alive())
             self.assertIs(put.call_args[0][0], game.settings.listeners[0])
             put.call_args[0][1].close()
 
 
-class Hosted(Case):
+class Hosted(Beside):
     """A table with real lobbies, whose games a test plays."""
 
-    def setUp(self) -> None:
-        super().setUp()
-        self.patch(program, "make", lambda _: FIRST)
+    def test_games_whose_teams_have_left_free_their_table_and_what_is_banned_stays_so(self) -> None:
         self.patch(program, "show", lambda file: file.read_text())
-        self.patch(teller, "tell", mock.Mock())
-        self.played: "queue.Queue[Any]" = queue.Queue()
-        self.settings = LobbySettings(Path(), 0, 1000, None, start=0.01)
-        self.kept = self.folder(seed=7)
+        played: "queue.Queue[Any]" = queue.Queue()
+        settings = LobbySettings(Path(), 0, 1000, None, start=0.01)
 
-    def stop(self, game: Any) -> int:
-        """Plays a game in the house's place."""
-        self.played.put(game)
-        return STOPPED
+        def play(number: int) -> Any:
+            house = HouseServer([])
+            self.patch(house, "play", lambda game: played.put(game) or STOPPED)
+            made = Table(game_of(number), WORDS, {"w3": 3}, door.Handed(7000), settings, house,
+                         self.kept, lambda: None, lambda: False)
+            thread = self.run_beside(made.play, made.close)
+            game = played.get(timeout=MOST)
+            thread.join(MOST)
+            return game
 
-    def play(self, number: int) -> Any:
-        """A game to which no link comes."""
-        house = HouseServer([])
-        self.patch(house, "play", self.stop)
-        made = Table(game_of(number), WORDS, {"w3": 3}, door.Handed(7000), self.settings, house,
-                     self.kept, lambda: None, lambda: False)
-        thread = threading.Thread(target=made.play)
-        thread.start()
-        self.addCleanup(thread.join, MOST)
-        self.addCleanup(made.close, True)
-        game = self.played.get(timeout=MOST)
-        thread.join(MOST)
-        return game
-
-    def test_a_game_whose_teams_have_left_meanwhile_begins_and_frees_its_table(self) -> None:
-        self.play(1)
-
-    def test_an_address_that_the_host_has_banned_is_banned_in_the_next_games(self) -> None:
-        self.play(1).relay.gate.banned.add(network_of("10.0.0.7"))
-        self.assertIsNone(self.play(2).relay.gate.arrive("10.0.0.7"))
-
-
-del Case
-
-if __name__ == "__main__":
-    main()
+        play(1).relay.gate.banned.add(network_of("10.0.0.7"))
+        self.assertIsNone(play(2).relay.gate.arrive("10.0.0.7"))

@@ -26,7 +26,6 @@ class OpenPages(cases.Case):
         self.time, self.pages = 100.0, Pages()
 
     def plays(self, *pages: str) -> List[bool]:
-        """Which of these pages plays."""
         return [self.pages.plays(page) for page in pages]
 
     def test_the_first_page_plays_and_a_later_one_may_take_over(self) -> None:
@@ -37,13 +36,12 @@ class OpenPages(cases.Case):
         again = self.pages.open(later)  # one that is reloaded goes on playing
         self.assertEqual([*self.plays(again), self.pages.hear(later)], [True, False])
 
-    def test_a_page_that_is_gone_gives_way(self) -> None:
+    def test_a_page_that_is_gone_gives_way_and_is_no_longer_open(self) -> None:
         self.pages.open("")
         for seconds, due in ((8.9, False), (0.2, True)):
             self.time += seconds
             self.assertEqual(self.plays(self.pages.open("")), [due])
-
-    def test_whether_one_is_open(self) -> None:
+        self.pages = Pages()
         self.assertFalse(self.pages.is_open())
         self.pages.open("")
         self.time += 5
@@ -106,26 +104,18 @@ class Served(Case):
             link.close()
 
     def ask(self, what: str, token: Optional[str] = None, **given: Any) -> Tuple[int, Any]:
-        """The status and the object of an answer."""
         status, text = self.fetch("POST", f"/{token or TOKEN}/{what}", given)
         return status, json.loads(text)
 
     def open(self) -> str:
-        """A new page."""
         page: str = self.ask("open")[1]["page"]
         self.reach("running")
         return page
 
-    def playing(self, *pages: str) -> List[bool]:
-        """Which of these pages plays the seat."""
-        return [self.state(page)["plays"] for page in pages]
-
     def bids(self, page: str) -> Tuple[int, Any]:
-        """The answer to a bid of a page."""
         return self.ask("bid", page=page, good=9, points=[[1, 70]])
 
     def state(self, page: str) -> Dict[str, Any]:
-        """What the page shows."""
         state: Dict[str, Any] = self.ask("state", page=page, after=-1)[1]
         return state
 
@@ -164,12 +154,12 @@ class Served(Case):
 
     def test_two_browsers_at_a_seat(self) -> None:
         first, later = self.open(), self.open()
-        self.assertEqual(self.playing(first, later), [True, False])
+        self.assertEqual([self.state(page)["plays"] for page in (first, later)], [True, False])
         status, answer = self.bids(later)
         self.assertEqual((status, answer["text"]),
                          (409, "Another browser plays this seat: take it over first."))
         self.ask("take", page=later)
-        self.assertEqual(self.playing(first, later), [False, True])
+        self.assertEqual([self.state(page)["plays"] for page in (first, later)], [False, True])
         self.assertEqual(self.bids(first)[0], 409)
         self.assertTrue(self.bids(later)[1]["done"])
 
@@ -223,11 +213,8 @@ class Served(Case):
         self.assertEqual([part for trip in self.state(page)["board"]["trips"]
                           for part in trip["parts"] if part[0] == 0],
                          [[0, HELD, None]] * 2)
-
-    def test_two_pages_are_shown_the_same_board(self) -> None:
-        first, later = self.open(), self.open()
-        with ThreadPoolExecutor(8) as pool:
-            boards = list(pool.map(lambda page: self.state(page)["board"], (first, later) * 4))
+        with ThreadPoolExecutor(8) as pool:  # and another page is shown the same one
+            boards = list(pool.map(lambda page: self.state(page)["board"], (page, self.open()) * 4))
         self.assertEqual(boards, [boards[0]] * 8)
 
     def test_after_the_game_the_result_is_told_once_the_host_knows_it(self) -> None:

@@ -158,21 +158,16 @@ class Seating(unittest.TestCase):
             self.check(name, seat_in(HELD, playing=True), steps)
         for name, steps in FROM_THE_BEGINNING.items():
             self.check(name, Seat(0, "red", SILENCE), steps)
-
-    def test_a_link_gives_way_after_ten_seconds_unless_told_otherwise(self) -> None:
         for seat, silence in ((Seat(0, "red"), 10), (Seats(["red"]).seats[0], 10),
                               (Seats(["red"], 3.0).seats[0], 3)):
-            self.check("silence", seat, [
+            self.check(f"a link gives way after {silence} seconds", seat, [
                 ("come", [HOLDER, SOON], [Give(HOLDER, False)]), ("begin", [SOON], []),
                 ("come", [OTHER, SOON], []), ("wait", [SOON + silence - 0.1], []),
                 ("wait", [SOON + silence], TAKES_OVER)])
-
-    def test_a_link_that_is_gone_has_ended_before_its_heir_is_refused(self) -> None:
+        # A link that is gone has ended before its heir is refused.
         idle, between, probes = KEEPALIVE.values()
         self.assertLess(idle + between * probes, PROBED)
 
-
-class Admission(unittest.TestCase):
     def test_first_lines(self) -> None:
         seats = Seats([f"seat{number}" for number in range(8)])
         for line, answer in ((b"hello seat3", ""), (b"hello seat8", "wrongword"),
@@ -184,9 +179,7 @@ class Admission(unittest.TestCase):
                 seat, refusal = seats.admit(line)
                 self.assertEqual(refusal, answer)
                 self.assertEqual(seat is not None and seat.number, 3 if not answer else False)
-
-    def test_a_word_has_1_to_16_bytes(self) -> None:
-        words = ["a", "0", "z9" * 8, *"bcdef"]
+        words = ["a", "0", "z9" * 8, *"bcdef"]  # of 1 to 16 bytes
         seats = Seats(words)
         self.assertEqual([(seat.number, seat.word) for seat in seats.seats],
                          list(enumerate(words)))

@@ -107,12 +107,12 @@ class Selecting:
         assert file not in self.known
         self.known[file] = wants, SimpleNamespace(data=data)
 
-    def modify(self, file: Any, wants: int, data: Any) -> None:
-        assert file in self.known
-        self.known[file] = wants, SimpleNamespace(data=data)
-
     def unregister(self, file: Any) -> None:
         del self.known[file]
+
+    def modify(self, file: Any, wants: int, data: Any) -> None:
+        self.unregister(file)
+        self.register(file, wants, data)
 
     def select(self, timeout: float) -> List[Tuple[Any, int]]:
         return [(key, wants & file.ready()) for file, (wants, key) in self.known.items()
@@ -201,7 +201,6 @@ class Play:
                           for seat, server in zip(self.relay.seats.seats, self.servers)])
 
     def answer(self) -> None:
-        """The server answers what it was asked."""
         for seat, server in enumerate(self.servers):
             line = self.waiting[seat]
             if line is not None and not server.is_ended:
@@ -228,7 +227,6 @@ class Play:
             self.relay.finish()
 
     def check(self) -> None:
-        """The invariant."""
         links = self.relay.links
         for seat in self.relay.seats.seats:
             for number in (seat.holder, seat.heir):

@@ -1,4 +1,4 @@
-"""The start of the server, with strangers at its port, and the end of a game that is waited for."""
+"""The start of the server, with strangers at its port, and the end of a game that has a page."""
 
 import errno
 import os
@@ -7,16 +7,15 @@ import socket
 import subprocess
 import sys
 import threading
-import time
 from pathlib import Path
 from typing import Any, List
 from unittest import mock
 
 from geesefuton import program
 from geesefuton.hosting import events, server
-from geesefuton.processes import free_port
+from geesefuton.processes import Children, free_port
 from tests.package import cases
-from tests.package.helpers import COMMAND, fake_program, needs_program
+from tests.package.helpers import needs_program
 from tests.package.lobbies import GAME, MOST, WORDS, Case, Host
 
 
@@ -60,11 +59,11 @@ class Strangers(Case):
         self.assertEqual(self.warnings_of_game(), [])
         self.assertEqual((len(set(words)), set(words) & set(WORDS)), (9, set()))
 
-    def test_somebody_elses_server_at_the_port_costs_that_port_alone(self) -> None:
+    def test_somebody_elses_server_at_the_port_costs_that_port_alone_and_is_not_believed(
+            self) -> None:
         self.occupied()
         self.warnings_of_game()
-
-    def test_somebody_elses_server_that_welcomes_the_lobby_is_not_believed(self) -> None:
+        (self.folder / "my.journal").unlink()
         other = self.occupied()
 
         def welcomes() -> None:
@@ -125,30 +124,17 @@ class Strangers(Case):
 class Addresses(cases.Case):
     """The address in the variable TAC_BIND, with the program itself."""
 
-    def serve(self, address: str, port: int) -> "subprocess.Popen[bytes]":
-        process = subprocess.Popen(
-            program.served_words(GAME, port, 1), stdin=subprocess.DEVNULL, stdout=subprocess.PIPE,
-            env={**os.environ, "TAC_BIND": address})
-        assert process.stdout is not None
-        self.addCleanup(process.stdout.close)
-        self.addCleanup(process.wait)
-        self.addCleanup(process.kill)
-        return process
-
     def test_the_server_listens_there_alone(self) -> None:
         def fault(host: str) -> int:
             with socket.socket() as link:
                 return link.connect_ex((host, port))
 
         port = free_port()
-        self.serve(server.HOST, port)
+        self.enter(Children()).start(
+            program.served_words(GAME, port, 1), stdin=subprocess.DEVNULL,
+            stdout=subprocess.DEVNULL, env={**os.environ, "TAC_BIND": server.HOST})
         self.until(lambda: not fault(server.HOST))
         self.assertEqual(fault("127.0.0.2"), errno.ECONNREFUSED)
-
-    def test_what_is_no_address_is_a_fault_of_the_links(self) -> None:
-        for address in ("", "localhost", "127.0.0.1:1", "1" * 100):
-            text, _ = (process := self.serve(address, free_port())).communicate(timeout=MOST)
-            self.assertEqual((process.returncode, text), (server.TAKEN, b"fault links\n"))
 
 
 class Ticks(Case):
@@ -165,78 +151,33 @@ class Ticks(Case):
         self.assertEqual(set(counts) - {0}, {5}, counts)
 
 
-class Signals(Case):
-    """The command while the server starts, and after the last tick."""
+class SideProcesses(Case):
+    """The end of a game whose page is served by something else."""
 
-    def start(self, *more: str, pace: int = 15, **variables: str) -> "subprocess.Popen[bytes]":
-        words = [*COMMAND, "lobby", str(GAME), str(free_port()), str(pace),
-                 "--start", "0", *more]
-        script = subprocess.Popen(
-            words, stdin=subprocess.PIPE, stdout=subprocess.PIPE, stderr=subprocess.PIPE,
-            cwd=self.folder, env={**os.environ, **variables})
-        self.addCleanup(script.kill)  # if the test fails
-        return script
+    def setUp(self) -> None:
+        super().setUp()
+        self.patch("hosting.page_process.python_words",
+                   return_value=[sys.executable, "-c", f"import time; time.sleep({MOST})"])
 
-    def wait_for(self, script: "subprocess.Popen[bytes]", text: str) -> str:
-        """The first line that the host is told with a text in it."""
-        assert script.stderr is not None
-        return next(line for line in map(bytes.decode, script.stderr) if text in line)
-
-    def check_end(self, script: "subprocess.Popen[bytes]", status: int, printed: bytes = b"",
-                  told: str = "") -> None:
-        """How a command ends, and what it tells at last."""
-        output, error = script.communicate(timeout=MOST / 2)
-        self.assertEqual((script.returncode, output), (status, printed), error)
-        self.assertRegex(error.decode(), rf"(?s)\A{told}\Z")
-
-    def test_while_the_server_starts_a_signal_ends_it(self) -> None:
-        for number in (signal.SIGINT, signal.SIGTERM):
-            script = self.start(FAKE_LATE=str(MOST))
-            self.wait_for(script, "waiting at port")
-            time.sleep(0.5)  # the server is being started
-            script.send_signal(number)
-            self.check_end(script, 128 + number, told="((?!Traceback).)*")
-
-    def test_what_is_waited_for_after_the_last_tick_ends_by_enter_or_a_second_ctrl_c(self) -> None:
-        for key in (b"\n", b""):
-            script = self.start("--after", str(MOST), pace=20)
-            port = self.wait_for(script, "waiting at port").split(" at port ")[1].split(" ")[0]
-            with socket.create_connection(("localhost", int(port))) as link:
-                link.sendall(b"hello seat0\n")
-                self.wait_for(script, "seat0 is here")
-                self.wait_for(script, "tick 54")
-                script.send_signal(signal.SIGINT)
-                self.assertRegex(self.wait_for(script, "ctrl-C"),
-                                 r"waiting (199|200) s for seat0; press Enter or ctrl-C to end now")
-                assert script.stdin is not None
-                script.stdin.write(key)
-                script.stdin.flush()
-                if not key:
-                    script.send_signal(signal.SIGINT)
-                self.check_end(script, 0, b"taclog 1\nend\n", ".*")
-
-    def page(self, code: str) -> None:
-        """The process of the page is one that does something else."""
-        self.patch("hosting.page_process.python_words", return_value=[sys.executable, "-c", code])
+    def host(self, **how: Any) -> Host:
+        return Host(self.folder, pace=2, start=0, linger=0, page=free_port(), **how)
 
     def test_the_wait_for_the_page_can_be_interrupted(self) -> None:
-        self.page(f"import time; time.sleep({MOST})")
-        host = Host(self.folder, pace=2, start=0, linger=0, page=free_port())
+        host = self.host()
         host.wait(events.Finished)
         self.assertTrue(host.thread.is_alive())
         host.lobby.control.stop()
-        host.thread.join(20.0)
-        self.assertEqual((host.thread.is_alive(), host.status), (False, 0))
+        host.end()
+        self.assertEqual(host.status, 0)
 
     def test_without_a_terminal_the_scores_are_not_shown_for_long(self) -> None:
-        self.page(f"import time; time.sleep({MOST})")
         self.patch("hosting.lobby.SHOWING", 0.1)
-        host = Host(self.folder, pace=2, start=0, linger=0, page=free_port(), stays=True)
+        host = self.host(stays=True)
         host.lobby.settings.stays = False
         host.end()
         self.assertEqual(host.status, 0)
 
-    def test_a_side_process_that_cannot_be_looked_at_ends_no_game(self) -> None:
+    def test_one_that_cannot_be_looked_at_ends_no_game(self) -> None:
         host = Host(self.folder, start=None, pace=5, linger=0)
         self.agents(host, "seat0")
         game = host.lobby._game
@@ -246,22 +187,5 @@ class Signals(Case):
         game.control.go_on()
         host.end()
         self.assertEqual(host.status, 0)
-        self.assertIn("Too many open files", host.of(events.Warned)[0].text)
-        self.assertEqual(len(host.of(events.Warned)), 1)
-
-    def test_ctrl_c_while_the_command_is_being_loaded_gives_no_traceback(self) -> None:
-        held = self.folder / "held"
-        held.mkdir()
-        (held / "argparse.py").write_text("import os, time\nos.write(2, b'loading\\n')\n"
-                                          f"time.sleep({MOST})\n")
-        script = self.start(PYTHONPATH=str(held))
-        self.wait_for(script, "loading")
-        script.send_signal(signal.SIGINT)
-        self.check_end(script, -signal.SIGINT)
-
-    def test_ctrl_c_while_the_game_file_is_read_gives_no_traceback(self) -> None:
-        tac = fake_program(self.folder, f"echo reading >&2; exec sleep {MOST}")
-        script = self.start(TAC=tac)
-        self.wait_for(script, "reading")
-        script.send_signal(signal.SIGINT)
-        self.check_end(script, 130)
+        warned, = host.of(events.Warned)
+        self.assertIn("Too many open files", warned.text)

@@ -1,19 +1,47 @@
-"""What the host is told."""
+"""What the host is told, events as lines of JSON, and how floods of links are counted."""
 
+import json
 import re
 import threading
+import unittest
 from datetime import datetime
-from typing import List, Sequence
+from typing import List, Sequence, get_args
 from unittest import mock
 
 from geesefuton import program
 from geesefuton.hosting import events
-from geesefuton.hosting.events import End, Event
+from geesefuton.hosting.events import End, Event, EventQueue, json_of
+from geesefuton.hosting.refusals import AGAIN, OTHERS, Refusals
 from geesefuton.hosting.teller import Teller
 from tests.package.cases import MOST, Case
 
 WORDS = [f"seat{number}" for number in range(8)]
 PART = re.compile(r"(! )?(\d\d:\d\d:\d\d) (.*)")
+AT = 1795906748.25
+ROWS = [
+    (events.Arrived(AT, 3, "red7k", "10.0.0.7"),
+     {"event": "arrived", "at": AT, "seat": 3, "word": "red7k", "source": "10.0.0.7"}),
+    (events.Departed(AT, 3, "red7k"), {"event": "departed", "at": AT, "seat": 3, "word": "red7k"}),
+    (events.Refused(AT, "10.0.0.7", "wrongword", 'hey "\x1b\xff\n'),
+     {"event": "refused", "at": AT, "source": "10.0.0.7", "answer": "wrongword",
+      "line": 'hey "\x1b\xff\n'}),
+    (events.Lost(AT, "10.0.0.7", "said nothing"),
+     {"event": "lost", "at": AT, "source": "10.0.0.7", "why": "said nothing"}),
+    (events.Waived(AT, "red7k"), {"event": "waived", "at": AT, "word": "red7k"}),
+    (events.Began(AT, (0, 3)), {"event": "began", "at": AT, "seats": [0, 3]}),
+    (events.Ticked(AT, 1, (5, 0, 0, 0, 0, 0, 0, 7)),
+     {"event": "ticked", "at": AT, "tick": 1, "lines": [5, 0, 0, 0, 0, 0, 0, 7]}),
+    (events.Rejoined(AT, 3, "red7k", "10.0.0.8"),
+     {"event": "rejoined", "at": AT, "seat": 3, "word": "red7k", "source": "10.0.0.8"}),
+    (events.Ended(AT, 3, "red7k", End.LEFT, 812),
+     {"event": "ended", "at": AT, "seat": 3, "word": "red7k", "reason": "left", "lines": 812}),
+    (events.Finished(AT, 0, None), {"event": "finished", "at": AT, "status": 0, "log": None,
+                                    "vouched": []}),
+    (events.Warned(AT, "the page has ended"),
+     {"event": "warned", "at": AT, "text": "the page has ended"}),
+    (events.Answered(AT, "seat3 is missing"),
+     {"event": "answered", "at": AT, "text": "seat3 is missing"}),
+]
 
 
 def parts_of(*happened: Event) -> List[Sequence[str]]:
@@ -57,14 +85,13 @@ class Texts(Case):
             "the game is over, exit status 6: a tick lapsed; the scores stand; the log is in my.log"
         ])
 
-    def test_a_game_with_all(self) -> None:
         here = [events.Arrived(0.0, seat, word, "h") for seat, word in enumerate(WORDS)]
         told = texts_of(*here, events.Began(0.0, tuple(range(8))), events.Finished(0.0, 0, None))
         self.assertEqual(told[-4:], ["seat6 is here from h; missing: seat7",
                                      "seat7 is here from h; missing: nobody", "the game begins",
                                      "the game is over, exit status 0"])
 
-    def test_why_seats_are_over(self) -> None:
+    def test_why_seats_are_over_and_what_an_exit_status_means(self) -> None:
         told = texts_of(*(events.Ended(0.0, 2, "seat2", reason, 3) for reason in End))
         self.assertEqual(dict(zip(End, told)), {
             End.LEFT: "seat2 has left, 3 lines",
@@ -72,19 +99,17 @@ class Texts(Case):
             End.HUNG: "seat2 still had its link long after the last tick, 3 lines",
             End.ABSENT: "seat2 never connected, 3 lines",
             End.REFUSED: "seat2 sent only lines that were refused, 3 lines"})
-
-    def test_ticks_are_told_every_six(self) -> None:
-        told = texts_of(*(events.Ticked(0.0, tick, (0,) * 8) for tick in range(1, 55)))
-        self.assertEqual([text.split(" of 54; ")[0] for text in told],
-                         [f"tick {tick}" for tick in range(6, 55, 6)])
-
-    def test_what_an_exit_status_means(self) -> None:
         for status in (1, 2, 3, 4, 5, 6, 7):
             self.assertEqual(texts_of(events.Finished(0.0, status, None)),
                              [f"the game is over, exit status {status}: "
                               f"{program.MEANINGS[status]}"])
         self.assertEqual(texts_of(events.Finished(0.0, 137, "l")),
                          ["the game is over, exit status 137; the log is in l"])
+
+    def test_ticks_are_told_every_six(self) -> None:
+        told = texts_of(*(events.Ticked(0.0, tick, (0,) * 8) for tick in range(1, 55)))
+        self.assertEqual([text.split(" of 54; ")[0] for text in told],
+                         [f"tick {tick}" for tick in range(6, 55, 6)])
 
     def test_how_many_links_are_vouched_for(self) -> None:
         said = [f"vouched {seat} whole 3" for seat in range(8)]
@@ -196,3 +221,79 @@ class Threads(Case):
         self.held.set()
         self.teller.close()
         self.assertTrue(any("mind the gap" in text for text in self.told))
+
+
+class Counting(Case):
+    def setUp(self) -> None:
+        self.refusals = Refusals()
+
+    def test_the_first_is_told_at_once_and_the_others_after_a_while(self) -> None:
+        self.assertEqual(self.refusals.add(100.0, "h", "one"), "one")
+        self.assertIsNone(self.refusals.add(101.0, "h", "two"))
+        self.assertEqual(self.refusals.due(100.0 + AGAIN - 0.1), [])
+        self.assertEqual(self.refusals.due(100.0 + AGAIN), ["two"])
+        for text in ("three", "four"):
+            self.assertIsNone(self.refusals.add(111.0, "h", text))
+        self.assertEqual(self.refusals.due(119.9), [])
+        self.assertEqual(self.refusals.due(120.0),
+                         ["2 more links from h took no seat; the last: four"])
+        self.assertEqual(self.refusals.due(130.0), [])
+        self.assertEqual(self.refusals.add(130.0, "h", "five"), "five")
+
+    def test_each_address_counts_for_itself(self) -> None:
+        for source in ("h", "i"):
+            self.assertEqual(self.refusals.add(1.0, source, source), source)
+            self.refusals.add(2.0, source, f"more from {source}")
+        self.assertEqual(self.refusals.due(20.0), ["more from h", "more from i"])
+
+    def test_only_so_many_addresses_are_kept(self) -> None:
+        with mock.patch("geesefuton.hosting.refusals.MOST_ADDRESSES", 2):
+            told = [self.refusals.add(1.0, source, f"by {source}") for source in "abcda"]
+            self.assertEqual(told, ["by a", "by b", "by c", None, None])
+            self.assertEqual(self.refusals.due(20.0), ["by a", "by d"])
+            self.assertEqual(self.refusals.due(30.0), [])
+            told = [self.refusals.add(31.0, source, f"by {source}") for source in "efgh"]
+            self.assertEqual(told, ["by e", "by f", "by g", None])
+        self.assertEqual(OTHERS, "other addresses")
+
+    def test_a_clock_that_goes_back_silences_nobody(self) -> None:
+        for _ in range(2):
+            self.refusals.add(1000.0, "h", "again")
+        self.assertEqual(self.refusals.due(900.0), ["again"])
+
+    def test_a_few_are_told_at_once(self) -> None:
+        few = Refusals(2, "{} of {}: {}")
+        self.assertEqual([few.add(1.0, "h", text) for text in "abcd"], ["a", "b", None, None])
+        self.assertEqual(few.due(11.0), ["2 of h: d"])
+        self.assertIsNone(few.add(12.0, "h", "e"))
+
+
+class Lines(unittest.TestCase):
+    def test_each_event_is_one_line_of_json(self) -> None:
+        for event, due in ROWS:
+            with self.subTest(event=event):
+                text = json_of(event)
+                self.assertEqual((json.loads(text), text.isascii(), "\n" in text),
+                                 (due, True, False))
+
+    def test_no_event_is_forgotten(self) -> None:
+        self.assertEqual({type(event) for event, _ in ROWS}, set(get_args(Event)))
+
+
+class Queue(unittest.TestCase):
+    def test_a_slow_listener_holds_nobody_and_what_it_raises_comes_at_the_end(self) -> None:
+        told, held = list[Event](), threading.Event()
+
+        def listen(event: Event) -> None:
+            held.wait(60.0)
+            told.append(event)
+            raise OSError(f"fault {len(told)}")
+
+        queue = EventQueue(listen)
+        for event, _ in ROWS:
+            queue.put(event)
+        self.assertEqual(told, [])
+        held.set()
+        with self.assertRaisesRegex(OSError, "fault 1"):
+            queue.close()
+        self.assertEqual(told, [event for event, _ in ROWS])

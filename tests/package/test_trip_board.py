@@ -11,7 +11,7 @@ CLIENTS = [[1, 2, 0, 0, 0, 0]] * 2 + [[3, 5, 0, 0, 0, 0]] * 6
 FAR = 9000  # dollars that no trip is worth
 
 
-class Case(unittest.TestCase):
+class Boards(unittest.TestCase):
     def setUp(self) -> None:
         self.board = TripBoard(True)
         self.units, self.cash, self.tick = [0] * 28, 0, 1
@@ -20,7 +20,6 @@ class Case(unittest.TestCase):
                                         for good in range(28)]
 
     def close(self, *goods: int) -> None:
-        """These auctions close."""
         for good in goods:
             self.quotes[good] = [0, self.quotes[good][1], True]
 
@@ -36,7 +35,6 @@ class Case(unittest.TestCase):
             self.units[good] += 1
 
     def look(self, settled: bool = True) -> Dict[str, Any]:
-        """What is shown now."""
         return self.board.follow({
             "clients": CLIENTS, "quotes": [quote[:] for quote in self.quotes], "cash": self.cash,
             "goods": [[units, self.points.get(good, ())] for good, units in enumerate(self.units)],
@@ -46,8 +44,6 @@ class Case(unittest.TestCase):
         """What is shown of a client's trip: by good what is known of it, and its price."""
         return {good: (what, price) for good, what, price in self.look()["trips"][client]["parts"]}
 
-
-class Shown(Case):
     def test_a_trip_that_is_still_to_be_bought(self) -> None:
         self.raise_to(40, room(1, 1))
         trip = self.look()["trips"][0]
@@ -122,12 +118,9 @@ class Shown(Case):
             shown = self.look()
             self.assertEqual(sum(trip["planned"] for trip in shown["trips"]), 1 + (not has_plan))
 
-
-class Costs(Case):
-    """What decisions cost, at prices at which each trip is worth something."""
+    # What decisions cost, at prices at which each trip is worth something.
 
     def cost(self) -> List[Tuple[int, str]]:
-        """The decisions, after a look."""
         told: List[Tuple[int, str]] = self.look()["costs"]
         return told
 
@@ -156,11 +149,9 @@ class Costs(Case):
                 self.units[room(1, 4)], self.cash = units, -70 * units
                 self.assertEqual(self.cost(), due)
 
-    def test_trips_use_the_rooms_that_are_bid_for_though_others_have_become_cheaper(self) -> None:
+    def test_trips_use_the_rooms_that_are_bid_for_unless_the_bid_is_below_the_price(self) -> None:
         self.points, self.quotes[room(1, 1)][1] = {room(1, 1): ((2, 90),)}, 60
-        self.assertEqual(self.look()["need"][room(1, 1)], 2)
-
-    def test_a_bid_below_the_price_counts_for_nothing(self) -> None:
+        self.assertEqual(self.look()["need"][room(1, 1)], 2)  # though others are cheaper
         self.quotes[room(0, 1)][1] = self.quotes[room(1, 1)][1] = 40
         for price, due in ((39, OPEN), (40, BID)):
             self.points = {room(hotel, 1): ((2, price),) for hotel in (0, 1)}

@@ -10,17 +10,17 @@ from unittest import mock
 
 from geesefuton.records.games import read_game
 from geesefuton.records.logs import read_log
-from tests.package.cases import Case
-from tests.package.helpers import needs_program
+from tests.package.helpers import Case, needs_program
 from tests.support import made_records as records, vouching as reading
 from tests.support.judging import Judge
-from tests.support.made_records import WELCOME, changed, doubled, swapped, text_of, without
+from tests.support.made_records import (CAUSES, WELCOME, changed, doubled, swapped, text_of,
+                                        without)
 
 HELLO = 1  # lines before those of the session
 LINES = ["own 16", "quote 10", "bid 0 ((1 500))", "cash", "bid 10 ((2 90))", "bid 28 ((1 1))",
          "quote 10", "buy 5", "bid 16 ((2 60))", "x" * 513, "own 0", "bid 3 ((0 1))", "withdraw 5",
          "cash", "quote 16", "bid 10 ((1 50))", "own 4", "quit"]
-CAUSES = ("quit", "end", "readfault", "writefault", "budget")
+Due = Union[int, str]  # what is said of a record, or the number of its first line that differs
 
 
 @lru_cache(maxsize=None)
@@ -35,30 +35,31 @@ class Record(Case):
 
     script: Sequence[str] = ()
     agent = 2
+    form = "words"
 
     def setUp(self) -> None:
         super().setUp()
         self.played = played(tuple(self.script))
         self.asked, self.said = self.played.asked[self.agent], self.played.said[self.agent]
-        self.write("game", self.played.game)
+        (self.place / "game").write_text(self.played.game)
         self.judge_of = lru_cache(maxsize=None)(lambda log, form: Judge(
-            self.folder / "game", log.encode(), form))
+            self.place / "game", log.encode(), form))
 
     @property
     def count(self) -> int:
         """How many lines the session has."""
         return len(self.asked) - HELLO
 
-    def check(self, due: Union[int, str], asked: Optional[Sequence[str]] = None,
-              said: Optional[Sequence[str]] = None, log: str = "", form: str = "words") -> None:
-        """What both readings say of the record, or of one with other lines, by the log or another
-        one: a number is that of the line that is not vouched for."""
-        judge: Judge = self.judge_of(log or self.played.log, form)
+    def check(self, due: Due, asked: Optional[Sequence[str]] = None,
+              said: Optional[Sequence[str]] = None, log: str = "", form: str = "") -> None:
+        """Both readings say this of the record, or of one with other lines, by the log or another
+        one."""
+        judge: Judge = self.judge_of(log or self.played.log, form or self.form)
         told = judge.said_of(text_of(self.asked if asked is None else asked),
                              text_of(self.said if said is None else said))
         self.assertEqual(judge.wrong, [])
         self.assertEqual(told, f"unvouched line {due}" if isinstance(due, int) else due,
-                         f"{asked}, {said}"[-300:])
+                         (asked, said))
 
     def read(self, asked: bytes, said: bytes, log: str = "") -> str:
         """What the plain reading alone says of bytes."""
@@ -101,15 +102,12 @@ class AllLines(Record):
 
 @needs_program
 class OneAgent(AllLines):
-    def test_the_game_is_that_of_the_lines(self) -> None:
+    def test_whole_links(self) -> None:
         self.assertEqual(self.asked[HELLO:], LINES)
-        self.assertEqual(len(self.said), WELCOME + len(LINES))
         log = read_log(self.played.log)
         self.assertEqual([entry.caller for good in (0, 16) for entry in log.histories[good]
                           if entry.trades], [2, 2])
-
-    def test_a_whole_link(self) -> None:
-        self.check(f"vouched 2 whole {self.count}")
+        self.check(f"vouched 2 whole {len(LINES)}")
         for seat in (0, 1, 5, 7):
             asked, said = self.played.asked[seat], self.played.said[seat]
             self.check(f"vouched {seat} whole {len(asked) - HELLO}", asked, said)
@@ -119,10 +117,10 @@ class OneAgent(AllLines):
             asked, said = self.asked[:HELLO + count], self.said[:WELCOME + count]
             left = sum(self.left_by(number) is not None
                        for number in range(count + 1, self.count + 1))
-            due = "unvouched cause" if count + 1 == self.count else self.lowest_from(count + 1)
             self.check(f"vouched 2 cut {count} {left}", said=said)
             self.check(count + 1, asked)
-            self.check(due, asked, said)
+            self.check("unvouched cause" if count + 1 == self.count else
+                       self.lowest_from(count + 1), asked, said)
 
     def test_half_lines_are_not_compared(self) -> None:
         for count, cause in ((self.count - 1, "end"), (self.count, "quit")):
@@ -132,10 +130,10 @@ class OneAgent(AllLines):
                 self.assertEqual(self.read(whole[0] + asked, whole[1] + said, self.ended(cause)),
                                  f"vouched 2 {due}")
 
-    def test_a_changed_reply_or_line(self) -> None:
+    def test_a_line_or_a_reply_that_is_changed_dropped_doubled_or_swapped(self) -> None:
         for number in range(1, self.count + 1):
-            place = WELCOME - HELLO + number
-            line, reply = self.asked[number], self.said[place]
+            place, line = WELCOME - HELLO + number, self.asked[number]
+            reply = self.said[place]
             replies = [reply + " ", reply[:-1], reply.upper(), ""]
             if self.left_by(number):
                 replies.append(re.sub("[0-9]+", lambda at: str(int(at[0]) + 1), reply, count=1))
@@ -144,13 +142,10 @@ class OneAgent(AllLines):
             for other in ("own 27", "quote 0", "withdraw 27", "bid 27 ((1 9))",
                           *["sell 3"] * (line != "buy 5")):
                 self.check(number, changed(self.asked, number, other))
-
-    def test_a_line_or_reply_that_is_dropped_doubled_or_swapped(self) -> None:
-        for number in range(1, self.count):
-            for change, first in ((without, number), (doubled, number + 1), (swapped, number)):
-                for asked, said in ((change(self.asked, number), self.said),
-                                    (self.asked, change(self.said, WELCOME - HELLO + number))):
-                    self.check(first, asked, said)
+            for change, due in ((without, number), (doubled, number + 1), (swapped, number)
+                                ) if number < self.count else ():
+                self.check(due, change(self.asked, number))
+                self.check(due, said=change(self.said, place))
 
     def test_what_comes_behind_the_end(self) -> None:
         due = self.count + 1
@@ -183,7 +178,7 @@ class OneAgent(AllLines):
         self.check(cut, [*unquit, "own 3", "quit"], unsaid)
         self.check(wrong, [*unquit, "own 3", "quit "], unsaid)
 
-    def test_another_greeting_or_welcome(self) -> None:
+    def test_another_greeting_or_welcome_and_a_log_that_seats_somebody_else(self) -> None:
         for first in ("hello seat9", "hello", " hello seat2", "hello seat2 ", "hello  seat2",
                       "HELLO seat2", "hello seat2\r", "own 16"):
             self.check("unvouched seat", [first, *self.asked[1:]])
@@ -194,14 +189,36 @@ class OneAgent(AllLines):
                          self.said[:place], doubled(self.said, place)):
                 is_reply = len(said) > len(self.said) and place == WELCOME - 1
                 self.check(1 if is_reply else "unvouched welcome", said=said)
-
-    def test_a_log_that_seats_somebody_else(self) -> None:
         for head, other in ((r"link (\d+) seated 2\n", r"link \1 lost\n"),
                             (r"link (\d+) seated 2\n", r"link \1 seated 3\n"),
                             ("serve\n(link .*\n|end .*\n|missed .*\n)*", "play\n")):
             log = re.sub(head, other, self.played.log)
             self.assertEqual(self.read(text_of(self.asked), text_of(self.said), log),
                              "unvouched seat")
+
+    def test_the_command_of_the_plain_reading(self) -> None:
+        game, log, asked, said = (self.place / name for name in ("game", "log", "asked", "said"))
+        log.write_text(self.played.log)
+
+        def told(*words: str) -> Tuple[int, str]:
+            with mock.patch("sys.argv", ["vouching", *map(str, (game, log, asked, said)), *words]
+                            ), mock.patch("builtins.print") as printed:
+                return reading.main(), "\n".join(each.args[0] for each in printed.mock_calls)
+
+        record = records.Record(self.asked, self.said, [])
+        for form, lines in (("words", record), ("json", records.in_json(record))):
+            asked.write_bytes(text_of(lines.asked))
+            said.write_bytes(text_of(lines.said))
+            self.assertEqual(told(form), (0, f"vouched 2 whole {self.count}"))
+            said.write_bytes(said.read_bytes()[:-2])
+            self.assertEqual(told(form), (0, f"vouched 2 cut {self.count - 1} 0"))
+        self.assertEqual(told(), (9, "unvouched line 1"))
+        asked.unlink()
+        self.assertEqual(told(), (3, "fault read"))
+        for text, due in ((self.played.log.replace("missed 0", "missed 60"), (9, "unsound head")),
+                          ("no log", (8, "text 1 1"))):
+            log.write_text(text)
+            self.assertEqual(told(), due)
 
 
 @needs_program
@@ -211,38 +228,36 @@ class OtherLogs(Record):
     script = ["0 own 3", "2 own 3", "2 own 3", "1 own 3", "2 cash", "2 bid 0 ((1 500))",
               "2 bid 1 ((1 500))", "2 cash", "2 cash", "2 own 9", "2 own 8"]
 
-    def other_log(self, old: str, new: str) -> str:
-        """The log with a text in place of another, and with its numbers of entries mended."""
+    def check_log(self, due: Due, old: str, new: str) -> None:
+        """What is said if the log has a text in place of another, and mended numbers of entries."""
         self.assertEqual(self.played.log.count(old), 1, old)
         log = "\n".join(records.mended(self.played.log.replace(old, new).split("\n")))
         self.assertEqual(self.judge_of(log, "words").verdict, "sound")
-        return log
+        self.check(due, log=log)
 
-    def test_entries(self) -> None:
-        self.check(f"vouched 2 whole {self.count}")
+    def test_entries_posts_and_readings(self) -> None:
+        whole = f"vouched 2 whole {self.count}"
+        self.check(whole)
         history = "0 own = own 0 ()\n2 own = own 0 ()\n2 own = own 0 ()\n1 own = own 0 ()\n"
         own = "2 own = own 0 ()\n"
-        for new, due in (
-                (history.replace(own, "", 1), "unvouched line 2"),
-                (history.replace(own + own, ""), "unvouched line 1"),
-                (history.replace(own, own + own, 1), "unvouched entry 3 3"),
-                (history + own, "unvouched entry 3 4"),
-                (history.replace("0 own = own 0 ()\n", ""), "unvouched line 1"),
-                (history.replace("1 own", "2 own"), "unvouched entry 3 3"),
-                (history.replace(own, "7 own = own 0 ()\n", 1), "unvouched line 1"),
-                (history.replace("1 own", "4 own"), f"vouched 2 whole {self.count}")):
-            log = self.other_log("auction 3 58\n" + history, "auction 3 58\n" + new)
-            self.check(due, log=log)
-
-    def test_posts_and_readings(self) -> None:
+        rows: Sequence[Tuple[str, Due]] = (
+            (history.replace(own, "", 1), 2), (history.replace(own + own, ""), 1),
+            (history.replace(own, own + own, 1), "unvouched entry 3 3"),
+            (history + own, "unvouched entry 3 4"),
+            (history.replace("0 own = own 0 ()\n", ""), 1),
+            (history.replace("1 own", "2 own"), "unvouched entry 3 3"),
+            (history.replace(own, "7 own = own 0 ()\n", 1), 1),
+            (history.replace("1 own", "4 own"), whole))
+        for new, due in rows:
+            self.check_log(due, "auction 3 58\n" + history, "auction 3 58\n" + new)
         cash = self.played.log.split("\ncash 5\n")[1].split("\nsheet\n")[0].split("\n")
         self.assertEqual([line.split()[1] for line in cash],
                          ["read", "post", "post", "read", "read"])
-        for new, due in (
-                ([0, 2, 1, 3, 4], 4), ([0, 1, 2, 3], 7), ([1, 2, 3, 4], 3),
-                ([0, 1, 2, 3, 4, 4], "unvouched cash 5"), ([0, 0, 1, 2, 3, 4], 4)):
-            log = self.other_log("\n".join(cash), "\n".join(cash[place] for place in new))
-            self.check(due, log=log)
+        books: Sequence[Tuple[Sequence[int], Due]] = (
+            ([0, 2, 1, 3, 4], 4), ([0, 1, 2, 3], 7), ([1, 2, 3, 4], 3),
+            ([0, 1, 2, 3, 4, 4], "unvouched cash 5"), ([0, 0, 1, 2, 3, 4], 4))
+        for order, due in books:
+            self.check_log(due, "\n".join(cash), "\n".join(cash[place] for place in order))
 
 
 @needs_program
@@ -259,19 +274,23 @@ class Quotes(Record):
         self.assertEqual(shown, ["@0 quote 0 0 open", "@3 quote 0 50 open", "@3 own 0 ()",
                                  "@4 quote 0 50 open"])
         fine, last = "vouched 0 whole 4", 13
-        for place, reply, due in (
-                (0, "@1 quote 0 50 open", fine), (0, "@3 quote 0 50 open", fine),
-                (0, "@4 quote 0 50 open", "unvouched line 2"), (0, "@1 quote 0 0 open", 1),
-                (0, "@0 quote 0 50 open", 1), (0, "@00 quote 0 0 open", 1),
-                (1, "@0 quote 0 0 open", fine), (1, "@2 quote 0 50 open", fine),
-                (1, "@4 quote 0 50 open", 3), (1, "@3 quote 0 50 closed", 2),
-                (3, "@3 quote 0 50 open", 4), (3, f"@{last} quote 0 50 open", 4)):
-            said = changed(self.said, WELCOME + place, reply)
-            self.check(due, said=said)
+        rows: Sequence[Tuple[int, str, Due]] = (
+            (0, "@1 quote 0 50 open", fine), (0, "@3 quote 0 50 open", fine),
+            (0, "@4 quote 0 50 open", 2), (0, "@1 quote 0 0 open", 1),
+            (0, "@0 quote 0 50 open", 1), (0, "@00 quote 0 0 open", 1),
+            (1, "@0 quote 0 0 open", fine), (1, "@2 quote 0 50 open", fine),
+            (1, "@4 quote 0 50 open", 3), (1, "@3 quote 0 50 closed", 2),
+            (3, "@3 quote 0 50 open", 4), (3, f"@{last} quote 0 50 open", 4))
+        for place, reply, due in rows:
+            self.check(due, said=changed(self.said, WELCOME + place, reply))
+        for count in (0, 1):  # one whose reply did not come may have shown any
+            self.check(f"vouched 0 cut {count} 1", said=self.said[:WELCOME + count])
 
-    def test_a_quote_whose_reply_did_not_come_may_have_shown_any(self) -> None:
-        self.check("vouched 0 cut 0 1", said=self.said[:WELCOME])
-        self.check("vouched 0 cut 1 1", said=self.said[:WELCOME + 1])
+    def test_all_boards_of_a_closed_game(self) -> None:
+        log = read_log(self.played.log)
+        boards = reading.Boards(read_game(self.played.game), log).of(8)
+        self.assertEqual((boards[0], boards[-1]), ((0, 0, False), (0, 50, True)))
+        self.assertEqual(len(boards), len(log.histories[8]) + 1)
 
 
 @needs_program
@@ -305,27 +324,27 @@ class Limits(Record):
 class Forms(AllLines):
     """The same record in JSON, and lines that ask nothing."""
 
+    form = "json"
+
     def setUp(self) -> None:
         super().setUp()
         self.asked, self.said, _ = records.in_json(records.Record(self.asked, self.said, []))
 
     def test_a_whole_link_and_its_cuts(self) -> None:
-        self.check(f"vouched 2 whole {self.count}", form="json")
-        self.check("vouched 2 cut 9 5", said=self.said[:WELCOME + 9], form="json")
-        self.check(1)
+        self.check(f"vouched 2 whole {self.count}")
+        self.check("vouched 2 cut 9 5", said=self.said[:WELCOME + 9])
+        self.check(1, form="words")
         spaced = [line.replace(",", ", ") + "\r" for line in self.asked[HELLO:]]
-        self.check(f"vouched 2 whole {self.count}", self.asked[:HELLO] + spaced, form="json")
+        self.check(f"vouched 2 whole {self.count}", self.asked[:HELLO] + spaced)
 
     def test_a_line_for_which_there_was_no_memory(self) -> None:
         for place in range(self.count):
             asked = doubled(self.asked, HELLO + place)
             said = [*self.said[:WELCOME + place], '{"no":"memory"}', *self.said[WELCOME + place:]]
-            due = (f"unvouched line {place + 1}" if len(asked[HELLO + place]) > 512
-                   else f"vouched 2 whole {self.count + 1} memory 1")
-            self.check(due, asked, said, form="json")
+            self.check(place + 1 if len(asked[HELLO + place]) > 512 else
+                       f"vouched 2 whole {self.count + 1} memory 1", asked, said)
         # Without a reply no line is passed over.
-        self.check("unvouched entry 0 0", doubled(self.asked, HELLO), self.said[:WELCOME],
-                   form="json")
+        self.check("unvouched entry 0 0", doubled(self.asked, HELLO), self.said[:WELCOME])
 
     def test_faults_of_lines(self) -> None:
         one = "(1 1)"
@@ -345,30 +364,3 @@ class Forms(AllLines):
                           ('{"do":"own","auction":1.0}', "no syntax"), ("[", "no syntax"),
                           ('{"do":"bid","auction":5,"points":[[0,1]]}', "no bid 5")):
             self.assertEqual(reading.asked_by(line.encode(), "json"), due, line)
-
-
-@needs_program
-class Command(AllLines):
-    """The command of the plain reading."""
-
-    def test_what_it_prints_and_its_status(self) -> None:
-        log, asked, said = (self.folder / name for name in ("log", "asked", "said"))
-
-        def told(*files: Path, form: str = "words") -> Tuple[int, str]:
-            words = ["vouching", self.folder / "game", log, *files, form]
-            with mock.patch("sys.argv", [*map(str, words)]), mock.patch("builtins.print") as told:
-                return reading.main(), "\n".join(each.args[0] for each in told.mock_calls)
-
-        for text, status, due in (
-                (self.played.log, 0, f"vouched 2 whole {self.count}"),
-                (self.played.log.replace("missed 0", "missed 60"), 9, "unsound head"),
-                ("no log", 8, "text 1 1")):
-            log.write_text(text)
-            asked.write_bytes(text_of(self.asked))
-            said.write_bytes(text_of(self.said))
-            self.assertEqual(told(asked, said), (status, due))
-        log.write_text(self.played.log)
-        self.assertEqual(told(asked, said, form="json"), (9, "unvouched line 1"))
-        said.write_bytes(text_of(self.said)[:-2])
-        self.assertEqual(told(asked, said), (0, f"vouched 2 cut {self.count - 1} 0"))
-        self.assertEqual(told(self.folder / "none", said), (3, "fault read"))

@@ -8,11 +8,12 @@ import random
 import subprocess
 import time
 from pathlib import Path
-from typing import Awaitable, List, NamedTuple, Tuple
+from typing import Awaitable, List, Tuple
 
 from geesefuton import program
 from geesefuton.processes import Children, free_port
 from geesefuton.records.games import SEATS, TICKS, read_game
+from tests.support.judging import Judge
 from tests.support.recording import Relay, Streams
 from tests.support.wild_agent import MODES, WildAgent
 
@@ -25,22 +26,10 @@ STRANGERS = (b"hello nobody\n", b"hello\n", b"x" * 600 + b"\n", b"", b"hello sea
 HOSTILE = [mode for mode in MODES if mode != "back"] + ["calm", "pipe"]
 
 
-class Served(NamedTuple):
-    """A game that was served.
-
-    Attributes:
-        file, log: The files of the game and of its log.
-        form: What agents spoke.
-    """
-
-    file: Path
-    log: Path
-    form: str = "words"
-
-
-async def play_hostile(children: Children, seed: int, folder: Path) -> Tuple[Served, Relay]:
+async def play_hostile(children: Children, seed: int, folder: Path) -> Tuple[Judge, Relay]:
     """Plays a game with hostile agents. Every third speaks JSON, every second is of version 2.
-    Agents ask at random, good and bad, each in a mode; strangers come with other greetings.
+    Agents ask at random, good and bad, each in a mode; strangers come with other greetings. Gives
+    who judges its links, and the relay that has these.
 
     Raises:
         ProgramError: It did not end as it should.
@@ -48,15 +37,15 @@ async def play_hostile(children: Children, seed: int, folder: Path) -> Tuple[Ser
     dice, game = random.Random(seed), read_game(program.make(seed))
     if seed % 2:
         game = game.with_rooms([dice.randint(1, 8) for _ in range(8)], dice.random() < 0.5)
-    served = Served(folder / "game", folder / "log", "words" if seed % 3 else "json")
+    file, form = folder / "game", "words" if seed % 3 else "json"
     pace, relay = dice.randint(4, 12), Relay(free_port())
-    served.file.write_text(game.text())
-    with served.log.open("wb") as log:
-        server = children.start(program.served_words(served.file, relay.port, pace, served.form),
+    file.write_text(game.text())
+    with (folder / "log").open("wb") as log:
+        server = children.start(program.served_words(file, relay.port, pace, form),
                                 stdin=subprocess.DEVNULL, stdout=log)
     port = await relay.open()
     coming: List[Awaitable[None]] = [
-        WildAgent(("127.0.0.1", port), f"seat{seat}", dice.choice(HOSTILE), served.form,
+        WildAgent(("127.0.0.1", port), f"seat{seat}", dice.choice(HOSTILE), form,
                   seed * SEATS + seat, 2 * pace / 1000).play() for seat in range(SEATS)]
     coming += [stranger(port, line) for line in dice.sample(STRANGERS, 2)]
     dice.shuffle(coming)
@@ -73,7 +62,7 @@ async def play_hostile(children: Children, seed: int, folder: Path) -> Tuple[Ser
         status = children.end(server)
     if status not in (program.OK, program.CLOCK):
         raise program.ended("serve", status, "")
-    return served, relay
+    return Judge(file, (folder / "log").read_bytes(), form), relay
 
 
 async def stranger(port: int, line: bytes) -> None:

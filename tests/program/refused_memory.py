@@ -46,7 +46,6 @@ TELL = "1"  # the word of one byte for which a test tells how that run ended
 
 
 def text_of(*texts: str) -> str:
-    """A text of these lines."""
     return "".join(f"{text}\n" for text in texts)
 
 

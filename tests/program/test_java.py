@@ -32,7 +32,7 @@ PURPOSE = "thrown on purpose"  # of an exception by which the test tries the lay
 class Game:
     """A served game, whose files are in a folder of its own."""
 
-    def __init__(self, children: Children, game: Path, pace: int) -> None:
+    def __init__(self, children: Children, game: Path, pace: int = PACE) -> None:
         self.children, self.game = children, game
         self.classes = compiled("-sourcepath", str(LAYER), str(LAYER / "TripAgent.java"),
                                 *map(str, sorted(TESTS.glob("*.java"))))
@@ -83,13 +83,11 @@ class Game:
             found = vouching(boards, asked, said)
             if not found.startswith(f"vouched {word[4:]} whole "):
                 yield f"what {word} has kept is {found}"
-        scores = re.findall(r"^score (\d) \d+ (-?\d+) ", self.log.read_text(), re.MULTILINE)
-        cash = {int(agent): dollars for agent, dollars in scores}
         for seat in java:
             printed = (self.place / f"seat{seat}").read_text(errors="replace")
             told = re.search(r"^seat\d holds.*, cash (-?\d+),", printed, re.MULTILINE)
-            if not told or told[1] != cash[seat]:
-                yield f"seat{seat} tells {told and told[1]} dollars of {cash[seat]}"
+            if not told or int(told[1]) != log.scores[seat].cash:
+                yield f"seat{seat} tells {told and told[1]} dollars of {log.scores[seat].cash}"
             yield from (f"seat{seat}: {line}" for line in printed.splitlines()
                         if "Exception" in line and PURPOSE not in line
                         or line.startswith("fault: "))
@@ -104,26 +102,22 @@ class Java(unittest.TestCase):
         self.made = self.children.folder() / "made.game"
         self.made.write_text(program.make(42))
 
-    def game(self, file: Path, pace: int = PACE) -> Game:
-        """A served game."""
-        return Game(self.children, file, pace)
-
     def test_eight_java_agents(self) -> None:
-        game = self.game(self.made)
+        game = Game(self.children, self.made)
         for seat in range(8):
             game.start_java(seat, "TripAgent")
         self.assertEqual(list(game.faults(range(8))), [])
 
     def test_java_and_python_agents_also_with_few_rooms_and_live_quotes(self) -> None:
         for file in (self.made, TOP / "examples" / "few_rooms.game"):
-            game = self.game(file)
+            game = Game(self.children, file)
             for seat in range(0, 8, 2):
                 game.start_java(seat, "TripAgent")
                 game.start_python(seat + 1, PYTHON[seat // 2])
             self.assertEqual(list(game.faults(range(0, 8, 2))), [])
 
     def test_an_agent_that_tests_the_layer_from_within(self) -> None:
-        game = self.game(self.made, SLOW_PACE)
+        game = Game(self.children, self.made, SLOW_PACE)
         game.start_java(0, "LayerTest")
         self.assertEqual(list(game.faults([0])), [])
         self.assertRegex((game.place / "seat0").read_text(), r"(?m)^\d+ tests, \d+ faults$")

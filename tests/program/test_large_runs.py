@@ -37,12 +37,10 @@ class LargeRuns(Case):
         self.script, self.log, self.file = (self.place / name for name in ("script", "log", "file"))
 
     def ran(self, *words: object) -> Tuple[int, bytes]:
-        """The exit status of a run, and what it writes."""
         done = ran(*words)
         return done.returncode, done.stdout
 
     def play(self, script: str) -> None:
-        """Plays a script, and keeps the log."""
         self.script.write_text(script)
         status, text = self.ran("play", GAME, self.script)
         self.assertEqual(status, 0)

@@ -28,7 +28,9 @@ def cases(bad: str, port: int, full: Any) -> List[Case]:
         ("a file that is not there", ["show", bad + ".none"], 3, {}),
         ("an output that is full", ["make", "1"], 4, {"stdout": full}),
         ("a port that is taken", ["serve", GAME, str(port), "1"], 5, {}),
-        ("an address that is none", ["serve", GAME, "65534", "1"], 5, {"env": {"TAC_BIND": "::x"}}),
+        *((f"an address that is none: {each[:20]}", ["serve", GAME, "65534", "1"], 5,
+           {"env": {"TAC_BIND": each}})
+          for each in ("", "localhost", "127.0.0.1:1", "::x", "1" * 100)),
         ("little memory", ["serve", GAME, "65534", "1"], 7, {"preexec_fn": little_memory}),
         ("a bad account", ["solve", bad], 8, {}),
         ("the greatest port and pace", ["serve", bad + ".none", "65535", "60000"], 3, {}),

@@ -51,7 +51,6 @@ class Stepping(Case):
         return done.returncode, done.stdout
 
     def script(self, *parts: bytes) -> Path:
-        """A file with these bytes."""
         file = self.place / "script"
         file.write_bytes(b"".join(parts))
         return file

@@ -40,8 +40,7 @@ Counts = CounterOf[str]
 
 def served(children: Children, seed: int, folder: Path, counts: Counts) -> Iterator[str]:
     """What is wrong with what is said of the links of a game with hostile agents."""
-    game, relay = asyncio.run(play_hostile(children, seed, folder))
-    judge = Judge(game.file, game.log.read_bytes(), game.form)
+    judge, relay = asyncio.run(play_hostile(children, seed, folder))
     for number, link in enumerate(relay.links):
         said = judge.said_of(bytes(link.asked), bytes(link.said), f"link {number}")
         if is_vouched(said) != link.is_welcome():

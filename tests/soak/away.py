@@ -22,6 +22,7 @@ from typing import AsyncIterator, Awaitable, Callable, Iterator, List, Tuple
 
 from geesefuton import program
 from geesefuton.processes import Children
+from tests.package.helpers import completed
 from tests.support import soaking
 from tests.support.recording import KeptLink, Relay
 from tests.support.soaking import Hosted, example
@@ -35,7 +36,6 @@ PULLED = (1.5, 2.0)  # seconds that a cable is out; an agent waits one for a rep
 
 
 def cut(link: KeptLink, way: str) -> None:
-    """Cuts a link."""
     for each in filter(None, (link.agent, link.server)):
         if way == "ended":
             each.writer.close()
@@ -92,9 +92,9 @@ class Away(Hosted):
         with namespace() as (name, cable, address):
             self.enter(0, address, self.port, "ip", "netns", "exec", name)
             async for _ in self.times():
-                subprocess.run(["ip", "link", "set", cable, "down"], check=True)
+                ip(f"link set {cable} down")
                 await asyncio.sleep(self.dice.uniform(*PULLED))
-                subprocess.run(["ip", "link", "set", cable, "up"], check=True)
+                ip(f"link set {cable} up")
 
     async def times(self) -> AsyncIterator[None]:
         """The times at which the agent goes away; after the last one the game goes on to its
@@ -107,13 +107,9 @@ class Away(Hosted):
         await asyncio.sleep(MOST)
 
     def vouch(self, *words: object) -> "subprocess.CompletedProcess[str]":
-        """Runs `geesefuton vouch`."""
-        tool = [*COMMAND, "vouch", self.file, self.log, *words]
-        return subprocess.run([str(word) for word in tool], check=False, capture_output=True,
-                              text=True, stdin=subprocess.DEVNULL)
+        return completed(*COMMAND, "vouch", self.file, self.log, *words)
 
     def wrongs(self) -> List[str]:
-        """What is wrong after the game."""
         published, wrongs = self.folder / "published", []
         told = [line for line in self.told().splitlines() if "the game is over" in line]
         if len(told) != 1 or "; vouched 8 of 8" not in told[0]:
@@ -140,31 +136,29 @@ class Away(Hosted):
             f"a changed reply was told as {done.stdout!r}, not at {where}"]
 
 
+def ip(words: str) -> None:
+    subprocess.run(["ip", *words.split()], check=True)
+
+
 @contextlib.contextmanager
 def namespace() -> Iterator[Tuple[str, str, str]]:
     """A network namespace with a cable to this machine: its name, that of the cable's end here, and
     this machine's address on it."""
     name, cable = f"away{os.getpid()}", f"aw{os.getpid()}"
     net = f"10.213.{os.getpid() % 250}"
-
-    def ip(*words: str) -> None:
-        subprocess.run(["ip", *words], check=True)
-
-    ip("netns", "add", name)
+    ip(f"netns add {name}")
     try:
-        ip("link", "add", cable, "type", "veth", "peer", "name", "eth0", "netns", name)
-        ip("addr", "add", f"{net}.1/24", "dev", cable)
-        ip("link", "set", cable, "up")
-        for words in (("addr", "add", f"{net}.2/24", "dev", "eth0"), ("link", "set", "eth0", "up"),
-                      ("link", "set", "lo", "up")):
-            ip("-n", name, *words)
+        for words in (f"link add {cable} type veth peer name eth0 netns {name}",
+                      f"addr add {net}.1/24 dev {cable}", f"link set {cable} up",
+                      f"-n {name} addr add {net}.2/24 dev eth0", f"-n {name} link set eth0 up",
+                      f"-n {name} link set lo up"):
+            ip(words)
         yield name, cable, f"{net}.1"
     finally:
         subprocess.run(["ip", "netns", "del", name], check=False)
 
 
 def soak(seed: int, folder: Path, children: Children) -> Iterator[str]:
-    """Plays a game, and looks at its records."""
     game, is_root = Away(seed, folder, children), os.geteuid() == 0
     if not is_root:
         print("left out: a machine whose cable is pulled: this needs root")

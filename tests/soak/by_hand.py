@@ -55,14 +55,13 @@ class Player:
         self.seen: Dict[str, bool] = {}  # what was tried, and whether it was seen
 
     def play(self) -> None:
-        """Does the next thing."""
         step, self._step = self._step, self._step + 1
         first, other = 1 + self._number % 4, 1 + (self._number + 1) % 4
         if step == 0:
-            self._note("a ticket is offered", bid(self.tab, f"Museum, night {first}", "sell", True))
+            self.seen["a ticket is offered"] = bid(self.tab, f"Museum, night {first}", "sell", True)
         elif step == 1:
             self.tab.tap("button.tile", f"Museum, night {first}")
-            self._note("an offer is taken back", self.tab.tap("dialog button", "Withdraw"))
+            self.seen["an offer is taken back"] = self.tab.tap("dialog button", "Withdraw")
         elif step == 2:
             self._refused(other)
         elif step < 6:
@@ -76,11 +75,8 @@ class Player:
         self.tab.tap("dialog input", "^$")
         self.tab.call("Input.insertText", text="17")
         self.tab.tap("dialog button.main", "uy")
-        self._note("a refusal says why", is_seen(lambda: self.tab.sees("at most 16 units"), SOON))
+        self.seen["a refusal says why"] = is_seen(lambda: self.tab.sees("at most 16 units"), SOON)
         self.tab.tap("dialog button", "^Close$")
-
-    def _note(self, what: str, is_seen: bool) -> None:
-        self.seen[what] = is_seen
 
 
 def joined(browser: Browser, port: int, number: int) -> Tab:
@@ -122,7 +118,6 @@ def play(game: soaking.Hosted, browser: Browser) -> List[Player]:
 
 
 def faults_of(players: List[Player], log: Log) -> Iterator[str]:
-    """What is missing."""
     for number, player in enumerate(players):
         yield from (f"seat{number}: not seen: {what}" for what in DUE if not player.seen.get(what))
         taken = sum(entry.caller == number and isinstance(entry.reply, Taken)
@@ -132,7 +127,6 @@ def faults_of(players: List[Player], log: Log) -> Iterator[str]:
 
 
 def soak(seed: int, folder: Path, children: Children) -> Iterator[str]:
-    """Plays a game, and looks at its log and at the seats' links."""
     game = soaking.Hosted(children, folder, seed)
     try:
         with contextlib.closing(Browser(children)) as browser:
@@ -142,11 +136,11 @@ def soak(seed: int, folder: Path, children: Children) -> Iterator[str]:
         return
     yield from game.unsound()
     yield from faults_of(players, read_log(game.log.read_bytes()))
+    files = folder / "asked", folder / "said"
     for number, link in enumerate(server_links(game.journal)):
-        asked, said = folder / "asked", folder / "said"
-        asked.write_bytes(link.asked)
-        said.write_bytes(link.said)
-        yield from game.not_whole(number, asked, said)
+        for file, data in zip(files, link):
+            file.write_bytes(data)
+        yield from game.not_whole(number, *files)
 
 
 if __name__ == "__main__":

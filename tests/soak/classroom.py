@@ -30,7 +30,7 @@ from typing import Any, Callable, Dict, Iterator, List, Optional, Tuple
 
 from geesefuton.processes import Children
 from tests.support import soaking
-from tests.support.recording import Streams
+from tests.support.recording import Streams, reach
 from tests.support.soaking import Hosted
 from tests.support.trying import TOP, descendants, of_process
 
@@ -47,7 +47,6 @@ MOST_HELD = 60  # links that a hostile client holds
 BEFALLS = ("nothing", "full disk", "pages killed", "no files", "HUP", "TSTP", "clock", "processes")
 GET = "GET %s HTTP/1.1\r\nHost: a\r\n\r\n"
 PLAY = "POST /play HTTP/1.1\r\nHost: a\r\nContent-Length: 5\r\n\r\nseat%d"
-Links = Tuple[asyncio.StreamReader, asyncio.StreamWriter]
 
 
 class Hostile:
@@ -82,36 +81,37 @@ class Hostile:
             for writer in self._held:
                 writer.transport.abort()
 
-    async def _linked(self, *ports: str) -> Links:
+    async def _linked(self, *ports: str) -> Streams:
         port = self._ports[self._dice.choice(ports or tuple(self._ports))]
-        return await asyncio.open_connection("127.0.0.1", port, local_addr=(self._address, 0))
+        return await reach("127.0.0.1", port, 1, local_addr=(self._address, 0))
 
-    async def _send(self, text: bytes, *ports: str) -> None:
+    async def _send(self, text: str, *ports: str) -> Streams:
         """Sends a text over a new link, which stays open."""
-        _, writer = await self._linked(*ports)
-        writer.write(text)
-        self._held.append(writer)
+        streams = await self._linked(*ports)
+        streams.writer.write(text.encode("latin-1"))
+        self._held.append(streams.writer)
+        return streams
 
     async def _hold(self, count: int, ports: List[str], texts: List[str]) -> None:
         for _ in range(count):
-            await self._send(self._dice.choice(texts).encode("latin-1"), *ports)
+            await self._send(self._dice.choice(texts), *ports)
 
     async def flood(self) -> None:
         """Opens many links, and closes them at once."""
         for _ in range(30):
-            (await self._linked())[1].close()
+            (await self._linked()).writer.close()
 
     async def half(self) -> None:
         """Sends half a greeting or half a head, a byte now and then."""
         port = self._dice.choice(list(self._ports))
-        await self._send(b"", port)
+        await self._send("", port)
         for byte in b"hello sea" if port == "agents" else b"GET / HTTP/1.1\r\nHost: a":
             self._held[-1].write(bytes([byte]))
             await asyncio.sleep(0.2 * self._dice.random())
 
     async def endless(self) -> None:
         """Sends a line that does not end."""
-        await self._send(b"")
+        await self._send("")
         for _ in range(200):
             if self._held[-1].is_closing():
                 break
@@ -120,8 +120,7 @@ class Hostile:
 
     async def reset(self) -> None:
         """Ends a link by a reset, with something on its way."""
-        streams = Streams(*await self._linked())
-        streams.writer.write(self._dice.choice([b"hello seat0\n", b"GET /", b"hello sea"]))
+        streams = await self._send(self._dice.choice(["hello seat0\n", "GET /", "hello sea"]))
         streams.reset()
 
     async def guess(self) -> None:
@@ -130,22 +129,20 @@ class Hostile:
             return
         for _ in range(20):
             word = "".join(self._dice.choice("abcdefgh") for _ in range(5))
-            await self._send(f"hello {word}\n".encode(), "agents")
-            await self._send((GET % f"/{word}").encode(), "page")
+            await self._send(f"hello {word}\n", "agents")
+            await self._send(GET % f"/{word}", "page")
 
     async def take(self) -> None:
         """Wants a seat that is taken, by its right word, once somebody plays it, and not by hand: a
         page that ends frees its seat."""
         if "begins" in self._told():
-            reader, writer = await self._linked("agents")
-            writer.write(f"hello seat{self._dice.randrange(SEATS - 1)}\n".encode())
-            self._held.append(writer)
-            self.seats += (await reader.readline()).startswith(b"welcome")
+            streams = await self._send(f"hello seat{self._dice.randrange(SEATS - 1)}\n", "agents")
+            self.seats += (await streams.line()).startswith(b"welcome")
 
     async def streams(self) -> None:
         """Holds fifty event streams."""
         while len(self._held) < 50:
-            await self._send((GET % "/events").encode(), "page")
+            await self._send(GET % "/events", "page")
 
 
 # What is sent over how many links, which stay open: nothing; what is no greeting; for a page, of
@@ -237,10 +234,8 @@ class Classroom(Hosted):
             file.touch()
             await asyncio.sleep(3)
             file.unlink()
-        elif self._befalls == "HUP":
-            host.send_signal(signal.SIGHUP)
-        elif self._befalls == "TSTP":
-            host.send_signal(signal.SIGTSTP)
+        elif self._befalls in ("HUP", "TSTP"):
+            host.send_signal(signal.Signals[f"SIG{self._befalls}"])
 
     async def _measure(self, host: int) -> None:
         """Notes the most memory that the host's processes had."""
@@ -284,7 +279,6 @@ def _ended(child: "subprocess.Popen[bytes]", most: float) -> Optional[int]:
 
 
 def soak(seed: int, folder: Path, children: Children) -> Iterator[str]:
-    """Plays a classroom."""
     logging.getLogger("asyncio").setLevel(logging.ERROR)  # it tells of links that have ended
     yield from asyncio.run(Classroom(children, folder, seed).play())
 

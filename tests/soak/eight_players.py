@@ -15,35 +15,33 @@ import random
 import sys
 import time
 from pathlib import Path
-from typing import Any, List, Tuple
+from typing import Any, List
 
 from tests.support.hand import FAULTS, Hand
+from tests.support.recording import reach
 
 SEATS, PAUSE = 8, 0.5  # and the seconds that a player waits at most between two requests
 BY_HAND = SEATS - 1
 
 
 class Players:
-    """The players of a game.
+    """The players of a game, by the words of the script."""
 
-    Args:
-        port: The lobby's port.
-        page: That of its page.
-        seed: What their requests are drawn from.
-        folder: For their records.
-    """
-
-    def __init__(self, port: int, page: int, seed: int, folder: Path) -> None:
-        self.port, self.page, self.seed, self.folder = port, page, seed, folder
+    def __init__(self, port: str, page: str, seed: str, folder: str) -> None:
+        self.port, self.page, self.seed, self.folder = int(port), int(page), seed, Path(folder)
         self.longest = 0.0
         self.by_hand: List[float] = []  # seconds that each bid by hand took
         self.wrong: List[str] = []
 
+    async def play_all(self) -> None:
+        await asyncio.gather(asyncio.to_thread(self.play_by_hand), *map(self.play, range(BY_HAND)))
+
     async def play(self, seat: int) -> None:
-        """Plays a seat."""
         dice = random.Random(f"{self.seed} {seat}")
-        reader, writer = await self._seated(seat)
+        reader, writer = await reach("127.0.0.1", self.port, 2400, 0.05,
+                                     local_addr=(address_of(seat), 0))
         asked, said = f"hello seat{seat}\n".encode(), b""
+        writer.write(asked)
         try:
             for _ in range(10):
                 said += await reader.readuntil(b"\n")
@@ -87,17 +85,6 @@ class Players:
         if state.get("phase") != "over":
             self.wrong.append(f"by hand: {state.get('phase')} {state.get('fault')}")
 
-    async def _seated(self, seat: int) -> Tuple[asyncio.StreamReader, asyncio.StreamWriter]:
-        """A link that has greeted."""
-        while True:
-            try:
-                reader, writer = await asyncio.open_connection(
-                    "127.0.0.1", self.port, local_addr=(address_of(seat), 0))
-                writer.write(f"hello seat{seat}\n".encode())
-                return reader, writer
-            except OSError:
-                await asyncio.sleep(0.05)
-
 
 def address_of(seat: int) -> str:
     """A player's address: four have the same, as behind a router."""
@@ -110,20 +97,12 @@ def _request(dice: random.Random) -> bytes:
                         "quote 16", "quote 16", f"quote {good}"]).encode() + b"\n"
 
 
-async def _play(players: Players) -> None:
-    await asyncio.gather(asyncio.to_thread(players.play_by_hand),
-                         *map(players.play, range(BY_HAND)))
-
-
-def main() -> int:
-    """Plays the game."""
-    port, page, seed, folder = sys.argv[1:]
-    players = Players(int(port), int(page), int(seed), Path(folder))
-    asyncio.run(_play(players))
+def main() -> None:
+    players = Players(*sys.argv[1:])
+    asyncio.run(players.play_all())
     print(json.dumps({"longest": players.longest, "by hand": players.by_hand,
                       "wrong": players.wrong}))
-    return 0
 
 
 if __name__ == "__main__":
-    sys.exit(main())
+    main()

@@ -18,13 +18,15 @@ import signal
 import subprocess
 import sys
 import time
-from collections import defaultdict
 from pathlib import Path
-from typing import Dict, Iterator, List, Optional, Sequence, Tuple
+from typing import Iterator, List, Optional, Sequence, Tuple
 
 from geesefuton import program
 from geesefuton.processes import Children
-from geesefuton.records.dialects import asked_by, reply_of
+from geesefuton.records.dialects import asked_by, position_of, reply_of
+from geesefuton.records.logs import read_log
+from geesefuton.records.replies import Request, entry_words, request_words
+from tests.package.journals import cut_lines, parts_of
 from tests.support import soaking
 from tests.support.soaking import AGENTS, Hosted, example
 from tests.support.trying import COMMAND, descendants, of_process
@@ -91,27 +93,6 @@ class Game(Hosted):
             yield from (line for line in said.read_text().splitlines() if line.startswith("wrong"))
 
 
-def parts_of(text: str) -> Dict[str, str]:
-    """The parts of a log that a recovery gives again."""
-    cash = text.index("\ncash ") + 1
-    sheet = text.index("\nsheet\n")
-    posts = sorted(line for line in text[cash:sheet].split("\n") if " post " in line)
-    return {"histories": text[text.index("auction 0 "):cash], "sheet": text[sheet:],
-            "posts": "\n".join(posts)}
-
-
-def histories(text: str) -> Dict[int, List[str]]:
-    """The entries of each auction of a log."""
-    found: Dict[int, List[str]] = defaultdict(list)
-    good = 0
-    for line in text[text.index("auction 0 "):text.index("\ncash ")].split("\n"):
-        if line.startswith("auction "):
-            good = int(line.split(" ")[1])
-        elif not line.startswith("trade "):
-            found[good].append(line)
-    return found
-
-
 def serve(game: Game) -> Iterator[str]:
     """Serves a game, which is to be recovered as it was."""
     kinds: List[Optional[str]] = [*game.tame(4), *game.dice.sample(SERVED, 4)]
@@ -161,7 +142,7 @@ def kill(game: Game) -> Iterator[str]:
 
 def check_notes(game: Game) -> Tuple[int, int]:
     """How many entries agents noted, and how many of these are not in the recovered log."""
-    entries = histories((game.folder / "recovered").read_text())
+    histories = read_log((game.folder / "recovered").read_bytes()).histories
     noted = missing = 0
     for said in game.folder.glob("said*"):
         for line in said.read_text().splitlines():
@@ -170,32 +151,25 @@ def check_notes(game: Game) -> Tuple[int, int]:
             except ValueError:
                 continue  # the agent was killed while it wrote
             told = reply_of(reply, game.form)
-            call = asked_by(asked, game.form) if told.startswith("@") else None
-            if call is None or call.keyword in ("quote", "cash"):
+            at = position_of(told)
+            call = None if at is None else asked_by(asked, game.form)
+            if call is None or at is None or call.keyword in ("quote", "cash"):
                 continue
-            at, rest = told[1:].split(" ", 1)
-            words = call.text.replace(f" {call.good}", "", 1)
             noted += 1
-            if entries[call.good][int(at):int(at) + 1] != [f"{agent} {words} = {rest}"]:
-                missing += 1
+            here = histories[call.good][at:at + 1]
+            missing += [(entry.caller, request_words(Request(
+                entry.call.do, call.good, entry.call.points)), entry_words(entry.reply))
+                        for entry in here] != [(agent, call.text, told.partition(" ")[2])]
     return noted, missing
 
 
 def cut(game: Game) -> Iterator[str]:
-    """Cuts a journal at random places, and recovers each."""
+    """Cuts a journal at random places, and recovers each part."""
     lines = game.journal.read_text().split("\n")[:-1]
-    first = next((place for place, line in enumerate(lines) if '"r":' in line), None)
     made = 0
-    for number in range(CUTS if first is not None else 0):
-        part = lines[:game.dice.randint((first or 0) + 20, len(lines) - 1)]
-        for agent in game.dice.sample(range(8), game.dice.randint(1, 8)):
-            last = next((place for place in range(len(part) - 1, -1, -1)
-                         if part[place].startswith(f'{{"a":{agent},"r":')), None)
-            if last is not None:  # what the agent sent after that was not passed on yet
-                part = part[:last] + [line for line in part[last + 1:]
-                                      if not line.startswith(f'{{"a":{agent},')]
+    for number in range(CUTS if any('"r":' in line for line in lines) else 0):
         journal = game.folder / f"cut{number}"
-        journal.write_text("\n".join(part) + "\n")
+        journal.write_text("\n".join(cut_lines(game.dice, lines)) + "\n")
         done = game.recover(journal, "cut.recovered")
         yield from (f"cut {number}: {fault}" for fault in game.faults(done, "cut.recovered"))
         made += bool(re.search("without a reply, in the log", done.stderr))
@@ -203,7 +177,6 @@ def cut(game: Game) -> Iterator[str]:
 
 
 def soak(seed: int, folder: Path, _: Children) -> Iterator[str]:
-    """Serves and kills a game, and cuts the journal of the served one."""
     if not shutil.which("node"):
         print("left out: agents in JavaScript: there is no Node")
     with Children() as children:

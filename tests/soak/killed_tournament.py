@@ -58,7 +58,6 @@ class Killed:
         return now
 
     def log(self, game: str) -> Path:
-        """The file of a game's log."""
         return self.out / "games" / f"{game}.log"
 
     def kill(self, more: int, after: float) -> int:
@@ -99,7 +98,6 @@ class Killed:
 
 
 def soak(seed: int, folder: Path, _: Children) -> Iterator[str]:
-    """Kills a tournament again and again, and then lets it end."""
     source, killed = random.Random(seed), Killed(folder)
     for number in range(KILLS):
         more, after = source.choice((0, 1, 1, 2)), source.uniform(0.0, 3.0)

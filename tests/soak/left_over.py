@@ -162,7 +162,6 @@ def tried(run: Run, children: Children) -> List[str]:
 
 
 def stop(beside: "subprocess.Popen[bytes]", children: Children) -> None:
-    """Stops what stands beside a script."""
     tell(beside, signal.SIGTERM)
     with contextlib.suppress(subprocess.TimeoutExpired):
         beside.wait(ENDING)
@@ -170,7 +169,6 @@ def stop(beside: "subprocess.Popen[bytes]", children: Children) -> None:
 
 
 def soak(seed: int, folder: Path, children: Children) -> Iterator[str]:
-    """Ends the scripts, some at a time."""
     hanger = folder / "hanger.py"
     hanger.write_text(HANGER)
     for side, line in (("asked", "hello twotrips\n"), ("said", "welcome 0\n")):

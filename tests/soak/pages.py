@@ -22,6 +22,7 @@ from geesefuton.hosting.page_process import PageProcess
 from geesefuton.hosting.settings import LobbySettings
 from geesefuton.processes import Children, free_port
 from geesefuton.records.games import TICKS
+from tests.package.cases import is_listening
 from tests.package.seat_server import SeatServer
 from tests.support import soaking
 from tests.support.browser import MOST, Browser, BrowserError, Tab, wait_for
@@ -60,7 +61,6 @@ class Look(NamedTuple):
     theme: str
 
     def tab(self, browser: Browser, address: str) -> Tab:
-        """A page at this size."""
         return Tab(browser, f"{address}#{self.theme}", self.width, self.height)
 
     def __str__(self) -> str:
@@ -84,7 +84,7 @@ def seat(children: Children, server: SeatServer) -> Iterator[str]:
     settings = LobbySettings(JOURNAL, server.port, 60000, None, page=port)
     pages = PageProcess(children, settings, ["seat3"], server.port, None)
     pages.look()
-    wait_for("the page's port", lambda: _listens(port))
+    wait_for("the page's port", lambda: is_listening(port))
     try:
         yield f"http://127.0.0.1:{port}/{pages.seats[0][1]}/"
     finally:
@@ -151,7 +151,6 @@ def faults_of(tab: Tab, name: str) -> Iterator[str]:
 
 
 def look_at_seats(children: Children, browser: Browser, folder: Path) -> Iterator[str]:
-    """What is wrong with the seat's page."""
     for look in (*LOOKS, NARROW):
         server = SeatServer()
         with contextlib.closing(server), seat(children, server) as address:
@@ -165,29 +164,16 @@ def look_at_seats(children: Children, browser: Browser, folder: Path) -> Iterato
             tab.close()
 
 
-class Refusing:
-    """A server that answers each request by 503, as the page does when there are too many screens.
-
-    Attributes:
-        count: How many it has answered.
-    """
-
-    def __init__(self, port: int) -> None:
-        self._listener, self.count = socket.create_server(("", port)), 0
-        self._listener.settimeout(0.1)
-
-    def answer(self, times: int) -> None:
-        """Answers so many requests."""
-        until = time.monotonic() + MOST
-        while self.count < times and time.monotonic() < until:
-            with contextlib.suppress(OSError):
-                link, _ = self._listener.accept()
-                with link:
-                    link.settimeout(2.0)
-                    link.recv(65536)
-                    link.sendall(b"HTTP/1.1 503 Service Unavailable\r\nContent-Length: 0\r\n\r\n")
-                    self.count += 1
-        self._listener.close()
+def refuse(port: int, times: int) -> None:
+    """Answers so many requests by 503, as the page does when there are too many screens."""
+    with socket.create_server(("", port)) as listener:
+        listener.settimeout(MOST)
+        for _ in range(times):
+            link, _ = listener.accept()
+            with link, contextlib.suppress(OSError):
+                link.settimeout(2.0)
+                link.recv(65536)
+                link.sendall(b"HTTP/1.1 503 Service Unavailable\r\nContent-Length: 0\r\n\r\n")
 
 
 def look_at_a_lost_screen(children: Children, browser: Browser) -> Iterator[str]:
@@ -205,14 +191,12 @@ def look_at_a_lost_screen(children: Children, browser: Browser) -> Iterator[str]
         return str(tab.value("document.getElementById('sign').textContent") or "")
 
     first = start()
-    with contextlib.suppress(OSError):
-        wait_for("the page's port", lambda: _listens(port))
+    wait_for("the page's port", lambda: is_listening(port))
     tab = LOOKS[0].tab(browser, f"http://127.0.0.1:{port}/")
     wait_for("the game", lambda: tab.sees("Tick [0-9]+ of 54"))
     children.end(first)
     wait_for("that nothing is heard", lambda: "No news from the host" in sign())
-    refusing = Refusing(port)
-    refusing.answer(3)
+    refuse(port, 3)
     again = start()
     try:
         wait_for("news after the host was away", lambda: "No news" not in sign())
@@ -221,14 +205,6 @@ def look_at_a_lost_screen(children: Children, browser: Browser) -> Iterator[str]
     finally:
         children.end(again)
         tab.close()
-
-
-def _listens(port: int) -> bool:
-    try:
-        socket.create_connection(("127.0.0.1", port), 1).close()
-        return True
-    except OSError:
-        return False
 
 
 def look_at_starters(children: Children, browser: Browser, port: int) -> Iterator[str]:
@@ -270,7 +246,7 @@ class Board:
         self._game = Hosted(children, children.folder("board"), seed)
         self._game.start(PACE, "--page", self._game.page)
         self.port = self._game.page
-        wait_for("the page's port", lambda: _listens(self.port))
+        wait_for("the page's port", lambda: is_listening(self.port))
         self._tabs = {look: look.tab(browser, f"http://127.0.0.1:{self.port}/") for look in LOOKS}
 
     def look(self, name: str, pattern: str) -> Iterator[str]:
@@ -289,7 +265,6 @@ class Board:
                 yield f"{name} {look}: it is wider than the screen"
 
     def play(self) -> Iterator[str]:
-        """Plays the game, and looks at it."""
         yield from self.look("waiting", "Waiting for agents")
         for seat_number, name in enumerate(AGENTS):
             self._game.join(seat_number, example(name), PACE / 1000)
@@ -300,7 +275,6 @@ class Board:
 
 
 def soak(seed: int, folder: Path, children: Children) -> Iterator[str]:
-    """Looks at all pages."""
     def looked() -> Iterator[Iterator[str]]:
         yield look_at_seats(children, browser, folder)
         yield look_at_a_lost_screen(children, browser)

@@ -5,7 +5,7 @@ import asyncio
 import contextlib
 import socket
 import struct
-from typing import List, NamedTuple, Optional
+from typing import Any, List, NamedTuple, Optional
 
 PIECE = 1 << 16  # bytes that are read at once
 TRIES, BETWEEN = 2000, 0.005  # tries to reach a server that does not listen yet, and seconds
@@ -35,15 +35,16 @@ class Streams(NamedTuple):
         self.writer.transport.abort()
 
 
-async def reach(host: str, port: int, tries: int = TRIES, between: float = BETWEEN) -> Streams:
-    """A connection to a server that may not listen yet.
+async def reach(host: str, port: int, tries: int = TRIES, between: float = BETWEEN, **how: Any
+                ) -> Streams:
+    """A connection to a server that may not listen yet; `how` is passed on to asyncio.
 
     Raises:
         OSError: It does not listen after so many tries, with so many seconds between them.
     """
     for _ in range(tries):
         with contextlib.suppress(OSError):
-            return Streams(*await asyncio.open_connection(host, port))
+            return Streams(*await asyncio.open_connection(host, port, **how))
         await asyncio.sleep(between)
     raise ConnectionRefusedError
 

@@ -3,30 +3,9 @@ said: a plain reading of the rules, which shares no line with what is proved.
 
     python3 -m tests.support.vouching GAME LOG ASKED SAID [json]
 
-It prints `vouched A whole L` or `vouched A cut L N`, with status 0, or the first difference, with
-status 9. The log is audited first, by the program that the variable TAC names, or the built one; a
-refusal or a flaw is printed as it is told.
-
-A log is right about a link if its head gives the seat of the first line, the link was sent the
-agent's ten lines, and the lines behind the first led to the agent's whole part of the log, each
-entry once and in order, with the replies that came. The replies to the last lines may be missing,
-and half a line behind the last line end of either file is not compared.
-
-- `vouched A whole L`: agent A; each of L lines, up to `quit` if that was asked, has its reply, and
-  no half reply stands behind these.
-- `vouched A cut L N`: L replies came. Of the lines behind these, N left an entry or a reading.
-- `memory M` behind one of these: so many replies say that the server had no memory for the line.
-- `unvouched seat`: the first line takes no seat of the game, or the log gives that seat to nobody.
-- `unvouched welcome`: the ten lines of that agent did not come.
-- `unvouched line N`: the N-th line behind the greeting was not answered so, or there is none; those
-  before it were answered as they should be.
-- `unvouched entry G P`, `unvouched cash P`: no line asked this entry of the agent. It is the lowest
-  of those that are left where the reading stopped, the cash book last.
-- `unvouched cause`: all of this is right, but the session can't have ended as the log says: it was
-  answered `bye`, and the cause is not `quit`; the cause is `quit`, and neither that nor a `quit`
-  among its other lines is there; 65,536 replies came, and its budget was not used up; each line has
-  its reply, and a write failed; or its budget was used up, by at most 65,535 lines and in fewer
-  than 67,108,864 bytes.
+It prints what `tac vouch` does (docs/FORMATS.md, "The audit of a link"), and ends with its status.
+The log is audited first, by the program that the variable TAC names, or the built one; a refusal or
+a flaw is printed as it is told.
 """
 
 import re
