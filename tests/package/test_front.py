@@ -99,7 +99,7 @@ class Front(FrontCase):
 
 
 class Helps(unittest.TestCase):
-    """Each fits a screen of 80 columns, and of 24 lines but for one that has thirty options."""
+    """Each fits a screen of 80 columns, and of 24 lines but for two that have thirty options."""
 
     def help_of(self, *words: str) -> List[str]:
         """The lines of a help."""
@@ -124,7 +124,7 @@ class Helps(unittest.TestCase):
             with self.subTest(name=name):
                 lines = self.help_of(name, "--help")
                 self.assertRegex(lines[0], f"^usage: geesefuton {name}( |$)")
-                self.assertLessEqual(len(lines), 41 if name == "tournament" else 24)
+                self.assertLessEqual(len(lines), 41 if name in ("tournament", "profiles") else 24)
                 self.assertLessEqual(max(map(len, lines)), 80)
                 # Each option has one line.
                 self.assertEqual([line for line in lines if line.startswith(13 * " ")], [])

@@ -117,12 +117,13 @@ class Playing(Case):
                          "in seat 1 are ahead with 10 dollars each.")
 
     def test_a_program_of_another_system(self) -> None:
-        file = self.place / "other"
+        file = self.folder / "other"
         file.write_bytes(b"\x7fELF\x02\x01\x01" + bytes(57))
         file.chmod(0o755)
-        with mock.patch.dict(os.environ, {"TAC": str(file)}), Children() as children, \
+        self.set(TAC=str(file))
+        with Children() as children, \
                 self.assertRaisesRegex(program.ProgramError, "not a program for this system"):
-            quickstart.play(children, Output(self.place / "written"))
+            quickstart.play(children, Output(self.folder / "written"))
 
     def test_a_server_that_fails_is_told_with_what_it_said(self) -> None:
         status, written, told = self.play("echo fault links; exit 5")

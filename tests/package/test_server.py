@@ -130,11 +130,13 @@ class Addresses(cases.Case):
                 return link.connect_ex((host, port))
 
         port = free_port()
-        self.enter(Children()).start(
+        children = self.enter(Children())
+        served = children.start(
             program.served_words(GAME, port, 1), stdin=subprocess.DEVNULL,
             stdout=subprocess.DEVNULL, env={**os.environ, "TAC_BIND": server.HOST})
         self.until(lambda: not fault(server.HOST))
         self.assertEqual(fault("127.0.0.2"), errno.ECONNREFUSED)
+        children.end(served)
 
 
 class Ticks(Case):

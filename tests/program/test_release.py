@@ -192,7 +192,7 @@ class Release(unittest.TestCase):
                 tar.extractall(place)
         top, = place.iterdir()
         for words, due in ((("tac", "make", "1"), (0, "tac 1\n")),
-                           (("tac", "nothing"), (1, "usage\n"))):
+                           (("tac", "make"), (1, "usage\n"))):
             done = run(top, *words)
             self.assertEqual((done.returncode, done.stdout), due)
         self.assertIn("as released", run(top, "version").stdout)

@@ -48,11 +48,16 @@ def play(folder: Path, script: Sequence[str], live: bool = True, seed: int = 42)
             asked[int(line[0])].append(line[2:])
     for line in text[:start].splitlines():
         said[int(line[0])].append(line[2:])
+    ends = ["quit" if "bye" in lines else "end" for lines in said]
+    return Played(game.text(), served(text[start:], ends), asked, said)
+
+
+def served(log: str, ends: Sequence[str]) -> str:
+    """The log of a game by a script with the head of a served one, in which each agent had a seat,
+    and whose sessions ended for these causes."""
     head = ["serve", *(f"link {seat} seated {seat}" for seat in range(8)),
-            *(f"end {seat} {'quit' if 'bye' in lines else 'end'}"
-              for seat, lines in enumerate(said)), "missed 0"]
-    log = text[start:].replace("\nplay\n", "\n" + "\n".join(head) + "\n", 1)
-    return Played(game.text(), log, asked, said)
+            *(f"end {seat} {cause}" for seat, cause in enumerate(ends)), "missed 0"]
+    return log.replace("\nplay\n", "\n" + "\n".join(head) + "\n", 1)
 
 
 def text_of(lines: Sequence[str]) -> bytes:

@@ -43,7 +43,7 @@ FILTER = filter_of()
 SYSTEM = ("/usr", "/bin", "/sbin", "/lib", "/lib32", "/lib64", "/libx32")
 SETTINGS = ("/etc/alternatives", "/etc/hosts", "/etc/ld.so.cache", "/etc/localtime",
             "/etc/nsswitch.conf", "/etc/python3", "/etc/java-17-openjdk", "/etc/java-21-openjdk")
-START = 10.0  # seconds that a sandbox has to start
+START = 60.0  # seconds that a sandbox has to start
 KILLED = 10.0  # seconds until an agent has to have ended that was killed
 PATIENCE = 30.0  # seconds for the first line of a link, and in turns for each line
 MOST_OPEN = 1024  # files that a process of an agent may have open
@@ -108,7 +108,9 @@ def why_not() -> str:
                                    pass_fds=[calls], stdin=subprocess.DEVNULL,
                                    stdout=subprocess.DEVNULL, stderr=subprocess.PIPE,
                                    timeout=START, check=False)
-    except (OSError, subprocess.TimeoutExpired) as fault:
+    except subprocess.TimeoutExpired:
+        return f"a sandbox did not start in {START:.0f} seconds"
+    except OSError as fault:
         return f"`bwrap` cannot be run: {fault}"
     said = tried.stderr.decode("utf-8", "replace").strip().split("\n")[-1]
     return f"a sandbox says `{said}`" if tried.returncode else ""

@@ -24,15 +24,13 @@ def _main() -> int:
     parser = Parser("profiles", __doc__)
     add = parser.add_argument
     add("agents", nargs="+", metavar="AGENT", help="the strategies, two or more")
-    add_playing(parser, "N deals, on each of which each profile is played (default: 4)")
+    add_playing(parser, "N deals, each with each profile (default: 4)")
     parser.set_defaults(games=4)
     add("--players", type=int, choices=(2, SEATS), default=2,
         help="8: all profiles, 2: the reduced game (default: 2)")
     add("--out", type=Path, required=True, metavar="FOLDER", help="keep the games in this folder")
-    add("--search", action="store_true",
-        help="play only what leads to one equilibrium by best responses")
-    add("--join", action="store_true",
-        help="play nothing: AGENT .. are folders of such studies, of different deals")
+    add("--search", action="store_true", help="play only what best responses lead to")
+    add("--join", action="store_true", help="play nothing: AGENT .. are folders of studies")
     given = parser.parse_args()
     missing = missing_libraries("payoffs and equilibria")
     if missing:
