@@ -28,7 +28,7 @@ class Links(Case):
     def test_before_the_game_a_second_link_waits_for_the_end_of_the_first(self) -> None:
         with mock.patch("geesefuton.hosting.seats.PROBED", 0.3):
             host = Host(self.folder, start=None, pace=1000)
-            self.agents(host, "seat1")[0].close()  # who goes may come again
+            self.agents(host, "seat1")[0].close()  # a seat that was left can be taken
             host.wait(events.Departed)
             first = self.agents(host, "seat0")[0]
             second = Agent(host.port, "seat0")

@@ -26,7 +26,7 @@ Kept = TypeVar("Kept", bound="_Book")
 
 
 class _Book:
-    """What stands in an auction."""
+    """The state of an auction."""
 
     def copied(self: Kept) -> Kept:
         """A copy, which later changes of this book do not reach."""
